@@ -177,6 +177,17 @@ typedef struct yuglemit_bounds {
 #define YUGLEMIT_OVER (UINT64_MAX - 1)
 #define YUGLEMIT_NO_BOUND UINT64_MAX
 
+/* Whether the order of events may show in outputs, as `tw check --order` says it. If `may_show` is 0, all runs with the same inputs that end by
+ * themselves end alike with the same outputs, in any layout and order. If it is 1, outputs may differ: the first insertion that may make them so is
+ * at `place` in `procedure`. */
+typedef struct yuglemit_order {
+    size_t size;
+    uint64_t may_show;
+    uint64_t procedure, place;
+} yuglemit_order;
+
+#define YUGLEMIT_ORDER {sizeof(yuglemit_order), 0, 0, 0}
+
 typedef struct yuglemit_procedure {
     size_t size;
     uint64_t parameters;   /* their number */
@@ -262,7 +273,7 @@ static inline size_t yuglemit_raw_count(size_t size) { return size / sizeof(uint
  * was. *status is the exit status, a yuglemit_status.
  * Returns the length of the text: if it is more than `room_length`, nothing is written to `room`; call again with as much.
  * A program is run in the caller's thread, its actors in turn, as by `tw run --in-turn`: `--workers 4` are four workers of that one thread,
- * and the second call answers the same: tests show that, and for a program without DUPW whose run ends by itself it is proved.
+ * and the second call answers the same: tests show that, and if its run ends by itself and yuglemit_program_order writes 0, it is proved.
  * Nothing is printed before the end, nor on standard error.
  * yuglemit_session_text, below, takes arguments with line feeds, and needs no second call. */
 size_t yuglemit_session(const uint8_t *words, size_t words_length, const uint8_t *input, size_t input_length,
@@ -366,6 +377,14 @@ static inline uint8_t yuglemit_program_bounds(const yuglemit_program *program, s
     if (!yuglemit_raw_is_size(bounds->size)) return YUGLEMIT_NO_SIZE;
     yuglemit_program same = *program;
     return yuglemit_raw_program_bounds(&same, limit, &bounds->tasks, yuglemit_raw_count(bounds->size));
+}
+
+/* Writes whether the order of events may show in the program's outputs, whatever its inputs. YUGLEMIT_NO_PROGRAM, _NO_MEMORY, _NO_SIZE. */
+uint8_t yuglemit_raw_program_order(yuglemit_program *program, uint64_t *order, size_t count);
+static inline uint8_t yuglemit_program_order(const yuglemit_program *program, yuglemit_order *order) {
+    if (!yuglemit_raw_is_size(order->size)) return YUGLEMIT_NO_SIZE;
+    yuglemit_program same = *program;
+    return yuglemit_raw_program_order(&same, &order->may_show, yuglemit_raw_count(order->size));
 }
 
 /* Describe a procedure, a parameter, and the needed actors. YUGLEMIT_NO_PROGRAM, _NO_INDEX, _NO_SIZE. */

@@ -101,12 +101,14 @@ static int make_all(handles *all) {
     handles other = {{NULL}, {NULL}, {NULL}, {NULL}, {NULL}, {NULL}, {NULL}};
     yuglemit_ending ending = YUGLEMIT_ENDING;
     yuglemit_bounds bounds = YUGLEMIT_BOUNDS;
+    yuglemit_order order = YUGLEMIT_ORDER;
     int holds = is_memory(load(all, program_bytes, program_length, YUGLEMIT_ANY_FORMAT)) && is_memory(load(&other, source, sizeof source - 1, YUGLEMIT_TEXT));
     holds = holds && is_kept(words, sizeof words, source, sizeof source - 1, &other.text);
     holds = holds && is_memory(yuglemit_source_name(source, sizeof source - 1, 0, &all->text)) && is_memory(yuglemit_stop_new(&all->stop));
     holds = holds && is_memory(yuglemit_container_new(&all->container, 't', 't'));
     if (all->container.at) holds = holds && is_memory(yuglemit_member_text_by_text(&all->container, digits, 2, digits, 2)) && is_memory(yuglemit_input_container(&other.inputs, &all->container));
     if (all->program.at) holds = holds && is_memory(yuglemit_program_share(&all->program, &all->other)) && is_memory(yuglemit_program_bounds(&all->program, 0, &bounds));
+    if (all->program.at) holds = holds && is_memory(yuglemit_program_order(&all->program, &order));
     if (all->program.at && is_memory(yuglemit_input_text(&all->inputs, digits, 2)) && all->inputs.at) {
         uint8_t code = run(all);
         holds = holds && (is_memory(code) || code == YUGLEMIT_INPUT_COUNT) && (code == 0) == (all->report.at != NULL);

@@ -14,6 +14,7 @@ from fuzz_code import CONT, INT, TCONT, TEXT, Type, encode
 from fuzz_common import Corpus, FuzzTest, RunTest
 from fuzz_library import Library
 from fuzz_machine import Datum, Machine, Scalar, Value, run_in_turn
+from fuzz_orders import first_copy_insertion
 from fuzz_report import status_of
 
 ROOM = 64
@@ -57,6 +58,10 @@ class Bounds(Struct):
     _fields_ = fields(*COUNTED)
 
 
+class Order(Struct):
+    _fields_ = fields("may_show", "procedure", "place")
+
+
 class Verdict(Struct):
     _fields_ = fields("letter", "number", "engines", "workers", "procedure", "place", "line", "word", "column")
 
@@ -90,7 +95,8 @@ def handles(library: Library) -> Any:
         "raw_program_budget": [pointer, size, pointer], "input_int": [pointer, ctypes.c_int64], "input_text": [pointer, ctypes.c_char_p, size],
         "raw_run": [pointer, pointer, *numbers, *numbers, pointer, pointer], "raw_unfit_input": [pointer, pointer, pointer],
         "raw_report_find_int": [pointer, size, ctypes.c_int64, pointer], "raw_report_find_text": [pointer, size, ctypes.c_char_p, size, pointer],
-        "raw_program_bounds": [pointer, size, *numbers], "raw_report_ending": [pointer, *numbers], "raw_report_output": [pointer, size, pointer],
+        "raw_program_bounds": [pointer, size, *numbers], "raw_program_order": [pointer, *numbers],
+        "raw_report_ending": [pointer, *numbers], "raw_report_output": [pointer, size, pointer],
         "raw_report_member": [pointer, size, size, pointer], "raw_report_members": [pointer, size, size, pointer, size],
         "raw_report_text": [pointer, size, pointer, size], "raw_report_member_text": [pointer, size, size, pointer, size],
         "raw_report_subscript_text": [pointer, size, size, pointer, size], "program_free": [pointer], "inputs_free": [pointer], "report_free": [pointer],
@@ -238,6 +244,7 @@ class HandlesTest(RunTest):
             expect("budget", (0, most) if most is not None else NO_INDEX, (answer, budget.value) if most is not None else answer)
         for limit in (0, 1, 600, 1_000_001):
             self.compare_bounds(native, program, limit, is_accepted)
+        self.compare_order(native, program, is_accepted)
 
     def compare_bounds(self, native: Any, program: Any, limit: int, is_accepted: bool) -> None:
         unchanged = [77] * len(COUNTED)
@@ -245,6 +252,13 @@ class HandlesTest(RunTest):
         answer = native.yuglemit_raw_program_bounds(ctypes.byref(program), limit, *found.listed())
         expected = (NO_PROGRAM, unchanged) if not is_accepted else (NO_LIMIT, unchanged) if limit > 1_000_000 else (0, self.least(limit))
         expect(f"bounds by {limit}", expected, (answer, [getattr(found, name) for name in COUNTED]))
+
+    def compare_order(self, native: Any, program: Any, is_accepted: bool) -> None:
+        found = Order(77, 77, 77)
+        answer = native.yuglemit_raw_program_order(ctypes.byref(program), *found.listed())
+        at = first_copy_insertion(self.program) if is_accepted else None
+        expected = (NO_PROGRAM, 77, 77, 77) if not is_accepted else (0, 0, 0, 0) if at is None else (0, 1, *at)
+        expect("order", expected, (answer, found.may_show, found.procedure, found.place))
 
     def least(self, limit: int) -> list[int]:
         """Returns the bounds of runs with so many events at most, or of all runs if it is 0."""

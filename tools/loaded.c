@@ -326,6 +326,29 @@ static void check_caps(yuglemit_program *program) {
     yuglemit_report_free(report);
 }
 
+/* Whether the order of events may show, also with less and with more room. */
+static void check_order(void) {
+    const char *texts[] = {"proc control write cont int\nregs int\nNEW d1 d2 int\nSTORE d1 v0\nINS d0 v0 d2 +1\nJMP +1\nDROPR d2\nDROPW d0\nRET\n",
+                           "proc control write cont int\nregs\nDUPW d1 d0\nPUT 1 0 any 0\nPUT 1 0 any 1\nRET\n\n"
+                           "proc leaf write cont int\nregs int\nNEW d1 d2 int\nSTORE d1 v0\nINS d0 v0 d2 +1\nJMP +1\nDROPR d2\nDROPW d0\nRET\n"};
+    yuglemit_program program = {NULL};
+    yuglemit_verdict verdict = YUGLEMIT_VERDICT;
+    struct { yuglemit_order order; uint64_t more; } large = {{sizeof(yuglemit_order), 9, 9, 9}, 9};
+    yuglemit_order *order = &large.order;
+    check(yuglemit_program_order(&program, order) == YUGLEMIT_NO_PROGRAM && order->may_show == 9, "the order of no program");
+    check(yuglemit_load_source((const uint8_t *)texts[0], strlen(texts[0]), 't', &program, &verdict) == 0, "a program without DUPW");
+    check(yuglemit_program_order(&program, order) == 0 && order->may_show == 0 && order->procedure == 0 && order->place == 0, "the same in every order");
+    check(yuglemit_load_source((const uint8_t *)texts[1], strlen(texts[1]), 't', &program, &verdict) == 0, "a program with DUPW");
+    order->size = 2 * sizeof(uint64_t);
+    check(yuglemit_program_order(&program, order) == 0 && order->may_show == 1 && order->procedure == 0 && order->place == 0, "one number alone");
+    order->size = sizeof large;
+    check(yuglemit_program_order(&program, order) == 0 && order->may_show == 1 && order->procedure == 1 && order->place == 2, "an insertion by a copy");
+    check(large.more == 9, "no number more");
+    order->size = sizeof *order - 1;
+    check(yuglemit_program_order(&program, order) == YUGLEMIT_NO_SIZE, "an order of no size");
+    yuglemit_program_free(program);
+}
+
 /* Which input doesn't fit. */
 static void check_unfit(yuglemit_program *program) {
     const char *text = "proc control closed int closed text closed int\nregs\nDROPR d0\nDROPR d1\nDROPR d2\nRET\n";
@@ -738,6 +761,7 @@ static void *check_all(void *unused) {
     check_run(&program);
     check_caps(&program);
     check_more_caps();
+    check_order();
     check_unfit(&program);
     check_report(&program);
     check_finds();

@@ -167,6 +167,7 @@ MUTANTS = (
     Mutant("default_runs_are_longer", "cpp", CPP, "std::size_t limit = 10000;", "std::size_t limit = 20000;"),
     Mutant("caps_are_not_passed", "rust", RUST + "program.rs", "caps.raw()", "Caps::default().raw()"),
     Mutant("bounds_of_all_runs", "rust", RUST + "program.rs", "yuglemit_raw_program_bounds(&mut self.owner.seen(), limit, found", "yuglemit_raw_program_bounds(&mut self.owner.seen(), 0, found"),
+    Mutant("orders_are_the_same", "rust", RUST + "program.rs", "if may_show == 0 {", "if may_show <= 1 {"),
     Mutant("limits_are_stops", "rust", RUST + "report.rs", "            4 => End::Limit,\n", ""),
     Mutant("over_is_a_number", "rust", RUST + "program.rs", "            raw::OVER => Bound::Over,\n", ""),
     Mutant("reads_are_writes", "rust", RUST + "program.rs", "            b'r' => Mode::Read,\n", ""),

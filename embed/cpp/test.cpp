@@ -212,6 +212,13 @@ void test_bounds() {
     CHECK(endless.bounds(5).tasks == 5 && endless.bounds(5).members == 0 && endless.bounds(5).bytes == 0);
 }
 
+// docs/FORMAT.md has both answers of the check.
+void test_order() {
+    const auto same = Program::load(read("pipeline.twn")).order(), by_copies = Program::load(read("fan_out.twn")).order();
+    CHECK(same.may_show == 0 && same.procedure == 0 && same.place == 0);
+    CHECK(by_copies.may_show == 1 && by_copies.procedure == 1 && by_copies.place == 3);
+}
+
 bool is_above(const Options &options) {
     try {
         Program::load(read("pipeline.twn")).run({std::int64_t{39}}, options);
@@ -306,6 +313,7 @@ void test_throwing() {
     test_programs();
     test_printed();
     test_bounds();
+    test_order();
     test_caps();
     test_sessions();
     test_errors();

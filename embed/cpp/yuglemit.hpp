@@ -502,6 +502,12 @@ public:
         return detail::written([&](auto at) { return yuglemit_program_bounds(handle_.get(), limit, at); }, none);
     }
 
+    // Whether the order of events may show in outputs.
+    Result<yuglemit_order> try_order() const {
+        const yuglemit_order none = YUGLEMIT_ORDER;
+        return detail::written([&](auto at) { return yuglemit_program_order(handle_.get(), at); }, none);
+    }
+
     // Runs the program in this thread, its actors in turn.
     Result<Report> try_run(const std::vector<Value> &values = {}, const Options &options = {}) const {
         detail::StopHandle none;
@@ -520,6 +526,7 @@ public:
     Procedure procedure(std::size_t number) const { return detail::value_of(try_procedure(number)); }
     std::uint64_t budget(std::size_t procedure) const { return detail::value_of(try_budget(procedure)); }
     yuglemit_bounds bounds(std::size_t limit = 0) const { return detail::value_of(try_bounds(limit)); }
+    yuglemit_order order() const { return detail::value_of(try_order()); }
     Report run(const std::vector<Value> &values = {}, const Options &options = {}) const { return detail::value_of(try_run(values, options)); }
     Report run(const std::vector<Value> &values, const Options &options, const Stop &stop) const {
         return detail::value_of(try_run(values, options, stop));

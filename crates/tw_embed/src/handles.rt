@@ -4,6 +4,7 @@ ghost use Rattle.std.specs.Prelude.{◌≡◌};
 ghost use Rattle.tw_handles.specs.Asking.{IsBudgetOf, IsCountOf, IsShared};
 ghost use Rattle.tw_handles.specs.Caps.{AreBounds};
 ghost use Rattle.tw_handles.specs.Containers.{IsBegun, IsContainerAdded, IsMemberAdded, WithText, container_in, empty_by};
+ghost use Rattle.tw_handles.specs.EventOrder.{IsOrder};
 ghost use Rattle.tw_handles.specs.Loading.{IsLoading, IsVerified};
 ghost use Rattle.tw_handles.specs.Running.{IsAdded};
 ghost use Rattle.tw_handles.specs.Shape.{AreNeeds, IsNameRead, IsParameter, IsSection};
@@ -89,6 +90,19 @@ pub extern "C" fn yuglemit_raw_program_bounds(
     ensures is { AreBounds program.old.held limit numbers.old numbers.new result }
 {
     tw_handles::program_bounds(alloc, program, limit, numbers)
+}
+
+/// Exports `tw_handles::program_order`.
+#[unsafe(no_mangle)]
+pub extern "C" fn yuglemit_raw_program_order(
+    alloc: Global,
+    program: &mut Handle,
+    numbers: &mut [u64],
+) -> u8
+    ensures kept { program.new.held ≡ program.old.held }
+    ensures is { IsOrder program.old.held numbers.old numbers.new result }
+{
+    tw_handles::program_order(alloc, program, numbers)
 }
 
 /// Exports `tw_handles::describe_procedure`.

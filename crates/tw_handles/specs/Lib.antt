@@ -6,6 +6,8 @@ pub mod Caps
 pub mod Codes
 -- Containers that are to be inputs.
 pub mod Containers
+-- Whether the order of events may show.
+pub mod EventOrder
 -- The place of a subscript in an output.
 pub mod Finding
 -- The contents of a handle. A program in it is the one that the bytes encode.

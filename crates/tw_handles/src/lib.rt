@@ -6,6 +6,7 @@ mod caps;
 mod codes;
 mod container;
 mod containers;
+mod event_order;
 mod finding;
 mod given;
 mod handle;
@@ -30,6 +31,7 @@ pub use caps::AllCaps;
 pub use containers::{
     container_new, input_container, put_int, put_int_by_text, put_text, put_text_by_text,
 };
+pub use event_order::program_order;
 pub use finding::{find_int, find_text};
 pub use given::{input_int, input_text};
 pub use handle::Handle;

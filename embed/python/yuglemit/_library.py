@@ -86,6 +86,7 @@ _SHORT_CALLS: Dict[str, Sequence[Any]] = {
     "raw_program_parameter": (_AT, _SIZE, _SIZE, *_NUMBERS),
     "raw_program_budget": (_AT, _SIZE, ctypes.POINTER(ctypes.c_uint64)),
     "raw_program_bounds": (_AT, _SIZE, *_NUMBERS),
+    "raw_program_order": (_AT, *_NUMBERS),
     "input_int": (_AT, ctypes.c_int64),
     "input_text": (_AT, *_BYTES),
     "raw_input_container": (_AT, _AT),

@@ -142,6 +142,12 @@ class Loaded:
         _done(short().yuglemit_raw_program_bounds(self.root.seen(), limit, found, len(found)))
         return list(found)
 
+    def may_show_order(self) -> bool:
+        """Returns whether the order of events may show in outputs."""
+        found = numbers(0, 0, 0)
+        _done(short().yuglemit_raw_program_order(self.root.seen(), found, len(found)))
+        return found[0] != 0
+
     def heads(self) -> List[Head]:
         """Returns its procedures, main first."""
         count = ctypes.c_size_t()

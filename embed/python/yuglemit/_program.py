@@ -4,11 +4,10 @@
 from __future__ import annotations
 
 import hashlib
-import json
 import threading
 from contextlib import contextmanager
 from functools import cached_property, partial
-from typing import Dict, Iterator, Optional, Sequence, Tuple
+from typing import Iterator, Optional, Sequence, Tuple
 
 from . import _native
 from ._commands import ask, assemble, texted
@@ -105,8 +104,7 @@ class Program(metaclass=Shown):
     def same_in_every_order(self) -> bool:
         """Whether, with any inputs, all runs that end by themselves have the same outputs, in any layout and order of events. If false they may
         differ, or the check doesn't see that they don't: `tw check --order` names an instruction."""
-        checked: Dict[str, object] = json.loads(ask(["check", *self._format, "--order", "--json"], self._data))
-        return checked["order"] == "same"
+        return not self._kept.may_show_order()
 
     def is_long(self, limit: int = DEFAULT_LIMIT) -> bool:
         """Returns whether a run with this limit may take so long that one waits for it."""

@@ -82,6 +82,15 @@ pub struct Bounds {
     pub events: Bound,
 }
 
+/// Whether the order of events may show in outputs.
+#[derive(Clone, Copy, Debug, PartialEq, Eq)]
+pub enum EventOrder {
+    /// All runs with the same inputs that end by themselves end alike with the same outputs, in any layout and order.
+    Same,
+    /// Outputs may differ. This is the first insertion that may make them so.
+    MayShow { procedure: usize, place: usize },
+}
+
 /// How a run is made. Begin with the default, and change what you need: later versions have more fields.
 #[derive(Clone, Copy)]
 #[non_exhaustive]
@@ -258,6 +267,14 @@ impl Program {
             bytes: Bound::of(bytes),
             events: Bound::of(events),
         })
+    }
+
+    /// Returns whether the order of events may show in outputs, whatever the inputs.
+    pub fn order(&self) -> Result<EventOrder, Error> {
+        let mut found = [0; 3];
+        done(unsafe { raw::yuglemit_raw_program_order(&mut self.owner.seen(), found.as_mut_ptr(), found.len()) })?;
+        let [may_show, procedure, place] = found.map(|number| number as usize);
+        Ok(if may_show == 0 { EventOrder::Same } else { EventOrder::MayShow { procedure, place } })
     }
 
     /// Runs the program in this thread, its actors in turn, with at most 10,000 events.

@@ -44,6 +44,7 @@ unsafe extern "C" {
     pub fn yuglemit_raw_program_procedures(program: *mut Handle, count: *mut usize) -> u8;
     pub fn yuglemit_raw_program_budget(program: *mut Handle, procedure: usize, budget: *mut u64) -> u8;
     pub fn yuglemit_raw_program_bounds(program: *mut Handle, limit: usize, bounds: *mut u64, count: usize) -> u8;
+    pub fn yuglemit_raw_program_order(program: *mut Handle, order: *mut u64, count: usize) -> u8;
     pub fn yuglemit_raw_program_procedure(program: *mut Handle, procedure: usize, found: *mut u64, count: usize) -> u8;
     pub fn yuglemit_raw_program_parameter(program: *mut Handle, procedure: usize, index: usize, found: *mut u64, count: usize) -> u8;
     pub fn yuglemit_input_int(inputs: *mut Handle, number: i64) -> u8;

@@ -4,7 +4,7 @@ use std::collections::BTreeMap;
 use std::fs;
 use std::thread;
 
-use yuglemit::{Bound, Bounds, Caps, Container, End, Error, Format, Mode, Options, Parameter, Program, RunError, Stop, Type, Value, session};
+use yuglemit::{Bound, Bounds, Caps, Container, End, Error, EventOrder, Format, Mode, Options, Parameter, Program, RunError, Stop, Type, Value, session};
 
 const ENDLESS: &str = "proc control\nregs int int\nINT v1 1\nREPEAT 5\nREPEAT 1000\nADD v0 v0 v1 no\nno:\nEND\nEND\nPUT 0 0 any\nRET\n";
 /// Inserts a text by a text: the member is a text, and its subscript another.
@@ -118,6 +118,14 @@ fn what_is_no_input() {
     let mut wide = Options::default();
     wide.workers = 17;
     assert_eq!(same("int").run_with(&[7.into()], &wide).err(), Some(Error::NoLayout));
+}
+
+#[test]
+fn orders_are_checked() -> Result<(), Error> {
+    // docs/FORMAT.md has both answers of the check.
+    let (Some(same), Some(copies)) = (example("pipeline.twn"), example("fan_out.twn")) else { return Ok(()) };
+    assert_eq!((same.order()?, copies.order()?), (EventOrder::Same, EventOrder::MayShow { procedure: 1, place: 3 }));
+    Ok(())
 }
 
 #[test]
