@@ -70,6 +70,14 @@ def output_of(words: str) -> tuple[str, Any]:
     return words.split(" ")[0], scalar(words)
 
 
+def order_of(line: str) -> str | dict[str, int] | None:
+    """Returns what a line about the order of events says."""
+    place = re.fullmatch(r"order may show in procedure (\d+) at place (\d+)", line)
+    if place:
+        return {"procedure": int(place[1]), "place": int(place[2])}
+    return "same" if line == "order same" else None
+
+
 def report_object(report: str) -> dict[str, Any]:
     """Returns what the object of a run or of a state has to say, by its report."""
     kinds: list[str] = []
@@ -89,6 +97,8 @@ def report_object(report: str) -> dict[str, Any]:
             found |= {"status": "stuck", "pending": int(line.split()[1])}
         elif line.startswith("waits "):
             found.setdefault("circle", []).append([int(word) for word in line.split()[1:]])
+        elif line.startswith("order "):
+            found["order"] = order_of(line)
     return found
 
 
@@ -113,10 +123,8 @@ def put_check_line(found: dict[str, Any], line: str) -> None:
         found["needs"] = {"engines": int(words[2]), "workers": int(words[4])}
     elif circle := re.fullmatch(r"bound none: procedure (\d+) at place (\d+) leads back to itself", line):
         found["circle"] = {"procedure": int(circle[1]), "place": int(circle[2])}
-    elif line == "order same":
-        found["order"] = "same"
-    elif shown := re.fullmatch(r"order may show in procedure (\d+) at place (\d+)", line):
-        found["order"] = {"procedure": int(shown[1]), "place": int(shown[2])}
+    elif words[0] == "order":
+        found["order"] = order_of(line)
     elif words[0] == "bounds":
         found["procedures"][int(words[1])]["bounds"] = bounds_of(words[2:16])
         if words[1] == "0":

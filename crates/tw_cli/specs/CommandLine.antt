@@ -63,8 +63,14 @@ pub data Asked : Type 0 where
 abbrev pub given_answer : List Row → Answer
 given_answer rows = if is_given json rows then Json else if is_given stats rows then Numbers else Report
 
+abbrev pub json_answer : List Row → RunAnswer
+json_answer rows = if is_given event_order rows then written.OrderJson else written.Json
+
+abbrev pub text_answer : List Row → RunAnswer
+text_answer rows = if is_given event_order rows then written.Order else if is_given stats rows then written.Numbers else written.Report
+
 abbrev pub written_answer : List Row → RunAnswer
-written_answer rows = if is_given json rows then written.Json else if is_given stats rows then written.Numbers else written.Report
+written_answer rows = if is_given json rows then json_answer rows else text_answer rows
 
 abbrev pub run_answer : List Row → RunAnswer
 run_answer rows = if is_given picture rows then written.Picture (given_range rows) else written_answer rows
@@ -162,9 +168,13 @@ input_faults rows = if is_given inputs rows && not (is_empty (given_words rows))
 abbrev pub has_more : List Row → Bool
 has_more rows = is_given trace rows || is_given stats rows
 
+-- holds if a trace, statistics or the order are requested
+abbrev pub has_details : List Row → Bool
+has_details rows = is_given event_order rows || has_more rows
+
 -- returns whether something is given that `--each` excludes
 abbrev pub each_excludes : List Row → Bool
-each_excludes rows = (is_given picture rows || has_more rows) || (is_given inputs_json rows || (is_given inputs rows || not (is_empty (given_words rows))))
+each_excludes rows = (is_given picture rows || has_details rows) || (is_given inputs_json rows || (is_given inputs rows || not (is_empty (given_words rows))))
 
 -- return the fault of `--each` with other output or other inputs, or of the number of its threads
 abbrev pub each_faults : List Row → Kinds
@@ -207,13 +217,20 @@ is_json_with_more rows = is_given json rows && has_more rows
 abbrev pub json_faults : List Row → Kinds
 json_faults rows = if is_json_with_more rows then ArgumentConflict ∷ [] else []
 
--- returns the fault of a timeline that is not alone: with a trace before it, with statistics after it, or with a JSON line
+abbrev pub is_order_with_stats : List Row → Bool
+is_order_with_stats rows = is_given event_order rows && is_given stats rows
+
+-- returns the fault of the order with statistics, or that of a JSON line
+abbrev pub written_faults : List Row → Kinds
+written_faults rows = if is_order_with_stats rows then ArgumentConflict ∷ [] else json_faults rows
+
+-- returns the fault of a timeline that is not alone: with a trace before it, with statistics or the order after it, or with a JSON line
 abbrev pub drawn_faults : List Row → Kinds
-drawn_faults rows = if is_given json rows || has_more rows then ArgumentConflict ∷ [] else stretch_faults rows
+drawn_faults rows = if is_given json rows || has_details rows then ArgumentConflict ∷ [] else stretch_faults rows
 
 -- returns the fault of a range without a timeline, and those of a timeline
 abbrev pub picture_faults : List Row → Kinds
-picture_faults rows = if is_given picture rows then drawn_faults rows else if is_cut rows then ArgumentConflict ∷ [] else json_faults rows
+picture_faults rows = if is_given picture rows then drawn_faults rows else if is_cut rows then ArgumentConflict ∷ [] else written_faults rows
 
 -- return the faults of `run`, and of a trace and its inputs
 abbrev pub run_faults : List Row → Kinds

@@ -38,7 +38,7 @@ reading_arguments = flag text ∷ argument Inputs inputs ∷ argument Positions 
 abbrev pub run_arguments : List Argument
 run_arguments =
     numbers number_options ++ (numbers (jobs ∷ [])
-    ++ (flag trace ∷ flag stats ∷ flag json ∷ argument Inputs each ∷ flag picture ∷ (numbers cap_options
+    ++ (flag trace ∷ flag stats ∷ flag event_order ∷ flag json ∷ argument Inputs each ∷ flag picture ∷ (numbers cap_options
     ++ (flag in_turn ∷ argument Value seed.name ∷ flag quiet ∷ argument Inputs inputs_json ∷ reading_arguments))))
 
 abbrev pub rows : List Command

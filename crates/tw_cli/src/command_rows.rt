@@ -80,6 +80,7 @@ pub const COMMANDS: [CommandRow<'static>; 7] = [
         ArgumentRow { form: ArgumentForm::Value, name: "jobs", help: JOBS_HELP },
         ArgumentRow { form: ArgumentForm::Flag, name: "trace", help: TRACE_HELP },
         ArgumentRow { form: ArgumentForm::Flag, name: "stats", help: STATS_HELP },
+        ArgumentRow { form: ArgumentForm::Flag, name: "order", help: ORDER_HELP },
         ArgumentRow { form: ArgumentForm::Flag, name: "json", help: JSON_HELP },
         ArgumentRow { form: ArgumentForm::Inputs, name: "each", help: EACH_HELP },
         ArgumentRow { form: ArgumentForm::Flag, name: "picture", help: PICTURE_HELP },

@@ -1,20 +1,20 @@
 //! The options of the orders whose inputs are JSON: to run each line of inputs, and one run.
 
-ghost use Rattle.std.specs.Prelude.{◌≡◌, true, false, is_some};
+ghost use Rattle.std.specs.Prelude.{◌≡◌, is_some};
 ghost use Rattle.clap.specs.Words.{first_of, found_of, rows_of};
 ghost use Rattle.tw_cli.specs.CommandLine.{each_excludes, json_excludes};
 ghost use Rattle.tw_cli.specs.Options.{jobs, number_of};
 
 use crate::found::{flag_given, has_words, number_given};
 use crate::seed::is_seed_alone;
-use crate::shown::{Conflict, has_more, is_named};
+use crate::shown::{Conflict, has_details, is_named};
 use clap::ArgMatches;
 
 /// Returns whether an option or an input argument is given that `--each` excludes.
 pub(crate) fn each_excludes(matches: &ArgMatches<'_>) -> bool
     ensures { result ≡ each_excludes (rows_of (found_of matches.now)) }
 {
-    (flag_given(matches, "picture") || has_more(matches))
+    (flag_given(matches, "picture") || has_details(matches))
         || (flag_given(matches, "inputs-json")
             || (flag_given(matches, "inputs") || has_words(matches)))
 }

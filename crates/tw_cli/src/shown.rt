@@ -3,8 +3,8 @@
 ghost use Rattle.std.specs.Prelude.{◌≡◌, [], ◌∷◌, is_some, IfErr, IfOk, MatchOption};
 ghost use Rattle.clap.specs.Words.{first_of, found_of, rows_of};
 ghost use Rattle.clap.specs.declared.error.ErrorKind.TheVariants.{ArgumentConflict, ValueValidation};
-ghost use Rattle.tw_cli.specs.CommandLine.{has_more, is_cut, is_json_with_more, json_faults, picture_faults, run_answer, stretch_faults, written_answer};
-ghost use Rattle.tw_cli.specs.Options.{HasStretch, option_faults, stretch_options, given_range};
+ghost use Rattle.tw_cli.specs.CommandLine.{has_details, has_more, is_cut, is_json_with_more, is_order_with_stats, json_answer, picture_faults, run_answer, text_answer, written_answer, written_faults};
+ghost use Rattle.tw_cli.specs.Options.{HasStretch, option_faults, stretch_options};
 
 use crate::found::{flag_given, number_given};
 use clap::ArgMatches;
@@ -15,6 +15,8 @@ use tw_order::{EventRange, RunAnswer};
 pub(crate) enum Conflict {
     /// A JSON line, together with a trace or statistics.
     JsonWithMore,
+    /// Whether the order may show, together with statistics.
+    OrderWithStats,
     /// A run of each line, together with other output or other inputs.
     EachWithMore,
     /// JSON inputs, together with other inputs.
@@ -23,7 +25,7 @@ pub(crate) enum Conflict {
     JobsAlone,
     /// A seed without a single run in one thread.
     SeedAlone,
-    /// A timeline, together with a trace, statistics or a JSON line.
+    /// A timeline, together with other output.
     PictureWithMore,
     /// A range of events without a timeline.
     RangeAlone,
@@ -72,22 +74,60 @@ pub(crate) fn is_json_with_more(matches: &ArgMatches<'_>) -> bool
     flag_given(matches, "json") && has_more(matches)
 }
 
+/// Returns whether a trace, statistics or the order are requested.
+pub(crate) fn has_details(matches: &ArgMatches<'_>) -> bool
+    ensures { result ≡ has_details (rows_of (found_of matches.now)) }
+{
+    flag_given(matches, "order") || has_more(matches)
+}
+
+/// Returns whether the order is requested with statistics.
+fn is_order_with_stats(matches: &ArgMatches<'_>) -> bool
+    ensures { result ≡ is_order_with_stats (rows_of (found_of matches.now)) }
+{
+    flag_given(matches, "order") && flag_given(matches, "stats")
+}
+
+/// Returns the JSON line that `run` prints.
+fn json_answer(matches: &ArgMatches<'_>) -> RunAnswer
+    ensures { result ≡ json_answer (rows_of (found_of matches.now)) }
+{
+    if flag_given(matches, "order") {
+        RunAnswer::OrderJson
+    } else {
+        RunAnswer::Json
+    }
+}
+
+/// Returns the report that `run` prints.
+fn text_answer(matches: &ArgMatches<'_>) -> RunAnswer
+    ensures { result ≡ text_answer (rows_of (found_of matches.now)) }
+{
+    if flag_given(matches, "order") {
+        RunAnswer::Order
+    } else if flag_given(matches, "stats") {
+        RunAnswer::Numbers
+    } else {
+        RunAnswer::Report
+    }
+}
+
 /// Returns what `run` prints if that is no timeline.
 fn written_answer(matches: &ArgMatches<'_>) -> Result<RunAnswer, Conflict>
-    ensures taken { IfOk result (λ answer. (json_faults (rows_of (found_of matches.now)) ≡ [])
+    ensures taken { IfOk result (λ answer. (written_faults (rows_of (found_of matches.now)) ≡ [])
         × (answer ≡ written_answer (rows_of (found_of matches.now)))) }
-    ensures refused { IfErr result (λ conflict. json_faults (rows_of (found_of matches.now)) ≡ ArgumentConflict ∷ []) }
+    ensures refused { IfErr result (λ conflict. written_faults (rows_of (found_of matches.now)) ≡ ArgumentConflict ∷ []) }
 {
+    if is_order_with_stats(matches) {
+        return Err(Conflict::OrderWithStats);
+    }
+    if is_json_with_more(matches) {
+        return Err(Conflict::JsonWithMore);
+    }
     if flag_given(matches, "json") {
-        if has_more(matches) {
-            return Err(Conflict::JsonWithMore);
-        }
-        return Ok(RunAnswer::Json);
+        return Ok(json_answer(matches));
     }
-    if flag_given(matches, "stats") {
-        return Ok(RunAnswer::Numbers);
-    }
-    Ok(RunAnswer::Report)
+    Ok(text_answer(matches))
 }
 
 /// Returns what `run` writes. `stretch` are the events for a timeline.
@@ -101,7 +141,7 @@ pub(crate) fn run_answer(
     ensures refused { IfErr result (λ conflict. picture_faults (rows_of (found_of matches.now)) ≡ ArgumentConflict ∷ []) }
 {
     if flag_given(matches, "picture") {
-        if flag_given(matches, "json") || has_more(matches) {
+        if flag_given(matches, "json") || has_details(matches) {
             return Err(Conflict::PictureWithMore);
         }
         if stretch.is_reversed() {

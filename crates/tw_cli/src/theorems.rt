@@ -63,6 +63,10 @@ pub fn commands_are_taken()
         × (asked_by_words (codes "run" ∷ codes "--stats" ∷ codes "--trace" ∷ []) ≡ Runs Hex written.Numbers (actors 1 1 1) uncapped 10000 true false None (Some [])) }
     ensures run_json { (word_faults (codes "run" ∷ codes "--json" ∷ []) ≡ [])
         × (asked_by_words (codes "run" ∷ codes "--json" ∷ []) ≡ Runs Hex written.Json (actors 1 1 1) uncapped 10000 false false None (Some [])) }
+    ensures run_order { (word_faults (codes "run" ∷ codes "--order" ∷ codes "--trace" ∷ []) ≡ [])
+        × (asked_by_words (codes "run" ∷ codes "--order" ∷ codes "--trace" ∷ []) ≡ Runs Hex written.Order (actors 1 1 1) uncapped 10000 true false None (Some [])) }
+    ensures run_order_json { (word_faults (codes "run" ∷ codes "--json" ∷ codes "--order" ∷ []) ≡ [])
+        × (asked_by_words (codes "run" ∷ codes "--json" ∷ codes "--order" ∷ []) ≡ Runs Hex written.OrderJson (actors 1 1 1) uncapped 10000 false false None (Some [])) }
     ensures run_each { (word_faults (codes "run" ∷ codes "--each" ∷ codes "--text" ∷ codes "--jobs" ∷ codes "9" ∷ []) ≡ [])
         × (asked_by_words (codes "run" ∷ codes "--each" ∷ codes "--text" ∷ codes "--jobs" ∷ codes "9" ∷ []) ≡ RunsEach Assembly (actors 1 1 1) uncapped 10000 9) }
     ensures run_json_inputs { (word_faults (codes "run" ∷ codes "--inputs-json" ∷ codes "--trace" ∷ []) ≡ [])
@@ -150,6 +154,7 @@ pub fn strangers_are_refused()
     ensures two_inputs { word_faults (codes "run" ∷ codes "--inputs-json" ∷ codes "--inputs" ∷ []) ≡ ArgumentConflict ∷ [] }
     ensures traced_picture { word_faults (codes "run" ∷ codes "--picture" ∷ codes "--trace" ∷ []) ≡ ArgumentConflict ∷ [] }
     ensures counted_picture { word_faults (codes "run" ∷ codes "--stats" ∷ codes "--picture" ∷ []) ≡ ArgumentConflict ∷ [] }
+    ensures counted_order { word_faults (codes "run" ∷ codes "--order" ∷ codes "--stats" ∷ []) ≡ ArgumentConflict ∷ [] }
     ensures stretch_alone { word_faults (codes "run" ∷ codes "--from" ∷ codes "1" ∷ []) ≡ ArgumentConflict ∷ [] }
     ensures end_alone { word_faults (codes "run" ∷ codes "--to" ∷ codes "9" ∷ codes "--stats" ∷ []) ≡ ArgumentConflict ∷ [] }
     ensures reversed { word_faults (codes "picture" ∷ codes "--from" ∷ codes "5" ∷ codes "--to" ∷ codes "4" ∷ []) ≡ ArgumentConflict ∷ [] }

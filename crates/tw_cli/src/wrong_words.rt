@@ -45,15 +45,17 @@ fn range_line(given: &ArgMatches<'_>) -> Option<&'static str> {
 fn conflict_line(conflict: Conflict) -> &'static str {
     match conflict {
         Conflict::JsonWithMore => "error: --json excludes --trace and --stats\n",
+        Conflict::OrderWithStats => "error: --order excludes --stats\n",
         Conflict::EachWithMore => {
-            "error: --each excludes --trace, --stats, --picture, --inputs, --inputs-json and input arguments\n"
+            "error: --each excludes --trace, --stats, --order, --picture, --inputs, --inputs-json and input arguments\n"
         }
         Conflict::JsonInputsWithMore => {
             "error: --inputs-json excludes --inputs and input arguments\n"
         }
         Conflict::JobsAlone => "error: --jobs needs --each\n",
         Conflict::SeedAlone => "error: --seed needs --in-turn, and excludes --each\n",
-        Conflict::PictureWithMore => "error: --picture excludes --trace, --stats and --json\n",
+        Conflict::PictureWithMore =>
+            "error: --picture excludes --trace, --stats, --order and --json\n",
         Conflict::RangeAlone => "error: --from and --to need --picture\n",
         Conflict::Reversed => "error: --to takes no number below that of --from\n",
     }

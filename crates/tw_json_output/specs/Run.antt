@@ -36,9 +36,12 @@ run_members status events instructions live ids =
     (json.member (codes "outputs") (json.array (items_of (outputs_json live ids)))
     (json.member (codes "status") (json.string status) json.no_members))))
 
--- returns the object of a run that has ended so, after so many events and instructions, with these outputs in the live data
+-- return the members, and the object, of a run that has ended so, after so many events and instructions, with these outputs in the live data
+abbrev pub end_members : List ℕ → Option ℕ → Option (List Link) → ℕ → ℕ → Data → List ℕ → json.Members
+end_members status pending circle events instructions live ids = with_circle circle (with_pending pending (run_members status events instructions live ids))
+
 abbrev pub run_json : List ℕ → Option ℕ → Option (List Link) → ℕ → ℕ → Data → List ℕ → json.Data
-run_json status pending circle events instructions live ids = json.object (with_circle circle (with_pending pending (run_members status events instructions live ids)))
+run_json status pending circle events instructions live ids = json.object (end_members status pending circle events instructions live ids)
 
 -- returns the object on one line
 abbrev pub json_line : json.Data → List ℕ

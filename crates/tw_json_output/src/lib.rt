@@ -10,5 +10,5 @@ mod text_object;
 mod values;
 
 pub use printed_lines::lines_value;
-pub use run_object::{RunEnd, RunNumbers, line_of, run_line};
+pub use run_object::{RunEnd, RunNumbers, end_members, line_of, run_line};
 pub use text_object::{Printed, explanation_line, members_with, printed_line, text_value};

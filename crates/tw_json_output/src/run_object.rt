@@ -3,8 +3,8 @@
 ghost use Rattle.std.specs.Prelude.{◌≡◌, false, IfOk, OnOk, option_map, string_bytes};
 ghost use Rattle.serde_json.specs.Data.{object};
 ghost use Rattle.serde_json.specs.View.{members_view, view};
-ghost use Rattle.serde_json.specs.Written.{has_float};
-ghost use Rattle.tw_json_output.specs.Run.{circle_json, json_line, link_json, run_json, run_members, size_json, with_circle, with_pending};
+ghost use Rattle.serde_json.specs.Written.{has_float, members_have_float};
+ghost use Rattle.tw_json_output.specs.Run.{circle_json, end_members, json_line, link_json, run_json, run_members, size_json, with_circle, with_pending};
 
 use crate::output_kinds::output_kinds;
 use crate::outputs::output_values;
@@ -119,6 +119,21 @@ pub fn line_of(alloc: Global, value: &Json) -> Result<String, AllocError>
     Ok(line)
 }
 
+/// Returns the members of the object of a run.
+pub fn end_members<T: ReportSource>(
+    alloc: Global,
+    shown: &T,
+    numbers: RunNumbers,
+    end: &RunEnd<'_>,
+) -> Result<Map<String, Json>, AllocError>
+    ensures is { IfOk result (λ members. members_view members.entries ≡ end_members end.now.status.now end.now.pending (option_map (λ v. v.items) end.now.circle) numbers.events numbers.instructions (T.live shown.now) (T.ids shown.now)) }
+    ensures whole { IfOk result (λ members. members_have_float (members_view members.entries) ≡ false) }
+{
+    let mut members = run_members(alloc, shown, numbers, end.status)?;
+    put_pending(alloc, &mut members, end)?;
+    Ok(members)
+}
+
 /// Returns the object of a run, on one line.
 pub fn run_line<T: ReportSource>(
     alloc: Global,
@@ -128,7 +143,6 @@ pub fn run_line<T: ReportSource>(
 ) -> Result<String, AllocError>
     ensures { IfOk result (λ line. string_bytes line ≡ json_line (run_json end.now.status.now end.now.pending (option_map (λ v. v.items) end.now.circle) numbers.events numbers.instructions (T.live shown.now) (T.ids shown.now))) }
 {
-    let mut members = run_members(alloc, shown, numbers, end.status)?;
-    put_pending(alloc, &mut members, end)?;
+    let members = end_members(alloc, shown, numbers, end)?;
     line_of(alloc, &Json::Object(members))
 }

@@ -15,8 +15,12 @@ pub enum RunAnswer {
     Report,
     /// The report, followed by statistics.
     Numbers,
+    /// The report, followed by whether the order of events may show in outputs.
+    Order,
     /// The run as a JSON object on one line.
     Json,
+    /// Like `Json`, with a member that says whether the order may show.
+    OrderJson,
     /// The timeline of these events.
     Picture(EventRange),
 }

@@ -129,7 +129,7 @@ listing_fine : (listing : Option (List ℕ)) (ms : json.Members) → members_hav
 listing_fine None ms before = before
 listing_fine (Some text) ms before = one_more (codes "listing") (lines_json text) ms (strings (lines (utf8_lossy text))) before
 
-order_fine : (answer : Option (Option CopyInsertion)) (ms : json.Members) → members_have_float ms ≡ false → members_have_float (with_order answer ms) ≡ false
+pub order_fine : (answer : Option (Option CopyInsertion)) (ms : json.Members) → members_have_float ms ≡ false → members_have_float (with_order answer ms) ≡ false
 order_fine None ms before = before
 order_fine (Some None) ms before = one_more (codes "order") (order_json None) ms refl before
 order_fine (Some (Some at)) ms before =

@@ -9,7 +9,7 @@ use Rattle.tw_code.specs.declared.instr.Instr.TheVariants as instr
 use Rattle.tw_code.specs.declared.procedure.Procedure.{Procedure}
 use Rattle.tw_bounds.specs.Circles.{IsCircle}
 use Rattle.tw_bounds.specs.declared.circles.Circle.{Circle}
-use Rattle.tw_copies.specs.Copies.{IsCopyInsertion}
+use Rattle.tw_copies.specs.Copies.{IsAt}
 use Rattle.tw_copies.specs.declared.check.CopyInsertion.{CopyInsertion}
 use Rattle.tw_program_output.specs.Source.{MayBeSource, MayBeSourceAt}
 use Rattle.tw_program_output.specs.declared.source.SourceText.{SourceText}
@@ -33,7 +33,7 @@ pub source_at : (source : Option SourceText) (program : List Procedure) (circle 
 source_at None program circle h is = tt
 source_at (Some source) program circle h is = (h.1, circle_there program circle is, h.3)
 
-pub insertion_at : (source : Option SourceText) (program : List Procedure) (insertion : CopyInsertion) → MayBeSource source program → IsCopyInsertion program insertion.procedure insertion.place
+pub insertion_at : (source : Option SourceText) (program : List Procedure) (insertion : CopyInsertion) → MayBeSource source program → (i : Instr) → IsAt program insertion.procedure insertion.place i
     → MayBeSourceAt source program insertion.procedure insertion.place
-insertion_at None program insertion h is = tt
-insertion_at (Some source) program insertion h is = (h.1, some_there program insertion.procedure insertion.place is.at.0 is.i is.at.1 is.at.2, h.3)
+insertion_at None program insertion h i is = tt
+insertion_at (Some source) program insertion h i is = (h.1, some_there program insertion.procedure insertion.place is.0 i is.1 is.2, h.3)

@@ -2,8 +2,9 @@
 
 ghost use Rattle.std.specs.Prelude.{◌≡◌, ◌++◌, IfOk, List, OnOk, Option, ℕ};
 ghost use Rattle.serde_json.specs.View.{members_view, view};
+ghost use Rattle.tw_code.specs.declared.instr.Instr.{Instr};
 ghost use Rattle.tw_code.specs.declared.procedure.Procedure.{Procedure};
-ghost use Rattle.tw_copies.specs.Copies.{IsCopyInsertion};
+ghost use Rattle.tw_copies.specs.Copies.{IsAt};
 ghost use Rattle.tw_program_output.specs.EventOrder.{IsOrderText, MayBeChecked, MayPrintOrder, insertion_line, insertion_members, order_json, with_order};
 ghost use Rattle.tw_program_output.specs.Source.{MayBeSource, text_of};
 ghost use Rattle.tw_program_output.specs.Text.{IsPlaceText};
@@ -35,13 +36,13 @@ fn put_insertion_line(
 }
 
 /// Adds that line, and the insertion's line of the text if there is a text.
-fn put_insertion(
+pub fn put_insertion(
     alloc: Global,
     out: &mut Vec<u8>,
     source: &Option<SourceText<'_>>,
     insertion: CopyInsertion,
 ) -> Result<(), AllocError>
-    ensures { (program : List Procedure) → MayBeSource source.now program → IsCopyInsertion program insertion.procedure insertion.place
+    ensures { (program : List Procedure) → MayBeSource source.now program → (i : Instr) → IsAt program insertion.procedure insertion.place i
         → OnOk result ((more : List ℕ) × IsPlaceText (text_of source.now) insertion.procedure insertion.place more × (out.new.items ≡ out.old.items ++ (insertion_line insertion ++ more))) }
 {
     put_insertion_line(alloc, out, insertion)?;
@@ -58,7 +59,8 @@ fn put_order(
     requires { MayBeSource source.now verified.now.program }
     ensures { OnOk result ((lines : List ℕ) × IsOrderText (text_of source.now) verified.now.program lines × (out.new.items ≡ out.old.items ++ lines)) }
 {
-    match first_copy_insertion(alloc, verified)? {
+    let found = first_copy_insertion(alloc, verified)?;
+    match found {
         Some(insertion) => put_insertion(alloc, out, source, insertion),
         None => put(out, "order same\n"),
     }
@@ -98,7 +100,7 @@ fn insertion_members(
 }
 
 /// Returns the word `same`, or the place of the insertion.
-fn order_value(alloc: Global, found: Option<CopyInsertion>) -> Result<Json, AllocError>
+pub fn order_value(alloc: Global, found: Option<CopyInsertion>) -> Result<Json, AllocError>
     ensures { IfOk result (λ value. view value ≡ order_json found) }
 {
     match found {

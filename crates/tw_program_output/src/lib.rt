@@ -28,6 +28,7 @@ pub use assembled::assembled_reply;
 pub use check::{checked_reply, rejection_reply};
 pub use close::Close;
 pub use error_json::{error_line, failure_in, listed_error_line};
+pub use event_order::{order_value, put_insertion};
 pub use examples::{example_word, put_examples};
 pub use failure::{ErrorCode, Failure, Position, put_failure_line};
 pub use inputs::{input_parts, input_word_reply, refused_words_reply, unreadable_reply};

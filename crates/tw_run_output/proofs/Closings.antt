@@ -2,7 +2,7 @@
 use Rattle.std.proofs.Common.{◌≡◌, ℕ, List, Some, refl, sym, subst}
 use Rattle.tw_run_output.proofs.RunNames.{Event, Procedure, State, circle}
 use Rattle.tw_order.specs.declared.runs.RunAnswer.{RunAnswer}
-use Rattle.tw_order.specs.declared.runs.RunAnswer.TheVariants.{Json, Numbers, Picture, Report}
+use Rattle.tw_order.specs.declared.runs.RunAnswer.TheVariants.{Json, Numbers, Order, OrderJson, Picture, Report}
 use Rattle.tw_order.specs.declared.runs.RunOrder.{RunOrder}
 use Rattle.tw_order.specs.declared.range.EventRange.{EventRange}
 use Rattle.tw_pool.specs.declared.answer.Closing.{Closing}
@@ -27,20 +27,26 @@ closing_else text program order events s closing.Stopped old other = nothing_add
 abbrev pub IsReported : RunAnswer → Type 0
 IsReported Report = Unit {0}
 IsReported Numbers = Unit {0}
+IsReported Order = Unit {0}
 IsReported Json = ⊥
+IsReported OrderJson = ⊥
 IsReported (Picture shown) = ⊥
 
-pub reported : (answer : RunAnswer) → (answer ≡ Json → ⊥) → ((shown : EventRange) → answer ≡ Picture shown → ⊥) → IsReported answer
-reported Report json drawn = tt
-reported Numbers json drawn = tt
-reported Json json drawn = json refl
-reported (Picture shown) json drawn = drawn shown refl
+pub reported : (answer : RunAnswer) → (answer ≡ Json → ⊥) → (answer ≡ OrderJson → ⊥) → ((shown : EventRange) → answer ≡ Picture shown → ⊥) → IsReported answer
+reported Report json ordered drawn = tt
+reported Numbers json ordered drawn = tt
+reported Order json ordered drawn = tt
+reported Json json ordered drawn = json refl
+reported OrderJson json ordered drawn = ordered refl
+reported (Picture shown) json ordered drawn = drawn shown refl
 
 pub run_printed : (answer : RunAnswer) (text : List ℕ) (program : List Procedure) (order : RunOrder) (events : List Event) (s : State) (c : Closing) (old new : List ℕ) → IsReported answer
     → Adds (AreClosingDetails text program order events s c) old new → Adds (AreRunDetails answer (Some text) program order events s c) old new
 run_printed Report text program order events s c old new other h = h
 run_printed Numbers text program order events s c old new other h = h
+run_printed Order text program order events s c old new other h = h
 run_printed Json text program order events s c old new other h = absurd other
+run_printed OrderJson text program order events s c old new other h = absurd other
 run_printed (Picture shown) text program order events s c old new other h = absurd other
 
 pub run_drawn : (answer : RunAnswer) (shown : EventRange) (text : List ℕ) (program : List Procedure) (order : RunOrder) (events : List Event) (s : State) (c : Closing) (old : List ℕ) → answer ≡ Picture shown
@@ -52,3 +58,8 @@ pub run_json : (answer : RunAnswer) (text : List ℕ) (program : List Procedure)
     → Adds (AreRunDetails answer (Some text) program order events s c) old old
 run_json answer text program order events s c old is =
     subst (λ (a : RunAnswer). Adds (AreRunDetails a (Some text) program order events s c) old old) (sym is) (nothing_added (AreRunDetails Json (Some text) program order events s c) old refl)
+
+pub run_order_json : (answer : RunAnswer) (text : List ℕ) (program : List Procedure) (order : RunOrder) (events : List Event) (s : State) (c : Closing) (old : List ℕ) → answer ≡ OrderJson
+    → Adds (AreRunDetails answer (Some text) program order events s c) old old
+run_order_json answer text program order events s c old is =
+    subst (λ (a : RunAnswer). Adds (AreRunDetails a (Some text) program order events s c) old old) (sym is) (nothing_added (AreRunDetails OrderJson (Some text) program order events s c) old refl)

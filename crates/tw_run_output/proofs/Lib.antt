@@ -3,4 +3,5 @@ pub mod RunEvents
 pub mod Instructions
 pub mod Tracing
 pub mod Closings
+pub mod Orders
 mod RunNames

@@ -1,12 +1,13 @@
 -- The JSON line of a finished run.
 use Rattle.std.specs.Prelude.{◌≡◌, ℕ, List, length, codes, Option, Some, None}
+use Rattle.serde_json.specs.Data as json
 use Rattle.tw_types.specs.declared.event.Event.{Event}
 use Rattle.tw_types.specs.declared.pending.Link.{Link}
 use Rattle.tw_code.specs.declared.procedure.Procedure.{Procedure}
 use Rattle.tw_code.specs.machine.Pending.{circle}
 use Rattle.tw_code.specs.machine.State.{State}
 use Rattle.tw_bounds.specs.Runs.{instructions_in}
-use Rattle.tw_json_output.specs.Run.{json_line, run_json}
+use Rattle.tw_json_output.specs.Run.{end_members, json_line}
 use Rattle.tw_pool.specs.declared.answer.Closing.{Closing}
 use Rattle.tw_pool.specs.declared.answer.Closing.TheVariants.{Quiet, Stuck, Stopped, Limit}
 use Rattle.tw_pool.specs.Ends.{FinalView}
@@ -33,10 +34,17 @@ circle_in program s (Stuck rules) = circle program s
 circle_in program s Stopped = None
 circle_in program s Limit = None
 
--- returns the line of a run that has ended in this state
+-- return the members of the object of a run that has ended in this state, and the object's line
+abbrev pub members_of : List Procedure → List Event → State → Closing → json.Members
+members_of program events s closing =
+    end_members (status_of closing) (pending_of closing) (circle_in program s closing) (length events) (instructions_in events) s.store.live s.outputs
+
 abbrev pub run_line : List Procedure → List Event → State → Closing → List ℕ
-run_line program events s closing =
-    json_line (run_json (status_of closing) (pending_of closing) (circle_in program s closing) (length events) (instructions_in events) s.store.live s.outputs)
+run_line program events s closing = json_line (json.object (members_of program events s closing))
+
+-- holds for the members of this end of a run
+abbrev pub AreEndMembers : FinalView → List Event → Closing → json.Members → Type 0
+AreEndMembers final events closing members = InEachState final (λ program s. members ≡ members_of program events s closing)
 
 -- holds for the line of this end of a run
 abbrev pub IsEndLine : FinalView → List Event → Closing → List ℕ → Type 0

@@ -1,5 +1,6 @@
 -- The facts about a run that is over.
 use Rattle.std.specs.Prelude.{◌≡◌, ◌≤◌, ℕ, List, Some, length}
+use Rattle.serde_json.specs.Data as json
 use Rattle.tw_types.specs.declared.event.Event.{Event}
 use Rattle.tw_types.specs.Outcome.{Went}
 use Rattle.tw_code.specs.declared.procedure.Procedure.{Procedure}
@@ -9,7 +10,7 @@ use Rattle.tw_order.specs.declared.runs.RunOrder.{RunOrder}
 use Rattle.tw_pool.specs.declared.answer.Closing.{Closing}
 use Rattle.tw_pool.specs.Ends.{FinalView}
 use Rattle.tw_run_output.specs.Ends.{IsEndReport, end_report}
-use Rattle.tw_run_output.specs.Json.{IsEndLine, run_line}
+use Rattle.tw_run_output.specs.Json.{AreEndMembers, IsEndLine, members_of, run_line}
 
 -- holds if there are no more events than allowed, and all succeed from the start of the run
 abbrev pub Goes : List Procedure → RunOrder → List Event → Type 0
@@ -22,4 +23,5 @@ pub record IsRunOver (program : List Procedure) (order : RunOrder) (final : Fina
   pub reaches : reached program order.inputs order.layout events ≡ Went state
   pub reports : (printed : List ℕ) → IsEndReport final printed → printed ≡ end_report program state (Some closing)
   pub closes : final.closing ≡ Some closing
+  pub members : (found : json.Members) → AreEndMembers final events closing found → found ≡ members_of program events state closing
   pub shows : (line : List ℕ) → IsEndLine final events closing line → line ≡ run_line program events state closing

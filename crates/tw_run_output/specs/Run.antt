@@ -7,10 +7,12 @@ use Rattle.tw_code.specs.declared.version.Version.{Version}
 use Rattle.tw_code.specs.machine.Opening.{opening}
 use Rattle.tw_code.specs.machine.Pending.{circle}
 use Rattle.tw_code.specs.machine.State.{State}
+use Rattle.tw_certificate.specs.FirstContest.{IsFirstContest}
+use Rattle.tw_copies.specs.declared.check.CopyInsertion.{CopyInsertion}
 use Rattle.tw_pool.specs.declared.answer.Closing.{Closing}
 use Rattle.tw_pool.specs.declared.answer.Closing.TheVariants.{Quiet, Stuck, Stopped, Limit}
 use Rattle.tw_order.specs.declared.runs.RunAnswer.{RunAnswer}
-use Rattle.tw_order.specs.declared.runs.RunAnswer.TheVariants.{Json, Numbers, Picture, Report}
+use Rattle.tw_order.specs.declared.runs.RunAnswer.TheVariants.{Json, Numbers, Order, OrderJson, Picture, Report}
 use Rattle.tw_order.specs.declared.runs.RunOrder.{RunOrder}
 use Rattle.tw_order.specs.declared.range.EventRange.{EventRange}
 use Rattle.tw_machine.specs.PlainView.{PlainView}
@@ -24,7 +26,8 @@ use Rattle.tw_symbols.specs.Symbols.{AreSymbols}
 use Rattle.tw_stats.specs.Text.{AreNumbers}
 use Rattle.tw_report.specs.Events.{event_line}
 use Rattle.tw_run_output.specs.Ends.{end_report}
-use Rattle.tw_run_output.specs.Json.{run_line}
+use Rattle.tw_run_output.specs.Json.{members_of, run_line}
+use Rattle.tw_run_output.specs.EventOrder.{IsOrderText, order_line}
 use Rattle.tw_program_output.specs.declared.close.Close.{Close}
 use Rattle.tw_program_output.specs.declared.close.Close.TheVariants as close
 use Rattle.tw_program_output.specs.declared.failure.Position.TheVariants as position
@@ -69,10 +72,14 @@ abbrev pub IsRunPicture : List (List ℕ) → EventRange → List Procedure → 
 IsRunPicture names shown program order events s text =
     (version : Version) → (d : Drawing) × IsDrawing names (begins version program order) events s d × (text ≡ xml_text (picture_of d (between shown.from shown.to)))
 
--- holds if this is the requested output, with the names of the text: the report, or the report and statistics, or a JSON line, or a timeline
+-- holds if this is the requested output, with the names of the text: the report, also with statistics or the order, a JSON line, or a timeline
 abbrev pub IsRunText : RunAnswer → Option (List ℕ) → List Procedure → RunOrder → List Event → State → Closing → List ℕ → Type 0
 IsRunText Report text program order events s closing printed = printed ≡ run_report text program order s closing
 IsRunText Json text program order events s closing printed = printed ≡ run_line program events s closing
+IsRunText Order text program order events s closing printed =
+    (found : Option CopyInsertion) × (lines : List ℕ) × IsFirstContest program order.inputs order.layout events found × IsOrderText text closing found lines × (printed ≡ run_report text program order s closing ++ lines)
+IsRunText OrderJson text program order events s closing printed =
+    (found : Option CopyInsertion) × IsFirstContest program order.inputs order.layout events found × (printed ≡ order_line closing found (members_of program events s closing))
 IsRunText Numbers text program order events s closing printed =
     (names : List (List ℕ)) × (numbers : List ℕ) × AreSymbols text names × AreRunNumbers names program order events numbers × (printed ≡ run_report text program order s closing ++ numbers)
 IsRunText (Picture shown) text program order events s closing printed =
@@ -94,5 +101,7 @@ abbrev pub AreRunDetails : RunAnswer → Option (List ℕ) → List Procedure �
 AreRunDetails answer None program order events s closing more = more ≡ []
 AreRunDetails Report (Some text) program order events s closing more = AreClosingDetails text program order events s closing more
 AreRunDetails Numbers (Some text) program order events s closing more = AreClosingDetails text program order events s closing more
+AreRunDetails Order (Some text) program order events s closing more = AreClosingDetails text program order events s closing more
 AreRunDetails Json (Some text) program order events s closing more = more ≡ []
+AreRunDetails OrderJson (Some text) program order events s closing more = more ≡ []
 AreRunDetails (Picture shown) (Some text) program order events s closing more = more ≡ []

@@ -1,14 +1,18 @@
 //! Output of a run that is over.
 
-ghost use Rattle.std.specs.Prelude.{◌≡◌, ◌++◌, ℕ, List, None, Some, IfOk, OnOk, codes, decimal, true};
+ghost use Rattle.std.specs.Prelude.{◌≡◌, ◌++◌, ℕ, List, Option, None, Some, IfOk, OnOk, codes, decimal, true};
+ghost use Rattle.serde_json.specs.Data as json;
 ghost use Rattle.tw_types.specs.Outcome.{Went};
 ghost use Rattle.tw_code.specs.machine.Bounds.{AreBelow, opening_bound};
 ghost use Rattle.tw_code.specs.machine.Inputs.{AreInputsOf};
 ghost use Rattle.tw_code.specs.machine.Opening.{reached};
 ghost use Rattle.tw_code.specs.machine.State.{State as MachineState};
+ghost use Rattle.tw_certificate.specs.FirstContest.{IsFirstContest};
+ghost use Rattle.tw_copies.specs.declared.check.CopyInsertion.{CopyInsertion as Insertion};
 ghost use Rattle.tw_machine.specs.Opening.{rejection_of};
 ghost use Rattle.tw_run_output.specs.Ends.{IsEndReport};
-ghost use Rattle.tw_run_output.specs.Json.{IsEndLine};
+ghost use Rattle.tw_run_output.specs.EventOrder.{order_line};
+ghost use Rattle.tw_run_output.specs.Json.{AreEndMembers, IsEndLine};
 ghost use Rattle.tw_run_output.specs.Over.{Goes, IsRunOver};
 ghost use Rattle.tw_program_output.specs.Reply.{reply};
 ghost use Rattle.tw_run_output.specs.Run.{AreRunNumbers, AreRunDetails, IsRunPicture, IsRunText, begins, close_of, limit_details, trace_text};
@@ -16,6 +20,7 @@ ghost use Rattle.tw_symbols.specs.Symbols.{AreSymbols};
 ghost use Rattle.tw_program_output.specs.Source.{MayBeSource, text_of};
 
 use crate::end_report::report;
+use crate::event_order::{order_line, put_order};
 use crate::json::end_line;
 use crate::run_details::put_run_details;
 use std::alloc::{AllocError, Global};
@@ -206,6 +211,26 @@ fn put_json(
     put_bytes(out, line.as_bytes())
 }
 
+/// Adds the run as a JSON line with its order.
+fn put_order_json(
+    alloc: Global,
+    out: &mut Vec<u8>,
+    order: &RunOrder,
+    verified: Verified,
+    outcome: &Final,
+    history: &History,
+    closing: Closing,
+) -> Result<(), AllocError>
+    requires inputs { AreInputsOf verified.program order.now.inputs }
+    requires goes { Goes verified.program order.now history.now.events }
+    requires closes { outcome.now.closing ≡ Some closing }
+    ensures { OnOk result ((found : Option Insertion) × (members : json.Members) × IsFirstContest verified.program order.now.inputs order.now.layout history.now.events found
+        × AreEndMembers outcome.now history.now.events closing members × (out.new.items ≡ out.old.items ++ order_line closing found members)) }
+{
+    let line = order_line(alloc, order, verified, outcome, history, closing)?;
+    put_bytes(out, line.as_bytes())
+}
+
 /// Adds the requested output.
 fn put_outcome(
     alloc: Global,
@@ -219,6 +244,7 @@ fn put_outcome(
 ) -> Result<(), AllocError>
     requires inputs { AreInputsOf verified.program order.now.inputs }
     requires over { IsRunOver verified.program order.now outcome.now history.now.events closing }
+    requires source { MayBeSource source.now verified.program }
     ensures { OnOk result ((over : IsRunOver verified.program order.now outcome.now history.now.events closing)
         → (printed : List ℕ) × IsRunText order.now.answer (text_of source.now) verified.program order.now history.now.events over.state closing printed × (out.new.items ≡ out.old.items ++ printed)) }
 {
@@ -228,7 +254,14 @@ fn put_outcome(
             put_run_report(alloc, out, source, order, outcome, closing)?;
             put_run_numbers(alloc, out, source, order, verified, history)
         }
+        RunAnswer::Order => {
+            put_run_report(alloc, out, source, order, outcome, closing)?;
+            put_order(alloc, out, source, order, verified, history, closing)
+        }
         RunAnswer::Json => put_json(alloc, out, outcome, history, closing),
+        RunAnswer::OrderJson => {
+            put_order_json(alloc, out, order, verified, outcome, history, closing)
+        }
         RunAnswer::Picture(shown) => {
             put_run_picture(alloc, out, source, shown, order, verified, history)
         }

@@ -1,14 +1,17 @@
 //! The JSON line of a finished run.
 
-ghost use Rattle.std.specs.Prelude.{◌≡◌, IfOk, option_map, string_bytes};
+ghost use Rattle.std.specs.Prelude.{◌≡◌, false, IfOk, option_map, string_bytes};
+ghost use Rattle.serde_json.specs.View.{members_view};
+ghost use Rattle.serde_json.specs.Written.{members_have_float};
 ghost use Rattle.tw_bounds.specs.Runs.{instructions_in};
-ghost use Rattle.tw_run_output.specs.Ends.{InEachState, has_ended};
-ghost use Rattle.tw_run_output.specs.Json.{IsEndLine, circle_in, pending_of, status_of};
+ghost use Rattle.tw_run_output.specs.Ends.{InEachState};
+ghost use Rattle.tw_run_output.specs.Json.{AreEndMembers, IsEndLine, circle_in, pending_of, status_of};
 
 use crate::end_report::circle;
 use crate::finished_run::FinishedRun;
+use serde_json::{Map, Value as Json};
 use std::alloc::{AllocError, Global};
-use tw_json_output::{RunEnd, RunNumbers, run_line};
+use tw_json_output::{RunEnd, RunNumbers, line_of};
 use tw_pool::{Closing, Final, History};
 use tw_replay_output::instructions_by;
 use tw_types::Link;
@@ -57,15 +60,16 @@ pub fn instructions_in(history: &History) -> u128
     sum
 }
 
-/// Returns the JSON line of a finished run.
-pub fn end_line(
+/// Returns the members of the JSON object of a finished run.
+pub(crate) fn end_members(
     alloc: Global,
     left: &Final,
     history: &History,
     closing: Closing,
-) -> Result<String, AllocError>
+) -> Result<Map<String, Json>, AllocError>
     requires { left.now.closing ≡ Some closing }
-    ensures { IfOk result (λ line. IsEndLine left.now history.now.events closing (string_bytes line)) }
+    ensures are { IfOk result (λ members. AreEndMembers left.now history.now.events closing (members_view members.entries)) }
+    ensures whole { IfOk result (λ members. members_have_float (members_view members.entries) ≡ false) }
 {
     let numbers = RunNumbers {
         events: history.len() as u64,
@@ -76,5 +80,19 @@ pub fn end_line(
         pending: pending_of(closing),
         circle: circle_of(alloc, left, closing)?,
     };
-    run_line(alloc, &FinishedRun { of: left }, numbers, &end)
+    tw_json_output::end_members(alloc, &FinishedRun { of: left }, numbers, &end)
+}
+
+/// Returns the JSON line of a finished run.
+pub fn end_line(
+    alloc: Global,
+    left: &Final,
+    history: &History,
+    closing: Closing,
+) -> Result<String, AllocError>
+    requires { left.now.closing ≡ Some closing }
+    ensures { IfOk result (λ line. IsEndLine left.now history.now.events closing (string_bytes line)) }
+{
+    let members = end_members(alloc, left, history, closing)?;
+    line_of(alloc, &Json::Object(members))
 }

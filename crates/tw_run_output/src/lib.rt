@@ -4,6 +4,7 @@
 mod closing_text;
 mod end_report;
 mod ended;
+mod event_order;
 mod finished_run;
 mod json;
 mod run_details;

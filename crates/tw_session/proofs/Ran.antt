@@ -23,7 +23,7 @@ use Rattle.tw_host.specs.Run.{Run, run_of}
 use Rattle.tw_in_turn.specs.InTurn.{ComesTo, IsOver}
 use Rattle.tw_order.specs.declared.runs.RunOrder.{RunOrder}
 use Rattle.tw_run_output.specs.Ends.{IsEndReport, end_report}
-use Rattle.tw_run_output.specs.Json.{IsEndLine, run_line}
+use Rattle.tw_run_output.specs.Json.{IsEndLine, members_of, run_line}
 use Rattle.tw_run_output.specs.Over.{IsRunOver}
 use Rattle.tw_run_output.specs.Run.{AreRunDetails, IsRunText, close_of, trace_text}
 use Rattle.tw_program_output.specs.Reply.{reply}
@@ -62,7 +62,7 @@ over verified order p final history closing of_run few shut turns ended other =
     let there : reached verified.program order.inputs order.layout history.events ≡ Went s = subst (λ (es : List Event). reached verified.program order.inputs order.layout es ≡ Went s) (sym shut.events) leads in
     let reports : (printed : List ℕ) → IsEndReport final printed → printed ≡ end_report verified.program s (Some closing) = λ printed is_report. is_report p history shut ∙ ap (λ (r : Run). end_report r.program.program s final.closing) of_run ∙ ap (λ (o : Option Closing). end_report verified.program s o) ended in
     let shows : (line : List ℕ) → IsEndLine final history.events closing line → line ≡ run_line verified.program history.events s closing = λ line is_line. is_line p history shut ∙ ap (λ (r : Run). run_line r.program.program history.events s closing) of_run in (
-      record { state = s; few = short; reaches = there; reports = reports; closes = ended; shows = shows },
+      record { state = s; few = short; reaches = there; reports = reports; closes = ended; members = λ found are. are p history shut ∙ ap (λ (r : Run). members_of r.program.program history.events s closing) of_run; shows = shows },
       record { few = short; reaches = there; ends = here; turns = subst (λ (es : List Event). IsOrdered order.in_turn verified.program order es) (sym shut.events) turns },
     )
 

@@ -54,7 +54,9 @@ checked_as Shown = ListedErrors
 abbrev pub run_as_json : RunAnswer → Rendering
 run_as_json written.Report = Plain
 run_as_json written.Numbers = Plain
+run_as_json written.Order = Plain
 run_as_json written.Json = Errors
+run_as_json written.OrderJson = Errors
 run_as_json (written.Picture shown) = Plain
 
 abbrev pub replayed_as : Answer → Rendering

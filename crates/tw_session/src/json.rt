@@ -67,8 +67,9 @@ fn run_as_json(answer: RunAnswer) -> Rendering
     ensures { result ≡ run_as_json answer }
 {
     match answer {
-        RunAnswer::Json => Rendering::Errors,
-        RunAnswer::Report | RunAnswer::Numbers | RunAnswer::Picture(_) => Rendering::Plain,
+        RunAnswer::Json | RunAnswer::OrderJson => Rendering::Errors,
+        RunAnswer::Report | RunAnswer::Numbers | RunAnswer::Order => Rendering::Plain,
+        RunAnswer::Picture(_) => Rendering::Plain,
     }
 }
 

@@ -163,6 +163,15 @@ class Programs(unittest.TestCase):
         self.assertIs(yuglemit.load(copies).same_in_every_order, False)
         self.assertIs(yuglemit.load_bytes(yuglemit.assemble(copies)).same_in_every_order, False)
 
+    def test_a_run_is_the_same_in_every_order(self) -> None:
+        text = (
+            "proc control write cont int\nregs int int\nINT v0 1\nINT v1 {}\nDUPW d1 d0\nPUT 1 0 any 1 0\nPUT 1 0 any 0 1\nRET\n"
+            "proc leaf write cont int val int\nregs int\nNEW d1 d2 int\nSTORE d1 v0\nINS d0 v0 d2 +1\nJMP +1\nDROPR d2\nDROPW d0\nRET\n"
+        )
+        for second, limit, expected in ((2, 10000, True), (1, 10000, False), (2, 3, None)):
+            report = yuglemit.load(text.format(second)).run(limit=limit)
+            self.assertIs(report.same_in_every_order(), expected)
+
     def test_bounds_with_a_limit(self) -> None:
         """Main executes PUT and RET, its task INT, REPEAT, 100 times COPY and END, and RET; a task is an event more."""
         text = "proc control\nregs\nPUT 1 0 any\nRET\nproc leaf\nregs int\nINT v0 1\nREPEAT 100\nCOPY v0 v0\nEND\nRET\n"

@@ -200,6 +200,13 @@ class Report(metaclass=Shown):
         made = self._cause()
         return made.program._answer(made, "--picture", *range_of(first, last))
 
+    def same_in_every_order(self) -> Optional[bool]:
+        """Returns whether each order of events, in any layout, ends like this run with its outputs, for its inputs. False if tasks competed for a
+        subscript: another order may have other outputs. None if the limit ended the run and none had competed. It makes the run again."""
+        made = self._cause()
+        line: Dict[str, object] = json.loads(made.program._answer(made, "--json", "--order"))
+        return None if line["order"] is None else line["order"] == "same"
+
     def _repr_svg_(self) -> Optional[str]:
         """Draws the timeline for a notebook, if the run is brief."""
         made = self._made

@@ -1,13 +1,15 @@
-use Rattle.std.proofs.Common.{◌∙◌, ap, sym, subst, ◌≡◌, false, option_map}
+use Rattle.std.proofs.Common.{◌∙◌, ap, sym, subst, ◌≡◌, false}
+use Rattle.std.proofs.lemmas.Result.{IfOk-weaker}
 use Rattle.serde_json.proofs.Views.{view-Object}
 use Rattle.serde_json.specs.Data as json
 use Rattle.serde_json.specs.Written.{has_float}
-use Rattle.tw_json_output.specs.Run.{with_circle, with_pending}
-use Rattle.tw_json_output.proofs.Floats.{of_run}
+use Rattle.tw_json_output.specs.Run.{json_line}
 use Rattle.tw_json_output.proofs.run_object.run_line.Goals as goal
 
 pub line_of-requires : goal.line_of-requires
-line_of-requires g c =
-    let end = c.args.end.now in
-    let is = view-Object c.put_pending.new.members ∙ ap json.object (c.in_ok-put_pending.ensures ∙ ap (λ (ms : json.Members). with_circle (option_map (λ v. v.items) end.circle) (with_pending end.pending ms)) c.in_ok-members.ensures) in
-    subst (λ (d : json.Data). has_float d ≡ false) (sym is) (of_run end.status.now end.pending (option_map (λ v. v.items) end.circle) c.args.numbers.events c.args.numbers.instructions (g.T.ReportSource.live c.args.shown.now) (g.T.ReportSource.ids c.args.shown.now))
+line_of-requires g c = subst (λ (d : json.Data). has_float d ≡ false) (sym (view-Object c.in_ok-members.members)) c.in_ok-members.ensures.whole
+
+pub returns : goal.returns
+returns g c =
+    IfOk-weaker c.line_of.result _ _
+    (λ line is. is ∙ ap json_line (view-Object c.in_ok-members.members ∙ ap json.object c.in_ok-members.ensures.is)) c.line_of.ensures

@@ -1,29 +1,16 @@
-use Rattle.std.proofs.Common.{◌∙◌, ◌≡◌, List, Option, ℕ, ap, length, option_map}
+use Rattle.std.proofs.Common.{◌∙◌, ◌≡◌, ap, false, subst, sym}
 use Rattle.std.proofs.lemmas.Result.{IfOk-weaker}
-use Rattle.tw_types.specs.declared.pending.Link.{Link}
-use Rattle.tw_types.specs.Store.{Store}
-use Rattle.tw_bounds.specs.Runs.{instructions_in}
-use Rattle.tw_json_output.specs.Run.{json_line, run_json}
-use Rattle.tw_run_output.specs.Json.{circle_in, pending_of, status_of}
+use Rattle.serde_json.proofs.Views.{view-Object}
+use Rattle.serde_json.specs.Data as json
+use Rattle.serde_json.specs.Written.{has_float}
+use Rattle.tw_json_output.specs.Run.{json_line}
 use Rattle.tw_run_output.proofs.json.end_line.Goals as goal
+
+pub line_of-requires : goal.line_of-requires
+line_of-requires c = subst (λ (d : json.Data). has_float d ≡ false) (sym (view-Object c.in_ok-members.members)) c.in_ok-members.ensures.whole
 
 pub returns : goal.returns
 returns c =
-    IfOk-weaker c.run_line.result _ _
-    (λ line is p history shut.
-    let program = p.program.program in
-    let final = c.args.left.now in
-    let s = shut.state in
-    let closing = c.args.closing in
-    let events = c.args.history.now.events in
-    let found = option_map (λ v. v.items) c.in_ok-circle_of.field-0 in
-    let count = c.len.result in
-    let sum = c.instructions_in.result in
-    is
-    ∙ ap (λ (word : List ℕ). json_line (run_json word c.pending_of.result found count sum final.store.store.live final.outputs)) c.status_of.ensures
-    ∙ ap (λ (rules : Option ℕ). json_line (run_json (status_of closing) rules found count sum final.store.store.live final.outputs)) c.pending_of.ensures
-    ∙ ap (λ (links : Option (List Link)). json_line (run_json (status_of closing) (pending_of closing) links count sum final.store.store.live final.outputs)) (c.in_ok-circle_of.ensures p history shut)
-    ∙ ap (λ (n : ℕ). json_line (run_json (status_of closing) (pending_of closing) (circle_in program s closing) n sum final.store.store.live final.outputs)) c.len.ensures
-    ∙ ap (λ (n : ℕ). json_line (run_json (status_of closing) (pending_of closing) (circle_in program s closing) (length events) n final.store.store.live final.outputs)) c.instructions_in.ensures
-    ∙ ap (λ (store : Store). json_line (run_json (status_of closing) (pending_of closing) (circle_in program s closing) (length events) (instructions_in events) store.live final.outputs)) shut.left.store
-    ∙ ap (λ (outputs : List ℕ). json_line (run_json (status_of closing) (pending_of closing) (circle_in program s closing) (length events) (instructions_in events) s.store.live outputs)) shut.left.outputs) c.run_line.ensures
+    let members = c.in_ok-members.members in
+    IfOk-weaker c.line_of.result _ _
+    (λ line is p history shut. is ∙ ap json_line (view-Object members ∙ ap json.object (c.in_ok-members.ensures.are p history shut))) c.line_of.ensures
