@@ -61,9 +61,17 @@ def first_copy_insertion(program: Program) -> tuple[int, int] | None:
     return next(((number, place) for number, place, instr in instrs(program) if instr.name in ("INS", "TINS") and (number, instr.number(0)) in found), None)
 
 
-def order_line(program: Program) -> str:
-    at = first_copy_insertion(program)
+def line_of(at: tuple[int, int] | None) -> str:
     return "order same" if at is None else f"order may show in procedure {at[0]} at place {at[1]}"
+
+
+def order_line(program: Program) -> str:
+    return line_of(first_copy_insertion(program))
+
+
+def run_line(machine: Machine) -> str:
+    """Returns the line of `run --order`."""
+    return line_of(machine.contested) if machine.contested or machine.is_over else "order may show after the last event"
 
 
 # --- Random orders
@@ -125,7 +133,7 @@ class OrdersTest(RunTest):
     def fault(self, library: Library) -> str | None:
         if not self.is_accepted(library) or not has_targets(self.program, self.layout):
             return None
-        return self.check_fault(library) or self.orders_fault(library)
+        return self.check_fault(library) or self.certificate_fault(library) or self.orders_fault(library)
 
     def check_fault(self, library: Library) -> str | None:
         """Compares the last line of the check, as text and as JSON."""
@@ -137,6 +145,12 @@ class OrdersTest(RunTest):
         expected = "same" if at is None else {"procedure": at[0], "place": at[1]}
         found = json.loads(library.session(["check", "--order", "--json"], self.hex)[1])["order"]
         return None if found == expected else f"check --order --json: expected {expected}, got {found}"
+
+    def certificate_fault(self, library: Library) -> str | None:
+        """Compares the last line of `run --order`."""
+        machine = run_in_turn(self.program, list(self.inputs), self.layout, self.limit)
+        words = ["run", "--in-turn", "--order", "--limit", str(self.limit), *self.options, *self.words]
+        return difference("run --order", run_line(machine), library.session(words, self.hex)[1].splitlines()[-1])
 
     def runs(self) -> list[Machine]:
         """Makes a run in turn, and one in a random order for each layout."""
