@@ -1,0 +1,42 @@
+//! A time after which a run stops.
+
+use crate::signal::StopSignal;
+use std::io;
+use std::time::{Clock, Duration, Instant};
+
+/// A signal that is raised once some time has passed.
+#[derive(Drop)]
+pub struct Deadline<'r, R: Clock> {
+    clock: &'r R,
+    begun: Instant,
+    time: Duration,
+}
+
+impl<'r, R: Clock> Deadline<'r, R> {
+    /// Begins now.
+    pub fn after(clock: &'r R, time: Duration) -> io::Result<Deadline<'r, R>> {
+        Ok(Deadline {
+            clock,
+            begun: Instant::now(clock)?,
+            time,
+        })
+    }
+
+    /// Returns whether the time has passed. A clock that can't be read counts as a time that has passed.
+    pub fn is_over(&self) -> bool {
+        match self.begun.elapsed(self.clock) {
+            Ok(elapsed) => elapsed >= self.time,
+            Err(_) => true,
+        }
+    }
+}
+
+impl<'r, R: Clock> StopSignal for Deadline<'r, R> {
+    ghost use Rattle.std.specs.Prelude.{Bool};
+
+    ghost says = { λ _ _ _. Unit {0} };
+
+    fn is_raised(&mut self) -> bool {
+        self.is_over()
+    }
+}
