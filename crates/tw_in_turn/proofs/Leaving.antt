@@ -5,8 +5,9 @@ use Rattle.tw_soundness.specs.EndsWell.{EndsWell}
 use Rattle.tw_pool.specs.Ends.{FinalView, IsShut}
 use Rattle.tw_pool.specs.History.{HistoryView}
 use Rattle.tw_pool.specs.PoolView.{HasState, PoolView}
-use Rattle.tw_in_turn.specs.InTurn.{ComesTo, HasEnded, IsLeftIn, IsOver}
+use Rattle.tw_in_turn.specs.InTurn.{HasEnded, IsLeftIn, IsOver}
 use Rattle.tw_in_turn.specs.Rounds.{IsGrown}
+use Rattle.tw_in_turn.specs.Stopping.{ComesAfter}
 use Rattle.tw_in_turn.proofs.Moving.{ends_over}
 
 module _ (pool first p : PoolView) (final : FinalView) (history : HistoryView) (is : pool ≡ first) where
@@ -20,8 +21,8 @@ module _ (pool first p : PoolView) (final : FinalView) (history : HistoryView) (
         ends_well = subst (λ (q : PoolView). EndsWell q.program.program shut.state) same (ends shut.state shut.has_state);
       }
 
-  pub left_over : (seed : Option ℕ) → first.stopped ≡ false → ComesTo seed pool IsOver p → IsGrown pool p → IsShut p final history → ((s : State) → HasState p s → EndsWell p.program.program s)
-      → (x : PoolView) × ComesTo seed first IsOver x × IsLeftIn first x final history × HasEnded final.closing
-  left_over seed on comes grown shut ends =
-      let over = subst (λ (q : PoolView). ComesTo seed q IsOver p) is comes in
-      (p, over, left_in grown shut ends, subst HasEnded (sym shut.closing) (ends_over seed first p on over shut.state shut.has_state))
+  pub left_over : (seed : Option ℕ) (turns : ℕ) → first.stopped ≡ false → ComesAfter seed pool turns IsOver p → IsGrown pool p → IsShut p final history → ((s : State) → HasState p s → EndsWell p.program.program s)
+      → (x : PoolView) × ComesAfter seed first turns IsOver x × IsLeftIn first x final history × HasEnded final.closing
+  left_over seed turns on comes grown shut ends =
+      let over = subst (λ (q : PoolView). ComesAfter seed q turns IsOver p) is comes in
+      (p, over, left_in grown shut ends, subst HasEnded (sym shut.closing) (ends_over seed first p on over.0 shut.state shut.has_state))

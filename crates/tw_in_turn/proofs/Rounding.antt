@@ -23,7 +23,8 @@ use Rattle.tw_pool.specs.declared.answer.Closing.TheVariants.{Limit, Stopped}
 use Rattle.tw_pool.specs.declared.answer.Turn.{Turn}
 use Rattle.tw_pool.specs.PoolView.{PoolView}
 use Rattle.tw_pool.specs.Turns.{closing_of}
-use Rattle.tw_in_turn.specs.InTurn.{ComesTo, GoesOn, IsAfter, IsIdle, IsMove, actor_after}
+use Rattle.tw_in_turn.specs.InTurn.{GoesOn, IsAfter, IsIdle, IsMove, actor_after}
+use Rattle.tw_in_turn.specs.Stopping.{ComesAfter}
 use Rattle.tw_in_turn.specs.Rounds.{AreKept, IsGrown, Keeps, MayTurn}
 
 -- ---- actors by their index
@@ -123,17 +124,33 @@ one_more first now new layout rounds index answer is low after move on = subst (
 
 -- the last one
 pub the_last : (first now new : PoolView) (layout : ActorCounts) (rounds index : ℕ) (answer : Turn) (Answers : Turn → Type 0) → now.layout ≡ layout → index < actor_count layout
-    → IsAfter None first (rounds * actor_count layout + index) now → IsMove now (actor_at layout index) answer new → Answers answer → ComesTo None first Answers new
-the_last first now new layout rounds index answer Answers is low after move ends = record {
-  turns = rounds * actor_count layout + index;
-  before = now;
-  after = after;
-  actor = actor_at layout index;
-  next = whose now layout rounds index is low;
-  answer = answer;
-  last = move;
-  is = ends;
-}
+    → IsAfter None first (rounds * actor_count layout + index) now → IsMove now (actor_at layout index) answer new → Answers answer → ComesAfter None first (rounds * actor_count layout + index) Answers new
+the_last first now new layout rounds index answer Answers is low after move ends = (
+  record {
+    turns = rounds * actor_count layout + index;
+    before = now;
+    after = after;
+    actor = actor_at layout index;
+    next = whose now layout rounds index is low;
+    answer = answer;
+    last = move;
+    is = ends;
+  },
+  refl,
+)
+
+-- looks for so many steps
+pub as_many : (turns more : ℕ) → turns + more ≤ turns + more
+as_many turns more = omega arith
+
+pub in_all : (turns before count more : ℕ) → turns ≤ before + more → before ≤ count → turns ≤ count + more
+in_all turns before count more low enough = omega (arith, low, enough)
+
+pub enough : (rounds count index : ℕ) → index ≡ count → (rounds + 1) * count ≤ rounds * count + index
+enough rounds count index is = by ((rounds + 1) * count) (rounds * count) (ap (λ k. k * count) (add-one rounds) ∙ suc-mul rounds count)
+  where
+    by : (all before : ℕ) → all ≡ before + count → all ≤ before + index
+    by all before sum = omega (arith, sum, is)
 
 -- all of a round
 pub whole_round : (first new : PoolView) (rounds count index : ℕ) → index ≡ count → IsAfter None first (rounds * count + index) new → IsAfter None first ((rounds + 1) * count) new

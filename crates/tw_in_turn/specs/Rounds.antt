@@ -10,8 +10,9 @@ use Rattle.tw_pool.specs.PoolView.{PoolView}
 use Rattle.tw_host.specs.Sees.{IsDoneOf}
 use Rattle.tw_in_turn.specs.declared.rounds.End.{End}
 use Rattle.tw_in_turn.specs.declared.rounds.End.TheVariants.{Over, NoMemory, Stopped}
-use Rattle.tw_in_turn.specs.Stopping.{IsSomeAfter}
-use Rattle.tw_in_turn.specs.InTurn.{ComesTo, GoesOn, Has, IsAfter, IsIdle, IsMove, IsOver, IsRefused}
+use Rattle.tw_stop.specs.Looks.{looks, noes}
+use Rattle.tw_in_turn.specs.Stopping.{ComesAfter}
+use Rattle.tw_in_turn.specs.InTurn.{GoesOn, Has, IsAfter, IsIdle, IsMove, IsOver, IsRefused}
 
 -- holds for the reason why no step follows this result; a stop is no result of a step
 abbrev pub Ends : End → Turn → Type 0
@@ -19,16 +20,20 @@ Ends Over answer = IsOver answer
 Ends NoMemory answer = IsRefused answer
 Ends Stopped answer = ⊥
 
--- holds for the reason why no step follows those that lead to this pool
-abbrev pub EndsAt : Option ℕ → PoolView → End → PoolView → Type 0
-EndsAt seed first Over p = ComesTo seed first IsOver p
-EndsAt seed first NoMemory p = ComesTo seed first IsRefused p
-EndsAt seed first Stopped p = IsSomeAfter seed first p
+-- holds for the reason why no step follows the first so many, which lead to this pool
+abbrev pub EndsAfter : Option ℕ → PoolView → ℕ → End → PoolView → Type 0
+EndsAfter seed first turns Over p = ComesAfter seed first turns IsOver p
+EndsAfter seed first turns NoMemory p = ComesAfter seed first turns IsRefused p
+EndsAfter seed first turns Stopped p = IsAfter seed first turns p
 
--- only with a stop flag a run is stopped
-abbrev pub MayStop : Bool → Option End → Type 0
-MayStop has_flag None = Unit {0}
-MayStop has_flag (Some end) = end ≡ Stopped → has_flag ≡ true
+abbrev pub is_stop : End → Bool
+is_stop Over = false
+is_stop NoMemory = false
+is_stop Stopped = true
+
+-- looks with such answers, and steps up to this pool, after which no step follows for this reason
+abbrev pub EndsBy : (List Bool → Type 0) → Option ℕ → PoolView → End → PoolView → Type 0
+EndsBy Looks seed first end p = (turns : ℕ) × (count : ℕ) × (turns ≤ count) × Looks (looks count (is_stop end)) × EndsAfter seed first turns end p
 
 -- an actor keeps a result for its step, and it is of the program that is run
 pub record Keeps (p : PoolView) (actor : Actor) (given : Option DoneView) : Type 0 where
@@ -78,10 +83,12 @@ pub record GoesAround (seed : Option ℕ) (rounds : ℕ) (old new : PoolView) (k
   pub kept_is : AreKept new kept
   pub after : (first : PoolView) → IsAfter seed first (turns_in seed old.layout rounds) old → IsAfter seed first (turns_in seed old.layout (rounds + 1)) new
 
--- holds for the result of a round after so many
-abbrev pub ComesAround : Option ℕ → ℕ → PoolView → PoolView → List (Option DoneView) → Option End → Type 0
-ComesAround seed rounds old new kept None = GoesAround seed rounds old new kept
-ComesAround seed rounds old new kept (Some end) = (first : PoolView) → IsAfter seed first (turns_in seed old.layout rounds) old → EndsAt seed first end new
+-- holds for the result of a round after so many, with a look before each of its steps at least
+abbrev pub ComesAround : (List Bool → Type 0) → Option ℕ → ℕ → PoolView → PoolView → List (Option DoneView) → Option End → Type 0
+ComesAround Looks seed rounds old new kept None =
+    GoesAround seed rounds old new kept × (count : ℕ) × Looks (noes count) × (turns_in seed old.layout (rounds + 1) ≤ turns_in seed old.layout rounds + count)
+ComesAround Looks seed rounds old new kept (Some end) = (turns : ℕ) × (count : ℕ) × Looks (looks count (is_stop end)) × (turns ≤ turns_in seed old.layout rounds + count)
+    × ((first : PoolView) → IsAfter seed first (turns_in seed old.layout rounds) old → EndsAfter seed first turns end new)
 
 -- a pool before its first event, with this number of actors
 pub record IsOpened (p : PoolView) (count : ℕ) : Type 0 where

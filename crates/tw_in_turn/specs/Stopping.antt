@@ -1,19 +1,29 @@
--- A run in one thread that may be stopped between two steps.
-use Rattle.std.specs.Prelude.{◌≡◌, ℕ, Option}
+-- A run in one thread that looks at a signal before each step, and stops at the first look that says yes.
+use Rattle.std.specs.Prelude.{◌≡◌, ◌≤◌, ℕ, Bool, true, false, List, Option}
+use Rattle.tw_stop.specs.Looks.{looks}
+use Rattle.tw_pool.specs.declared.answer.Turn.{Turn}
 use Rattle.tw_pool.specs.PoolView.{PoolView}
-use Rattle.tw_in_turn.specs.InTurn.{IsAfter, IsLeft, IsLeftIn}
+use Rattle.tw_in_turn.specs.InTurn.{ComesTo, HasEnded, IsAfter, IsLeftIn, IsOver, IsRefused}
+use Rattle.tw_in_turn.specs.declared.run.InTurnResult.TheVariants as left
 use Rattle.tw_in_turn.specs.declared.run.StoppableResult.{StoppableResult}
 use Rattle.tw_in_turn.specs.declared.run.StoppableResult.TheVariants.{Ended, Stopped}
 
--- the pool after some steps
-abbrev pub IsSomeAfter : Option ℕ → PoolView → PoolView → Type 0
-IsSomeAfter seed first p = (turns : ℕ) × IsAfter seed first turns p
+abbrev pub is_stopped : StoppableResult → Bool
+is_stopped (Ended left) = false
+is_stopped (Stopped final history) = true
 
--- holds for a finished run, from its first pool on: it ended by itself, or it was stopped after some steps
-abbrev pub IsLeftOrStopped : Option ℕ → PoolView → StoppableResult → Type 0
-IsLeftOrStopped seed first (Ended left) = IsLeft seed first left
-IsLeftOrStopped seed first (Stopped final history) = (p : PoolView) × IsSomeAfter seed first p × IsLeftIn first p final history
+-- the step after so many others
+abbrev pub ComesAfter : Option ℕ → PoolView → ℕ → (Turn → Type 0) → PoolView → Type 0
+ComesAfter seed first turns Answers p = (c : ComesTo seed first Answers p) × (c.turns ≡ turns)
 
-abbrev pub IsStopped : StoppableResult → Type 0
-IsStopped (Ended left) = ⊥
-IsStopped (Stopped final history) = Unit {0}
+-- holds for a finished run, from its first pool on: it ended at the step after so many, or was stopped after them
+abbrev pub IsLeftAfter : Option ℕ → PoolView → ℕ → StoppableResult → Type 0
+IsLeftAfter seed first turns (Ended (left.Over final history)) = (p : PoolView) × ComesAfter seed first turns IsOver p × IsLeftIn first p final history × HasEnded final.closing
+IsLeftAfter seed first turns (Ended (left.NoMemory final history)) = (p : PoolView) × ComesAfter seed first turns IsRefused p × IsLeftIn first p final history
+IsLeftAfter seed first turns (Stopped final history) = (p : PoolView) × IsAfter seed first turns p × IsLeftIn first p final history
+
+-- Holds for a finished run whose looks had these answers: at least one before each step. All say no but the last one, which says whether
+-- the run was stopped.
+abbrev pub IsLeftBy : Option ℕ → PoolView → List Bool → StoppableResult → Type 0
+IsLeftBy seed first answers left =
+    (turns : ℕ) × (count : ℕ) × (turns ≤ count) × (answers ≡ looks count (is_stopped left)) × IsLeftAfter seed first turns left

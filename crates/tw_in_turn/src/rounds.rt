@@ -1,14 +1,15 @@
 //! Scheduling steps, round by round.
 
-ghost use Rattle.std.specs.Prelude.{◌≡◌, ◌≤◌, None, Some, is_some, true, ℕ};
+ghost use Rattle.std.specs.Prelude.{◌≡◌, ◌≤◌, None, Some, true, ℕ};
+ghost use Rattle.tw_stop.specs.Looks.{Looked};
 ghost use Rattle.tw_types.specs.Actor.{is_in};
-ghost use Rattle.tw_in_turn.specs.Rounds.{AreKept, ComesAround, EndsAt, IsGrown, IsTurned, Keeps, MayStop, MayTurn};
+ghost use Rattle.tw_in_turn.specs.Rounds.{AreKept, ComesAround, EndsBy, IsGrown, IsTurned, Keeps, MayTurn};
 
 use crate::drawn::place_for;
 use std::alloc::Global;
-use std::sync::atomic::{AtomicU32, Ordering};
 use tw_frame::Done;
 use tw_pool::{History, Pool, Turn};
+use tw_stop::StopSignal;
 use tw_types::Actor;
 
 /// The reason why no step follows another.
@@ -18,18 +19,8 @@ pub(crate) enum End {
     Over,
     /// An allocation failed.
     NoMemory,
-    /// The stop flag is raised.
+    /// The stop signal is raised.
     Stopped,
-}
-
-/// Returns whether there is a stop flag that is raised.
-fn is_raised(stop: Option<&AtomicU32>) -> bool
-    ensures { result ≡ true → is_some stop.entry ≡ true }
-{
-    match stop {
-        Some(flag) => flag.load(Ordering::SeqCst) != 0,
-        None => false,
-    }
 }
 
 /// Makes one step of an actor, with its kept `Done`. Runs a job that it is issued at once, and keeps the `Done` for its next step.
@@ -61,22 +52,21 @@ fn turn_one<'a>(
     }
 }
 
-/// Makes one step for each actor, in their order. Looks at the stop flag before each.
-fn turn_round<'a>(
+/// Makes one step for each actor, in their order. Looks at the stop signal before each.
+fn turn_round<'a, S: StopSignal>(
     alloc: Global,
     pool: &mut Pool<'a>,
     kept: &mut [Option<Done<'a>>],
-    stop: Option<&AtomicU32>,
+    stop: &mut S,
 ) -> Option<End>
     requires may { MayTurn pool.old }
     requires kept { AreKept pool.old kept.old }
-    ensures round { (rounds : ℕ) → ComesAround None rounds pool.old pool.new kept.new result }
+    ensures round { (rounds : ℕ) → ComesAround (Looked S.says stop.old stop.new) None rounds pool.old pool.new kept.new result }
     ensures grown { IsGrown pool.old pool.new }
-    ensures flag { MayStop (is_some stop.entry) result }
 {
     let layout = pool.layout();
     for index in 0..layout.actor_count() {
-        if is_raised(stop) {
+        if stop.is_raised() {
             return Some(End::Stopped);
         }
         let actor = layout.actor_at(index);
@@ -88,27 +78,26 @@ fn turn_round<'a>(
 }
 
 /// Makes the step of the first actor that isn't idle, from the place on that the seed draws for it, after so many steps. Looks at the
-/// stop flag before each actor.
-fn turn_drawn<'a>(
+/// stop signal before each actor.
+fn turn_drawn<'a, S: StopSignal>(
     alloc: Global,
     pool: &mut Pool<'a>,
     kept: &mut [Option<Done<'a>>],
     seed: u64,
     steps: usize,
-    stop: Option<&AtomicU32>,
+    stop: &mut S,
 ) -> Option<End>
     requires may { MayTurn pool.old }
     requires kept { AreKept pool.old kept.old }
-    ensures round { ComesAround (Some seed) steps pool.old pool.new kept.new result }
+    ensures round { ComesAround (Looked S.says stop.old stop.new) (Some seed) steps pool.old pool.new kept.new result }
     ensures grown { IsGrown pool.old pool.new }
-    ensures flag { MayStop (is_some stop.entry) result }
 {
     let layout = pool.layout();
     let count = layout.actor_count();
     let first = place_for(seed, steps as u64, count);
     let events = pool.history().len();
     for skipped in 0..count {
-        if is_raised(stop) {
+        if stop.is_raised() {
             return Some(End::Stopped);
         }
         let index = (first + skipped) % count;
@@ -123,19 +112,18 @@ fn turn_drawn<'a>(
 }
 
 /// Makes the round after so many: a step for each actor, or with a seed one step.
-fn turn_next<'a>(
+fn turn_next<'a, S: StopSignal>(
     alloc: Global,
     pool: &mut Pool<'a>,
     kept: &mut [Option<Done<'a>>],
     seed: Option<u64>,
     rounds: usize,
-    stop: Option<&AtomicU32>,
+    stop: &mut S,
 ) -> Option<End>
     requires may { MayTurn pool.old }
     requires kept { AreKept pool.old kept.old }
-    ensures round { ComesAround seed rounds pool.old pool.new kept.new result }
+    ensures round { ComesAround (Looked S.says stop.old stop.new) seed rounds pool.old pool.new kept.new result }
     ensures grown { IsGrown pool.old pool.new }
-    ensures flag { MayStop (is_some stop.entry) result }
 {
     match seed {
         None => turn_round(alloc, pool, kept, stop),
@@ -143,20 +131,19 @@ fn turn_next<'a>(
     }
 }
 
-/// Makes rounds until the run is over, an allocation fails or the stop flag is raised. Each round that isn't the last makes an event.
-pub(crate) fn turn_all<'a>(
+/// Makes rounds until the run is over, an allocation fails or the stop signal is raised. Each round that isn't the last makes an event.
+pub(crate) fn turn_all<'a, S: StopSignal>(
     alloc: Global,
     pool: &mut Pool<'a>,
     kept: &mut [Option<Done<'a>>],
     seed: Option<u64>,
-    stop: Option<&AtomicU32>,
+    stop: &mut S,
 ) -> End
     requires may { MayTurn pool.old }
     requires few { pool.old.limit ≤ 1000000 }
     requires kept { AreKept pool.old kept.old }
-    ensures ends { EndsAt seed pool.old result pool.new }
+    ensures ends { EndsBy (Looked S.says stop.old stop.new) seed pool.old result pool.new }
     ensures grown { IsGrown pool.old pool.new }
-    ensures flag { result ≡ End.Stopped → is_some stop.entry ≡ true }
 {
     for rounds in 0..History::MOST_EVENTS + 1 {
         if let Some(end) = turn_next(alloc, pool, kept, seed, rounds, stop) {

@@ -1,17 +1,18 @@
 //! A whole run in one thread.
 
-ghost use Rattle.std.specs.Prelude.{◌≡◌, IfErr, IfOk, is_some, true};
+ghost use Rattle.std.specs.Prelude.{◌≡◌, Bool, IfErr, IfOk, List, OnErr};
+ghost use Rattle.tw_stop.specs.Looks.{Looked};
 ghost use Rattle.tw_pool.specs.Openings.{IsRejection, MayOpen, opened};
 ghost use Rattle.tw_pool.specs.PoolView.{PoolView};
 ghost use Rattle.tw_in_turn.specs.InTurn.{IsLeft};
-ghost use Rattle.tw_in_turn.specs.Stopping.{IsLeftOrStopped, IsStopped};
+ghost use Rattle.tw_in_turn.specs.Stopping.{IsLeftBy};
 ghost use Rattle.tw_in_turn.specs.Rounds.{AreKept, IsOpened};
 
 use crate::rounds::{End, turn_all};
 use std::alloc::{AllocError, Global};
-use std::sync::atomic::AtomicU32;
 use tw_frame::Done;
 use tw_pool::{Final, History, OpenError, Pool};
+use tw_stop::{Never, StopSignal};
 use tw_types::{Input, Layout};
 use tw_verify::Verified;
 
@@ -24,12 +25,12 @@ pub enum InTurnResult {
     NoMemory { outcome: Final, history: History },
 }
 
-/// A finished run that another thread could stop.
+/// A finished run that could be stopped.
 #[derive(Drop)]
 pub enum StoppableResult {
     /// It ended without being stopped.
     Ended(InTurnResult),
-    /// The stop flag was raised before its end.
+    /// The stop signal was raised before its end.
     Stopped { outcome: Final, history: History },
 }
 
@@ -45,21 +46,21 @@ fn nothing_kept<'a>(alloc: Global, count: usize) -> Result<Vec<Option<Done<'a>>>
 }
 
 /// Runs a program in this thread: engines, then servers, then workers make one step each, again and again, until the run is
-/// over, or until another thread has stored a number other than 0 in the stop flag. A seed decides another order of the steps, the same
-/// in each run.
-pub fn run_until(
+/// over. A seed decides another order of the steps, the same in each run. Looks at a stop signal before each step, and stops the run if it
+/// is raised.
+pub fn run_until<S: StopSignal>(
     alloc: Global,
     verified: &Verified,
     inputs: &[Input],
     layout: Layout,
     limit: usize,
     seed: Option<u64>,
-    stop: Option<&AtomicU32>,
+    stop: &mut S,
 ) -> Result<StoppableResult, OpenError>
     ensures allowed { IfOk result (λ _. MayOpen verified.now.program inputs.now layout limit) }
-    ensures left { IfOk result (IsLeftOrStopped seed (opened verified.now inputs.now layout limit)) }
+    ensures left { IfOk result (λ left. (answers : List Bool) × Looked S.says stop.old stop.new answers × IsLeftBy seed (opened verified.now inputs.now layout limit) answers left) }
     ensures refused { IfErr result (IsRejection verified.now.program inputs.now layout limit) }
-    ensures flag { IfOk result (λ left. IsStopped left → is_some stop.entry ≡ true) }
+    ensures unseen { OnErr result (stop.new ≡ stop.old) }
 {
     let mut pool = Pool::open(alloc, verified, inputs, layout, limit)?;
     let Ok(mut kept) = nothing_kept(alloc, layout.actor_count()) else {
@@ -75,7 +76,7 @@ pub fn run_until(
     }
 }
 
-/// Like `run_until`, without a stop flag.
+/// Like `run_until`, without a stop signal.
 pub fn run_in_turn(
     alloc: Global,
     verified: &Verified,
@@ -88,7 +89,7 @@ pub fn run_in_turn(
     ensures left { IfOk result (IsLeft seed (opened verified.now inputs.now layout limit)) }
     ensures refused { IfErr result (IsRejection verified.now.program inputs.now layout limit) }
 {
-    match run_until(alloc, verified, inputs, layout, limit, seed, None) {
+    match run_until(alloc, verified, inputs, layout, limit, seed, &mut Never) {
         Ok(StoppableResult::Ended(left)) => Ok(left),
         Ok(StoppableResult::Stopped { .. }) => unreachable!(),
         Err(why) => Err(why),

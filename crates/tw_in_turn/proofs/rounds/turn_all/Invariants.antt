@@ -1,12 +1,14 @@
-use Rattle.std.proofs.Common.{◌≤◌, length}
+use Rattle.std.proofs.Common.{◌≤◌, ℕ, length}
+use Rattle.tw_stop.specs.Looks.{Looked, noes}
 use Rattle.tw_in_turn.specs.InTurn.{IsAfter}
 use Rattle.tw_in_turn.specs.Rounds.{AreKept, IsGrown, turns_in}
 use Rattle.tw_in_turn.proofs.rounds.turn_all.Given as goal
 
 abbrev pub invariant-loop-rounds : goal.invariant-loop-rounds
-invariant-loop-rounds l = record {
+invariant-loop-rounds g l = record {
   grown : IsGrown l.fn.pool l.pool;
   kept_is : AreKept l.pool l.kept;
   after : IsAfter l.fn.seed l.fn.pool (turns_in l.fn.seed l.fn.pool.layout l.rounds) l.pool;
   many : l.rounds ≤ length l.pool.history;
+  looked : (count : ℕ) × Looked g.S.StopSignal.says l.fn.stop l.stop (noes count) × (turns_in l.fn.seed l.fn.pool.layout l.rounds ≤ count);
 }

@@ -1,39 +1,63 @@
-use Rattle.std.proofs.Common.{◌≡◌, ◌≢◌, ◌<◌, ◌≤◌, ◌+◌, ◌⊎◌, ◌∙◌, Option, Some, None, ap, arith, inl, inr, length, subst, sym}
+use Rattle.std.proofs.Common.{◌≡◌, ◌≢◌, ◌<◌, ◌+◌, ◌∙◌, Option, Some, true, false, ap, arith, length, refl, subst, sym}
 use Rattle.tw_types.specs.declared.actor.Actor.{Actor}
 use Rattle.tw_types.specs.Actor.{actor_count}
-use Rattle.tw_types.specs.Layout.{ActorCounts}
 use Rattle.tw_frame.specs.Jobs.{DoneView}
+use Rattle.tw_stop.specs.Looks.{Looked, looks}
+use Rattle.tw_stop.proofs.Looking.{last_look, one_no}
 use Rattle.tw_pool.specs.PoolView.{PoolView}
 use Rattle.tw_in_turn.specs.InTurn.{IsAfter, IsIdle}
 use Rattle.tw_in_turn.specs.Rounds.{IsTurned, Keeps, MayTurn}
 use Rattle.tw_in_turn.specs.declared.rounds.End.{End}
 use Rattle.tw_in_turn.proofs.Drawing as drawing
 use Rattle.tw_in_turn.proofs.Rounding as rounding
-use Rattle.tw_in_turn.proofs.Stops.{ends_at}
+use Rattle.tw_in_turn.proofs.Stops.{ends_after, no_stop}
 use Rattle.tw_in_turn.proofs.rounds.turn_drawn.Goals as goal
 
 pub returns-in-Some-clause-round : goal.returns-in-Some-clause-round
-returns-in-Some-clause-round c = λ start after.
+returns-in-Some-clause-round g c =
     let now = c.loop-skipped.pool in
     let inv = c.loop-skipped.invariant in
     let new = c.turn_one.new.pool in
     let actor = c.actor_at.result in
     let t = c.in-Some.ensures in
     let same = c.layout-layout.ensures ∙ sym (ap (λ (p : PoolView). p.layout) inv.same) in
-    ends_at (Some c.args.seed) start c.in-Some.end new (record {
-      turns = c.args.steps;
-      before = now;
-      after = subst (λ (p : PoolView). IsAfter (Some c.args.seed) start c.args.steps p) (sym inv.same) after;
-      actor = actor;
-      next = drawing.drawn_at c.args.seed c.args.steps now c.layout-layout.result c.actor_count-count.result c.place_for-first.result c.loop-skipped.skipped actor same c.actor_count-count.ensures.is
-          c.place_for-first.ensures.place c.actor_at.ensures.is inv.idle (drawing.busy_at_end c.in-Some.end now new actor t.answer t.move t.comes);
-      answer = t.answer;
-      last = t.move;
-      is = t.comes;
-    })
+    let Says = g.S.StopSignal.says in
+    let denied : Says c.loop-skipped.stop false c.is_raised.new.self = subst (λ b. Says c.loop-skipped.stop b c.is_raised.new.self) c.if-is_raised.false c.is_raised.ensures in
+    let looked = last_look Says c.args.stop.now c.loop-skipped.stop c.is_raised.new.self c.loop-skipped.skipped false inv.looked denied in (
+      c.args.steps,
+      c.loop-skipped.skipped,
+      subst (λ b. Looked Says c.args.stop.now c.is_raised.new.self (looks c.loop-skipped.skipped b)) (sym (no_stop c.in-Some.end t.answer t.comes)) looked,
+      omega arith,
+      λ start after. ends_after (Some c.args.seed) start c.args.steps c.in-Some.end new (
+        record {
+          turns = c.args.steps;
+          before = now;
+          after = subst (λ (p : PoolView). IsAfter (Some c.args.seed) start c.args.steps p) (sym inv.same) after;
+          actor = actor;
+          next = drawing.drawn_at c.args.seed c.args.steps now c.layout-layout.result c.actor_count-count.result c.place_for-first.result c.loop-skipped.skipped actor same c.actor_count-count.ensures.is
+              c.place_for-first.ensures.place c.actor_at.ensures.is inv.idle (drawing.busy_at_end c.in-Some.end now new actor t.answer t.move t.comes);
+          answer = t.answer;
+          last = t.move;
+          is = t.comes;
+        },
+        refl,
+      ),
+    )
+
+pub returns-then-is_raised-clause-round : goal.returns-then-is_raised-clause-round
+returns-then-is_raised-clause-round g c =
+    let Says = g.S.StopSignal.says in
+    let inv = c.loop-skipped.invariant in
+    let yes : Says c.loop-skipped.stop true c.is_raised.new.self = subst (λ b. Says c.loop-skipped.stop b c.is_raised.new.self) c.if-is_raised.true c.is_raised.ensures in (
+      c.args.steps,
+      c.loop-skipped.skipped,
+      last_look Says c.args.stop.now c.loop-skipped.stop c.is_raised.new.self c.loop-skipped.skipped true inv.looked yes,
+      omega arith,
+      λ start after. subst (λ (p : PoolView). IsAfter (Some c.args.seed) start c.args.steps p) (sym inv.same) after,
+    )
 
 pub returns-then-events-len-clause-round : goal.returns-then-events-len-clause-round
-returns-then-events-len-clause-round c =
+returns-then-events-len-clause-round g c =
     let first = c.args.pool.now in
     let now = c.loop-skipped.pool in
     let inv = c.loop-skipped.invariant in
@@ -51,15 +75,20 @@ returns-then-events-len-clause-round c =
     let low = drawing.index_inside c.args.seed c.args.steps now c.layout-layout.result c.actor_count-count.result c.place_for-first.result c.loop-skipped.skipped actor same many at_place c.actor_at.ensures.is c.place_for-first.ensures.inside in
     let drawn = drawing.drawn_at c.args.seed c.args.steps now c.layout-layout.result c.actor_count-count.result c.place_for-first.result c.loop-skipped.skipped actor same many at_place c.actor_at.ensures.is inv.idle
     (drawing.busy_if_more now new actor t.answer t.move more_now) in
-    record {
-      more = more;
-      kept_is = rounding.kept_again now new c.loop-skipped.kept _ c.turn_one.new.kept (rounding.layout_same now new t.grown) low inv.kept_is (subst (λ (a : Actor). Keeps new a c.turn_one.new.kept) actor_now t.comes.1)
-          (subst (λ (a : Actor). (other : Actor) (its : Option DoneView) → other ≢ a → Keeps now other its → Keeps new other its) actor_now t.others);
-      after = λ start at. drawing.after_drawn c.args.seed c.args.steps start now new actor t.answer (subst (λ (p : PoolView). IsAfter (Some c.args.seed) start c.args.steps p) (sym inv.same) at) drawn t.move t.comes.0;
-    }
+    let denied = subst (λ b. g.S.StopSignal.says c.loop-skipped.stop b c.is_raised.new.self) c.if-is_raised.false c.is_raised.ensures in (
+      record {
+        more = more;
+        kept_is = rounding.kept_again now new c.loop-skipped.kept _ c.turn_one.new.kept (rounding.layout_same now new t.grown) low inv.kept_is (subst (λ (a : Actor). Keeps new a c.turn_one.new.kept) actor_now t.comes.1)
+            (subst (λ (a : Actor). (other : Actor) (its : Option DoneView) → other ≢ a → Keeps now other its → Keeps new other its) actor_now t.others);
+        after = λ start at. drawing.after_drawn c.args.seed c.args.steps start now new actor t.answer (subst (λ (p : PoolView). IsAfter (Some c.args.seed) start c.args.steps p) (sym inv.same) at) drawn t.move t.comes.0;
+      },
+      c.loop-skipped.skipped + 1,
+      one_no g.S.StopSignal.says c.args.stop.now c.loop-skipped.stop c.is_raised.new.self c.loop-skipped.skipped inv.looked denied,
+      omega arith,
+    )
 
 pub loop-skipped-preserved : goal.loop-skipped-preserved
-loop-skipped-preserved c =
+loop-skipped-preserved g c =
     let first = c.args.pool.now in
     let now = c.loop-skipped.pool in
     let inv = c.loop-skipped.invariant in
@@ -81,10 +110,12 @@ loop-skipped-preserved c =
       kept_is = rounding.kept_again now new c.loop-skipped.kept _ c.turn_one.new.kept (rounding.layout_same now new t.grown) low inv.kept_is (subst (λ (a : Actor). Keeps new a c.turn_one.new.kept) actor_now t.comes.1)
           (subst (λ (a : Actor). (other : Actor) (its : Option DoneView) → other ≢ a → Keeps now other its → Keeps new other its) actor_now t.others);
       idle = drawing.idle_again now new c.place_for-first.result c.loop-skipped.skipped still.0 inv.idle (subst (λ (a : Actor). IsIdle now a) from still.1);
+      looked = one_no g.S.StopSignal.says c.args.stop.now c.loop-skipped.stop c.is_raised.new.self c.loop-skipped.skipped inv.looked
+          (subst (λ b. g.S.StopSignal.says c.loop-skipped.stop b c.is_raised.new.self) c.if-is_raised.false c.is_raised.ensures);
     }
 
 pub unreachable-requires : goal.unreachable-requires
-unreachable-requires c =
+unreachable-requires g c =
     let now = c.loop-skipped.pool in
     let inv = c.loop-skipped.invariant in
     let many : c.actor_count-count.result ≡ actor_count now.layout =

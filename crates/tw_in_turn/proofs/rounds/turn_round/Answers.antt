@@ -1,17 +1,19 @@
-use Rattle.std.proofs.Common.{◌≡◌, ◌≢◌, ◌<◌, ◌+◌, ◌*◌, ◌∙◌, Option, None, ap, arith, get_or, subst, sym}
+use Rattle.std.proofs.Common.{◌≡◌, ◌≢◌, ◌<◌, ◌+◌, ◌*◌, ◌∙◌, Option, None, true, false, ap, arith, get_or, subst, sym}
 use Rattle.tw_types.specs.declared.actor.Actor.{Actor}
 use Rattle.tw_types.specs.Actor.{actor_at, actor_count}
 use Rattle.tw_types.specs.Layout.{ActorCounts}
 use Rattle.tw_frame.specs.Jobs.{DoneView}
 use Rattle.tw_in_turn.specs.InTurn.{IsMove}
+use Rattle.tw_stop.specs.Looks.{Looked, looks}
+use Rattle.tw_stop.proofs.Looking.{last_look, one_no}
 use Rattle.tw_in_turn.specs.Rounds.{Ends, IsTurned, Keeps}
 use Rattle.tw_in_turn.specs.declared.rounds.End.{End}
 use Rattle.tw_in_turn.proofs.Rounding as rounding
-use Rattle.tw_in_turn.proofs.Stops.{ends_at}
+use Rattle.tw_in_turn.proofs.Stops.{ends_after, no_stop}
 use Rattle.tw_in_turn.proofs.rounds.turn_round.Goals as goal
 
 pub turn_one-requires-clause-keeps : goal.turn_one-requires-clause-keeps
-turn_one-requires-clause-keeps c =
+turn_one-requires-clause-keeps g c =
     let first = c.args.pool.now in
     let now = c.loop-index.pool in
     let index = c.loop-index.index in
@@ -26,7 +28,7 @@ turn_one-requires-clause-keeps c =
     subst (λ (a : Actor). Keeps now a (get_or c.loop-index.kept index default)) (sym actor_now) (inv.kept_is.each index default low_now)
 
 pub returns-in-Some-clause-round : goal.returns-in-Some-clause-round
-returns-in-Some-clause-round c = λ rounds start after.
+returns-in-Some-clause-round g c = λ rounds.
     let first = c.args.pool.now in
     let now = c.loop-index.pool in
     let index = c.loop-index.index in
@@ -34,15 +36,22 @@ returns-in-Some-clause-round c = λ rounds start after.
     let count : c.actor_count-index-end.result ≡ actor_count first.layout = c.actor_count-index-end.ensures.is ∙ ap actor_count c.layout-layout.ensures in
     let same : now.layout ≡ first.layout = rounding.layout_same first now inv.grown in
     let low : index < actor_count first.layout = omega (arith, c.loop-index-test.true, count) in
-    let low_now : index < actor_count now.layout = subst (λ (l : ActorCounts). index < actor_count l) (sym same) low in
     let actor_is : c.actor_at-actor.result ≡ actor_at first.layout index = c.actor_at-actor.ensures.is ∙ ap (λ (l : ActorCounts). actor_at l index) c.layout-layout.ensures in
-    let actor_now : c.actor_at-actor.result ≡ actor_at now.layout index = actor_is ∙ ap (λ (l : ActorCounts). actor_at l index) (sym same) in
     let t = c.in-Some.ensures in
-    ends_at None start c.in-Some.end c.turn_one.new.pool
-    (rounding.the_last start now c.turn_one.new.pool first.layout rounds index t.answer (Ends c.in-Some.end) same low (inv.after start rounds after) (subst (λ (a : Actor). IsMove now a t.answer c.turn_one.new.pool) actor_is t.move) t.comes)
+    let new = c.turn_one.new.pool in
+    let Says = g.S.StopSignal.says in
+    let denied : Says c.loop-index.stop false c.is_raised.new.self = subst (λ b. Says c.loop-index.stop b c.is_raised.new.self) c.if-is_raised.false c.is_raised.ensures in
+    let looked = last_look Says c.args.stop.now c.loop-index.stop c.is_raised.new.self index false inv.looked denied in (
+      rounds * actor_count first.layout + index,
+      index,
+      subst (λ b. Looked Says c.args.stop.now c.is_raised.new.self (looks index b)) (sym (no_stop c.in-Some.end t.answer t.comes)) looked,
+      rounding.as_many (rounds * actor_count first.layout) index,
+      λ start after. ends_after None start (rounds * actor_count first.layout + index) c.in-Some.end new
+          (rounding.the_last start now new first.layout rounds index t.answer (Ends c.in-Some.end) same low (inv.after start rounds after) (subst (λ (a : Actor). IsMove now a t.answer new) actor_is t.move) t.comes),
+    )
 
 pub loop-index-preserved : goal.loop-index-preserved
-loop-index-preserved c =
+loop-index-preserved g c =
     let first = c.args.pool.now in
     let now = c.loop-index.pool in
     let index = c.loop-index.index in
@@ -63,10 +72,12 @@ loop-index-preserved c =
           (subst (λ (a : Actor). (other : Actor) (its : Option DoneView) → other ≢ a → Keeps now other its → Keeps new other its) actor_now t.others);
       after = λ start rounds after. rounding.one_more start now new first.layout rounds index t.answer same low (inv.after start rounds after) (subst (λ (a : Actor). IsMove now a t.answer new) actor_is t.move) on;
       more = rounding.more_again first now new index inv.more (subst (λ (a : Actor). rounding.OneMore now new a) actor_now more);
+      looked = one_no g.S.StopSignal.says c.args.stop.now c.loop-index.stop c.is_raised.new.self index inv.looked
+          (subst (λ b. g.S.StopSignal.says c.loop-index.stop b c.is_raised.new.self) c.if-is_raised.false c.is_raised.ensures);
     }
 
 pub returns-clause-round : goal.returns-clause-round
-returns-clause-round c = λ rounds.
+returns-clause-round g c = λ rounds.
     let first = c.args.pool.now in
     let now = c.loop-index.pool in
     let index = c.loop-index.index in
@@ -74,16 +85,21 @@ returns-clause-round c = λ rounds.
     let count : c.actor_count-index-end.result ≡ actor_count first.layout = c.actor_count-index-end.ensures.is ∙ ap actor_count c.layout-layout.ensures in
     let same : now.layout ≡ first.layout = rounding.layout_same first now inv.grown in
     let end : index ≡ actor_count first.layout = omega (arith, c.loop-index-test.false, c.loop-index.auto.index-end, count) in
-    let may = rounding.still_may first now c.requires.may inv.grown in
-    record {
-      more = rounding.round_grows first now index may (end ∙ ap actor_count (sym same)) inv.more;
-      kept_is = inv.kept_is;
-      after = λ start after. rounding.whole_round start now rounds (actor_count first.layout) index end (inv.after start rounds after);
-    }
+    let may = rounding.still_may first now c.requires.may inv.grown in (
+      record {
+        more = rounding.round_grows first now index may (end ∙ ap actor_count (sym same)) inv.more;
+        kept_is = inv.kept_is;
+        after = λ start after. rounding.whole_round start now rounds (actor_count first.layout) index end (inv.after start rounds after);
+      },
+      index,
+      inv.looked,
+      rounding.enough rounds (actor_count first.layout) index end,
+    )
 
 pub returns-then-is_raised-clause-round : goal.returns-then-is_raised-clause-round
-returns-then-is_raised-clause-round c = λ rounds start after.
-    (rounds * actor_count c.args.pool.now.layout + c.loop-index.index, c.loop-index.invariant.after start rounds after)
-
-pub returns-in-Some-clause-flag : goal.returns-in-Some-clause-flag
-returns-in-Some-clause-flag c = λ e. absurd (subst (λ (end : End). Ends end c.in-Some.ensures.answer) e c.in-Some.ensures.comes)
+returns-then-is_raised-clause-round g c = λ rounds.
+    let Says = g.S.StopSignal.says in
+    let index = c.loop-index.index in
+    let turns = rounds * actor_count c.args.pool.now.layout in
+    let yes : Says c.loop-index.stop true c.is_raised.new.self = subst (λ b. Says c.loop-index.stop b c.is_raised.new.self) c.if-is_raised.true c.is_raised.ensures in
+    (turns + index, index, last_look Says c.args.stop.now c.loop-index.stop c.is_raised.new.self index true c.loop-index.invariant.looked yes, rounding.as_many turns index, λ start after. c.loop-index.invariant.after start rounds after)

@@ -1,5 +1,6 @@
 use Rattle.std.proofs.Common.{◌+◌, ◌*◌, ℕ, None}
 use Rattle.tw_types.specs.Actor.{actor_count}
+use Rattle.tw_stop.specs.Looks.{Looked, noes}
 use Rattle.tw_pool.specs.PoolView.{PoolView}
 use Rattle.tw_in_turn.specs.InTurn.{IsAfter}
 use Rattle.tw_in_turn.specs.Rounds.{AreKept, IsGrown}
@@ -7,9 +8,10 @@ use Rattle.tw_in_turn.proofs.Rounding.{MoreOrIdle}
 use Rattle.tw_in_turn.proofs.rounds.turn_round.Given as goal
 
 abbrev pub invariant-loop-index : goal.invariant-loop-index
-invariant-loop-index l = record {
+invariant-loop-index g l = record {
   grown : IsGrown l.fn.pool l.pool;
   kept_is : AreKept l.pool l.kept;
   after : (first : PoolView) (rounds : ℕ) → IsAfter None first (rounds * actor_count l.fn.pool.layout) l.fn.pool → IsAfter None first (rounds * actor_count l.fn.pool.layout + l.index) l.pool;
   more : MoreOrIdle l.fn.pool l.pool l.index;
+  looked : Looked g.S.StopSignal.says l.fn.stop l.stop (noes l.index);
 }
