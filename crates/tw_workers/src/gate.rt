@@ -20,11 +20,18 @@ pub enum SoFar {
 pub trait Progress {
     /// Returns how far it had got recently, or `None` once it is over.
     fn so_far(&self) -> Option<SoFar>;
+
+    /// Stops the work, if it can be stopped.
+    fn stop<R: Wait>(&self, _rt: &R) {}
 }
 
 impl<'a, N: Named> Progress for Host<'a, N> {
     fn so_far(&self) -> Option<SoFar> {
         Some(SoFar::Events(self.events_so_far()?))
+    }
+
+    fn stop<R: Wait>(&self, rt: &R) {
+        Host::stop(self, rt);
     }
 }
 
