@@ -1,5 +1,5 @@
 -- The contents of a handle, and loading a program.
-use Rattle.std.specs.Prelude.{◌≡◌, ◌≢◌, ◌⊎◌, ◌<◌, ◌≤◌, ◌∷◌, ℕ, Bool, true, false, List, [], length, unwrap_or, Option, Some, None, slice_get}
+use Rattle.std.specs.Prelude.{◌≡◌, ◌≢◌, ◌⊎◌, ◌<◌, ◌≤◌, ◌∷◌, ℕ, List, [], length, unwrap_or, Option, Some, None, slice_get}
 use Rattle.std.specs.Arc.{arc_value}
 use Rattle.tw_in_turn.specs.declared.run.StoppableResult.{StoppableResult}
 use Rattle.tw_types.specs.declared.input.Input.{Input}
@@ -43,16 +43,6 @@ report_in (Some (Container container)) = None
 report_in (Some (Report left)) = Some left
 report_in (Some (Stop flag)) = None
 report_in (Some (Text text)) = None
-
--- whether there is a stop flag; a null handle is none
-abbrev pub stop_in : Option Held → Option Bool
-stop_in None = Some false
-stop_in (Some (Program verified)) = None
-stop_in (Some (Inputs inputs)) = None
-stop_in (Some (Container container)) = None
-stop_in (Some (Report left)) = None
-stop_in (Some (Stop flag)) = Some true
-stop_in (Some (Text text)) = None
 
 -- the handle holds the accepted program of the source; else its contents are as they were, and the verdict has the source's error
 abbrev pub IsSourceLoaded : Format → List ℕ → Option Held → Option Held → SourceVerdict → Type 0

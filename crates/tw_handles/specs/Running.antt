@@ -1,6 +1,10 @@
 -- The inputs of a run, and the result of running a loaded program.
 use Rattle.std.specs.Prelude.{◌≡◌, ◌⊎◌, ◌<◌, ◌≤◌, ◌==◌, if◌then◌else◌, Bool, true, false, ◌++◌, ◌∷◌, [], ℕ, List, length, min, slice_get, unwrap_or, Option, Some, None, MatchOption}
-use Rattle.tw_in_turn.specs.Stopping.{IsLeftOrStopped, IsStopped}
+use Rattle.tw_stop.specs.declared.flag.FlagSignal.{FlagSignal}
+use Rattle.tw_stop.specs.declared.signal.Never.{Never}
+use Rattle.tw_stop.specs.Flags.{IsSeen, name_of, signal_name}
+use Rattle.tw_stop.specs.Looks.{Looked, never_says}
+use Rattle.tw_in_turn.specs.Stopping.{IsLeftBy}
 use Rattle.tw_in_turn.specs.declared.run.StoppableResult.{StoppableResult}
 use Rattle.tw_pool.specs.Openings.{IsRejection, MayOpen, opened}
 use Rattle.tw_pool.specs.declared.open.OpenError.{OpenError}
@@ -10,10 +14,11 @@ use Rattle.tw_verify.specs.Typed.{TypedProgram}
 use Rattle.tw_handles.specs.Asking.{Fails}
 use Rattle.tw_handles.specs.Caps.{IsDecided, listed_caps}
 use Rattle.tw_handles.specs.Codes.{above_cap, done, no_inputs, no_layout, no_memory, no_options, no_program, no_stop, open_code}
-use Rattle.tw_handles.specs.Loading.{inputs_in, program_in, report_in, stop_in}
+use Rattle.tw_handles.specs.Loading.{inputs_in, program_in, report_in}
 use Rattle.tw_handles.specs.declared.caps.AllCaps.{AllCaps}
 use Rattle.tw_handles.specs.declared.held.Held.{Held}
 use Rattle.tw_handles.specs.declared.running.RunOrder.{RunOrder}
+use Rattle.tw_handles.specs.Stops.{WithFlag}
 
 -- holds if the inputs have one more, or are unchanged because an allocation failed
 abbrev pub IsAppended : Input → List Input → Option Held → ℕ → Type 0
@@ -23,41 +28,47 @@ IsAppended given before new code =
 abbrev pub IsAdded : Input → Option Held → Option Held → ℕ → Type 0
 IsAdded given old new code = MatchOption (inputs_in old) (Fails no_inputs old new code) (λ before. IsAppended given before new code)
 
--- holds if the report has the run's result, which is stopped only with a flag, or the run isn't opened
-abbrev pub IsRunOn : Bool → TypedProgram → List Input → ActorCounts → ℕ → Option ℕ → Option Held → Option Held → ℕ → Type 0
-IsRunOn has_flag verified inputs counts limit seed old new code =
-    ((left : StoppableResult) × (report_in new ≡ Some left) × MayOpen verified.program inputs counts limit × IsLeftOrStopped seed (opened verified inputs counts limit) left × (IsStopped left → has_flag ≡ true) × (code ≡ done))
+-- a condition on the answers of a run's looks
+abbrev pub Looks : Type 1
+Looks = List Bool → Type 0
+
+-- holds if the report has the result of a run whose looks had such answers, or the run isn't opened
+abbrev pub IsRunOn : Looks → TypedProgram → List Input → ActorCounts → ℕ → Option ℕ → Option Held → Option Held → ℕ → Type 0
+IsRunOn Saw verified inputs counts limit seed old new code =
+    ((left : StoppableResult) × (answers : List Bool) × Saw answers × (report_in new ≡ Some left) × MayOpen verified.program inputs counts limit × IsLeftBy seed (opened verified inputs counts limit) answers left × (code ≡ done))
     ⊎ ((why : OpenError) × IsRejection verified.program inputs counts limit why × Fails (open_code why) old new code)
 
 -- holds if this is the result of a run, of a program that stays within the caps; or a bound is above its cap; or an allocation failed
-abbrev pub IsRunIfWithin : Bool → TypedProgram → List Input → ActorCounts → ℕ → Option ℕ → AllCaps → Option Held → Option Held → ℕ → Type 0
-IsRunIfWithin has_flag verified inputs counts limit seed caps old new code =
-    ((within : Bool) × IsDecided verified limit caps within × (((within ≡ true) × IsRunOn has_flag verified inputs counts limit seed old new code) ⊎ ((within ≡ false) × Fails above_cap old new code)))
+abbrev pub IsRunIfWithin : Looks → TypedProgram → List Input → ActorCounts → ℕ → Option ℕ → AllCaps → Option Held → Option Held → ℕ → Type 0
+IsRunIfWithin Saw verified inputs counts limit seed caps old new code =
+    ((within : Bool) × IsDecided verified limit caps within × (((within ≡ true) × IsRunOn Saw verified inputs counts limit seed old new code) ⊎ ((within ≡ false) × Fails above_cap old new code)))
     ⊎ Fails no_memory old new code
 
 abbrev pub counts_of : RunOrder → ActorCounts
 counts_of order = record { engines = order.engines; servers = order.servers; workers = order.workers }
 
 -- holds if this is the result of a run, or there is no layout with these numbers
-abbrev pub IsRunIn : Bool → TypedProgram → List Input → RunOrder → Option Held → Option Held → ℕ → Type 0
-IsRunIn has_flag verified inputs order old new code =
-    (IsLayout (counts_of order) × IsRunIfWithin has_flag verified inputs (counts_of order) order.limit order.seed order.caps old new code)
+abbrev pub IsRunIn : Looks → TypedProgram → List Input → RunOrder → Option Held → Option Held → ℕ → Type 0
+IsRunIn Saw verified inputs order old new code =
+    (IsLayout (counts_of order) × IsRunIfWithin Saw verified inputs (counts_of order) order.limit order.seed order.caps old new code)
     ⊎ ((IsLayout (counts_of order) → ⊥) × Fails no_layout old new code)
 
 -- holds if this is the result of a run with the inputs of a handle
-abbrev pub IsRunWith : Bool → TypedProgram → Option Held → RunOrder → Option Held → Option Held → ℕ → Type 0
-IsRunWith has_flag verified given order old new code =
-    MatchOption (inputs_in given) (Fails no_inputs old new code) (λ inputs. IsRunIn has_flag verified inputs order old new code)
+abbrev pub IsRunWith : Looks → TypedProgram → Option Held → RunOrder → Option Held → Option Held → ℕ → Type 0
+IsRunWith Saw verified given order old new code =
+    MatchOption (inputs_in given) (Fails no_inputs old new code) (λ inputs. IsRunIn Saw verified inputs order old new code)
 
 -- holds if this is the result of running the program of one handle with the inputs of another
-abbrev pub IsRunBy : Bool → Option Held → Option Held → RunOrder → Option Held → Option Held → ℕ → Type 0
-IsRunBy has_flag program given order old new code =
-    MatchOption (program_in program) (Fails no_program old new code) (λ verified. IsRunWith has_flag verified given order old new code)
+abbrev pub IsRunBy : Looks → Option Held → Option Held → RunOrder → Option Held → Option Held → ℕ → Type 0
+IsRunBy Saw program given order old new code =
+    MatchOption (program_in program) (Fails no_program old new code) (λ verified. IsRunWith Saw verified given order old new code)
 
--- holds if this is the result of such a run with the flag of a handle, if that holds one
+-- holds if this is the result of such a run with the flag of a handle, if that holds one; a null handle is a flag that never stops a run
 abbrev pub IsRunUntil : Option Held → Option Held → RunOrder → Option Held → Option Held → Option Held → ℕ → Type 0
-IsRunUntil program given order stop old new code =
-    MatchOption (stop_in stop) (Fails no_stop old new code) (λ flag. IsRunBy flag program given order old new code)
+IsRunUntil program given order stop old new code = MatchOption stop
+    ((first : Never) × (last : Never) × IsRunBy (Looked never_says first last) program given order old new code)
+    (λ held. WithFlag (Some held) (Fails no_stop old new code)
+    (λ flag. (first : FlagSignal) × (last : FlagSignal) × (signal_name first ≡ name_of flag) × IsRunBy (Looked IsSeen first last) program given order old new code))
 
 -- returns the option with this index, or the usual one if the list lacks it
 abbrev pub option_at : List ℕ → ℕ → ℕ → ℕ

@@ -2,8 +2,8 @@
 
 use crate::container::Container;
 use std::sync::Arc;
-use std::sync::atomic::AtomicU32;
 use tw_in_turn::StoppableResult;
+use tw_stop::StopFlag;
 use tw_types::Input;
 use tw_verify::Verified;
 
@@ -18,8 +18,8 @@ pub enum Held {
     Container(Container),
     /// The result of a run.
     Report(StoppableResult),
-    /// A stop flag, shared by its handles: a number other than 0 stops a run.
-    Stop(Arc<AtomicU32>),
+    /// A stop flag, shared by its handles.
+    Stop(StopFlag),
     /// A text that a call made.
     Text(Vec<u8>),
 }

@@ -1,6 +1,7 @@
 //! Runs loaded programs.
 
-ghost use Rattle.std.specs.Prelude.{◌≡◌, Some, is_some, true};
+ghost use Rattle.std.specs.Prelude.{◌≡◌, Some};
+ghost use Rattle.tw_stop.specs.Looks.{Looked};
 ghost use Rattle.tw_handles.specs.Running.{IsRun, IsRunBy, IsRunIfWithin, IsRunIn, IsRunOn, IsRunUntil, IsRunWith, actors_at as actors_at_is, option_at as option_at_is, order_of as order_of_is, seed_of as seed_of_is};
 
 use crate::caps::{AllCaps, is_admitted};
@@ -8,8 +9,8 @@ use crate::codes;
 use crate::handle::Handle;
 use crate::held::Held;
 use std::alloc::Global;
-use std::sync::atomic::AtomicU32;
 use tw_in_turn::run_until;
+use tw_stop::{Never, StopSignal};
 use tw_types::{Input, Layout};
 use tw_verify::Verified;
 
@@ -68,17 +69,17 @@ fn order_of(options: &[u64], caps: &[u64]) -> RunOrder
 }
 
 /// Runs a program in this thread.
-fn run_on(
+fn run_on<S: StopSignal>(
     alloc: Global,
     verified: &Verified,
     inputs: &[Input],
     layout: Layout,
     limit: usize,
     seed: Option<u64>,
-    stop: Option<&AtomicU32>,
+    stop: &mut S,
     report: &mut Handle,
 ) -> u8
-    ensures { IsRunOn (is_some stop.entry) verified.now inputs.now layout limit seed report.old.held report.new.held result }
+    ensures { IsRunOn (Looked S.says stop.old stop.new) verified.now inputs.now layout limit seed report.old.held report.new.held result }
 {
     let left = match run_until(alloc, verified, inputs, layout, limit, seed, stop) {
         Ok(left) => left,
@@ -94,7 +95,7 @@ fn run_on(
 }
 
 /// Runs a program, if no bound of it is above its cap.
-fn run_if_within(
+fn run_if_within<S: StopSignal>(
     alloc: Global,
     verified: &Verified,
     inputs: &[Input],
@@ -102,10 +103,10 @@ fn run_if_within(
     limit: usize,
     seed: Option<u64>,
     caps: AllCaps,
-    stop: Option<&AtomicU32>,
+    stop: &mut S,
     report: &mut Handle,
 ) -> u8
-    ensures { IsRunIfWithin (is_some stop.entry) verified.now inputs.now layout limit seed caps report.old.held report.new.held result }
+    ensures { IsRunIfWithin (Looked S.says stop.old stop.new) verified.now inputs.now layout limit seed caps report.old.held report.new.held result }
 {
     match is_admitted(alloc, verified, limit, caps) {
         Ok(true) => run_on(alloc, verified, inputs, layout, limit, seed, stop, report),
@@ -115,15 +116,15 @@ fn run_if_within(
 }
 
 /// Runs a program, if there is a layout with these numbers of actors.
-fn run_in(
+fn run_in<S: StopSignal>(
     alloc: Global,
     verified: &Verified,
     inputs: &[Input],
     order: RunOrder,
-    stop: Option<&AtomicU32>,
+    stop: &mut S,
     report: &mut Handle,
 ) -> u8
-    ensures { IsRunIn (is_some stop.entry) verified.now inputs.now order report.old.held report.new.held result }
+    ensures { IsRunIn (Looked S.says stop.old stop.new) verified.now inputs.now order report.old.held report.new.held result }
 {
     match Layout::new(order.engines, order.servers, order.workers) {
         Ok(layout) => {
@@ -136,15 +137,15 @@ fn run_in(
     }
 }
 
-fn run_with_held(
+fn run_with_held<S: StopSignal>(
     alloc: Global,
     verified: &Verified,
     inputs: &Held,
     order: RunOrder,
-    stop: Option<&AtomicU32>,
+    stop: &mut S,
     report: &mut Handle,
 ) -> u8
-    ensures { IsRunWith (is_some stop.entry) verified.now (Some inputs.now) order report.old.held report.new.held result }
+    ensures { IsRunWith (Looked S.says stop.old stop.new) verified.now (Some inputs.now) order report.old.held report.new.held result }
 {
     match inputs {
         Held::Inputs(inputs) => run_in(alloc, verified, inputs.as_slice(), order, stop, report),
@@ -154,16 +155,16 @@ fn run_with_held(
 }
 
 /// Runs a program with the inputs of a handle.
-fn run_with(
+fn run_with<S: StopSignal>(
     alloc: Global,
     verified: &Verified,
     inputs: &mut Handle,
     order: RunOrder,
-    stop: Option<&AtomicU32>,
+    stop: &mut S,
     report: &mut Handle,
 ) -> u8
     ensures kept { inputs.new.held ≡ inputs.old.held }
-    ensures is { IsRunWith (is_some stop.entry) verified.now inputs.old.held order report.old.held report.new.held result }
+    ensures is { IsRunWith (Looked S.says stop.old stop.new) verified.now inputs.old.held order report.old.held report.new.held result }
 {
     let Some(whole) = inputs.take(alloc) else {
         let none = Vec::new(alloc);
@@ -174,16 +175,16 @@ fn run_with(
     code
 }
 
-fn run_held(
+fn run_held<S: StopSignal>(
     alloc: Global,
     program: &Held,
     inputs: &mut Handle,
     order: RunOrder,
-    stop: Option<&AtomicU32>,
+    stop: &mut S,
     report: &mut Handle,
 ) -> u8
     ensures kept { inputs.new.held ≡ inputs.old.held }
-    ensures is { IsRunBy (is_some stop.entry) (Some program.now) inputs.old.held order report.old.held report.new.held result }
+    ensures is { IsRunBy (Looked S.says stop.old stop.new) (Some program.now) inputs.old.held order report.old.held report.new.held result }
 {
     match program {
         Held::Program(verified) => run_with(alloc, verified, inputs, order, stop, report),
@@ -193,17 +194,17 @@ fn run_held(
 }
 
 /// Runs the program of a handle.
-fn run_program(
+fn run_program<S: StopSignal>(
     alloc: Global,
     program: &mut Handle,
     inputs: &mut Handle,
     order: RunOrder,
-    stop: Option<&AtomicU32>,
+    stop: &mut S,
     report: &mut Handle,
 ) -> u8
     ensures program { program.new.held ≡ program.old.held }
     ensures inputs { inputs.new.held ≡ inputs.old.held }
-    ensures is { IsRunBy (is_some stop.entry) program.old.held inputs.old.held order report.old.held report.new.held result }
+    ensures is { IsRunBy (Looked S.says stop.old stop.new) program.old.held inputs.old.held order report.old.held report.new.held result }
 {
     let Some(whole) = program.take(alloc) else {
         return codes::NO_PROGRAM;
@@ -211,21 +212,6 @@ fn run_program(
     let code = run_held(alloc, &whole, inputs, order, stop, report);
     *program = Handle::of(whole);
     code
-}
-
-fn run_with_flag(
-    alloc: Global,
-    program: &mut Handle,
-    inputs: &mut Handle,
-    order: RunOrder,
-    flag: &AtomicU32,
-    report: &mut Handle,
-) -> u8
-    ensures program { program.new.held ≡ program.old.held }
-    ensures inputs { inputs.new.held ≡ inputs.old.held }
-    ensures is { IsRunBy true program.old.held inputs.old.held order report.old.held report.new.held result }
-{
-    run_program(alloc, program, inputs, order, Some(flag), report)
 }
 
 fn run_until_held(
@@ -241,7 +227,9 @@ fn run_until_held(
     ensures is { IsRunUntil program.old.held inputs.old.held order (Some stop.now) report.old.held report.new.held result }
 {
     match stop {
-        Held::Stop(flag) => run_with_flag(alloc, program, inputs, order, flag, report),
+        Held::Stop(flag) => {
+            run_program(alloc, program, inputs, order, &mut flag.signal(), report)
+        }
         Held::Program(_) | Held::Inputs(_) | Held::Report(_) | Held::Container(_) | Held::Text(_) =>
             codes::NO_STOP,
     }
@@ -261,7 +249,7 @@ fn run_until_stopped(
     ensures is { IsRunUntil program.old.held inputs.old.held order stop.old.held report.old.held report.new.held result }
 {
     let Some(whole) = stop.take(alloc) else {
-        return run_program(alloc, program, inputs, order, None, report);
+        return run_program(alloc, program, inputs, order, &mut Never, report);
     };
     let code = run_until_held(alloc, program, inputs, order, &whole, report);
     *stop = Handle::of(whole);

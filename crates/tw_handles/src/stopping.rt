@@ -1,18 +1,17 @@
 //! Stop flags.
 
 ghost use Rattle.std.specs.Prelude.{◌≡◌, Some};
-ghost use Rattle.tw_handles.specs.Stops.{IsRaised, IsStopMade, IsStopShared};
+ghost use Rattle.tw_handles.specs.Stops.{IsFlagPut, IsRaised, IsStopMade, IsStopShared};
 
 use crate::codes;
 use crate::handle::Handle;
 use crate::held::Held;
 use std::alloc::Global;
-use std::sync::Arc;
-use std::sync::atomic::{AtomicU32, Ordering};
+use tw_stop::StopFlag;
 
 /// Puts a flag into a handle.
-fn put_flag(alloc: Global, flag: Arc<AtomicU32>, other: &mut Handle) -> u8
-    ensures { IsStopMade other.old.held other.new.held result }
+fn put_flag(alloc: Global, flag: StopFlag, other: &mut Handle) -> u8
+    ensures { IsFlagPut flag other.old.held other.new.held result }
 {
     match Handle::of_held(alloc, Held::Stop(flag)) {
         Ok(handle) => {
@@ -27,7 +26,7 @@ fn put_flag(alloc: Global, flag: Arc<AtomicU32>, other: &mut Handle) -> u8
 pub fn stop_new(alloc: Global, stop: &mut Handle) -> u8
     ensures { IsStopMade stop.old.held stop.new.held result }
 {
-    match Arc::new(alloc, AtomicU32::new(0)) {
+    match StopFlag::new(alloc) {
         Ok(flag) => put_flag(alloc, flag, stop),
         Err(_) => codes::NO_MEMORY,
     }
@@ -37,7 +36,7 @@ fn share_held(alloc: Global, held: &Held, other: &mut Handle) -> u8
     ensures { IsStopShared (Some held.now) other.old.held other.new.held result }
 {
     match held {
-        Held::Stop(flag) => match Arc::try_clone(flag) {
+        Held::Stop(flag) => match flag.share() {
             Ok(copy) => put_flag(alloc, copy, other),
             Err(_) => codes::NO_MEMORY,
         },
@@ -59,12 +58,12 @@ pub fn stop_share(alloc: Global, stop: &mut Handle, other: &mut Handle) -> u8
     code
 }
 
-fn set_held(held: &Held, number: u32) -> u8
+fn set_held(held: &Held, raised: bool) -> u8
     ensures { IsRaised (Some held.now) result }
 {
     match held {
         Held::Stop(flag) => {
-            flag.store(number, Ordering::SeqCst);
+            flag.set(raised);
             codes::DONE
         }
         Held::Program(_) | Held::Inputs(_) | Held::Report(_) | Held::Container(_) | Held::Text(_) =>
@@ -72,14 +71,14 @@ fn set_held(held: &Held, number: u32) -> u8
     }
 }
 
-fn set_flag(alloc: Global, stop: &mut Handle, number: u32) -> u8
+fn set_flag(alloc: Global, stop: &mut Handle, raised: bool) -> u8
     ensures kept { stop.new.held ≡ stop.old.held }
     ensures raised { IsRaised stop.old.held result }
 {
     let Some(whole) = stop.take(alloc) else {
         return codes::NO_STOP;
     };
-    let code = set_held(&whole, number);
+    let code = set_held(&whole, raised);
     *stop = Handle::of(whole);
     code
 }
@@ -89,7 +88,7 @@ pub fn stop_raise(alloc: Global, stop: &mut Handle) -> u8
     ensures kept { stop.new.held ≡ stop.old.held }
     ensures raised { IsRaised stop.old.held result }
 {
-    set_flag(alloc, stop, 1)
+    set_flag(alloc, stop, true)
 }
 
 /// Lowers a flag, for later runs.
@@ -97,5 +96,5 @@ pub fn stop_lower(alloc: Global, stop: &mut Handle) -> u8
     ensures kept { stop.new.held ≡ stop.old.held }
     ensures lowered { IsRaised stop.old.held result }
 {
-    set_flag(alloc, stop, 0)
+    set_flag(alloc, stop, false)
 }
