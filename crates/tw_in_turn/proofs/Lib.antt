@@ -1,6 +1,7 @@
 mod Bounded
 mod Drawing
 mod Frames
+pub mod Leaves
 mod Leaving
 mod Moving
 mod Opening

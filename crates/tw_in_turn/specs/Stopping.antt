@@ -3,7 +3,7 @@ use Rattle.std.specs.Prelude.{◌≡◌, ◌≤◌, ℕ, Bool, true, false, List
 use Rattle.tw_stop.specs.Looks.{looks}
 use Rattle.tw_pool.specs.declared.answer.Turn.{Turn}
 use Rattle.tw_pool.specs.PoolView.{PoolView}
-use Rattle.tw_in_turn.specs.InTurn.{ComesTo, HasEnded, IsAfter, IsLeftIn, IsOver, IsRefused}
+use Rattle.tw_in_turn.specs.InTurn.{ComesTo, HasEnded, IsAfter, IsLeft, IsLeftIn, IsOver, IsRefused}
 use Rattle.tw_in_turn.specs.declared.run.InTurnResult.TheVariants as left
 use Rattle.tw_in_turn.specs.declared.run.StoppableResult.{StoppableResult}
 use Rattle.tw_in_turn.specs.declared.run.StoppableResult.TheVariants.{Ended, Stopped}
@@ -27,3 +27,8 @@ IsLeftAfter seed first turns (Stopped final history) = (p : PoolView) × IsAfter
 abbrev pub IsLeftBy : Option ℕ → PoolView → List Bool → StoppableResult → Type 0
 IsLeftBy seed first answers left =
     (turns : ℕ) × (count : ℕ) × (turns ≤ count) × (answers ≡ looks count (is_stopped left)) × IsLeftAfter seed first turns left
+
+-- holds for a finished run without its looks: it ended, or it was stopped after so many steps, if that may be
+abbrev pub IsLeftIf : Bool → Option ℕ → PoolView → StoppableResult → Type 0
+IsLeftIf may_stop seed first (Ended left) = IsLeft seed first left
+IsLeftIf may_stop seed first (Stopped final history) = (turns : ℕ) × (p : PoolView) × (may_stop ≡ true) × IsAfter seed first turns p × IsLeftIn first p final history

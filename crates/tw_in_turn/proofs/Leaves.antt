@@ -1,0 +1,12 @@
+-- A finished run, without its looks.
+use Rattle.std.proofs.Common.{ℕ, Bool, true, List, Option, refl}
+use Rattle.tw_pool.specs.PoolView.{PoolView}
+use Rattle.tw_in_turn.specs.Stopping.{IsLeftBy, IsLeftIf}
+use Rattle.tw_in_turn.specs.declared.run.InTurnResult.TheVariants as result
+use Rattle.tw_in_turn.specs.declared.run.StoppableResult.{StoppableResult}
+use Rattle.tw_in_turn.specs.declared.run.StoppableResult.TheVariants.{Ended, Stopped}
+
+pub left_if : (seed : Option ℕ) (first : PoolView) (answers : List Bool) (left : StoppableResult) → IsLeftBy seed first answers left → IsLeftIf true seed first left
+left_if seed first answers (Ended (result.Over final history)) (turns, count, many, is, (p, comes, shut, ended)) = (p, comes.0, shut, ended)
+left_if seed first answers (Ended (result.NoMemory final history)) (turns, count, many, is, (p, comes, shut)) = (p, comes.0, shut)
+left_if seed first answers (Stopped final history) (turns, count, many, is, (p, after, shut)) = (turns, p, refl, after, shut)
