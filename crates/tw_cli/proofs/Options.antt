@@ -23,7 +23,7 @@ use Rattle.tw_lexer.specs.Number.{IsRead, SpellsDigits}
 use Rattle.tw_lexer.specs.declared.numbers.TokenError.{TokenError}
 use Rattle.tw_lexer.specs.declared.numbers.TokenError.TheVariants.{Form, Limit}
 use Rattle.tw_types.specs.Layout.{ActorCounts}
-use Rattle.tw_cli.specs.Options.{HasActors, HasCaps, HasStretch, bounds_faults, cap_options, check_options, each, given_bounds, given_check, given_event_order, given_form, given_places, named_limit, NumberOption, actor_options, engines, first_shown, inputs, inputs_json, is_given, jobs, last_shown, limit, number_in, number_of, number_options, option_faults, seed, servers, stretch_options, workers}
+use Rattle.tw_cli.specs.Options.{HasActors, HasCaps, HasStretch, bounds_faults, cap_options, check_options, each, given_bounds, given_check, given_event_order, given_form, given_places, named_limit, NumberOption, actor_options, engines, first_shown, inputs, inputs_json, is_given, jobs, last_shown, limit, number_in, number_of, number_options, option_faults, seconds, seed, servers, stretch_options, workers}
 use Rattle.tw_cli.specs.Order.{HasReason, IsRequest}
 use Rattle.tw_cli.specs.CommandLine.{Asked, check_faults, drawing_faults, each_excludes, given_faults, given_words, input_faults, is_json_with_more, is_seed_alone, json_excludes, picture_faults, replay_faults, report_faults, run_faults, seed_faults, stretch_faults}
 use Rattle.tw_cli.specs.declared.command.NoOrder.TheVariants.{Refused}
@@ -206,13 +206,17 @@ backward_refused rows s shown refused =
 pub both_refused : (rows : List Row) (asked : Asked) → is_given inputs rows ≡ true → not (is_empty (given_words rows)) ≡ true → HasReason (input_faults rows) asked Refused
 both_refused rows asked read given = has_conflict (input_faults rows) asked (rw (read, given) refl)
 
--- a seed of no single run in one thread is a fault of `run`, and so is a wrong one
+-- a seed of no single run in one thread is a fault of `run`, and so is a wrong one, or a wrong time limit
 pub seed_alone_refused : (rows : List Row) → option_faults number_options rows ≡ [] → option_faults cap_options rows ≡ [] → picture_faults rows ≡ [] → is_seed_alone rows ≡ true → run_faults rows ≡ ArgumentConflict ∷ []
 seed_alone_refused rows numbers capped pictures alone = rw (numbers, capped, pictures, alone) refl
 
 pub seed_refused : (rows : List Row) → option_faults number_options rows ≡ [] → option_faults cap_options rows ≡ [] → picture_faults rows ≡ [] → is_seed_alone rows ≡ false → number_of seed rows ≡ None
     → run_faults rows ≡ ValueValidation ∷ []
 seed_refused rows numbers capped pictures used wrong = rw (numbers, capped, pictures, used, wrong) refl
+
+pub seconds_refused : (rows : List Row) (drawn : ℕ) → option_faults number_options rows ≡ [] → option_faults cap_options rows ≡ [] → picture_faults rows ≡ [] → is_seed_alone rows ≡ false → number_of seed rows ≡ Some drawn → number_of seconds rows ≡ None
+    → run_faults rows ≡ ValueValidation ∷ []
+seconds_refused rows drawn numbers capped pictures used seeded wrong = rw (numbers, capped, pictures, used, seeded, wrong) refl
 
 -- what `--each` excludes is a fault of `run`
 pub each_refused : (rows : List Row) → option_faults number_options rows ≡ [] → option_faults cap_options rows ≡ [] → picture_faults rows ≡ [] → seed_faults rows ≡ [] → is_given each rows ≡ true → each_excludes rows ≡ true

@@ -6,7 +6,7 @@ use Rattle.clap.specs.Words.{Kinds, Row, Text, all_of, fault_of, first_of, subco
 use Rattle.clap.specs.declared.error.ErrorKind.TheVariants.{ArgumentConflict}
 use Rattle.tw_types.specs.Layout.{ActorCounts}
 use Rattle.tw_inputs.specs.InputWords.{AreSpelled, IsRefusedWord, RefusedWord}
-use Rattle.tw_cli.specs.Options.{actor_options, ExplainOrder, explaining, given_actors, given_assembly, given_disassembly, given_form, each, events, first_shown, in_turn, inputs, inputs_json, bounds_faults, cap_options, check_options, given_caps, given_check, given_seed, checking, is_given, jobs, json, last_shown, limit, number_options, option_faults, picture, seed, given_source, stats, stretch_options, given_range, requested, trace}
+use Rattle.tw_cli.specs.Options.{actor_options, ExplainOrder, explaining, given_actors, given_assembly, given_disassembly, given_form, each, events, first_shown, in_turn, inputs, inputs_json, bounds_faults, cap_options, check_options, given_caps, given_check, given_seconds, given_seed, checking, is_given, jobs, json, last_shown, limit, number_options, option_faults, picture, seconds, seed, given_source, stats, stretch_options, given_range, requested, trace}
 use Rattle.tw_cli.specs.Rows.{command_line}
 use Rattle.tw_cli.specs.Explanations.{IsMeaningOf, number_faults, number_word}
 use Rattle.tw_order.specs.declared.runs.Answer.{Answer}
@@ -44,18 +44,17 @@ abbrev pub listed_words : List Row → Option (List Text)
 listed_words rows = if is_given inputs rows then None else Some (given_words rows)
 
 -- what a command requests. Each that reads a program has its format; `asm`, `disasm` and `check` have what they print. `run` has its
--- output, its actors, its maximum number of events, whether its trace is written, whether it is single-threaded, its seed if it has one, and its input
--- arguments. `replay`
--- and `picture` have their output, their actors and their input arguments. Without input arguments the inputs are read after the program. `run` with
--- JSON inputs has what `run` has, without input arguments. `run` of each line has its actors, its caps, the maximum number of events of each run, and
--- how many threads answer lines. `explain` has its code.
+-- output, its actors, its maximum number of events, whether its trace is written, whether it is single-threaded, its seed and its time
+-- limit if it has them, and its input arguments. `replay` and `picture` have their output, their actors and their input arguments. Without input arguments the inputs are read after the program. `run` with
+-- JSON inputs has what `run` has, without input arguments. `run` of each line has its actors, its caps, the maximum number of events of each run,
+-- how many threads answer lines, and the time limit of each run. `explain` has its code.
 pub data Asked : Type 0 where
   Assembles : AssembleOrder → Asked
   Disassembles : Source → DisassembleOrder → Asked
   Checks : Source → CheckOrder → Asked
-  Runs : Source → RunAnswer → ActorCounts → Caps → ℕ → Bool → Bool → Option ℕ → Option (List Text) → Asked
-  RunsJson : Source → RunAnswer → ActorCounts → Caps → ℕ → Bool → Bool → Option ℕ → Asked
-  RunsEach : Source → ActorCounts → Caps → ℕ → ℕ → Asked
+  Runs : Source → RunAnswer → ActorCounts → Caps → ℕ → Bool → Bool → Option ℕ → Option ℕ → Option (List Text) → Asked
+  RunsJson : Source → RunAnswer → ActorCounts → Caps → ℕ → Bool → Bool → Option ℕ → Option ℕ → Asked
+  RunsEach : Source → ActorCounts → Caps → ℕ → ℕ → Option ℕ → Asked
   Replays : Source → Answer → ActorCounts → Option (List Text) → Asked
   Explains : ExplainOrder → Asked
 
@@ -78,15 +77,15 @@ run_answer rows = if is_given picture rows then written.Picture (given_range row
 -- return the request of `run`, from what clap found after it: of one run, of one with JSON inputs, and of any
 abbrev pub single_asked : List Row → Asked
 single_asked rows =
-    Runs (given_source rows) (run_answer rows) (given_actors rows) (given_caps rows) (requested limit rows) (is_given trace rows) (is_given in_turn rows) (given_seed rows) (listed_words rows)
+    Runs (given_source rows) (run_answer rows) (given_actors rows) (given_caps rows) (requested limit rows) (is_given trace rows) (is_given in_turn rows) (given_seed rows) (given_seconds rows) (listed_words rows)
 
 abbrev pub json_asked : List Row → Asked
 json_asked rows =
-    RunsJson (given_source rows) (run_answer rows) (given_actors rows) (given_caps rows) (requested limit rows) (is_given trace rows) (is_given in_turn rows) (given_seed rows)
+    RunsJson (given_source rows) (run_answer rows) (given_actors rows) (given_caps rows) (requested limit rows) (is_given trace rows) (is_given in_turn rows) (given_seed rows) (given_seconds rows)
 
 abbrev pub run_asked : List Row → Asked
 run_asked rows =
-    if is_given each rows then RunsEach (given_source rows) (given_actors rows) (given_caps rows) (requested limit rows) (requested jobs rows) else
+    if is_given each rows then RunsEach (given_source rows) (given_actors rows) (given_caps rows) (requested limit rows) (requested jobs rows) (given_seconds rows) else
     if is_given inputs_json rows then json_asked rows else
     single_asked rows
 
@@ -119,15 +118,15 @@ abbrev pub IsAsked : Asked → Order → Type 0
 IsAsked (Assembles what) order = order ≡ Assemble what
 IsAsked (Disassembles source listed) order = order ≡ Program source (Disassemble listed)
 IsAsked (Checks source requested) order = order ≡ Program source (Verified (Check requested))
-IsAsked (Runs source answer layout caps most traced turns drawn (Some words)) order =
+IsAsked (Runs source answer layout caps most traced turns drawn time (Some words)) order =
     (run : RunOrder) × (order ≡ Program source (Verified (Run run)))
-    × (run.answer ≡ answer) × (run.layout ≡ layout) × (run.caps ≡ caps) × (run.limit ≡ most) × (run.trace ≡ traced) × (run.in_turn ≡ turns) × (run.seed ≡ drawn) × AreSpelled run.inputs words
-IsAsked (Runs source answer layout caps most traced turns drawn None) order =
-    (run : RunOptions) × (order ≡ Inputs source (ToRun run)) × (run.answer ≡ answer) × (run.layout ≡ layout) × (run.caps ≡ caps) × (run.limit ≡ most) × (run.trace ≡ traced) × (run.in_turn ≡ turns) × (run.seed ≡ drawn)
-IsAsked (RunsJson source answer layout caps most traced turns drawn) order =
-    (run : RunOptions) × (order ≡ Inputs source (ToRunJson run)) × (run.answer ≡ answer) × (run.layout ≡ layout) × (run.caps ≡ caps) × (run.limit ≡ most) × (run.trace ≡ traced) × (run.in_turn ≡ turns) × (run.seed ≡ drawn)
-IsAsked (RunsEach source layout caps most threads) order =
-    (run : EachOrder) × (order ≡ Each source run) × (run.layout ≡ layout) × (run.caps ≡ caps) × (run.limit ≡ most) × (run.jobs ≡ threads)
+    × (run.answer ≡ answer) × (run.layout ≡ layout) × (run.caps ≡ caps) × (run.limit ≡ most) × (run.trace ≡ traced) × (run.in_turn ≡ turns) × (run.seed ≡ drawn) × (run.seconds ≡ time) × AreSpelled run.inputs words
+IsAsked (Runs source answer layout caps most traced turns drawn time None) order =
+    (run : RunOptions) × (order ≡ Inputs source (ToRun run)) × (run.answer ≡ answer) × (run.layout ≡ layout) × (run.caps ≡ caps) × (run.limit ≡ most) × (run.trace ≡ traced) × (run.in_turn ≡ turns) × (run.seed ≡ drawn) × (run.seconds ≡ time)
+IsAsked (RunsJson source answer layout caps most traced turns drawn time) order =
+    (run : RunOptions) × (order ≡ Inputs source (ToRunJson run)) × (run.answer ≡ answer) × (run.layout ≡ layout) × (run.caps ≡ caps) × (run.limit ≡ most) × (run.trace ≡ traced) × (run.in_turn ≡ turns) × (run.seed ≡ drawn) × (run.seconds ≡ time)
+IsAsked (RunsEach source layout caps most threads time) order =
+    (run : EachOrder) × (order ≡ Each source run) × (run.layout ≡ layout) × (run.caps ≡ caps) × (run.limit ≡ most) × (run.jobs ≡ threads) × (run.seconds ≡ time)
 IsAsked (Replays source answer layout (Some words)) order =
     (replay : ReplayOrder) × (order ≡ Replay source replay) × (replay.answer ≡ answer) × (replay.layout ≡ layout) × AreSpelled replay.inputs words
 IsAsked (Replays source answer layout None) order =
@@ -139,10 +138,10 @@ abbrev pub IsRefusedInput : Asked → RefusedWord → Type 0
 IsRefusedInput (Assembles what) refused = ⊥
 IsRefusedInput (Disassembles source listed) refused = ⊥
 IsRefusedInput (Checks source requested) refused = ⊥
-IsRefusedInput (Runs source answer layout caps most traced turns drawn (Some words)) refused = IsRefusedWord words refused
-IsRefusedInput (Runs source answer layout caps most traced turns drawn None) refused = ⊥
-IsRefusedInput (RunsJson source answer layout caps most traced turns drawn) refused = ⊥
-IsRefusedInput (RunsEach source layout caps most threads) refused = ⊥
+IsRefusedInput (Runs source answer layout caps most traced turns drawn time (Some words)) refused = IsRefusedWord words refused
+IsRefusedInput (Runs source answer layout caps most traced turns drawn time None) refused = ⊥
+IsRefusedInput (RunsJson source answer layout caps most traced turns drawn time) refused = ⊥
+IsRefusedInput (RunsEach source layout caps most threads time) refused = ⊥
 IsRefusedInput (Replays source answer layout (Some words)) refused = IsRefusedWord words refused
 IsRefusedInput (Replays source answer layout None) refused = ⊥
 IsRefusedInput (Explains other) refused = ⊥
@@ -152,9 +151,9 @@ abbrev pub IsExplained : Asked → Explained → Type 0
 IsExplained (Assembles what) explained = ⊥
 IsExplained (Disassembles source listed) explained = ⊥
 IsExplained (Checks source requested) explained = ⊥
-IsExplained (Runs source answer layout caps most traced turns drawn words) explained = ⊥
-IsExplained (RunsJson source answer layout caps most traced turns drawn) explained = ⊥
-IsExplained (RunsEach source layout caps most threads) explained = ⊥
+IsExplained (Runs source answer layout caps most traced turns drawn time words) explained = ⊥
+IsExplained (RunsJson source answer layout caps most traced turns drawn time) explained = ⊥
+IsExplained (RunsEach source layout caps most threads time) explained = ⊥
 IsExplained (Replays source answer layout words) explained = ⊥
 IsExplained (Explains order) explained = (explained.form ≡ order.form) × IsMeaningOf order.word explained.code.items explained.text.items
 
@@ -198,9 +197,9 @@ given_faults rows = if is_given each rows then each_faults rows else if is_given
 abbrev pub is_seed_alone : List Row → Bool
 is_seed_alone rows = is_some (first_of seed.name rows) && (not (is_given in_turn rows) || is_given each rows)
 
--- returns the fault of such a seed, or of its number
+-- returns the fault of such a seed, of its number, or of a time limit
 abbrev pub seed_faults : List Row → Kinds
-seed_faults rows = if is_seed_alone rows then ArgumentConflict ∷ [] else option_faults (seed ∷ []) rows
+seed_faults rows = if is_seed_alone rows then ArgumentConflict ∷ [] else option_faults (seed ∷ seconds ∷ []) rows
 
 -- returns the fault of a range whose last event is before its first
 abbrev pub stretch_faults : List Row → Kinds

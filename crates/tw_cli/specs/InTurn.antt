@@ -7,8 +7,8 @@ abbrev pub turned : Asked → Asked
 turned (Assembles what) = Assembles what
 turned (Disassembles source listed) = Disassembles source listed
 turned (Checks source listed) = Checks source listed
-turned (Runs source answer layout caps most traced turns drawn words) = Runs source answer layout caps most traced true drawn words
-turned (RunsJson source answer layout caps most traced turns drawn) = RunsJson source answer layout caps most traced true drawn
-turned (RunsEach source layout caps most threads) = RunsEach source layout caps most threads
+turned (Runs source answer layout caps most traced turns drawn time words) = Runs source answer layout caps most traced true drawn time words
+turned (RunsJson source answer layout caps most traced turns drawn time) = RunsJson source answer layout caps most traced true drawn time
+turned (RunsEach source layout caps most threads time) = RunsEach source layout caps most threads time
 turned (Replays source answer layout words) = Replays source answer layout words
 turned (Explains number) = Explains number

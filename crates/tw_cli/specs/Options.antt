@@ -106,6 +106,10 @@ in_turn = codes "in-turn"
 abbrev pub seed : NumberOption
 seed = record { name = codes "seed"; most = 18446744073709551615; default = 1 }
 
+-- the option of `run`: after how many seconds the run is stopped, or that of each line
+abbrev pub seconds : NumberOption
+seconds = record { name = codes "seconds"; most = 4294967295; default = 1 }
+
 -- the flag of `run` and `replay`: the statistics of the events are written after the report
 abbrev pub stats : Text
 stats = codes "stats"
@@ -283,6 +287,10 @@ named_limit rows = if is_some (first_of limit.name rows) then Some (requested li
 -- returns the seed, if the option is given
 abbrev pub given_seed : List Row → Option ℕ
 given_seed rows = if is_some (first_of seed.name rows) then Some (requested seed rows) else None
+
+-- returns the time limit in seconds, if the option is given
+abbrev pub given_seconds : List Row → Option ℕ
+given_seconds rows = if is_some (first_of seconds.name rows) then Some (requested seconds rows) else None
 
 -- returns whether a check says if the order of events may show
 abbrev pub given_event_order : List Row → EventOrder

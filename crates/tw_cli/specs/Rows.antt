@@ -4,7 +4,7 @@ use Rattle.std.specs.List.{list_any}
 use Rattle.std.specs.Str.{bytes_eq}
 use Rattle.clap.specs.Lexer.{usize_max}
 use Rattle.clap.specs.Words.{App, Rule, Text, new_app, new_rule, with_rule, with_subcommand}
-use Rattle.tw_cli.specs.Options.{NumberOption, actor_options, bounds, cap_options, each, event_order, events, flag_rule, in_turn, inputs, inputs_json, jobs, json, limit, main_rule, names, number_options, option_rule, picture, picture_options, places, plain, quiet, seed, stats, text, trace}
+use Rattle.tw_cli.specs.Options.{NumberOption, actor_options, bounds, cap_options, each, event_order, events, flag_rule, in_turn, inputs, inputs_json, jobs, json, limit, main_rule, names, number_options, option_rule, picture, picture_options, places, plain, quiet, seconds, seed, stats, text, trace}
 use Rattle.tw_cli.specs.declared.command_rows.ArgumentForm.{ArgumentForm}
 use Rattle.tw_cli.specs.declared.command_rows.ArgumentForm.TheVariants.{Flag, Value, ValueOrMain, Inputs, Trace, Position, Positions}
 
@@ -39,7 +39,7 @@ abbrev pub run_arguments : List Argument
 run_arguments =
     numbers number_options ++ (numbers (jobs ∷ [])
     ++ (flag trace ∷ flag stats ∷ flag event_order ∷ flag json ∷ argument Inputs each ∷ flag picture ∷ (numbers cap_options
-    ++ (flag in_turn ∷ argument Value seed.name ∷ flag quiet ∷ argument Inputs inputs_json ∷ reading_arguments))))
+    ++ (flag in_turn ∷ argument Value seed.name ∷ argument Value seconds.name ∷ flag quiet ∷ argument Inputs inputs_json ∷ reading_arguments))))
 
 abbrev pub rows : List Command
 rows =

@@ -5,8 +5,8 @@ use crate::help::{
     FROM_HELP, IN_TURN_HELP, INPUT_HELP, INPUTS_HELP, INPUTS_JSON_HELP, JOBS_HELP, JSON_HELP,
     LIMIT_HELP, MOST_BUDGET_HELP, MOST_BYTES_HELP, MOST_DATA_HELP, MOST_INSTRUCTIONS_HELP,
     MOST_TASKS_HELP, NAMES_HELP, NUMBER_HELP, ORDER_HELP, PICTURE, PICTURE_HELP, PLACES_HELP,
-    PLAIN_HELP, QUIET_HELP, REPLAY, RUN, SEED_HELP, SERVERS_HELP, STATS_HELP, TEXT_HELP, TO_HELP,
-    TRACE_HELP, WORKERS_HELP,
+    PLAIN_HELP, QUIET_HELP, REPLAY, RUN, SECONDS_HELP, SEED_HELP, SERVERS_HELP, STATS_HELP,
+    TEXT_HELP, TO_HELP, TRACE_HELP, WORKERS_HELP,
 };
 
 /// How an argument is given.
@@ -91,6 +91,7 @@ pub const COMMANDS: [CommandRow<'static>; 7] = [
         ArgumentRow { form: ArgumentForm::Value, name: "most-budget", help: MOST_BUDGET_HELP },
         ArgumentRow { form: ArgumentForm::Flag, name: "in-turn", help: IN_TURN_HELP },
         ArgumentRow { form: ArgumentForm::Value, name: "seed", help: SEED_HELP },
+        ArgumentRow { form: ArgumentForm::Value, name: "seconds", help: SECONDS_HELP },
         ArgumentRow { form: ArgumentForm::Flag, name: "quiet", help: QUIET_HELP },
         ArgumentRow { form: ArgumentForm::Inputs, name: "inputs-json", help: INPUTS_JSON_HELP },
         ArgumentRow { form: ArgumentForm::Flag, name: "text", help: TEXT_HELP },

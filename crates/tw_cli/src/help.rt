@@ -95,6 +95,8 @@ Each engine, server and worker is a thread. With --in-turn there is one thread, 
 the workers take turns, again and again. The same command makes the same trace each time; that is proved as long as no
 server has two notices to choose from. With --in-turn --seed N the number N decides who takes the next turn; the same N gives
 the same trace, another N may give another. What depends on the order of events shows so. --each is excluded then.
+With --seconds N a run is stopped between two events once N seconds have passed, and its report ends with `stopped`; with
+--each the run of each line.
 A run in threads of more than two seconds prints once a second on standard error, if that is a terminal, how many events
 there are so far, and --each how many lines are answered, how many that is a second, and how long the others take. With
 --quiet nothing is printed, nor by a run with --in-turn.
@@ -103,8 +105,8 @@ timeline of the events replaces the report, as `tw picture` draws it; --trace an
 need --picture: the timeline shows the events from one number to the other, counted from 1.
 --stats, --picture and the lines of a stuck run of a text execute every event again, in one thread, after the run; this takes
 as long as all local instructions of the run together.
-Exit status: 0 quiet, 1 rejected, 2 command line or input rejected, 3 stuck, 4 event limit, 5 out of memory,
-7 a read or write failed, 66 a FILE can't be read. With --each it is 0 if all lines are run, and 1 if one is rejected.",
+Exit status: 0 quiet, 1 rejected, 2 command line or input rejected, 3 stuck, 4 event limit or stopped,
+5 out of memory, 7 a read or write failed, 66 a FILE can't be read. With --each it is 0 if all lines are run, and 1 if one is rejected.",
 };
 
 pub(crate) const REPLAY: CommandHelp<'static> = CommandHelp {
@@ -182,6 +184,9 @@ pub(crate) const IN_TURN_HELP: &str =
 
 pub(crate) const SEED_HELP: &str =
     "With --in-turn: another order of the turns, which this number decides, from 1 to 18446744073709551615";
+
+pub(crate) const SECONDS_HELP: &str =
+    "Stop the run after so many seconds: 1 to 4294967295; with --each the run of each line";
 
 pub(crate) const INPUT_HELP: &str =
     "An input: int:, text:, ints:, texts:, tints: or ttexts:, and its value";

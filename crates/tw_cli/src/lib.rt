@@ -17,6 +17,7 @@ mod found;
 mod help;
 mod option_forms;
 mod orders;
+mod seconds;
 mod seed;
 mod shown;
 mod theorems;

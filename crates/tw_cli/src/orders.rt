@@ -22,6 +22,7 @@ use crate::form::{assembly_given, disassembly_given, form_given};
 use crate::found::{
     answer_given, flag_given, inputs_given, layout_given, limit_given, source_given,
 };
+use crate::seconds::{seconds_named, seconds_number};
 use crate::seed::{is_seed_alone, seed_named, seed_number};
 use crate::shown::{event_range_given, is_json_with_more, run_answer};
 use clap::error::ErrorKind;
@@ -62,6 +63,7 @@ fn run_options(matches: &ArgMatches<'_>) -> Option<RunOptions>
         return None;
     }
     let seed = seed_number(matches)?;
+    let seconds = seconds_number(matches)?;
     Some(RunOptions {
         answer,
         layout,
@@ -70,6 +72,7 @@ fn run_options(matches: &ArgMatches<'_>) -> Option<RunOptions>
         trace: flag_given(matches, "trace"),
         in_turn: flag_given(matches, "in-turn"),
         seed: seed_named(matches, seed),
+        seconds: seconds_named(matches, seconds),
     })
 }
 
@@ -92,6 +95,7 @@ fn each_order(matches: &ArgMatches<'_>, options: RunOptions) -> Result<Order, No
         layout: options.layout,
         limit: options.limit,
         jobs: jobs as usize,
+        seconds: options.seconds,
         caps: options.caps,
     };
     Ok(Order::Each(source_given(matches), order))

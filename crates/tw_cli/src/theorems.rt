@@ -12,7 +12,7 @@ ghost use Rattle.tw_order.specs.declared.check.EventOrder.TheVariants.{Checked};
 ghost use Rattle.tw_order.specs.declared.form.Places.TheVariants.{Hidden, Shown};
 ghost use Rattle.tw_order.specs.declared.form.Form.TheVariants as form;
 ghost use Rattle.tw_order.specs.declared.order.Source.TheVariants.{Assembly, Hex};
-ghost use Rattle.tw_cli.specs.Options.{actors, assembling_to, cap_options, capped, checking, disassembling, explaining, jobs, number_options, seed, stretch, uncapped};
+ghost use Rattle.tw_cli.specs.Options.{actors, assembling_to, cap_options, capped, checking, disassembling, explaining, jobs, number_options, seconds, seed, stretch, uncapped};
 ghost use Rattle.tw_cli.specs.Explanations.{meant};
 ghost use Rattle.tw_cli.specs.Rows.{is_option, reads_program};
 ghost use Rattle.tw_cli.specs.declared.command_rows.ArgumentForm.TheVariants.{Inputs, Trace, Value, ValueOrMain};
@@ -33,54 +33,58 @@ pub fn commands_are_taken()
         × (asked_by_words (codes "check" ∷ codes "--most-tasks" ∷ codes "9" ∷ []) ≡ Checks Hex (record (checking Hidden NoBounds) { caps = capped 9 18446744073709551615 18446744073709551615 18446744073709551615 18446744073709551615 })) }
     ensures run_caps { (word_faults (codes "run" ∷ codes "--most-instructions=7" ∷ codes "--most-budget" ∷ codes "8" ∷ []) ≡ [])
         × (asked_by_words (codes "run" ∷ codes "--most-instructions=7" ∷ codes "--most-budget" ∷ codes "8" ∷ [])
-        ≡ Runs Hex written.Report (actors 1 1 1) (capped 18446744073709551615 7 18446744073709551615 18446744073709551615 8) 10000 false false None (Some [])) }
+        ≡ Runs Hex written.Report (actors 1 1 1) (capped 18446744073709551615 7 18446744073709551615 18446744073709551615 8) 10000 false false None None (Some [])) }
     ensures run { (word_faults (codes "run" ∷ []) ≡ [])
-        × (asked_by_words (codes "run" ∷ []) ≡ Runs Hex written.Report (actors 1 1 1) uncapped 10000 false false None (Some [])) }
+        × (asked_by_words (codes "run" ∷ []) ≡ Runs Hex written.Report (actors 1 1 1) uncapped 10000 false false None None (Some [])) }
     ensures inputs { (word_faults (codes "run" ∷ codes "int:7" ∷ codes "text:a" ∷ []) ≡ [])
         × (asked_by_words (codes "run" ∷ codes "int:7" ∷ codes "text:a" ∷ [])
-        ≡ Runs Hex written.Report (actors 1 1 1) uncapped 10000 false false None (Some (codes "int:7" ∷ codes "text:a" ∷ []))) }
+        ≡ Runs Hex written.Report (actors 1 1 1) uncapped 10000 false false None None (Some (codes "int:7" ∷ codes "text:a" ∷ []))) }
     ensures first { (rest : List ℕ) → (word_faults (codes "run" ∷ (105 ∷ rest) ∷ []) ≡ [])
-        × (asked_by_words (codes "run" ∷ (105 ∷ rest) ∷ []) ≡ Runs Hex written.Report (actors 1 1 1) uncapped 10000 false false None (Some ((105 ∷ rest) ∷ []))) }
+        × (asked_by_words (codes "run" ∷ (105 ∷ rest) ∷ []) ≡ Runs Hex written.Report (actors 1 1 1) uncapped 10000 false false None None (Some ((105 ∷ rest) ∷ []))) }
     ensures before { (word_faults (codes "run" ∷ codes "--workers" ∷ codes "16" ∷ codes "int:7" ∷ []) ≡ [])
         × (asked_by_words (codes "run" ∷ codes "--workers" ∷ codes "16" ∷ codes "int:7" ∷ [])
-        ≡ Runs Hex written.Report (actors 1 1 16) uncapped 10000 false false None (Some (codes "int:7" ∷ []))) }
+        ≡ Runs Hex written.Report (actors 1 1 16) uncapped 10000 false false None None (Some (codes "int:7" ∷ []))) }
     ensures between { (word_faults (codes "run" ∷ codes "int:7" ∷ codes "--servers=3" ∷ codes "int:8" ∷ []) ≡ [])
         × (asked_by_words (codes "run" ∷ codes "int:7" ∷ codes "--servers=3" ∷ codes "int:8" ∷ [])
-        ≡ Runs Hex written.Report (actors 1 3 1) uncapped 10000 false false None (Some (codes "int:7" ∷ codes "int:8" ∷ []))) }
+        ≡ Runs Hex written.Report (actors 1 3 1) uncapped 10000 false false None None (Some (codes "int:7" ∷ codes "int:8" ∷ []))) }
     ensures following { (word_faults (codes "run" ∷ codes "int:7" ∷ codes "--limit" ∷ codes "9" ∷ codes "--engines=2" ∷ [])
         ≡ [])
         × (asked_by_words (codes "run" ∷ codes "int:7" ∷ codes "--limit" ∷ codes "9" ∷ codes "--engines=2" ∷ [])
-        ≡ Runs Hex written.Report (actors 2 1 1) uncapped 9 false false None (Some (codes "int:7" ∷ []))) }
+        ≡ Runs Hex written.Report (actors 2 1 1) uncapped 9 false false None None (Some (codes "int:7" ∷ []))) }
     ensures trace { (word_faults (codes "run" ∷ codes "--trace" ∷ codes "int:7" ∷ []) ≡ [])
         × (asked_by_words (codes "run" ∷ codes "--trace" ∷ codes "int:7" ∷ [])
-        ≡ Runs Hex written.Report (actors 1 1 1) uncapped 10000 true false None (Some (codes "int:7" ∷ []))) }
+        ≡ Runs Hex written.Report (actors 1 1 1) uncapped 10000 true false None None (Some (codes "int:7" ∷ []))) }
     ensures in_turn { (word_faults (codes "run" ∷ codes "--in-turn" ∷ codes "int:7" ∷ []) ≡ [])
         × (asked_by_words (codes "run" ∷ codes "--in-turn" ∷ codes "int:7" ∷ [])
-        ≡ Runs Hex written.Report (actors 1 1 1) uncapped 10000 false true None (Some (codes "int:7" ∷ []))) }
+        ≡ Runs Hex written.Report (actors 1 1 1) uncapped 10000 false true None None (Some (codes "int:7" ∷ []))) }
     ensures seed { (word_faults (codes "run" ∷ codes "--seed=7" ∷ codes "--in-turn" ∷ []) ≡ [])
-        × (asked_by_words (codes "run" ∷ codes "--seed=7" ∷ codes "--in-turn" ∷ []) ≡ Runs Hex written.Report (actors 1 1 1) uncapped 10000 false true (Some 7) (Some [])) }
+        × (asked_by_words (codes "run" ∷ codes "--seed=7" ∷ codes "--in-turn" ∷ []) ≡ Runs Hex written.Report (actors 1 1 1) uncapped 10000 false true (Some 7) None (Some [])) }
+    ensures seconds { (word_faults (codes "run" ∷ codes "--seconds" ∷ codes "7" ∷ []) ≡ [])
+        × (asked_by_words (codes "run" ∷ codes "--seconds" ∷ codes "7" ∷ []) ≡ Runs Hex written.Report (actors 1 1 1) uncapped 10000 false false None (Some 7) (Some [])) }
     ensures run_stats { (word_faults (codes "run" ∷ codes "--stats" ∷ codes "--trace" ∷ []) ≡ [])
-        × (asked_by_words (codes "run" ∷ codes "--stats" ∷ codes "--trace" ∷ []) ≡ Runs Hex written.Numbers (actors 1 1 1) uncapped 10000 true false None (Some [])) }
+        × (asked_by_words (codes "run" ∷ codes "--stats" ∷ codes "--trace" ∷ []) ≡ Runs Hex written.Numbers (actors 1 1 1) uncapped 10000 true false None None (Some [])) }
     ensures run_json { (word_faults (codes "run" ∷ codes "--json" ∷ []) ≡ [])
-        × (asked_by_words (codes "run" ∷ codes "--json" ∷ []) ≡ Runs Hex written.Json (actors 1 1 1) uncapped 10000 false false None (Some [])) }
+        × (asked_by_words (codes "run" ∷ codes "--json" ∷ []) ≡ Runs Hex written.Json (actors 1 1 1) uncapped 10000 false false None None (Some [])) }
     ensures run_order { (word_faults (codes "run" ∷ codes "--order" ∷ codes "--trace" ∷ []) ≡ [])
-        × (asked_by_words (codes "run" ∷ codes "--order" ∷ codes "--trace" ∷ []) ≡ Runs Hex written.Order (actors 1 1 1) uncapped 10000 true false None (Some [])) }
+        × (asked_by_words (codes "run" ∷ codes "--order" ∷ codes "--trace" ∷ []) ≡ Runs Hex written.Order (actors 1 1 1) uncapped 10000 true false None None (Some [])) }
     ensures run_order_json { (word_faults (codes "run" ∷ codes "--json" ∷ codes "--order" ∷ []) ≡ [])
-        × (asked_by_words (codes "run" ∷ codes "--json" ∷ codes "--order" ∷ []) ≡ Runs Hex written.OrderJson (actors 1 1 1) uncapped 10000 false false None (Some [])) }
+        × (asked_by_words (codes "run" ∷ codes "--json" ∷ codes "--order" ∷ []) ≡ Runs Hex written.OrderJson (actors 1 1 1) uncapped 10000 false false None None (Some [])) }
     ensures run_each { (word_faults (codes "run" ∷ codes "--each" ∷ codes "--text" ∷ codes "--jobs" ∷ codes "9" ∷ []) ≡ [])
-        × (asked_by_words (codes "run" ∷ codes "--each" ∷ codes "--text" ∷ codes "--jobs" ∷ codes "9" ∷ []) ≡ RunsEach Assembly (actors 1 1 1) uncapped 10000 9) }
+        × (asked_by_words (codes "run" ∷ codes "--each" ∷ codes "--text" ∷ codes "--jobs" ∷ codes "9" ∷ []) ≡ RunsEach Assembly (actors 1 1 1) uncapped 10000 9 None) }
+    ensures each_seconds { (word_faults (codes "run" ∷ codes "--each" ∷ codes "--seconds=4294967295" ∷ []) ≡ [])
+        × (asked_by_words (codes "run" ∷ codes "--each" ∷ codes "--seconds=4294967295" ∷ []) ≡ RunsEach Hex (actors 1 1 1) uncapped 10000 1 (Some 4294967295)) }
     ensures run_json_inputs { (word_faults (codes "run" ∷ codes "--inputs-json" ∷ codes "--trace" ∷ []) ≡ [])
-        × (asked_by_words (codes "run" ∷ codes "--inputs-json" ∷ codes "--trace" ∷ []) ≡ RunsJson Hex written.Report (actors 1 1 1) uncapped 10000 true false None) }
+        × (asked_by_words (codes "run" ∷ codes "--inputs-json" ∷ codes "--trace" ∷ []) ≡ RunsJson Hex written.Report (actors 1 1 1) uncapped 10000 true false None None) }
     ensures run_picture { (word_faults (codes "run" ∷ codes "--picture" ∷ codes "--in-turn" ∷ []) ≡ [])
-        × (asked_by_words (codes "run" ∷ codes "--picture" ∷ codes "--in-turn" ∷ []) ≡ Runs Hex (written.Picture (stretch 1 4294967295)) (actors 1 1 1) uncapped 10000 false true None (Some [])) }
+        × (asked_by_words (codes "run" ∷ codes "--picture" ∷ codes "--in-turn" ∷ []) ≡ Runs Hex (written.Picture (stretch 1 4294967295)) (actors 1 1 1) uncapped 10000 false true None None (Some [])) }
     ensures run_stretch { (word_faults (codes "run" ∷ codes "--from=5" ∷ codes "--picture" ∷ codes "--to" ∷ codes "9" ∷ []) ≡ [])
         × (asked_by_words (codes "run" ∷ codes "--from=5" ∷ codes "--picture" ∷ codes "--to" ∷ codes "9" ∷ [])
-        ≡ Runs Hex (written.Picture (stretch 5 9)) (actors 1 1 1) uncapped 10000 false false None (Some [])) }
+        ≡ Runs Hex (written.Picture (stretch 5 9)) (actors 1 1 1) uncapped 10000 false false None None (Some [])) }
     ensures quiet { (word_faults (codes "run" ∷ codes "--quiet" ∷ []) ≡ [])
         × (asked_by_words (codes "run" ∷ codes "--quiet" ∷ []) ≡ asked_by_words (codes "run" ∷ [])) }
     ensures last { (word_faults (codes "run" ∷ codes "int:7" ∷ codes "--limit" ∷ codes "100" ∷ codes "--trace" ∷ []) ≡ [])
         × (asked_by_words (codes "run" ∷ codes "int:7" ∷ codes "--limit" ∷ codes "100" ∷ codes "--trace" ∷ [])
-        ≡ Runs Hex written.Report (actors 1 1 1) uncapped 100 true false None (Some (codes "int:7" ∷ []))) }
+        ≡ Runs Hex written.Report (actors 1 1 1) uncapped 100 true false None None (Some (codes "int:7" ∷ []))) }
     ensures replay { (word_faults (codes "replay" ∷ codes "--workers" ∷ codes "2" ∷ codes "int:7" ∷ []) ≡ [])
         × (asked_by_words (codes "replay" ∷ codes "--workers" ∷ codes "2" ∷ codes "int:7" ∷ [])
         ≡ Replays Hex Report (actors 1 1 2) (Some (codes "int:7" ∷ []))) }
@@ -100,7 +104,7 @@ pub fn commands_are_taken()
         × (asked_by_words (codes "disasm" ∷ codes "--places" ∷ []) ≡ Disassembles Hex (disassembling Shown form.Text)) }
     ensures run_text { (word_faults (codes "run" ∷ codes "int:7" ∷ codes "--text" ∷ []) ≡ [])
         × (asked_by_words (codes "run" ∷ codes "int:7" ∷ codes "--text" ∷ [])
-        ≡ Runs Assembly written.Report (actors 1 1 1) uncapped 10000 false false None (Some (codes "int:7" ∷ []))) }
+        ≡ Runs Assembly written.Report (actors 1 1 1) uncapped 10000 false false None None (Some (codes "int:7" ∷ []))) }
     ensures replay_text { (word_faults (codes "replay" ∷ codes "--text" ∷ []) ≡ [])
         × (asked_by_words (codes "replay" ∷ codes "--text" ∷ []) ≡ Replays Assembly Report (actors 1 1 1) (Some [])) }
     ensures run_inputs { (word_faults (codes "run" ∷ codes "--inputs" ∷ codes "--text" ∷ []) ≡ [])
@@ -150,6 +154,8 @@ pub fn strangers_are_refused()
     ensures seed_alone { word_faults (codes "run" ∷ codes "--seed" ∷ codes "7" ∷ []) ≡ ArgumentConflict ∷ [] }
     ensures each_seed { word_faults (codes "run" ∷ codes "--each" ∷ codes "--in-turn" ∷ codes "--seed" ∷ codes "7" ∷ []) ≡ ArgumentConflict ∷ [] }
     ensures no_seed { word_faults (codes "run" ∷ codes "--in-turn" ∷ codes "--seed" ∷ codes "0" ∷ []) ≡ ValueValidation ∷ [] }
+    ensures no_seconds { word_faults (codes "run" ∷ codes "--seconds" ∷ codes "0" ∷ []) ≡ ValueValidation ∷ [] }
+    ensures past_seconds { word_faults (codes "run" ∷ codes "--seconds" ∷ codes "4294967296" ∷ []) ≡ ValueValidation ∷ [] }
     ensures each_input { word_faults (codes "run" ∷ codes "--each" ∷ codes "int:7" ∷ []) ≡ ArgumentConflict ∷ [] }
     ensures two_inputs { word_faults (codes "run" ∷ codes "--inputs-json" ∷ codes "--inputs" ∷ []) ≡ ArgumentConflict ∷ [] }
     ensures traced_picture { word_faults (codes "run" ∷ codes "--picture" ∷ codes "--trace" ∷ []) ≡ ArgumentConflict ∷ [] }
@@ -179,7 +185,7 @@ pub fn options_have_forms()
     ensures inputs { (is_option Inputs (codes "--inputs") ≡ true) × (is_option Inputs (codes "--inputs-json") ≡ true) × (is_option Inputs (codes "--each") ≡ true) }
     ensures trace { is_option Trace (codes "--events") ≡ true }
     ensures bounds { is_option ValueOrMain (codes "--bounds") ≡ true }
-    ensures values { AllByRecursion (λ o. is_option Value (codes "--" ++ o.name) ≡ true) (jobs ∷ seed ∷ (number_options ++ cap_options)) }
+    ensures values { AllByRecursion (λ o. is_option Value (codes "--" ++ o.name) ≡ true) (jobs ∷ seed ∷ seconds ∷ (number_options ++ cap_options)) }
     ensures flag { (is_option Inputs (codes "--trace") ≡ false) × (is_option Trace (codes "--trace") ≡ false) × (is_option Value (codes "--trace") ≡ false) }
     ensures input { (is_option Value (codes "--input") ≡ false) × (is_option Inputs (codes "--input") ≡ false) }
     ensures programs { AllByRecursion (λ command. reads_program command ≡ true) (codes "asm" ∷ codes "disasm" ∷ codes "check" ∷ codes "run" ∷ codes "replay" ∷ codes "picture" ∷ []) }

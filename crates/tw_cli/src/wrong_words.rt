@@ -12,6 +12,7 @@ use crate::command::{NoOrder, command};
 use crate::each::{each_conflict, jobs_given};
 use crate::found::{flag_given, number_given};
 use crate::orders::{order_of, reason_of};
+use crate::seconds::seconds_number;
 use crate::seed::seed_number;
 use crate::shown::{Conflict, event_range_given, run_answer};
 use clap::error::ErrorKind;
@@ -33,6 +34,8 @@ fn range_line(given: &ArgMatches<'_>) -> Option<&'static str> {
         Some("error: --jobs takes a number from 1 to 64\n")
     } else if seed_number(given).is_none() {
         Some("error: --seed takes a number from 1 to 18446744073709551615\n")
+    } else if seconds_number(given).is_none() {
+        Some("error: --seconds takes a number from 1 to 4294967295\n")
     } else if event_range_given(given).is_none() {
         Some("error: --from and --to take numbers from 1 to 4294967295\n")
     } else if caps_given(given).is_none() {

@@ -12,7 +12,7 @@ greatest_cap = 18446744073709551615
 
 -- return how a program is run, or a trace replayed, with these inputs
 abbrev pub run_with : RunOptions → List Input → RunOrder
-run_with options given = record { answer = options.answer; layout = options.layout; limit = options.limit; caps = options.caps; trace = options.trace; in_turn = options.in_turn; seed = options.seed; inputs = given }
+run_with options given = record { answer = options.answer; layout = options.layout; limit = options.limit; caps = options.caps; trace = options.trace; in_turn = options.in_turn; seed = options.seed; seconds = options.seconds; inputs = given }
 
 abbrev pub replay_with : ReplayOptions → List Input → ReplayOrder
 replay_with options given = record { answer = options.answer; layout = options.layout; inputs = given }

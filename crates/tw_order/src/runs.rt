@@ -42,6 +42,8 @@ pub struct RunOrder {
     pub in_turn: bool,
     /// The seed of another order of their steps in one thread, if there is one.
     pub seed: Option<u64>,
+    /// After how many seconds the run is stopped, if its time is limited.
+    pub seconds: Option<u64>,
     /// Main's inputs, one for each input argument, in their order.
     pub inputs: Items<Input>,
 }
@@ -63,6 +65,8 @@ pub struct RunOptions {
     pub in_turn: bool,
     /// The seed of another order of their steps in one thread, if there is one.
     pub seed: Option<u64>,
+    /// After how many seconds the run is stopped, if its time is limited.
+    pub seconds: Option<u64>,
 }
 
 impl RunOptions {
@@ -77,6 +81,7 @@ impl RunOptions {
             trace: self.trace,
             in_turn: self.in_turn,
             seed: self.seed,
+            seconds: self.seconds,
             inputs,
         }
     }
@@ -91,6 +96,8 @@ pub struct EachOrder {
     pub limit: EventLimit,
     /// How many threads answer the lines, from 1 to 64. The answers are the same.
     pub jobs: usize,
+    /// After how many seconds each run is stopped, if its time is limited.
+    pub seconds: Option<u64>,
     /// The caps above which the program isn't admitted.
     pub caps: Caps,
 }
