@@ -26,8 +26,12 @@ end_report program s over = report s.store.live s.outputs (closing_lines over (c
 abbrev pub InEachState : FinalView → (List Procedure → State → Type 0) → Type 0
 InEachState final Holds = (p : PoolView) (history : HistoryView) (shut : IsShut p final history) → Holds p.program.program shut.state
 
+-- hold for the report of a run that ended so; and for that of a run by its own end
+abbrev pub IsReportAs : FinalView → Option Closing → List ℕ → Type 0
+IsReportAs final over text = InEachState final (λ program s. text ≡ end_report program s over)
+
 abbrev pub IsEndReport : FinalView → List ℕ → Type 0
-IsEndReport final text = InEachState final (λ program s. text ≡ end_report program s final.closing)
+IsEndReport final text = IsReportAs final final.closing text
 
 abbrev pub IsEndCircle : FinalView → Option (List Link) → Type 0
 IsEndCircle final found = InEachState final (λ program s. found ≡ circle program s)

@@ -9,7 +9,7 @@ use Rattle.tw_code.specs.machine.State.{State}
 use Rattle.tw_order.specs.declared.runs.RunOrder.{RunOrder}
 use Rattle.tw_pool.specs.declared.answer.Closing.{Closing}
 use Rattle.tw_pool.specs.Ends.{FinalView}
-use Rattle.tw_run_output.specs.Ends.{IsEndReport, end_report}
+use Rattle.tw_run_output.specs.Ends.{IsReportAs, end_report}
 use Rattle.tw_run_output.specs.Json.{AreEndMembers, IsEndLine, members_of, run_line}
 
 -- holds if there are no more events than allowed, and all succeed from the start of the run
@@ -21,7 +21,6 @@ pub record IsRunOver (program : List Procedure) (order : RunOrder) (final : Fina
   pub state : State
   pub few : length events ≤ order.limit
   pub reaches : reached program order.inputs order.layout events ≡ Went state
-  pub reports : (printed : List ℕ) → IsEndReport final printed → printed ≡ end_report program state (Some closing)
-  pub closes : final.closing ≡ Some closing
+  pub reports : (printed : List ℕ) → IsReportAs final (Some closing) printed → printed ≡ end_report program state (Some closing)
   pub members : (found : json.Members) → AreEndMembers final events closing found → found ≡ members_of program events state closing
   pub shows : (line : List ℕ) → IsEndLine final events closing line → line ≡ run_line program events state closing

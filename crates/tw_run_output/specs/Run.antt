@@ -30,8 +30,6 @@ use Rattle.tw_run_output.specs.Json.{members_of, run_line}
 use Rattle.tw_run_output.specs.EventOrder.{IsOrderText, order_line}
 use Rattle.tw_program_output.specs.declared.close.Close.{Close}
 use Rattle.tw_program_output.specs.declared.close.Close.TheVariants as close
-use Rattle.tw_program_output.specs.declared.failure.Position.TheVariants as position
-use Rattle.tw_program_output.specs.Failure.{uncoded}
 use Rattle.tw_replay_output.specs.Circle.{Start, PrintsCircle}
 use Rattle.tw_replay_output.specs.Replay.{AreBudgets}
 
@@ -44,7 +42,7 @@ abbrev pub close_of : Closing → Close
 close_of Quiet = close.Success
 close_of (Stuck rules) = close.Stuck
 close_of Limit = close.Limit
-close_of Stopped = close.Refused (uncoded position.Nowhere)
+close_of Stopped = close.Limit
 
 -- returns the line after `limit`, if the program was read from a text: how many events the run has, and how many one may have
 abbrev pub limit_details : Option (List ℕ) → RunOrder → Closing → List ℕ

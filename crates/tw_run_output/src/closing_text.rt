@@ -8,8 +8,7 @@ use tw_pool::Closing;
 use tw_report::{ending_text, text_of};
 use tw_types::{Ending, Link};
 
-/// Returns the lines that say why a run on the pool ended, with the circle that was found; or that it hasn't ended. No command of `tw` stops a run,
-/// but the library's caller may.
+/// Returns the lines that say why a run on the pool ended, with the circle that was found; or that it hasn't ended.
 pub fn closing_text(
     alloc: Global,
     closing: Option<Closing>,

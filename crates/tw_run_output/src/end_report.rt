@@ -1,7 +1,7 @@
 //! The report of a run on the pool that is over, and the circle in which it is stuck.
 
 ghost use Rattle.std.specs.Prelude.{◌≡◌, IfOk, option_map};
-ghost use Rattle.tw_run_output.specs.Ends.{IsEndCircle, IsEndReport, has_ended};
+ghost use Rattle.tw_run_output.specs.Ends.{IsEndCircle, IsEndReport, IsReportAs, has_ended};
 
 use crate::closing_text::closing_text;
 use crate::finished_run::FinishedRun;
@@ -30,12 +30,19 @@ pub fn circle(alloc: Global, left: &Final) -> Result<Option<Vec<Link>>, AllocErr
     circle_of(alloc, &rules)
 }
 
+/// Returns the report of a run that ended so.
+pub fn report_as(alloc: Global, left: &Final, over: Option<Closing>) -> Result<Vec<u8>, AllocError>
+    ensures { IfOk result (λ text. IsReportAs left.now over text.items) }
+{
+    let mut text = Vec::new(alloc);
+    let closing = closing_text(alloc, over, circle(alloc, left)?)?;
+    put_report(alloc, &mut text, &FinishedRun { of: left }, &closing)?;
+    Ok(text)
+}
+
 /// Returns the report of a run that is over.
 pub fn report(alloc: Global, left: &Final) -> Result<Vec<u8>, AllocError>
     ensures { IfOk result (λ text. IsEndReport left.now text.items) }
 {
-    let mut text = Vec::new(alloc);
-    let closing = closing_text(alloc, left.closing(), circle(alloc, left)?)?;
-    put_report(alloc, &mut text, &FinishedRun { of: left }, &closing)?;
-    Ok(text)
+    report_as(alloc, left, left.closing())
 }

@@ -10,7 +10,7 @@ ghost use Rattle.tw_code.specs.machine.State.{State as MachineState};
 ghost use Rattle.tw_certificate.specs.FirstContest.{IsFirstContest};
 ghost use Rattle.tw_copies.specs.declared.check.CopyInsertion.{CopyInsertion as Insertion};
 ghost use Rattle.tw_machine.specs.Opening.{rejection_of};
-ghost use Rattle.tw_run_output.specs.Ends.{IsEndReport};
+ghost use Rattle.tw_run_output.specs.Ends.{IsReportAs};
 ghost use Rattle.tw_run_output.specs.EventOrder.{order_line};
 ghost use Rattle.tw_run_output.specs.Json.{AreEndMembers, IsEndLine};
 ghost use Rattle.tw_run_output.specs.Over.{Goes, IsRunOver};
@@ -19,7 +19,7 @@ ghost use Rattle.tw_run_output.specs.Run.{AreRunNumbers, AreRunDetails, IsRunPic
 ghost use Rattle.tw_symbols.specs.Symbols.{AreSymbols};
 ghost use Rattle.tw_program_output.specs.Source.{MayBeSource, text_of};
 
-use crate::end_report::report;
+use crate::end_report::report_as;
 use crate::event_order::{order_line, put_order};
 use crate::json::end_line;
 use crate::run_details::put_run_details;
@@ -28,21 +28,20 @@ use tw_code::Program;
 use tw_machine::Plain;
 use tw_order::{EventRange, RunAnswer, RunOrder};
 use tw_pool::{Closing, Final, History};
-use tw_program_output::{Close, Failure, Position, Reply, SourceText, symbols_of};
+use tw_program_output::{Close, Reply, SourceText, symbols_of};
 use tw_replay_output::{Counting, budgets_of, count, draw, put_bytes};
 use tw_report::{put, put_event_line, put_numbered};
 use tw_types::Event;
 use tw_verify::Verified;
 
-/// Returns how a session ends after a run that ended so. No run of a session is stopped, but the library's caller may have stopped one.
+/// Returns how a session ends after a run that ended so.
 fn close_of(closing: Closing) -> Close
     ensures { result ≡ close_of closing }
 {
     match closing {
         Closing::Quiet => Close::Success,
         Closing::Stuck(_) => Close::Stuck,
-        Closing::Limit => Close::Limit,
-        Closing::Stopped => Close::Refused(Failure::uncoded(Position::Nowhere)),
+        Closing::Limit | Closing::Stopped => Close::Limit,
     }
 }
 
@@ -92,7 +91,7 @@ fn put_limit_line(alloc: Global, out: &mut Vec<u8>, events: usize) -> Result<(),
     put(out, "; --limit takes up to 1000000\n")
 }
 
-/// Adds the line after `limit`, if the program was read from a text. A run that was stopped has none: no session has such a run.
+/// Adds the line after `limit`, if the program was read from a text.
 fn put_limit(
     alloc: Global,
     out: &mut Vec<u8>,
@@ -188,10 +187,10 @@ fn put_run_report(
     outcome: &Final,
     closing: Closing,
 ) -> Result<(), AllocError>
-    ensures { OnOk result ((printed : List ℕ) × IsEndReport outcome.now printed
+    ensures { OnOk result ((printed : List ℕ) × IsReportAs outcome.now (Some closing) printed
         × (out.new.items ≡ out.old.items ++ (printed ++ limit_details (text_of source.now) order.now closing))) }
 {
-    let printed = report(alloc, outcome)?;
+    let printed = report_as(alloc, outcome, Some(closing))?;
     put_bytes(out, &printed)?;
     put_limit(alloc, out, source, order, closing)
 }
@@ -204,7 +203,6 @@ fn put_json(
     history: &History,
     closing: Closing,
 ) -> Result<(), AllocError>
-    requires { outcome.now.closing ≡ Some closing }
     ensures { OnOk result ((line : List ℕ) × IsEndLine outcome.now history.now.events closing line × (out.new.items ≡ out.old.items ++ line)) }
 {
     let line = end_line(alloc, outcome, history, closing)?;

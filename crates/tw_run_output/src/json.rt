@@ -40,7 +40,6 @@ fn pending_of(closing: Closing) -> Option<u64>
 
 /// Returns the circle of rules of a stuck run, if there is one.
 fn circle_of(alloc: Global, left: &Final, closing: Closing) -> Result<Option<Vec<Link>>, AllocError>
-    requires { left.now.closing ≡ Some closing }
     ensures { IfOk result (λ found. InEachState left.now (λ program s. option_map (λ v. v.items) found ≡ circle_in program s closing)) }
 {
     match closing {
@@ -67,7 +66,6 @@ pub(crate) fn end_members(
     history: &History,
     closing: Closing,
 ) -> Result<Map<String, Json>, AllocError>
-    requires { left.now.closing ≡ Some closing }
     ensures are { IfOk result (λ members. AreEndMembers left.now history.now.events closing (members_view members.entries)) }
     ensures whole { IfOk result (λ members. members_have_float (members_view members.entries) ≡ false) }
 {

@@ -49,9 +49,6 @@ returns-in-Picture c =
     on_ok_weaker c.put_run_picture.result
     (λ p over. let printed = p over.state over.reaches in (printed.1, subst (λ (a : RunAnswer). IsRunText a source c.args.verified.program order events over.state c.args.closing printed.1) (sym c.in-Picture.is) (printed.0, printed.2, printed.3), printed.4)) c.put_run_picture.ensures
 
-pub put_json-requires : goal.put_json-requires
-put_json-requires c = c.requires.over.closes
-
 pub returns-in-Json : goal.returns-in-Json
 returns-in-Json c =
     let source = text_of c.args.source.now in

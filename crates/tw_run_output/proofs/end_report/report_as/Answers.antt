@@ -1,11 +1,9 @@
 use Rattle.std.proofs.Common.{◌∙◌, ◌++◌, List, Option, ℕ, ap}
 use Rattle.tw_types.specs.declared.pending.Link.{Link}
-use Rattle.tw_code.specs.machine.Pending.{circle}
 use Rattle.tw_types.specs.Store.{Store}
-use Rattle.tw_pool.specs.declared.answer.Closing.{Closing}
 use Rattle.tw_report.specs.Report.{report}
 use Rattle.tw_run_output.specs.Ends.{closing_lines}
-use Rattle.tw_run_output.proofs.end_report.report.Goals as goal
+use Rattle.tw_run_output.proofs.end_report.report_as.Goals as goal
 
 pub returns : goal.returns
 returns c p history shut =
@@ -14,8 +12,7 @@ returns c p history shut =
     let s = shut.state in
     let text = c.deref.result.now in
     let closing = c.deref.ensures.value ∙ c.in_ok-closing.ensures
-    ∙ ap (λ (found : Option (List Link)). closing_lines c.closing.result found) (c.in_ok-circle.ensures p history shut)
-    ∙ ap (λ (over : Option Closing). closing_lines over (circle program s)) c.closing.ensures in
+    ∙ ap (λ (found : Option (List Link)). closing_lines c.args.over found) (c.in_ok-circle.ensures p history shut) in
     c.in_ok-put_report.ensures
     ∙ ap (λ (t : List ℕ). t ++ report final.store.store.live final.outputs text) c.new-text.ensures.items
     ∙ ap (λ (store : Store). report store.live final.outputs text) shut.left.store
