@@ -1,19 +1,20 @@
 -- The answers to lines of inputs, each of them a JSON object on one line.
-use Rattle.std.specs.Prelude.{◌≡◌, ◌≢◌, ◌⊎◌, ◌+◌, ◌++◌, ◌||◌, ℕ, Bool, true, false, MatchBool, List, [], ◌∷◌, codes, decimal, drop, length, nat_lt, IsUtf8, Option, Some, None}
+use Rattle.std.specs.Prelude.{◌≡◌, ◌≢◌, ◌⊎◌, ◌+◌, ◌++◌, ◌||◌, ℕ, Bool, true, false, is_some, MatchBool, List, [], ◌∷◌, codes, decimal, drop, length, nat_lt, unwrap_or, IsUtf8, Option, Some, None}
 use Rattle.std.specs.List.{list_all}
 use Rattle.tw_types.specs.Layout.{ActorCounts}
 use Rattle.tw_types.specs.declared.input.Input.{Input}
 use Rattle.tw_code.specs.machine.Opening.{main_params}
 use Rattle.tw_verify.specs.Typed.{TypedProgram}
 use Rattle.tw_pool.specs.declared.answer.Closing.{Closing}
+use Rattle.tw_pool.specs.declared.answer.Closing.TheVariants as closings
 use Rattle.tw_pool.specs.declared.open.OpenError.{OpenError}
 use Rattle.tw_pool.specs.declared.open.OpenError.TheVariants.{NoMemory}
-use Rattle.tw_pool.specs.Ends.{FinalView}
-use Rattle.tw_pool.specs.History.{HistoryView}
 use Rattle.tw_pool.specs.Openings.{IsRejection, MayOpen, open_error_code, opened}
 use Rattle.tw_pool.specs.PoolView.{PoolView}
-use Rattle.tw_in_turn.specs.InTurn.{IsLeft}
-use Rattle.tw_in_turn.specs.declared.run.InTurnResult.TheVariants as left
+use Rattle.tw_in_turn.specs.Stopping.{IsLeftIf}
+use Rattle.tw_in_turn.specs.declared.run.StoppableResult.{StoppableResult}
+use Rattle.tw_in_turn.specs.declared.run.StoppableResult.TheVariants.{Ended, Stopped}
+use Rattle.tw_in_turn.specs.declared.run.InTurnResult.TheVariants as result
 use Rattle.tw_inputs.specs.JsonInputs.{AreInputsIn, HasFaultAt, IsFaultText}
 use Rattle.tw_inputs.specs.declared.json_inputs.Place.{Place}
 use Rattle.tw_json_output.specs.Run.{json_line}
@@ -29,23 +30,28 @@ use Rattle.tw_replay_output.specs.Opening.{AreOpeningDetails}
 use Rattle.tw_run_output.specs.Json.{IsEndLine}
 use Rattle.tw_each.specs.declared.answer.EachRun.{EachRun}
 
--- a program, the text from which it was read if any, and how it is run
+-- a program, the text from which it was read if any, how it is run, and whether a run may be stopped
 pub record Way : Type 0 where
   pub text : Option (List ℕ)
   pub verified : TypedProgram
   pub layout : ActorCounts
   pub limit : ℕ
+  pub may_stop : Bool
 
 abbrev pub way : EachRun → Way
-way run = record { text = text_of run.source.now; verified = run.verified.now; layout = run.layout; limit = run.limit }
+way run = record { text = text_of run.source.now; verified = run.verified.now; layout = run.layout; limit = run.limit; may_stop = is_some run.seconds }
 
 -- ---- one line
 
--- holds for the line of what a run leaves, from its first pool on
-abbrev pub IsRunLine : PoolView → List ℕ → Type 0
-IsRunLine first line =
-    (final : FinalView) × (history : HistoryView) × (closing : Closing) × IsLeft None first (left.Over final history)
-    × (final.closing ≡ Some closing) × IsEndLine final history.events closing line
+-- holds for the line of a finished run: why it ended, or that it was stopped, unless it had its end then
+abbrev pub IsLeftLine : StoppableResult → List ℕ → Type 0
+IsLeftLine (Ended (result.Over final history)) line = (closing : Closing) × (final.closing ≡ Some closing) × IsEndLine final history.events closing line
+IsLeftLine (Ended (result.NoMemory final history)) line = ⊥
+IsLeftLine (Stopped final history) line = IsEndLine final history.events (unwrap_or final.closing closings.Stopped) line
+
+-- holds for the line of what a run leaves, from its first pool on, if it may be stopped
+abbrev pub IsRunLine : Bool → PoolView → List ℕ → Type 0
+IsRunLine may_stop first line = (left : StoppableResult) × IsLeftIf may_stop None first left × IsLeftLine left line
 
 -- holds for the line of the error at opening
 abbrev pub IsRejectedLine : Way → List Input → List ℕ → Type 0
@@ -55,7 +61,7 @@ IsRejectedLine w inputs line =
 
 -- holds for the line of a run with these inputs, or of its error, and whether it is an error
 abbrev pub IsInputsAnswer : Way → List Input → List ℕ → Bool → Type 0
-IsInputsAnswer w inputs line false = MayOpen w.verified.program inputs w.layout w.limit × IsRunLine (opened w.verified inputs w.layout w.limit) line
+IsInputsAnswer w inputs line false = MayOpen w.verified.program inputs w.layout w.limit × IsRunLine w.may_stop (opened w.verified inputs w.layout w.limit) line
 IsInputsAnswer w inputs line true = IsRejectedLine w inputs line
 
 -- holds for the line of an error, of inputs that aren't read

@@ -1,5 +1,5 @@
 -- The reply to a program and the lines of inputs after it.
-use Rattle.std.specs.Prelude.{◌≡◌, ◌≢◌, ◌⊎◌, ◌++◌, ℕ, Bool, true, false, List, [], Option, Some, MatchBool, codes, IsUtf8}
+use Rattle.std.specs.Prelude.{◌≡◌, ◌≢◌, ◌⊎◌, ◌++◌, ℕ, Bool, true, false, List, [], Option, Some, MatchBool, codes, is_some, IsUtf8}
 use Rattle.std.specs.List.{list_any}
 use Rattle.std.specs.Str.{bytes_eq}
 use Rattle.std.specs.Str.Lines.{lines}
@@ -34,7 +34,7 @@ close_of false = Success
 close_of true = Refused (uncoded position.Nowhere)
 
 abbrev pub way_of : Option (List ℕ) → EachOrder → TypedProgram → Way
-way_of text order verified = record { text = text; verified = verified; layout = order.layout; limit = order.limit }
+way_of text order verified = record { text = text; verified = verified; layout = order.layout; limit = order.limit; may_stop = is_some order.seconds }
 
 -- holds for the answers of a program to these lines
 abbrev pub IsAnswered : Option (List ℕ) → EachOrder → List Procedure → List (List ℕ) → Reply → Type 0

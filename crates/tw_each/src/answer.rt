@@ -1,19 +1,24 @@
 //! The answer to one line.
 
-ghost use Rattle.std.specs.Prelude.{◌≡◌, ◌≢◌, ◌++◌, List, None, ℕ, IfOk, string_bytes, true};
+ghost use Rattle.std.specs.Prelude.{◌≡◌, ◌≢◌, ◌++◌, List, None, ℕ, Bool, IfOk, string_bytes, true, unwrap_or};
 ghost use Rattle.tw_code.specs.machine.Opening.{main_params};
 ghost use Rattle.tw_in_turn.specs.InTurn.{IsLeft};
+ghost use Rattle.tw_in_turn.specs.Stopping.{IsLeftIf};
+ghost use Rattle.tw_in_turn.specs.declared.run.StoppableResult.TheVariants.{Ended};
+ghost use Rattle.tw_pool.specs.declared.answer.Closing.{Closing as Closings};
+ghost use Rattle.tw_run_output.specs.Json.{IsEndLine};
 ghost use Rattle.tw_pool.specs.Openings.{IsRejection};
 ghost use Rattle.tw_pool.specs.PoolView.{PoolView};
 ghost use Rattle.tw_pool.specs.declared.open.OpenError.TheVariants.{NoMemory};
-ghost use Rattle.tw_each.specs.Answers.{IsAnswer, IsFaultAnswer, IsInputsAnswer, IsRejectedLine, IsRunLine, numbered, unread_line, way};
+ghost use Rattle.tw_each.specs.Answers.{IsAnswer, IsFaultAnswer, IsInputsAnswer, IsLeftLine, IsRejectedLine, numbered, unread_line, way};
 
 use crate::numbered::put_numbered_line;
+use crate::runs_line::RunsLine;
 use std::alloc::{AllocError, Global};
 use tw_code::main_params;
-use tw_in_turn::{InTurnResult, run_in_turn};
+use tw_in_turn::{InTurnResult, StoppableResult};
 use tw_inputs::{NoInputs, Place, Scratch, fault_text, read_inputs};
-use tw_pool::OpenError;
+use tw_pool::{Closing, Final, History, OpenError};
 use tw_program_output::{Failure, SourceText, error_line, failed_reply, unreadable_reply};
 use tw_replay_output::inputs_refused_reply;
 use tw_run_output::end_line;
@@ -29,6 +34,8 @@ pub struct EachRun<'a> {
     pub layout: Layout,
     /// The maximum number of events of each run.
     pub limit: usize,
+    /// After how many seconds each run is stopped, if its time is limited.
+    pub seconds: Option<u64>,
 }
 
 /// An object's line, and whether it is that of an error.
@@ -44,10 +51,10 @@ fn params_of<'a>(run: &EachRun<'a>) -> &'a [Param]
     main_params(run.verified.program().procedures())
 }
 
-/// Returns the line of what a run left.
-fn left_line(alloc: Global, left: InTurnResult) -> Result<String, AllocError>
+/// Returns the line of a run that ended.
+fn ended_line(alloc: Global, left: InTurnResult) -> Result<String, AllocError>
     requires { (first : PoolView) × IsLeft None first left }
-    ensures { IfOk result (λ line. (first : PoolView) → IsLeft None first left → IsRunLine first (string_bytes line)) }
+    ensures { IfOk result (λ line. IsLeftLine (Ended left) (string_bytes line)) }
 {
     match left {
         InTurnResult::Over { outcome, history } => match outcome.closing() {
@@ -55,6 +62,25 @@ fn left_line(alloc: Global, left: InTurnResult) -> Result<String, AllocError>
             None => unreachable!(),
         },
         InTurnResult::NoMemory { .. } => Err(AllocError),
+    }
+}
+
+/// Returns the line of a run that was stopped. It may have reached its end before.
+fn stopped_line(alloc: Global, outcome: &Final, history: &History) -> Result<String, AllocError>
+    ensures { IfOk result (λ line. IsEndLine outcome.now history.now.events (unwrap_or outcome.now.closing Closings.Stopped) (string_bytes line)) }
+{
+    let closing = outcome.closing().unwrap_or(Closing::Stopped);
+    end_line(alloc, outcome, history, closing)
+}
+
+/// Returns the line of what a run left.
+fn left_line(alloc: Global, left: StoppableResult) -> Result<String, AllocError>
+    requires { (may_stop : Bool) × (first : PoolView) × IsLeftIf may_stop None first left }
+    ensures { IfOk result (λ line. IsLeftLine left (string_bytes line)) }
+{
+    match left {
+        StoppableResult::Ended(left) => ended_line(alloc, left),
+        StoppableResult::Stopped { outcome, history } => stopped_line(alloc, &outcome, &history),
     }
 }
 
@@ -75,14 +101,15 @@ fn rejected_line(
 }
 
 /// Runs the program with these inputs.
-fn inputs_answer(
+fn inputs_answer<L: RunsLine>(
     alloc: Global,
+    runner: &L,
     run: &EachRun<'_>,
     inputs: &[Input],
 ) -> Result<AnswerLine, AllocError>
     ensures { IfOk result (λ answer. IsInputsAnswer (way run.now) inputs.now (string_bytes answer.line) answer.refused) }
 {
-    match run_in_turn(alloc, run.verified, inputs, run.layout, run.limit, None) {
+    match runner.run(alloc, run, inputs) {
         Ok(left) => Ok(AnswerLine {
             line: left_line(alloc, left)?,
             refused: false,
@@ -114,8 +141,9 @@ fn fault_answer(
 }
 
 /// Returns the answer to a line, without its number.
-fn line_answer(
+fn line_answer<L: RunsLine>(
     alloc: Global,
+    runner: &L,
     run: &EachRun<'_>,
     number: usize,
     text: &str,
@@ -124,16 +152,17 @@ fn line_answer(
     ensures { IfOk result (λ answer. IsAnswer (way run.now) text.now (string_bytes answer.line) answer.refused) }
 {
     match read_inputs(alloc, params_of(run), text, scratch) {
-        Ok(inputs) => inputs_answer(alloc, run, &inputs),
+        Ok(inputs) => inputs_answer(alloc, runner, run, &inputs),
         Err(NoInputs::At(place)) => fault_answer(alloc, run, number, text, place, scratch),
         Err(NoInputs::NoMemory) => Err(AllocError),
     }
 }
 
 /// Appends the answer to the line with this number, and returns whether it is refused.
-pub fn put_answer(
+pub fn put_answer<L: RunsLine>(
     alloc: Global,
     out: &mut Vec<u8>,
+    runner: &L,
     run: &EachRun<'_>,
     number: usize,
     text: &str,
@@ -141,7 +170,7 @@ pub fn put_answer(
 ) -> Result<bool, AllocError>
     ensures { IfOk result (λ refused. (line : List ℕ) × IsAnswer (way run.now) text.now line refused × (out.new.items ≡ out.old.items ++ numbered number line)) }
 {
-    let answer = line_answer(alloc, run, number, text, scratch)?;
+    let answer = line_answer(alloc, runner, run, number, text, scratch)?;
     put_numbered_line(alloc, out, number, answer.line.as_bytes())?;
     Ok(answer.refused)
 }

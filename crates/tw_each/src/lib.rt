@@ -9,6 +9,7 @@ mod numbered;
 mod pace;
 mod parts;
 mod reply;
+mod runs_line;
 mod stream;
 mod streamed;
 mod threads;

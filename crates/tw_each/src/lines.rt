@@ -6,6 +6,7 @@ ghost use Rattle.tw_each.specs.Answers.{AreAnswers, IsLine, IsShortLine, is_blan
 
 use crate::answer::{EachRun, put_answer, put_unread};
 use crate::line_count::LineCount;
+use crate::runs_line::RunsLine;
 use std::alloc::{AllocError, Global};
 use tw_inputs::Scratch;
 use tw_program_output::{Failure, Position};
@@ -48,9 +49,10 @@ fn is_blank(line: &[u8]) -> bool
 }
 
 /// Appends the answer to a line that isn't too long, if it isn't blank. Returns whether it is refused.
-fn put_short_line(
+fn put_short_line<L: RunsLine>(
     alloc: Global,
     out: &mut Vec<u8>,
+    runner: &L,
     run: &EachRun<'_>,
     number: usize,
     line: &[u8],
@@ -62,15 +64,16 @@ fn put_short_line(
         return Ok(false);
     }
     match str::from_utf8(line) {
-        Ok(text) => put_answer(alloc, out, run, number, text, scratch),
+        Ok(text) => put_answer(alloc, out, runner, run, number, text, scratch),
         Err(_) => put_unread(alloc, out, number, other_bytes()),
     }
 }
 
 /// Appends the answer to the line with this number, if it isn't blank. Returns whether it is refused.
-fn put_line(
+fn put_line<L: RunsLine>(
     alloc: Global,
     out: &mut Vec<u8>,
+    runner: &L,
     run: &EachRun<'_>,
     number: usize,
     line: &[u8],
@@ -81,12 +84,13 @@ fn put_line(
     if line.len() > MOST_BYTES {
         return put_unread(alloc, out, number, too_long());
     }
-    put_short_line(alloc, out, run, number, line, scratch)
+    put_short_line(alloc, out, runner, run, number, line, scratch)
 }
 
 /// Runs the program on each line, one after the other, and returns the answers in the order of the lines. `before` lines precede these.
-pub fn answer_lines(
+pub fn answer_lines<L: RunsLine>(
     alloc: Global,
+    runner: &L,
     run: &EachRun<'_>,
     count: &LineCount,
     before: usize,
@@ -100,7 +104,15 @@ pub fn answer_lines(
     let mut scratch = Scratch::new(alloc);
     for index in 0..lines.len() {
         let number = before + index + 1;
-        refused |= put_line(alloc, &mut text, run, number, lines[index], &mut scratch)?;
+        refused |= put_line(
+            alloc,
+            &mut text,
+            runner,
+            run,
+            number,
+            lines[index],
+            &mut scratch,
+        )?;
         count.add();
     }
     Ok(Answers { text, refused })

@@ -115,6 +115,7 @@ pub(crate) fn each_run<'a>(
         verified,
         layout: order.layout,
         limit: order.limit.events(),
+        seconds: order.seconds,
     }
 }
 

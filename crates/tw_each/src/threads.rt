@@ -7,8 +7,10 @@ ghost use Rattle.tw_each.specs.Answers.{AreAnswers, way};
 use crate::answer::EachRun;
 use crate::line_count::LineCount;
 use crate::lines::{Answers, answer_lines};
+use crate::runs_line::{ByClock, WithoutClock};
 use std::alloc::{AllocError, Global};
 use std::thread::{Threads, join};
+use std::time::Clock;
 
 /// Answers lines. In how many threads it does so doesn't change the answers.
 pub trait Answering {
@@ -28,7 +30,7 @@ pub trait Answering {
         ensures { IfOk result (λ answers. AreAnswers (way run.now) 0 (map (λ line. line.now) lines.now) answers.text.items answers.refused) };
 }
 
-/// Answers all lines in the calling thread.
+/// Answers all lines in the calling thread, which has no clock: no run is stopped.
 #[derive(Clone, Copy)]
 pub struct InOneThread;
 
@@ -47,11 +49,11 @@ impl Answering for InOneThread {
         _jobs: usize,
         lines: &[&[u8]],
     ) -> Result<Answers, AllocError> {
-        answer_lines(alloc, run, &LineCount::new(), 0, lines)
+        answer_lines(alloc, &WithoutClock, run, &LineCount::new(), 0, lines)
     }
 }
 
-impl<'a, H: Threads + Sync> Answering for InThreads<'a, H> {
+impl<'a, H: Threads + Clock + Sync> Answering for InThreads<'a, H> {
     ghost shared = { IsSync H.row };
 
     fn answers(
@@ -78,7 +80,7 @@ fn joined(mut first: Answers, mut rest: Answers) -> Result<Answers, AllocError>
 
 /// Divides the lines among `jobs` threads, as evenly as whole lines allow. `before` lines precede these.
 #[cycle(division)]
-pub(crate) fn divided<H: Threads + Sync>(
+pub(crate) fn divided<H: Threads + Clock + Sync>(
     rt: &H,
     alloc: Global,
     run: &EachRun<'_>,
@@ -91,7 +93,7 @@ pub(crate) fn divided<H: Threads + Sync>(
     ensures { IfOk result (λ answers. AreAnswers (way run.now) before (map (λ line. line.now) lines.now) answers.text.items answers.refused) }
 {
     if jobs <= 1 {
-        return answer_lines(alloc, run, count, before, lines);
+        return answer_lines(alloc, &ByClock { clock: rt }, run, count, before, lines);
     }
     let low = jobs / 2;
     let high = jobs - low;

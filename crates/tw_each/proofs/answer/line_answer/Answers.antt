@@ -8,7 +8,7 @@ use Rattle.tw_each.specs.Answers.{IsAnswer, IsInputsAnswer, way}
 use Rattle.tw_each.proofs.answer.line_answer.Goals as goal
 
 pub returns-in-Ok : goal.returns-in-Ok
-returns-in-Ok c =
+returns-in-Ok g c =
     let w = way c.args.run.now in
     let inputs = c.in-Ok.inputs.items in
     let read = subst (λ (params : List Param). AreInputsIn params c.args.text.now inputs) c.params_of.ensures c.in-Ok.ensures.read in
@@ -16,7 +16,7 @@ returns-in-Ok c =
     (λ answer h. inl (inputs, read, subst (λ (given : List Input). IsInputsAnswer w given (string_bytes answer.line) answer.refused) c.deref.ensures.value h)) c.inputs_answer.ensures
 
 pub returns-in-Err-At : goal.returns-in-Err-At
-returns-in-Err-At c =
+returns-in-Err-At g c =
     let place = c.in-Err-At.place in
     let why = subst (λ (no : NoInputs). HasFault c.params_of.result.now c.args.text.now no) c.in-Err-At.field-0-is c.in-Err-At.ensures.fault in
     let fault = subst (λ (params : List Param). HasFaultAt params c.args.text.now place) c.params_of.ensures why in

@@ -1,0 +1,17 @@
+use Rattle.std.proofs.Common.{◌∙◌, None, string_bytes, subst, sym}
+use Rattle.std.proofs.lemmas.Result.{IfOk-weaker}
+use Rattle.tw_in_turn.specs.InTurn.{HasEnded, IsLeft}
+use Rattle.tw_in_turn.specs.declared.run.InTurnResult.{InTurnResult}
+use Rattle.tw_in_turn.specs.declared.run.StoppableResult.TheVariants.{Ended}
+use Rattle.tw_each.specs.Answers.{IsLeftLine}
+use Rattle.tw_each.proofs.answer.ended_line.Goals as goal
+
+pub returns-in-Some : goal.returns-in-Some
+returns-in-Some c =
+    IfOk-weaker _ _ (λ line. IsLeftLine (Ended c.args.left) (string_bytes line))
+    (λ line is. subst (λ (x : InTurnResult). IsLeftLine (Ended x) (string_bytes line)) (sym c.in-Over.is) (c.in-Some.closing, sym c.closing.ensures ∙ c.in-Some.is, is)) c.end_line.ensures
+
+pub unreachable-requires : goal.unreachable-requires
+unreachable-requires c =
+    let over = subst (λ (x : InTurnResult). IsLeft None c.requires.0 x) c.in-Over.is c.requires.1 in
+    subst HasEnded (sym c.closing.ensures ∙ c.in-None.is) over.3
