@@ -221,7 +221,6 @@ fn put_order_json(
 ) -> Result<(), AllocError>
     requires inputs { AreInputsOf verified.program order.now.inputs }
     requires goes { Goes verified.program order.now history.now.events }
-    requires closes { outcome.now.closing ≡ Some closing }
     ensures { OnOk result ((found : Option Insertion) × (members : json.Members) × IsFirstContest verified.program order.now.inputs order.now.layout history.now.events found
         × AreEndMembers outcome.now history.now.events closing members × (out.new.items ≡ out.old.items ++ order_line closing found members)) }
 {

@@ -145,7 +145,6 @@ pub(crate) fn order_line(
 ) -> Result<String, AllocError>
     requires inputs { AreInputsOf verified.program order.now.inputs }
     requires goes { Goes verified.program order.now history.now.events }
-    requires closes { left.now.closing ≡ Some closing }
     ensures { IfOk result (λ line. (found : Option Insertion) × (members : json.Members) × IsFirstContest verified.program order.now.inputs order.now.layout history.now.events found
         × AreEndMembers left.now history.now.events closing members × (string_bytes line ≡ order_line closing found members)) }
 {

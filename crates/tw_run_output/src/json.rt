@@ -88,7 +88,6 @@ pub fn end_line(
     history: &History,
     closing: Closing,
 ) -> Result<String, AllocError>
-    requires { left.now.closing ≡ Some closing }
     ensures { IfOk result (λ line. IsEndLine left.now history.now.events closing (string_bytes line)) }
 {
     let members = end_members(alloc, left, history, closing)?;

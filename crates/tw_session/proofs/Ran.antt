@@ -1,5 +1,5 @@
 -- The end of a run is as its definition says.
-use Rattle.std.proofs.Common.{◌≡◌, ◌≢◌, ◌≤◌, ◌==◌, ◌∙◌, ◌++◌, Bool, true, false, ℕ, refl, sym, ap, subst, inl, List, length, Option, Some, None, IfOk, Result, Ok, Err}
+use Rattle.std.proofs.Common.{◌≡◌, ◌≤◌, ◌==◌, ◌∙◌, ◌++◌, ◌⊎◌, Bool, true, false, ℕ, refl, sym, ap, subst, inl, inr, is_some, unwrap_or, List, length, Option, Some, None, IfOk, Result, Ok, Err}
 use Rattle.std.proofs.lemmas.Bool.{eqb-true}
 use Rattle.std.specs.Prelude.{if◌then◌else◌}
 use Rattle.std.specs.Option.{option_map, option_or}
@@ -20,15 +20,14 @@ use Rattle.tw_pool.specs.Turns.{closing_of}
 use Rattle.tw_pool.specs.Openings.{opened}
 use Rattle.tw_pool.specs.PoolView.{PoolView}
 use Rattle.tw_host.specs.Run.{Run, run_of}
-use Rattle.tw_in_turn.specs.InTurn.{ComesTo, IsOver}
 use Rattle.tw_order.specs.declared.runs.RunOrder.{RunOrder}
-use Rattle.tw_run_output.specs.Ends.{IsEndReport, end_report}
+use Rattle.tw_run_output.specs.Ends.{IsReportAs, end_report}
 use Rattle.tw_run_output.specs.Json.{IsEndLine, members_of, run_line}
 use Rattle.tw_run_output.specs.Over.{IsRunOver}
 use Rattle.tw_run_output.specs.Run.{AreRunDetails, IsRunText, close_of, trace_text}
 use Rattle.tw_program_output.specs.Reply.{reply}
 use Rattle.tw_program_output.specs.declared.reply.Reply.{Reply as MadeReply}
-use Rattle.tw_session.specs.Run.{EndsSo, IsOrdered, IsRun, RepliesByRun, run_as}
+use Rattle.tw_session.specs.Run.{EndsSo, IsAtEnd, IsOrdered, IsRun, RepliesByRun, run_as}
 
 -- from how the run has ended by itself, whether it was stopped, and whether the number of events is at its limit
 abbrev closing_by : Option Ending → (stopped full : Bool) → Option Closing
@@ -37,32 +36,59 @@ closing_by e stopped full = option_or (option_map closing_of e) (if stopped then
 same : {a b : Closing} → Some a ≡ Some b → a ≡ b
 same e = cc
 
-pub ends_so : (order : RunOrder) (history : List Event) (s : State) (e : Option Ending) (stopped full : Bool) (closing : Closing)
-    → ending s ≡ e → (full ≡ true → length history ≡ order.limit) → closing_by e stopped full ≡ Some closing → closing ≢ Stopped → EndsSo order history s closing
-ends_so order history s (Some ending.Quiet) stopped full closing is at printed other = subst (EndsSo order history s) (same printed) is
-ends_so order history s (Some (ending.Stuck rules)) stopped full closing is at printed other = subst (EndsSo order history s) (same printed) is
-ends_so order history s None true full closing is at printed other = absurd (other (sym (same printed)))
-ends_so order history s None false true closing is at printed other = subst (EndsSo order history s) (same printed) (at refl, is)
-ends_so order history s None false false closing is at printed other = absurd (none printed)
+-- holds if a run ended so, from how its results say that it did; only one whose time is limited was stopped
+abbrev pub IsEndOf : RunOrder → Option Closing → Closing → Type 0
+IsEndOf order over closing =
+    ((over ≡ Some closing) × (closing ≡ Stopped → is_some order.seconds ≡ true)) ⊎ ((over ≡ None) × (closing ≡ Stopped) × (is_some order.seconds ≡ true))
+
+-- of one that was stopped, though it may have ended before
+pub stopped_end : (order : RunOrder) (over : Option Closing) → is_some order.seconds ≡ true → IsEndOf order over (unwrap_or over Stopped)
+stopped_end order None limited = inr (refl, refl, limited)
+stopped_end order (Some closing) limited = inl (refl, λ stopped. limited)
+
+ends_so : (order : RunOrder) (history : List Event) (s : State) (e : Option Ending) (stopped full : Bool) (closing : Closing)
+    → ending s ≡ e → (full ≡ true → length history ≡ order.limit) → closing_by e stopped full ≡ Some closing → (closing ≡ Stopped → is_some order.seconds ≡ true) → EndsSo order history s closing
+ends_so order history s (Some ending.Quiet) stopped full closing is at printed may = subst (EndsSo order history s) (same printed) is
+ends_so order history s (Some (ending.Stuck rules)) stopped full closing is at printed may = subst (EndsSo order history s) (same printed) is
+ends_so order history s None true full closing is at printed may = subst (EndsSo order history s) (same printed) (may (sym (same printed)), is)
+ends_so order history s None false true closing is at printed may = subst (EndsSo order history s) (same printed) (at refl, is)
+ends_so order history s None false false closing is at printed may = absurd (none printed)
   where
     none : None ≡ Some closing → ⊥
     none e = cc
 
--- for a run that wasn't stopped
+no_ending : (e : Option Ending) (stopped full : Bool) → closing_by e stopped full ≡ None → e ≡ None
+no_ending None stopped full none = refl
+no_ending (Some ending.Quiet) stopped full none = absurd (some none)
+  where
+    some : closing_by (Some ending.Quiet) stopped full ≡ None → ⊥
+    some e = cc
+no_ending (Some (ending.Stuck rules)) stopped full none = absurd (some none)
+  where
+    some : closing_by (Some (ending.Stuck rules)) stopped full ≡ None → ⊥
+    some e = cc
+
+ends_as : (order : RunOrder) (history : List Event) (s : State) (stopped full : Bool) (closing : Closing)
+    → (full ≡ true → length history ≡ order.limit) → IsEndOf order (closing_by (ending s) stopped full) closing → EndsSo order history s closing
+ends_as order history s stopped full closing at (inl (is, may)) = ends_so order history s (ending s) stopped full closing refl at is may
+ends_as order history s stopped full closing at (inr (none, cut, limited)) = subst (EndsSo order history s) (sym cut) (limited, no_ending (ending s) stopped full none)
+
+-- for a run that ended so
 pub over : (verified : TypedProgram) (order : RunOrder) (p : PoolView) (final : FinalView) (history : HistoryView) (closing : Closing)
-    → run_of p ≡ run_as verified order → length p.history ≤ order.limit → IsShut p final history → IsOrdered order.in_turn verified.program order p.history → final.closing ≡ Some closing → closing ≢ Stopped
+    → run_of p ≡ run_as verified order → length p.history ≤ order.limit → IsShut p final history → IsOrdered order.in_turn verified.program order p.history → IsEndOf order final.closing closing
     → (o : IsRunOver verified.program order final history.events closing) × IsRun verified.program order history.events o.state closing
-over verified order p final history closing of_run few shut turns ended other =
+over verified order p final history closing of_run few shut turns ended =
     let s = shut.state in
     let here : EndsSo order history.events s closing =
-    ends_so order history.events s (ending s) p.stopped (length p.history == p.limit) closing refl (λ full. ap (λ (es : List Event). length es) shut.events ∙ (eqb-true (length p.history) p.limit full ∙ ap (λ (r : Run). r.limit) of_run)) (sym shut.closing ∙ ended) other in
+    ends_as order history.events s p.stopped (length p.history == p.limit) closing (λ full. ap (λ (es : List Event). length es) shut.events ∙ (eqb-true (length p.history) p.limit full ∙ ap (λ (r : Run). r.limit) of_run))
+    (subst (λ (o : Option Closing). IsEndOf order o closing) shut.closing ended) in
     let leads : reached verified.program order.inputs order.layout p.history ≡ Went s =
     subst (λ (r : Run). reached r.program.program r.inputs r.layout p.history ≡ Went s) of_run shut.has_state in
     let short = subst (λ (es : List Event). length es ≤ order.limit) (sym shut.events) few in
     let there : reached verified.program order.inputs order.layout history.events ≡ Went s = subst (λ (es : List Event). reached verified.program order.inputs order.layout es ≡ Went s) (sym shut.events) leads in
-    let reports : (printed : List ℕ) → IsEndReport final printed → printed ≡ end_report verified.program s (Some closing) = λ printed is_report. is_report p history shut ∙ ap (λ (r : Run). end_report r.program.program s final.closing) of_run ∙ ap (λ (o : Option Closing). end_report verified.program s o) ended in
+    let reports : (printed : List ℕ) → IsReportAs final (Some closing) printed → printed ≡ end_report verified.program s (Some closing) = λ printed is_report. is_report p history shut ∙ ap (λ (r : Run). end_report r.program.program s (Some closing)) of_run in
     let shows : (line : List ℕ) → IsEndLine final history.events closing line → line ≡ run_line verified.program history.events s closing = λ line is_line. is_line p history shut ∙ ap (λ (r : Run). run_line r.program.program history.events s closing) of_run in (
-      record { state = s; few = short; reaches = there; reports = reports; closes = ended; members = λ found are. are p history shut ∙ ap (λ (r : Run). members_of r.program.program history.events s closing) of_run; shows = shows },
+      record { state = s; few = short; reaches = there; reports = reports; members = λ found are. are p history shut ∙ ap (λ (r : Run). members_of r.program.program history.events s closing) of_run; shows = shows },
       record { few = short; reaches = there; ends = here; turns = subst (λ (es : List Event). IsOrdered order.in_turn verified.program order es) (sym shut.events) turns },
     )
 
@@ -80,5 +106,5 @@ pub in_threads : (program : List Procedure) (order : RunOrder) (history : List E
 in_threads program order history threads = subst (λ b. IsOrdered b program order history) (sym threads) tt
 
 -- single-threaded, the trace is the one that the actors make
-pub in_turn : (verified : TypedProgram) (order : RunOrder) (p : PoolView) → order.in_turn ≡ true → ComesTo order.seed (opened verified order.inputs order.layout order.limit) IsOver p → IsOrdered order.in_turn verified.program order p.history
+pub in_turn : (verified : TypedProgram) (order : RunOrder) (p : PoolView) → order.in_turn ≡ true → IsAtEnd order (opened verified order.inputs order.layout order.limit) p → IsOrdered order.in_turn verified.program order p.history
 in_turn verified order p turns comes = subst (λ b. IsOrdered b verified.program order p.history) (sym turns) (record { verified = verified; is = refl; last = p; comes = comes; made = refl })

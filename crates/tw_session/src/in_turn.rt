@@ -1,11 +1,12 @@
 //! The replies of a single-threaded `run`.
 
-ghost use Rattle.std.specs.Prelude.{◌≡◌, IfOk, map, string_bytes, true};
+ghost use Rattle.std.specs.Prelude.{◌≡◌, IfOk, is_some, map, string_bytes, true};
 ghost use Rattle.tw_cli.specs.CommandLine.{asked_by_words, word_faults};
 ghost use Rattle.tw_order.specs.InTurn.{IsInTurn};
 ghost use Rattle.tw_cli.specs.InTurn.{turned};
 ghost use Rattle.tw_code.specs.machine.Inputs.{AreInputsOf};
 ghost use Rattle.tw_in_turn.specs.InTurn.{IsLeft};
+ghost use Rattle.tw_in_turn.specs.Stopping.{IsLeftIf};
 ghost use Rattle.tw_pool.specs.Openings.{opened};
 ghost use Rattle.tw_program_output.specs.Reply.{reply};
 ghost use Rattle.tw_session.specs.Run.{RepliesByOpening, RepliesByRun};
@@ -14,20 +15,20 @@ ghost use Rattle.tw_program_output.specs.Source.{MayBeSource, text_of};
 
 use crate::input::looked_at;
 use crate::order::reply_in_turn;
-use crate::run::stop_reason;
+use crate::run::{stop_reason, unopened_reply};
 use crate::shell::unordered_reply;
 use std::alloc::{AllocError, Global};
+use std::time::Clock;
 use tw_cli::read_order;
-use tw_in_turn::{InTurnResult, run_in_turn};
+use tw_in_turn::{InTurnResult, StoppableResult, run_in_turn, run_timed};
 use tw_order::{Order, RunOrder};
-use tw_pool::OpenError;
+use tw_pool::Closing;
 use tw_program_output::{Reply, SourceText};
-use tw_replay_output::inputs_refused_reply;
 use tw_run_output::ended_reply;
 use tw_verify::Verified;
 
-/// Returns the reply of a finished run.
-fn left_reply(
+/// Returns the reply of a run that ended.
+fn ended_in_turn(
     alloc: Global,
     source: &Option<SourceText<'_>>,
     order: &RunOrder,
@@ -41,17 +42,42 @@ fn left_reply(
     ensures { IfOk result (λ r. RepliesByRun (text_of source.now) verified.program order.now (reply r.text.items r.close)) }
 {
     match left {
-        InTurnResult::Over { outcome, history } => match stop_reason(outcome.closing()) {
-            Some(closing) => {
-                ended_reply(alloc, source, order, verified, &outcome, &history, closing)
+        InTurnResult::Over { outcome, history } => {
+            match stop_reason(outcome.closing(), order.seconds) {
+                Some(closing) => {
+                    ended_reply(alloc, source, order, verified, &outcome, &history, closing)
+                }
+                None => unreachable!(),
             }
-            None => unreachable!(),
-        },
+        }
         InTurnResult::NoMemory { .. } => Err(AllocError),
     }
 }
 
-/// Opens an accepted program and runs it in this thread.
+/// Returns the reply of a finished run. One that was stopped may have reached its end before.
+fn left_reply(
+    alloc: Global,
+    source: &Option<SourceText<'_>>,
+    order: &RunOrder,
+    verified: Verified,
+    left: StoppableResult,
+) -> Result<Reply, AllocError>
+    requires left { IsLeftIf (is_some order.now.seconds) order.now.seed (opened verified order.now.inputs order.now.layout order.now.limit) left }
+    requires turns { order.now.in_turn ≡ true }
+    requires inputs { AreInputsOf verified.program order.now.inputs }
+    requires source { MayBeSource source.now verified.program }
+    ensures { IfOk result (λ r. RepliesByRun (text_of source.now) verified.program order.now (reply r.text.items r.close)) }
+{
+    match left {
+        StoppableResult::Ended(left) => ended_in_turn(alloc, source, order, verified, left),
+        StoppableResult::Stopped { outcome, history } => {
+            let closing = outcome.closing().unwrap_or(Closing::Stopped);
+            ended_reply(alloc, source, order, verified, &outcome, &history, closing)
+        }
+    }
+}
+
+/// Opens an accepted program and runs it in this thread, to its end.
 pub fn reply_single_threaded(
     alloc: Global,
     source: &Option<SourceText<'_>>,
@@ -62,18 +88,32 @@ pub fn reply_single_threaded(
     requires source { MayBeSource source.now verified.program }
     ensures { IfOk result (λ r. RepliesByOpening (text_of source.now) verified.program order.now (reply r.text.items r.close)) }
 {
-    let inputs = order.inputs.as_slice();
-    let limit = order.limit.events();
-    match run_in_turn(alloc, &verified, inputs, order.layout, limit, order.seed) {
+    let (inputs, layout, limit) = (order.inputs.as_slice(), order.layout, order.limit.events());
+    match run_in_turn(alloc, &verified, inputs, layout, limit, order.seed) {
+        Ok(left) => ended_in_turn(alloc, source, order, verified, left),
+        Err(why) => unopened_reply(alloc, source, order, &verified, why),
+    }
+}
+
+/// Like `reply_single_threaded`, but stops the run after the order's time, if that is limited.
+pub fn reply_in_time<C: Clock>(
+    clock: &C,
+    alloc: Global,
+    source: &Option<SourceText<'_>>,
+    order: &RunOrder,
+    verified: Verified,
+) -> Result<Reply, AllocError>
+    requires turns { order.now.in_turn ≡ true }
+    requires source { MayBeSource source.now verified.program }
+    ensures { IfOk result (λ r. RepliesByOpening (text_of source.now) verified.program order.now (reply r.text.items r.close)) }
+{
+    let (inputs, layout, limit) = (order.inputs.as_slice(), order.layout, order.limit.events());
+    let (seed, seconds) = (order.seed, order.seconds);
+    match run_timed(
+        clock, alloc, &verified, inputs, layout, limit, seed, seconds,
+    ) {
         Ok(left) => left_reply(alloc, source, order, verified, left),
-        Err(OpenError::NoMemory) => Err(AllocError),
-        Err(why) => inputs_refused_reply(
-            alloc,
-            source,
-            why.number(),
-            verified.program().procedures(),
-            inputs,
-        ),
+        Err(why) => unopened_reply(alloc, source, order, &verified, why),
     }
 }
 

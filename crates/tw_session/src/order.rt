@@ -16,7 +16,7 @@ ghost use Rattle.tw_session.specs.Run.{RepliesByOpening};
 ghost use Rattle.tw_program_output.specs.Source.{MayBeSource, text_of};
 ghost use Rattle.tw_session.specs.Session.{MayReply, MayReplyText, RepliesByInput, RepliesByProgram, RepliesWithInputs, excessive_reply as excessive_reply_is};
 
-use crate::in_turn::reply_single_threaded;
+use crate::in_turn::{reply_in_time, reply_single_threaded};
 use crate::input::MOST_BYTES;
 use crate::json::{in_form, rendering_of};
 use crate::json_run::{Action, action_reply, run_json_step};
@@ -221,7 +221,7 @@ fn run_as_ordered<H: Threads + Wait + Clock + Sync, G: Gate + Sync>(
 {
     let RunRequest { order, verified } = ordered;
     if order.in_turn {
-        reply_single_threaded(alloc, source, &order, verified)
+        reply_in_time(rt, alloc, source, &order, verified)
     } else {
         reply_threaded(rt, alloc, gate, source, &order, verified)
     }

@@ -1,10 +1,11 @@
 //! The replies of `run`.
 
-ghost use Rattle.std.specs.Prelude.{◌≡◌, ◌≢◌, IfOk, IfSome, List, None, Some, false};
+ghost use Rattle.std.specs.Prelude.{◌≡◌, ◌≢◌, IfErr, IfOk, IfSome, List, None, Some, false, is_some, true};
 ghost use Rattle.tw_host.specs.Ends.{Closes};
 ghost use Rattle.tw_host.specs.Seats.{SeatEvents};
 ghost use Rattle.tw_in_turn.specs.InTurn.{HasEnded};
 ghost use Rattle.tw_code.specs.machine.Inputs.{AreInputsOf};
+ghost use Rattle.tw_pool.specs.Openings.{IsRejection, MayOpen};
 ghost use Rattle.tw_program_output.specs.Reply.{reply};
 ghost use Rattle.tw_session.specs.Run.{RepliesByOpening, RepliesByRun, run_as, threads_refused};
 ghost use Rattle.tw_program_output.specs.Source.{MayBeSource, text_of};
@@ -12,26 +13,28 @@ ghost use Rattle.tw_program_output.specs.Source.{MayBeSource, text_of};
 use std::alloc::{AllocError, Global};
 use std::sync::Wait;
 use std::thread::Threads;
-use std::time::Clock;
+use std::time::{Clock, Duration};
 use tw_host::Closed;
 use tw_order::RunOrder;
 use tw_pool::{Closing, OpenError};
 use tw_program_output::{Failure, Position, Reply, SourceText, failed_reply};
 use tw_replay_output::inputs_refused_reply;
 use tw_run_output::ended_reply;
+use tw_stop::Deadline;
 use tw_verify::Verified;
-use tw_workers::{Gate, run};
+use tw_workers::{Gate, Timed, run};
 
-/// Returns why a run has ended, unless it was stopped.
-pub fn stop_reason(closing: Option<Closing>) -> Option<Closing>
+/// Returns why a run has ended, unless it was stopped although its time isn't limited.
+pub fn stop_reason(closing: Option<Closing>, seconds: Option<u64>) -> Option<Closing>
     ensures same { IfSome result (λ c. closing ≡ Some c) }
-    ensures unstopped { IfSome result (λ c. c ≢ Closing.Stopped) }
+    ensures unstopped { IfSome result (λ c. c ≡ Closing.Stopped → is_some seconds ≡ true) }
     ensures none { result ≡ None → HasEnded closing → ⊥ }
 {
     match closing {
         Some(Closing::Quiet) => Some(Closing::Quiet),
         Some(Closing::Stuck(rules)) => Some(Closing::Stuck(rules)),
         Some(Closing::Limit) => Some(Closing::Limit),
+        Some(Closing::Stopped) if seconds.is_some() => Some(Closing::Stopped),
         Some(Closing::Stopped) | None => None,
     }
 }
@@ -62,13 +65,62 @@ fn closed_reply(
             history,
             outcome,
             by_seat: _,
-        } => match stop_reason(outcome.closing()) {
+        } => match stop_reason(outcome.closing(), order.seconds) {
             None => threads_reply(alloc),
             Some(closing) => {
                 ended_reply(alloc, source, order, verified, &outcome, &history, closing)
             }
         },
         Closed::Differs { .. } => threads_reply(alloc),
+    }
+}
+
+/// Returns the reply to a run that isn't opened.
+pub fn unopened_reply(
+    alloc: Global,
+    source: &Option<SourceText<'_>>,
+    order: &RunOrder,
+    verified: &Verified,
+    why: OpenError,
+) -> Result<Reply, AllocError>
+    requires refused { IsRejection verified.now.program order.now.inputs order.now.layout order.now.limit why }
+    ensures { IfOk result (λ r. RepliesByOpening (text_of source.now) verified.now.program order.now (reply r.text.items r.close)) }
+{
+    match why {
+        OpenError::NoMemory => Err(AllocError),
+        _ => inputs_refused_reply(
+            alloc,
+            source,
+            why.number(),
+            verified.program().procedures(),
+            order.inputs.as_slice(),
+        ),
+    }
+}
+
+/// Runs a program with one thread for each actor, and stops it after the order's time, if that is limited.
+fn run_threads<H: Threads + Wait + Clock + Sync, G: Gate + Sync>(
+    rt: &H,
+    alloc: Global,
+    gate: &G,
+    order: &RunOrder,
+    verified: &Verified,
+) -> Result<(Closed, bool), OpenError>
+    ensures allowed { IfOk result (λ _. MayOpen verified.now.program order.now.inputs order.now.layout order.now.limit) }
+    ensures closes { IfOk result (λ r. (seats : List SeatEvents) × Closes (run_as verified.now order.now) seats r.0) }
+    ensures refused { IfErr result (IsRejection verified.now.program order.now.inputs order.now.layout order.now.limit) }
+{
+    let (inputs, layout, limit) = (order.inputs.as_slice(), order.layout, order.limit.events());
+    match order.seconds {
+        None => run(rt, alloc, verified, inputs, layout, limit, gate),
+        Some(seconds) => {
+            let deadline = Deadline::after(rt, Duration::from_secs(seconds));
+            let timed = Timed {
+                gate,
+                deadline: &deadline,
+            };
+            run(rt, alloc, verified, inputs, layout, limit, &timed)
+        }
     }
 }
 
@@ -85,29 +137,13 @@ pub fn reply_threaded<H: Threads + Wait + Clock + Sync, G: Gate + Sync>(
     requires source { MayBeSource source.now verified.program }
     ensures { IfOk result (λ r. RepliesByOpening (text_of source.now) verified.program order.now (reply r.text.items r.close)) }
 {
-    let inputs = order.inputs.as_slice();
-    match run(
-        rt,
-        alloc,
-        &verified,
-        inputs,
-        order.layout,
-        order.limit.events(),
-        gate,
-    ) {
+    match run_threads(rt, alloc, gate, order, &verified) {
         Ok((closed, memory)) => {
             if memory {
                 return Err(AllocError);
             }
             closed_reply(alloc, source, order, verified, closed)
         }
-        Err(OpenError::NoMemory) => Err(AllocError),
-        Err(why) => inputs_refused_reply(
-            alloc,
-            source,
-            why.number(),
-            verified.program().procedures(),
-            inputs,
-        ),
+        Err(why) => unopened_reply(alloc, source, order, &verified, why),
     }
 }

@@ -15,7 +15,7 @@ pub put_order-requires : goal.put_order-requires
 put_order-requires c = record { inputs = c.requires.inputs; goes = (c.requires.over.few, (c.requires.over.state, c.requires.over.reaches)); source = c.requires.source }
 
 pub put_order_json-requires : goal.put_order_json-requires
-put_order_json-requires c = record { inputs = c.requires.inputs; goes = (c.requires.over.few, (c.requires.over.state, c.requires.over.reaches)); closes = c.requires.over.closes }
+put_order_json-requires c = record { inputs = c.requires.inputs; goes = (c.requires.over.few, (c.requires.over.state, c.requires.over.reaches)) }
 
 pub returns-in-Report : goal.returns-in-Report
 returns-in-Report c =

@@ -1,38 +1,48 @@
-use Rattle.std.proofs.Common.{◌≡◌, ◌∙◌, ap, subst, sym}
+use Rattle.std.proofs.Common.{ap, inr, is_some, subst, sym, unwrap_or}
 use Rattle.tw_host.specs.Run.{run_of}
-use Rattle.tw_in_turn.specs.InTurn.{HasEnded, IsLeft}
-use Rattle.tw_in_turn.specs.declared.run.InTurnResult.{InTurnResult}
+use Rattle.tw_in_turn.specs.Stopping.{IsLeftIf}
+use Rattle.tw_in_turn.specs.declared.run.StoppableResult.{StoppableResult}
 use Rattle.tw_pool.specs.Openings.{opened}
+use Rattle.tw_pool.specs.declared.answer.Closing.TheVariants.{Stopped}
 use Rattle.tw_program_output.specs.Source.{text_of}
-use Rattle.tw_session.proofs.Ran.{in_turn, over, replied}
+use Rattle.tw_session.proofs.Ran.{IsEndOf, in_turn, over, replied, stopped_end}
 use Rattle.tw_session.proofs.in_turn.left_reply.Goals as goal
+
+pub ended_in_turn-requires : goal.ended_in_turn-requires
+ended_in_turn-requires c =
+    let order = c.args.order.now in
+    let first = opened c.args.verified order.inputs order.layout order.limit in
+    record {
+      left = subst (λ (x : StoppableResult). IsLeftIf (is_some order.seconds) order.seed first x) c.in-Ended.is c.requires.left;
+      turns = c.requires.turns;
+      inputs = c.requires.inputs;
+      source = c.requires.source;
+    }
 
 pub ended_reply-requires : goal.ended_reply-requires
 ended_reply-requires c =
     let verified = c.args.verified in
     let order = c.args.order.now in
-    let is_over = subst (λ (x : InTurnResult). IsLeft order.seed (opened verified order.inputs order.layout order.limit) x) c.in-Over.is c.requires.left in
-    let p = is_over.0 in
-    let left = is_over.2 in
+    let final = c.in-Stopped.outcome in
+    let stopped = subst (λ (x : StoppableResult). IsLeftIf (is_some order.seconds) order.seed (opened verified order.inputs order.layout order.limit) x) c.in-Stopped.is c.requires.left in
+    let p = stopped.1 in
+    let left = stopped.4 in
+    let ends : IsEndOf order final.closing c.unwrap_or-closing.result = subst (IsEndOf order final.closing) (sym c.unwrap_or-closing.ensures) (subst (λ o. IsEndOf order final.closing (unwrap_or o Stopped)) (sym c.closing.ensures) (stopped_end order final.closing stopped.2)) in
     record {
       inputs = c.requires.inputs;
       source = c.requires.source;
-      over = (over verified order p c.in-Over.outcome c.in-Over.history c.in-Some.closing (ap run_of left.of_first) left.within left.shut (in_turn verified order p c.requires.turns is_over.1) (sym c.closing.ensures ∙ c.in-Some.ensures.same) c.in-Some.ensures.unstopped).0;
+      over = (over verified order p final c.in-Stopped.history c.unwrap_or-closing.result (ap run_of left.of_first) left.within left.shut (in_turn verified order p c.requires.turns (inr (stopped.0, stopped.2, stopped.3))) ends).0;
     }
 
-pub returns-in-Some : goal.returns-in-Some
-returns-in-Some c =
+pub returns-in-Stopped : goal.returns-in-Stopped
+returns-in-Stopped c =
     let verified = c.args.verified in
     let order = c.args.order.now in
-    let is_over = subst (λ (x : InTurnResult). IsLeft order.seed (opened verified order.inputs order.layout order.limit) x) c.in-Over.is c.requires.left in
-    let p = is_over.0 in
-    let left = is_over.2 in
-    replied c.ended_reply.result (text_of c.args.source.now) verified.program order c.in-Over.outcome c.in-Over.history.events c.in-Some.closing
-    (over verified order p c.in-Over.outcome c.in-Over.history c.in-Some.closing (ap run_of left.of_first) left.within left.shut (in_turn verified order p c.requires.turns is_over.1) (sym c.closing.ensures ∙ c.in-Some.ensures.same) c.in-Some.ensures.unstopped)
+    let final = c.in-Stopped.outcome in
+    let stopped = subst (λ (x : StoppableResult). IsLeftIf (is_some order.seconds) order.seed (opened verified order.inputs order.layout order.limit) x) c.in-Stopped.is c.requires.left in
+    let p = stopped.1 in
+    let left = stopped.4 in
+    let ends : IsEndOf order final.closing c.unwrap_or-closing.result = subst (IsEndOf order final.closing) (sym c.unwrap_or-closing.ensures) (subst (λ o. IsEndOf order final.closing (unwrap_or o Stopped)) (sym c.closing.ensures) (stopped_end order final.closing stopped.2)) in
+    replied c.ended_reply.result (text_of c.args.source.now) verified.program order final c.in-Stopped.history.events c.unwrap_or-closing.result
+    (over verified order p final c.in-Stopped.history c.unwrap_or-closing.result (ap run_of left.of_first) left.within left.shut (in_turn verified order p c.requires.turns (inr (stopped.0, stopped.2, stopped.3))) ends)
     c.ended_reply.ensures
-
-pub unreachable-requires : goal.unreachable-requires
-unreachable-requires c =
-    let order = c.args.order.now in
-    let over = subst (λ (x : InTurnResult). IsLeft order.seed (opened c.args.verified order.inputs order.layout order.limit) x) c.in-Over.is c.requires.left in
-    c.stop_reason.ensures.none c.in-None.is (subst HasEnded (sym c.closing.ensures) over.3)
