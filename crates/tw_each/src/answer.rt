@@ -5,7 +5,6 @@ ghost use Rattle.tw_code.specs.machine.Opening.{main_params};
 ghost use Rattle.tw_in_turn.specs.InTurn.{IsLeft};
 ghost use Rattle.tw_in_turn.specs.Stopping.{IsLeftIf};
 ghost use Rattle.tw_in_turn.specs.declared.run.StoppableResult.TheVariants.{Ended};
-ghost use Rattle.tw_pool.specs.declared.answer.Closing.{Closing as Closings};
 ghost use Rattle.tw_run_output.specs.Json.{IsEndLine};
 ghost use Rattle.tw_pool.specs.Openings.{IsRejection};
 ghost use Rattle.tw_pool.specs.PoolView.{PoolView};
@@ -67,7 +66,7 @@ fn ended_line(alloc: Global, left: InTurnResult) -> Result<String, AllocError>
 
 /// Returns the line of a run that was stopped. It may have reached its end before.
 fn stopped_line(alloc: Global, outcome: &Final, history: &History) -> Result<String, AllocError>
-    ensures { IfOk result (λ line. IsEndLine outcome.now history.now.events (unwrap_or outcome.now.closing Closings.Stopped) (string_bytes line)) }
+    ensures { IfOk result (λ line. IsEndLine outcome.now history.now.events (unwrap_or outcome.now.closing Closing.Stopped) (string_bytes line)) }
 {
     let closing = outcome.closing().unwrap_or(Closing::Stopped);
     end_line(alloc, outcome, history, closing)

@@ -1,11 +1,11 @@
 //! The replies of `run`.
 
-ghost use Rattle.std.specs.Prelude.{◌≡◌, ◌≢◌, IfErr, IfOk, IfSome, List, None, Some, false, is_some, true};
+ghost use Rattle.std.specs.Prelude.{◌≡◌, IfOk, IfSome, List, None, Some, false, is_some, true};
 ghost use Rattle.tw_host.specs.Ends.{Closes};
 ghost use Rattle.tw_host.specs.Seats.{SeatEvents};
 ghost use Rattle.tw_in_turn.specs.InTurn.{HasEnded};
 ghost use Rattle.tw_code.specs.machine.Inputs.{AreInputsOf};
-ghost use Rattle.tw_pool.specs.Openings.{IsRejection, MayOpen};
+ghost use Rattle.tw_pool.specs.Openings.{IsRejection};
 ghost use Rattle.tw_program_output.specs.Reply.{reply};
 ghost use Rattle.tw_session.specs.Run.{RepliesByOpening, RepliesByRun, run_as, threads_refused};
 ghost use Rattle.tw_program_output.specs.Source.{MayBeSource, text_of};
@@ -98,33 +98,40 @@ pub fn unopened_reply(
     }
 }
 
-/// Runs a program with one thread for each actor, and stops it after the order's time, if that is limited.
-fn run_threads<H: Threads + Wait + Clock + Sync, G: Gate + Sync>(
+/// Opens an accepted program and runs it, with one thread for each actor.
+fn reply_observed<H: Threads + Wait + Clock + Sync, G: Gate + Sync>(
     rt: &H,
     alloc: Global,
     gate: &G,
+    source: &Option<SourceText<'_>>,
     order: &RunOrder,
-    verified: &Verified,
-) -> Result<(Closed, bool), OpenError>
-    ensures allowed { IfOk result (λ _. MayOpen verified.now.program order.now.inputs order.now.layout order.now.limit) }
-    ensures closes { IfOk result (λ r. (seats : List SeatEvents) × Closes (run_as verified.now order.now) seats r.0) }
-    ensures refused { IfErr result (IsRejection verified.now.program order.now.inputs order.now.layout order.now.limit) }
+    verified: Verified,
+) -> Result<Reply, AllocError>
+    requires turns { order.now.in_turn ≡ false }
+    requires source { MayBeSource source.now verified.program }
+    ensures { IfOk result (λ r. RepliesByOpening (text_of source.now) verified.program order.now (reply r.text.items r.close)) }
 {
-    let (inputs, layout, limit) = (order.inputs.as_slice(), order.layout, order.limit.events());
-    match order.seconds {
-        None => run(rt, alloc, verified, inputs, layout, limit, gate),
-        Some(seconds) => {
-            let deadline = Deadline::after(rt, Duration::from_secs(seconds));
-            let timed = Timed {
-                gate,
-                deadline: &deadline,
-            };
-            run(rt, alloc, verified, inputs, layout, limit, &timed)
+    let inputs = order.inputs.as_slice();
+    match run(
+        rt,
+        alloc,
+        &verified,
+        inputs,
+        order.layout,
+        order.limit.events(),
+        gate,
+    ) {
+        Ok((closed, memory)) => {
+            if memory {
+                return Err(AllocError);
+            }
+            closed_reply(alloc, source, order, verified, closed)
         }
+        Err(why) => unopened_reply(alloc, source, order, &verified, why),
     }
 }
 
-/// Opens an accepted program and runs it, with one thread for each actor.
+/// Like `reply_observed`, but stops the run after the order's time, if that is limited.
 pub fn reply_threaded<H: Threads + Wait + Clock + Sync, G: Gate + Sync>(
     rt: &H,
     alloc: Global,
@@ -137,13 +144,15 @@ pub fn reply_threaded<H: Threads + Wait + Clock + Sync, G: Gate + Sync>(
     requires source { MayBeSource source.now verified.program }
     ensures { IfOk result (λ r. RepliesByOpening (text_of source.now) verified.program order.now (reply r.text.items r.close)) }
 {
-    match run_threads(rt, alloc, gate, order, &verified) {
-        Ok((closed, memory)) => {
-            if memory {
-                return Err(AllocError);
-            }
-            closed_reply(alloc, source, order, verified, closed)
+    match order.seconds {
+        None => reply_observed(rt, alloc, gate, source, order, verified),
+        Some(seconds) => {
+            let deadline = Deadline::after(rt, Duration::from_secs(seconds));
+            let timed = Timed {
+                gate,
+                deadline: &deadline,
+            };
+            reply_observed(rt, alloc, &timed, source, order, verified)
         }
-        Err(why) => unopened_reply(alloc, source, order, &verified, why),
     }
 }
