@@ -108,7 +108,7 @@ pub fn commands_are_taken()
     ensures replay_text { (word_faults (codes "replay" ∷ codes "--text" ∷ []) ≡ [])
         × (asked_by_words (codes "replay" ∷ codes "--text" ∷ []) ≡ Replays Assembly Report (actors 1 1 1) (Some [])) }
     ensures run_inputs { (word_faults (codes "run" ∷ codes "--inputs" ∷ codes "--text" ∷ []) ≡ [])
-        × (asked_by_words (codes "run" ∷ codes "--inputs" ∷ codes "--text" ∷ []) ≡ Runs Assembly written.Report (actors 1 1 1) uncapped 10000 false false None None) }
+        × (asked_by_words (codes "run" ∷ codes "--inputs" ∷ codes "--text" ∷ []) ≡ Runs Assembly written.Report (actors 1 1 1) uncapped 10000 false false None None None) }
     ensures replay_stats { (word_faults (codes "replay" ∷ codes "--stats" ∷ []) ≡ [])
         × (asked_by_words (codes "replay" ∷ codes "--stats" ∷ []) ≡ Replays Hex Numbers (actors 1 1 1) (Some [])) }
     ensures replay_events { (word_faults (codes "replay" ∷ codes "--events" ∷ []) ≡ [])
