@@ -76,7 +76,8 @@ pub fn put_run_details(
         return Ok(());
     };
     match order.answer {
-        RunAnswer::Json | RunAnswer::OrderJson => Ok(()),
+        RunAnswer::Json => Ok(()),
+        RunAnswer::OrderJson => Ok(()),
         RunAnswer::Picture(_) => Ok(()),
         _ => put_closing_details(alloc, out, source, order, history, closing),
     }
