@@ -88,8 +88,9 @@ pub fn reply_single_threaded(
     requires source { MayBeSource source.now verified.program }
     ensures { IfOk result (λ r. RepliesByOpening (text_of source.now) verified.program order.now (reply r.text.items r.close)) }
 {
-    let (inputs, layout, limit) = (order.inputs.as_slice(), order.layout, order.limit.events());
-    match run_in_turn(alloc, &verified, inputs, layout, limit, order.seed) {
+    let inputs = order.inputs.as_slice();
+    let limit = order.limit.events();
+    match run_in_turn(alloc, &verified, inputs, order.layout, limit, order.seed) {
         Ok(left) => ended_in_turn(alloc, source, order, verified, left),
         Err(why) => unopened_reply(alloc, source, order, &verified, why),
     }
@@ -107,10 +108,17 @@ pub fn reply_in_time<C: Clock>(
     requires source { MayBeSource source.now verified.program }
     ensures { IfOk result (λ r. RepliesByOpening (text_of source.now) verified.program order.now (reply r.text.items r.close)) }
 {
-    let (inputs, layout, limit) = (order.inputs.as_slice(), order.layout, order.limit.events());
-    let (seed, seconds) = (order.seed, order.seconds);
+    let inputs = order.inputs.as_slice();
+    let limit = order.limit.events();
     match run_timed(
-        clock, alloc, &verified, inputs, layout, limit, seed, seconds,
+        clock,
+        alloc,
+        &verified,
+        inputs,
+        order.layout,
+        limit,
+        order.seed,
+        order.seconds,
     ) {
         Ok(left) => left_reply(alloc, source, order, verified, left),
         Err(why) => unopened_reply(alloc, source, order, &verified, why),
