@@ -120,7 +120,7 @@ def complaints(schemas: dict[str, Any], expected: list[Expected]) -> Iterator[st
 def main() -> int:
     """Checks all cases, and returns 1 if there is a complaint."""
     schemas = validators()
-    expected = [one for case in read_book(ROOT).cases for one in objects_of(case)]
+    expected = [one for case in read_book(ROOT / "cases").cases for one in objects_of(case)]
     found = list(complaints(schemas, expected))
     counts = collections.Counter(one.command for one in expected)
     for complaint in found:

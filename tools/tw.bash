@@ -28,7 +28,7 @@ _tw() {
         build:*) COMPREPLY=($(compgen -W "--library --help" -- "$word")) ;;
         install:-*) COMPREPLY=($(compgen -W "--uninstall --force --help" -- "$word")) ;;
         install:*) COMPREPLY=($(compgen -d -- "$word")) ;;
-        package:*) COMPREPLY=($(compgen -W "deb wheel crate tar" -- "$word")) ;;
+        package:*) COMPREPLY=($(compgen -W "deb wheel sdist crate tar" -- "$word")) ;;
         asm:-*) COMPREPLY=($(compgen -W "--names --plain --json --help" -- "$word")) ;;
         disasm:-*) COMPREPLY=($(compgen -W "--text --places --json --help" -- "$word")) ;;
         check:-*) COMPREPLY=($(compgen -W "--text --places --json --order --bounds --limit --most-tasks --most-instructions --most-data --most-bytes --most-budget --help" -- "$word")) ;;

@@ -20,7 +20,7 @@ case $words[2]:$PREFIX in
     build:*) compadd -- --library --help ;;
     install:-*) compadd -- --uninstall --force --help ;;
     install:*) _files -/ ;;
-    package:*) compadd -- deb wheel crate tar ;;
+    package:*) compadd -- deb wheel sdist crate tar ;;
     asm:-*) compadd -- --names --plain --json --help ;;
     disasm:-*) compadd -- --text --places --json --help ;;
     check:-*) compadd -- --text --places --json --order --bounds --limit --most-tasks --most-instructions --most-data --most-bytes --most-budget --help ;;
