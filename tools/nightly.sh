@@ -238,7 +238,7 @@ done
 logs=$root/out/nightly/$(date +%Y-%m-%dT%H%M%S)
 clone=$logs/clone taken=$logs/taken
 mkdir -p "$taken" && : >"$logs/summary" || exit
-trap 'rm -rf "$clone" "$taken" "$logs/lines"' EXIT
+trap 'rm -rf "$clone" "$taken" "$logs/lines" "$logs/lines.both"' EXIT
 trap 'stop "$running"' INT TERM HUP
 make_clone
 for number in $(seq "$jobs"); do

@@ -458,7 +458,8 @@ class NightlyTest(unittest.TestCase):
         shutil.copy(ROOT / "tools" / "nightly.sh", self.root / "tools")
         for name in ("tw", "libyuglemit.so", "libyuglemit.a"):
             (self.root / "release" / f"{name}.gz").write_bytes(gzip.compress(b"#!/bin/sh\n"))
-        (self.root / "examples" / "pipeline.tw").write_text("RET\n", encoding="utf-8")
+        for name in ("pipeline.tw", "barrier.twn"):
+            (self.root / "examples" / name).write_text("RET\n", encoding="utf-8")
         (self.root / ".gitignore").write_text("out/\n", encoding="utf-8")
         self.tool("fuzz.py", "import sys\nprint('one x\\ntwo x' if sys.argv[1] == '--list' else ' '.join(sys.argv[1:]))\nsys.exit(sys.argv[1] == 'two')\n")
         for name in ("hostile.sh", "replayed.sh", "shown.sh", "progress.py", "released.sh"):
