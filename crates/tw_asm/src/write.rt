@@ -94,6 +94,7 @@ fn put_scalar(out: &mut Vec<u8>, scalar: Scalar) -> Result<(), AllocError>
     put_name(out, scalar_word(scalar))
 }
 
+/// Adds a parameter: its mode and its type.
 #[tactic(auto, using(crate::proofs::Lines::spaced_param))]
 pub fn put_param(out: &mut Vec<u8>, param: Param) -> Result<(), AllocError>
     ensures { OnOk result (out.new.items ≡ out.old.items ++ spaced_all (flat_map (part_words (goal_word None)) (param_parts param))) }
@@ -181,6 +182,7 @@ pub struct Lines {
 }
 
 impl Lines {
+    /// Makes a writer without lines.
     pub fn new(alloc: Global) -> Lines
         ensures { result.out.items ≡ [] }
     {

@@ -72,6 +72,7 @@ pub fn exactly(wanted: u8, no: FaultNo, bytes: &[u8]) -> Result<(u8, &[u8]), Sto
     }
 }
 
+/// Reads the version, and returns the bytes after it.
 #[tactic(auto, unfolding(crate::specs::Reading::version_at))]
 pub fn version_of(bytes: &[u8]) -> Result<(Version, &[u8]), Stop>
     ensures { Gives (λ x. (x.0, x.1.now)) result (version_at bytes.now) }
@@ -84,6 +85,7 @@ pub fn version_of(bytes: &[u8]) -> Result<(Version, &[u8]), Stop>
     }
 }
 
+/// Reads a procedure's kind, and returns the bytes after it.
 #[tactic(auto, unfolding(crate::specs::Reading::kind_at))]
 pub fn kind_of(bytes: &[u8]) -> Result<(Kind, &[u8]), Stop>
     ensures { Gives (λ x. (x.0, x.1.now)) result (kind_at bytes.now) }
@@ -96,6 +98,7 @@ pub fn kind_of(bytes: &[u8]) -> Result<(Kind, &[u8]), Stop>
     }
 }
 
+/// Reads a parameter's mode, and returns the bytes after it.
 #[tactic(auto, unfolding(crate::specs::Reading::mode_at))]
 pub fn mode_of(bytes: &[u8]) -> Result<(Mode, &[u8]), Stop>
     ensures { Gives (λ x. (x.0, x.1.now)) result (mode_at bytes.now) }
@@ -110,6 +113,7 @@ pub fn mode_of(bytes: &[u8]) -> Result<(Mode, &[u8]), Stop>
     }
 }
 
+/// Reads a scalar type, and returns the bytes after it.
 #[tactic(auto, unfolding(crate::specs::Reading::scalar_at))]
 pub fn scalar_of(bytes: &[u8]) -> Result<(Scalar, &[u8]), Stop>
     ensures { Gives (λ x. (x.0, x.1.now)) result (scalar_at bytes.now) }

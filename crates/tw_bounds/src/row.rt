@@ -35,6 +35,7 @@ fn cost_at(costs: &[u64], place: usize) -> u64
     costs[place]
 }
 
+/// Returns the row of a place, of which those of the places from `from` on are known.
 pub fn row_of(code: &[Instr], costs: &[u64], rows: &[Row], from: usize, place: usize) -> Row
     requires ahead { from ≤ place }
     requires within { place < length code.now }

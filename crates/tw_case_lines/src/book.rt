@@ -12,6 +12,7 @@ pub struct Book {
 }
 
 impl Book {
+    /// Makes a book without names.
     pub fn new(alloc: Global) -> Book {
         Book {
             bytes: Vec::new(alloc),

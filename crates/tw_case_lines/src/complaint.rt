@@ -52,6 +52,7 @@ pub enum Complaint {
 }
 
 impl Complaint {
+    /// Returns the line that is printed.
     pub fn text(self) -> &'static str {
         match self {
             Complaint::Actor => "an actor is e, s or w and a number",

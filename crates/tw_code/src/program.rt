@@ -39,12 +39,14 @@ impl Program {
         }
     }
 
+    /// Returns the version of the format.
     pub fn version(&self) -> Version
         ensures { result ≡ self.now.version }
     {
         self.version
     }
 
+    /// Returns the procedures, the first of which is main.
     #[tactic(auto, using(crate::proofs::Widening::widened))]
     pub fn procedures(&self) -> &[Procedure]
         ensures is { result.now ≡ self.now.procedures }

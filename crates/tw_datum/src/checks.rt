@@ -32,6 +32,7 @@ fn is_element_of(element: DataType, ty: DataType) -> bool
     ty.element() == Some(element)
 }
 
+/// Checks that a value can be stored in a datum. Returns the first cause against it.
 pub fn may_store<M: Member>(datum: Option<&Datum<M>>, value: &Value) -> Result<(), Cause>
     ensures { result ≡ may_store value.now (datum_if (option_copied datum.entry)) }
 {
@@ -41,6 +42,7 @@ pub fn may_store<M: Member>(datum: Option<&Datum<M>>, value: &Value) -> Result<(
     must(datum.writes() != 0, Cause::NoWriteCount)
 }
 
+/// Checks that the value of a datum can be read.
 pub fn may_retrieve<M: Member>(datum: Option<&Datum<M>>) -> Result<(), Cause>
     ensures { result ≡ may_retrieve (datum_if (option_copied datum.entry)) }
 {
@@ -49,6 +51,7 @@ pub fn may_retrieve<M: Member>(datum: Option<&Datum<M>>) -> Result<(), Cause>
     must(datum.value().is_some(), Cause::UnsetDatum)
 }
 
+/// Checks that a member can be inserted into a container with subscripts of this type.
 pub fn may_insert<M: Member>(
     by: Scalar,
     container: Option<&Datum<M>>,
@@ -65,6 +68,7 @@ pub fn may_insert<M: Member>(
     must(!container.closed(), Cause::ClosedContainer)
 }
 
+/// Checks that the members of a datum can be read.
 pub fn may_read_members<M: Member>(datum: Option<&Datum<M>>) -> Result<(), Cause>
     ensures { result ≡ may_read_members (datum_if (option_copied datum.entry)) }
 {
@@ -82,6 +86,7 @@ pub fn may_read_members_by<M: Member>(by: Scalar, datum: Option<&Datum<M>>) -> R
     must(datum.closed(), Cause::OpenContainer)
 }
 
+/// Checks that a datum is live, so that it can have one more read.
 pub fn may_be_read<M: Member>(datum: Option<&Datum<M>>) -> Result<(), Cause>
     ensures { result ≡ may_be_read (datum_if (option_copied datum.entry)) }
 {
@@ -89,6 +94,7 @@ pub fn may_be_read<M: Member>(datum: Option<&Datum<M>>) -> Result<(), Cause>
     Ok(())
 }
 
+/// Checks that a datum can have one more write.
 pub fn may_copy_write<M: Member>(datum: Option<&Datum<M>>) -> Result<(), Cause>
     ensures { result ≡ may_copy_write (datum_if (option_copied datum.entry)) }
 {
@@ -96,6 +102,7 @@ pub fn may_copy_write<M: Member>(datum: Option<&Datum<M>>) -> Result<(), Cause>
     must(!datum.ty().is_scalar(), Cause::WrongType)
 }
 
+/// Checks that a read of a datum can be dropped.
 pub fn may_drop_read<M: Member>(datum: Option<&Datum<M>>) -> Result<(), Cause>
     ensures { result ≡ may_drop_read (datum_if (option_copied datum.entry)) }
 {
@@ -103,6 +110,7 @@ pub fn may_drop_read<M: Member>(datum: Option<&Datum<M>>) -> Result<(), Cause>
     must(datum.reads() != 0, Cause::NoReadCount)
 }
 
+/// Checks that a write of a datum can be dropped.
 pub fn may_drop_write<M: Member>(datum: Option<&Datum<M>>) -> Result<(), Cause>
     ensures { result ≡ may_drop_write (datum_if (option_copied datum.entry)) }
 {

@@ -96,6 +96,7 @@ impl<M: Member> Datum<M> {
         }
     }
 
+    /// Returns the type.
     pub fn ty(&self) -> DataType
         ensures { result ≡ self.now.datum.ty }
     {
@@ -196,6 +197,7 @@ impl<M: Member> Datum<M> {
         }
     }
 
+    /// Takes one read away.
     pub fn take_read(&mut self)
         requires { 0 < self.old.datum.reads }
         ensures { self.new ≡ record self.old { datum = record self.old.datum { reads = self.old.datum.reads - 1 } } }
@@ -203,6 +205,7 @@ impl<M: Member> Datum<M> {
         self.reads -= 1;
     }
 
+    /// Adds one read.
     pub fn add_read(&mut self)
         requires { self.old.datum.reads < 2 ^ 63 }
         ensures { self.new ≡ record self.old { datum = one_read_more self.old.datum } }
@@ -210,6 +213,7 @@ impl<M: Member> Datum<M> {
         self.reads += 1;
     }
 
+    /// Adds one write.
     pub fn add_write(&mut self)
         requires { self.old.datum.writes < 2 ^ 63 }
         ensures { self.new ≡ record self.old { datum = one_write_more self.old.datum } }

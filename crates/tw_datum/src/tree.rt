@@ -52,12 +52,14 @@ impl<V> Model for Tree<V> {
 }
 
 impl<V: Copy> Tree<V> {
+    /// Makes an empty tree.
     pub fn new() -> Tree<V>
         ensures { result ≡ [] }
     {
         Tree { root: None }
     }
 
+    /// Returns the number of its entries.
     pub fn len(&self) -> usize
         ensures { result ≡ length self.now }
     {

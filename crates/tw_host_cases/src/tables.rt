@@ -37,6 +37,7 @@ pub enum Said {
 }
 
 impl Said {
+    /// Returns the words that are printed.
     pub fn words(self) -> &'static str {
         match self {
             Said::Quiet => "quiet",
@@ -168,6 +169,7 @@ pub struct Pooled<'a, N: Named> {
 }
 
 impl<'a, N: Named> Pooled<'a, N> {
+    /// Makes it of a pool of the run.
     pub fn new(pool: Pool<'a>) -> Pooled<'a, N>
         requires { pool.program ≡ N.run.program }
     {
@@ -177,6 +179,7 @@ impl<'a, N: Named> Pooled<'a, N> {
         }
     }
 
+    /// Closes the pool, and returns what it left and its events.
     pub fn shut(self) -> (Final, History) {
         let Pooled { pool, run: _ } = self;
         pool.shut()
@@ -246,6 +249,7 @@ fn place_of<M: Named>(seats: &[Seat<M>], actor: Actor) -> Option<usize>
 }
 
 impl<'a, M: Named, N: Named> Seated<'a, M, N> {
+    /// Makes it of a host of the run, with all its seats.
     pub fn new(host: Host<'a, M>, seats: Vec<Seat<M>>) -> Seated<'a, M, N>
         requires of { M.run.program ≡ N.run.program }
         requires whole { vec_len seats ≡ actor_count M.run.layout }
@@ -272,6 +276,7 @@ impl<'a, M: Named, N: Named> Seated<'a, M, N> {
         self.host.missed_wakes(rt)
     }
 
+    /// Closes the host.
     pub fn close(self) -> Closed {
         let Seated {
             host,

@@ -48,6 +48,7 @@ impl Model for Data {
 }
 
 impl Data {
+    /// Makes a store without data.
     pub fn new(alloc: Global) -> Data
         ensures { result ≡ empty_store }
     {
@@ -228,24 +229,28 @@ impl Data {
 
 /// The checks of the calls. Each fails with the first cause.
 impl Data {
+    /// Checks that a value can be stored in a datum. Returns the first cause against it.
     pub fn may_store(&self, id: DatumId, value: &Value) -> Result<(), Cause>
         ensures { result ≡ may_store value.now (get self.now.live id) }
     {
         checks::may_store(self.datum(id), value)
     }
 
+    /// Checks that the value of a datum can be read.
     pub fn may_retrieve(&self, id: DatumId) -> Result<(), Cause>
         ensures { result ≡ may_retrieve (get self.now.live id) }
     {
         checks::may_retrieve(self.datum(id))
     }
 
+    /// Checks that a member can be inserted into a container with subscripts of this type.
     pub fn may_insert(&self, by: Scalar, container: DatumId, member: DatumId) -> Result<(), Cause>
         ensures { result ≡ may_insert by (get self.now.live container) (get self.now.live member) }
     {
         checks::may_insert(by, self.datum(container), self.datum(member))
     }
 
+    /// Checks that the member at a subscript can be looked up, and have one more read.
     pub fn may_look(&self, id: DatumId, subscript: &Value) -> Result<(), Cause>
         ensures { result ≡ may_look self.now id subscript.now }
     {
@@ -256,36 +261,42 @@ impl Data {
         }
     }
 
+    /// Checks that the members of a datum can be read.
     pub fn may_read_members(&self, id: DatumId) -> Result<(), Cause>
         ensures { result ≡ may_read_members (get self.now.live id) }
     {
         checks::may_read_members(self.datum(id))
     }
 
+    /// Like `may_read_members`, for a container with subscripts of this type.
     pub fn may_read_members_by(&self, by: Scalar, id: DatumId) -> Result<(), Cause>
         ensures { result ≡ may_read_members_by by (get self.now.live id) }
     {
         checks::may_read_members_by(by, self.datum(id))
     }
 
+    /// Checks that a datum is live, so that it can have one more read.
     pub fn may_be_read(&self, id: DatumId) -> Result<(), Cause>
         ensures { result ≡ may_be_read (get self.now.live id) }
     {
         checks::may_be_read(self.datum(id))
     }
 
+    /// Checks that a datum can have one more write.
     pub fn may_copy_write(&self, id: DatumId) -> Result<(), Cause>
         ensures { result ≡ may_copy_write (get self.now.live id) }
     {
         checks::may_copy_write(self.datum(id))
     }
 
+    /// Checks that a read of a datum can be dropped.
     pub fn may_drop_read(&self, id: DatumId) -> Result<(), Cause>
         ensures { result ≡ may_drop_read (get self.now.live id) }
     {
         checks::may_drop_read(self.datum(id))
     }
 
+    /// Checks that a write of a datum can be dropped.
     pub fn may_drop_write(&self, id: DatumId) -> Result<(), Cause>
         ensures { result ≡ may_drop_write (get self.now.live id) }
     {

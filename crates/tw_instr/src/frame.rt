@@ -52,6 +52,7 @@ impl Frame {
         }
     }
 
+    /// Returns the number of its task.
     pub fn task(&self) -> TaskNo
         ensures { result ≡ self.now.task }
     {
@@ -96,6 +97,7 @@ impl Frame {
         count_local(alloc, procedure.code.as_slice(), &mut position, most)
     }
 
+    /// Returns its place, values and loops.
     pub fn position(&self) -> &Position
         ensures { result.now ≡ self.now.position }
     {

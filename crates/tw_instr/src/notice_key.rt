@@ -23,12 +23,14 @@ impl Model for NoticeKey {
 }
 
 impl NoticeKey {
+    /// Makes the key of a notice.
     pub fn of(notice: Notice) -> NoticeKey
         ensures { result ≡ notice }
     {
         NoticeKey { notice }
     }
 
+    /// Returns the notice.
     pub fn notice(self) -> Notice
         ensures { result ≡ self }
     {

@@ -33,6 +33,7 @@ impl Model for Notices {
 }
 
 impl Notices {
+    /// Makes a set without notices.
     pub fn new(alloc: Global) -> Notices
         ensures { result ≡ empty }
     {
@@ -41,12 +42,14 @@ impl Notices {
         }
     }
 
+    /// Returns whether there is no notice.
     pub fn is_empty(&self) -> bool
         ensures { result ≡ (len self.now == 0) }
     {
         self.keys.is_empty()
     }
 
+    /// Returns the notices, in the order in which they are delivered.
     pub fn keys(&self) -> &BTreeSet<NoticeKey>
         ensures { from_list result.now.keys ≡ self.now }
     {

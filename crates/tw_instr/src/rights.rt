@@ -18,6 +18,7 @@ use crate::right_registers::{held, must_be_empty};
 use std::alloc::{AllocError, Global};
 use tw_types::{Cause, DataType, DatumId};
 
+/// Executes NEW.
 pub fn create(
     alloc: Global,
     store: &mut Data,
@@ -40,6 +41,7 @@ pub fn create(
     Ok(())
 }
 
+/// Executes DUPR.
 pub fn copy_read(store: &mut Data, frame: &mut Frame, to: u8, from: u8) -> Result<(), Cause>
     requires place { frame.old.position.place < 2 ^ 63 }
     requires room { HasRoom store.old }
@@ -54,6 +56,7 @@ pub fn copy_read(store: &mut Data, frame: &mut Frame, to: u8, from: u8) -> Resul
     Ok(())
 }
 
+/// Executes DUPW.
 pub fn copy_write(store: &mut Data, frame: &mut Frame, to: u8, from: u8) -> Result<(), Cause>
     requires place { frame.old.position.place < 2 ^ 63 }
     requires room { HasRoom store.old }
@@ -68,6 +71,7 @@ pub fn copy_write(store: &mut Data, frame: &mut Frame, to: u8, from: u8) -> Resu
     Ok(())
 }
 
+/// Executes DROPR.
 pub fn drop_read(store: &mut Data, frame: &mut Frame, right: u8) -> Result<(), Cause>
     requires { frame.old.position.place < 2 ^ 63 }
     ensures { DoesQuietly (DROPR right) store.old frame.old (failing result) store.new frame.new }
@@ -98,6 +102,7 @@ fn take_write(
     Ok(())
 }
 
+/// Executes DROPW.
 pub fn drop_write(
     alloc: Global,
     store: &mut Data,

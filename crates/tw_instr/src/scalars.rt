@@ -59,6 +59,7 @@ fn set(
     Ok(())
 }
 
+/// Executes STORE.
 pub fn store(
     alloc: Global,
     store: &mut Data,
@@ -91,6 +92,7 @@ fn copy_of(alloc: Global, store: &Data, id: DatumId) -> Result<Value, Failure>
     Ok(value.try_clone(alloc)?)
 }
 
+/// Executes GET.
 pub fn get(alloc: Global, store: &Data, frame: &mut Frame, to: u8, datum: u8) -> Result<(), Failure>
     requires { frame.old.position.place < 2 ^ 63 }
     ensures { DoesQuietly (GET to datum) store.now frame.old result store.now frame.new }

@@ -95,6 +95,7 @@ impl Task {
         self.procedure
     }
 
+    /// Returns its priority.
     pub fn priority(&self) -> i64
         ensures { result ≡ self.now.priority }
     {
@@ -108,6 +109,7 @@ impl Task {
         self.target
     }
 
+    /// Returns its arguments.
     pub fn args(&self) -> &[Arg]
         ensures { map arg_of result.now ≡ self.now.args }
     {

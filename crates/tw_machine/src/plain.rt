@@ -99,12 +99,14 @@ impl Plain {
             .step(alloc, self.program.procedures(), self.layout, event)
     }
 
+    /// Returns the state.
     pub fn state(&self) -> &State
         ensures { result.now ≡ self.now.state }
     {
         &self.state
     }
 
+    /// Returns the program.
     pub fn program(&self) -> &Program
         ensures is { result.now.procedures ≡ self.now.program }
         ensures version { result.now.version ≡ self.now.version }
@@ -112,6 +114,7 @@ impl Plain {
         &self.program
     }
 
+    /// Returns the actors.
     pub fn layout(&self) -> Layout
         ensures { result ≡ self.now.layout }
     {

@@ -22,6 +22,7 @@ pub struct Ranks {
 }
 
 impl Ranks {
+    /// Makes ranks without tasks.
     pub fn new(alloc: Global) -> Ranks
         ensures { (kind : AKind) (target : Option ℕ) (rank : ARank) → has_rank result kind target rank ≡ false }
     {

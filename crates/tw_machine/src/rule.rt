@@ -58,6 +58,7 @@ impl Rule {
         self.task.procedure()
     }
 
+    /// Returns the priority of its task.
     pub fn priority(&self) -> i64
         ensures { result ≡ self.now.priority }
     {
@@ -71,6 +72,7 @@ impl Rule {
         self.task.target()
     }
 
+    /// Returns the arguments of its task.
     pub fn args(&self) -> &[Arg]
         ensures { map arg_of result.now ≡ self.now.args }
     {

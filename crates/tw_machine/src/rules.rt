@@ -50,18 +50,21 @@ impl Rules {
         }
     }
 
+    /// Returns the pending rules, by their numbers.
     pub fn pending(&self) -> &BTreeMap<u64, Rule>
         ensures { rules_of result.now.entries ≡ self.now.pending }
     {
         &self.pending
     }
 
+    /// Returns the number of pending rules.
     pub fn len(&self) -> u64
         ensures { result ≡ len self.now.pending }
     {
         self.pending.len() as u64
     }
 
+    /// Returns the pending rule of this number.
     pub fn get(&self, number: RuleNo) -> Option<&Rule>
         ensures { option_copied result ≡ get self.now.pending number }
     {

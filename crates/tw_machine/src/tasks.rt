@@ -53,12 +53,14 @@ impl Tasks {
         }
     }
 
+    /// Returns the queued tasks, by their numbers.
     pub fn waiting(&self) -> &BTreeMap<u64, Task>
         ensures { tasks_of result.now.entries ≡ self.now.waiting }
     {
         &self.waiting
     }
 
+    /// Returns whether no task is queued.
     pub fn is_empty(&self) -> bool
         ensures { result ≡ (len self.now.waiting == 0) }
     {

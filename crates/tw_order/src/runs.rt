@@ -70,6 +70,7 @@ pub struct RunOptions {
 }
 
 impl RunOptions {
+    /// Returns the order of these options with these inputs.
     pub fn with_inputs(self, inputs: Items<Input>) -> RunOrder
         ensures { result ≡ run_with self inputs }
     {
@@ -136,6 +137,7 @@ pub struct ReplayOptions {
 }
 
 impl ReplayOptions {
+    /// Returns the order of these options with these inputs.
     pub fn with_inputs(self, inputs: Items<Input>) -> ReplayOrder
         ensures { result ≡ replay_with self inputs }
     {

@@ -21,6 +21,7 @@ pub struct Agenda {
 }
 
 impl Agenda {
+    /// Makes an agenda without rules.
     pub fn new(alloc: Global) -> Agenda
         ensures asks { result.asks.numbers ≡ [] }
         ensures releases { result.releases.numbers ≡ [] }

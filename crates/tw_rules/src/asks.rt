@@ -26,6 +26,7 @@ impl Model for Asks {
 }
 
 impl Asks {
+    /// Makes a list without parameters.
     pub fn new(alloc: Global) -> Asks
         ensures { result.numbers ≡ [] }
     {

@@ -23,12 +23,14 @@ pub fn has_unasked(rules: &HashMap<u64, Pending>, number: u64) -> bool
     }
 }
 
+/// Returns whether the rule of this number is pending.
 pub fn is_pending(rules: &HashMap<u64, Pending>, number: u64) -> bool
     ensures { result ≡ is_some (get (rules_in rules.now.entries) number) }
 {
     rules.contains_key(&number)
 }
 
+/// Returns the pending rule of this number.
 pub fn find(rules: &HashMap<u64, Pending>, number: u64) -> Option<&Pending>
     ensures { option_map rule_in (option_copied result) ≡ get (rules_in rules.now.entries) number }
 {

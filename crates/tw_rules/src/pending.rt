@@ -27,6 +27,7 @@ impl Pending {
         Stage::first_unasked(self.stages.as_slice())
     }
 
+    /// Returns whether a parameter is unasked.
     pub fn has_unasked(&self) -> bool
         ensures { result ≡ has_unasked (rule_in self.now) }
     {

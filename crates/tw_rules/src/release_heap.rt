@@ -33,6 +33,7 @@ impl Model for Releases {
 }
 
 impl Releases {
+    /// Makes a heap without rules.
     pub fn new(alloc: Global) -> Releases
         ensures numbers { result.numbers ≡ [] }
         ensures promised { result.promised ≡ 0 }

@@ -171,15 +171,6 @@ impl RuleTable {
         right
     }
 
-    /// Returns the stage of a rule's parameter.
-    pub fn stage(&self, rule: RuleNo, parameter: u8) -> Option<Stage>
-        ensures { result ≡ stage_at self.now.rules rule parameter }
-    {
-        let rule = find(&self.rules, rule.number())?;
-        let stages = rule.stages.as_slice();
-        stages.get(usize::from(parameter)).copied()
-    }
-
     /// Returns whether a pending rule can be released, or `None` if it isn't pending.
     pub fn is_releasable(&self, rule: RuleNo) -> Option<bool>
         ensures { result ≡ option_map is_releasable (get self.now.rules rule) }

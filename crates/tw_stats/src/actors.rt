@@ -18,6 +18,7 @@ pub struct Actors {
 }
 
 impl Actors {
+    /// Makes counts of zero.
     pub fn new(alloc: Global) -> Actors
         ensures { (actor : AnActor) → events_at result actor ≡ 0 }
     {
@@ -28,6 +29,7 @@ impl Actors {
         }
     }
 
+    /// Returns the number of events of an actor.
     pub fn at(&self, actor: Actor) -> u64
         ensures { result ≡ events_at self.now actor }
     {

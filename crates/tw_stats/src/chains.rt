@@ -22,6 +22,7 @@ pub struct Chains {
 }
 
 impl Chains {
+    /// Makes chains without events.
     pub fn new(alloc: Global) -> Chains
         ensures { (program : List Procedure) → AreChains program [] result }
     {

@@ -48,6 +48,7 @@ pub fn size_of(event: &Event) -> u64
 }
 
 impl Counts {
+    /// Makes counts of zero.
     pub fn new(alloc: Global) -> Counts
         ensures { AreCounts [] result }
     {

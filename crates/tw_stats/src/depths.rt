@@ -20,6 +20,7 @@ pub struct Depths {
 }
 
 impl Depths {
+    /// Makes depths of nothing.
     pub fn new(alloc: Global) -> Depths
         ensures { (x : AThing) → depth_at result x ≡ 0 }
     {

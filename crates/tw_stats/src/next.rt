@@ -22,12 +22,14 @@ impl Next {
         Next { task: 2, rule: 1 }
     }
 
+    /// Returns the number of the next task.
     pub fn task(self) -> TaskNo
         ensures { result ≡ self.task }
     {
         TaskNo::new(self.task)
     }
 
+    /// Returns the number of the next rule.
     pub fn rule(self) -> RuleNo
         ensures { result ≡ self.rule }
     {

@@ -44,6 +44,7 @@ fn instructions_by(event: &Event) -> u64
 }
 
 impl Procedures {
+    /// Makes counts of zero.
     pub fn new(alloc: Global) -> Procedures
         ensures { AreOfProcedures [] result }
     {

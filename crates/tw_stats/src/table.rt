@@ -23,6 +23,7 @@ fn reach(items: &mut Vec<u64>, index: usize) -> Result<(), AllocError>
 }
 
 impl Table {
+    /// Makes a table without entries.
     pub fn new(alloc: Global) -> Table
         ensures { IsBlank result }
     {
@@ -31,6 +32,7 @@ impl Table {
         }
     }
 
+    /// Returns the number at a key, or zero.
     pub fn at(&self, key: u64) -> u64
         ensures { result ≡ number_at self.now key }
     {

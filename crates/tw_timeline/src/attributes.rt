@@ -19,6 +19,7 @@ pub enum Name {
 }
 
 impl Name {
+    /// Returns how it is written.
     pub fn text(self) -> &'static str
         ensures { result.now ≡ name_text self }
     {
@@ -60,6 +61,7 @@ pub enum Key {
 }
 
 impl Key {
+    /// Returns how it is written.
     pub fn text(self) -> &'static str
         ensures { result.now ≡ key_text self }
     {
@@ -99,6 +101,7 @@ pub enum Kind {
 }
 
 impl Kind {
+    /// Returns how it is written.
     pub fn text(self) -> &'static str
         ensures { result.now ≡ kind_text self }
     {
@@ -140,6 +143,7 @@ pub enum Word {
 }
 
 impl Word {
+    /// Returns how it is written.
     pub fn text(self) -> &'static str
         ensures { result.now ≡ word_text self }
     {
@@ -194,6 +198,7 @@ pub struct Attribute {
     pub value: Value,
 }
 
+/// Makes an attribute with a word.
 pub fn fixed(key: Key, word: Word) -> Attribute
     ensures { result ≡ fixed key word }
 {
@@ -203,6 +208,7 @@ pub fn fixed(key: Key, word: Word) -> Attribute
     }
 }
 
+/// Makes an attribute with a number.
 pub fn number(key: Key, n: usize) -> Attribute
     ensures { result ≡ number key n }
 {
@@ -212,6 +218,7 @@ pub fn number(key: Key, n: usize) -> Attribute
     }
 }
 
+/// Makes the attribute for the route of a path.
 pub fn route(value: Value) -> Attribute
     ensures { result ≡ route value }
 {

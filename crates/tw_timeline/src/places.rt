@@ -49,6 +49,7 @@ fn scaled(part: usize, units: usize, all: usize) -> usize
 }
 
 impl View {
+    /// Returns the part of a timeline of this many events that the settings show.
     pub fn of(settings: Settings, events: u32) -> View
         ensures { result ≡ view_of settings events }
     {
@@ -59,12 +60,14 @@ impl View {
         }
     }
 
+    /// Returns the number of the first event.
     pub fn first(self) -> u32
         ensures { result ≡ self.first }
     {
         self.first
     }
 
+    /// Returns the number of the last event.
     pub fn last(self) -> u32
         ensures { result ≡ self.last }
     {
@@ -154,6 +157,7 @@ impl View {
         self.span() / self.shown().max(1)
     }
 
+    /// Returns the width of a marker.
     pub fn mark_width(self) -> usize
         ensures value { result ≡ mark_width self }
         ensures small { result ≤ 16 }
