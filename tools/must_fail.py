@@ -3,8 +3,9 @@
 """Tries the mutants of tools/must-fail, which CI leaves out: the prover has to reject each.
 
 A mutant costs a proof of its crate, so CI tries those of crates/NAME/must-fail alone. This copies the others into a clone of what is committed, and
-runs `rt ci NAME..` there, which takes what CI has proved of the crates below and tries a crate's mutants. It notes each crate whose mutants were all rejected in release/REJECTED, with a sum of what that depends on: the toolchain,
-the sources of the crate and of those below it, and the mutants. A crate that is noted so isn't tried again.
+runs `rt ci NAME..` there, which takes what CI has proved of the crates below and tries a crate's mutants. A toolchain whose `rt ci` takes no names
+proves those crates anew, by `rt must-fail NAME..`. It notes each crate whose mutants were all rejected in release/REJECTED, with a sum of what that
+depends on: the toolchain, the sources of the crate and of those below it, and the mutants. A crate that is noted so isn't tried again.
 
   tools/must_fail.py [NAME..]          tries the mutants of these crates, or of all; some 45 minutes of processor time for all
   tools/must_fail.py --anew [NAME..]   tries those of noted crates, too
@@ -109,10 +110,23 @@ def rejected_in(output: str) -> set[str]:
     return set(re.findall(r"(?m)^(?:rt: )?must-fail (\S+): refused, as it must be", output))
 
 
-def run_prover(tree: Path, names: list[str]) -> str:
-    """Runs `rt ci` for these crates in a folder, and returns what it prints."""
-    ran = subprocess.run(["rt", "ci", *names], cwd=tree, stdin=subprocess.DEVNULL, stdout=subprocess.PIPE, stderr=subprocess.STDOUT, text=True)
+def output_of(tree: Path, *words: str) -> str:
+    """Runs a command of the toolchain in a folder, and returns what it prints."""
+    ran = subprocess.run(["rt", *words], cwd=tree, stdin=subprocess.DEVNULL, stdout=subprocess.PIPE, stderr=subprocess.STDOUT, text=True)
     return ran.stdout
+
+
+def run_prover(tree: Path, names: list[str]) -> str:
+    """Tries the mutants of these crates in a folder, and returns what the toolchain prints."""
+    output = output_of(tree, "ci", *names)
+    if takes_names(output):
+        return output
+    return output + output_of(tree, "must-fail", *names)
+
+
+def takes_names(output: str) -> bool:
+    """Returns whether `rt ci` ran for the crates that it was given, by its last line."""
+    return re.search(r"(?m)^\d+ passed, \d+ failed$", output) is not None
 
 
 def copy_mutants(root: Path, tree: Path, names: Iterable[str]) -> None:

@@ -131,6 +131,29 @@ class OfARepository(WithRepository):
         self.assertEqual(release.sums_of_sources(self.root, "tw_main")[0], hashlib.sha256(listed.encode()).hexdigest())
 
 
+class OfProver(unittest.TestCase):
+    """Tests of which command of the toolchain tries mutants."""
+
+    def printed(self, of_ci: str) -> list[str]:
+        """Returns the commands that are run if `rt ci NAME` prints this."""
+        ran: list[str] = []
+
+        def fake(_tree: Path, *words: str) -> str:
+            ran.append(" ".join(words))
+            return of_ci
+
+        with mock.patch.object(must_fail, "output_of", fake):
+            must_fail.run_prover(Path(), ["low"])
+        return ran
+
+    def test_ci_of_a_crate_is_enough(self) -> None:
+        self.assertEqual(self.printed("rt: low proved\n3 passed, 0 failed\n"), ["ci low"])
+        self.assertEqual(self.printed("0 passed, 1 failed\n"), ["ci low"])
+
+    def test_an_older_toolchain_takes_no_names(self) -> None:
+        self.assertEqual(self.printed("usage: rt new FOLDER\n"), ["ci low", "must-fail low"])
+
+
 class OfMutants(WithRepository):
     """Tests of which mutants are noted as rejected, with a prover that prints a line for each."""
 
