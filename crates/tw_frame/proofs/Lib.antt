@@ -3,6 +3,7 @@ pub mod Firsts
 pub mod Deep
 pub mod Quickly
 pub mod Running
+mod Pacing
 pub mod Pairs
 pub mod Lending
 pub mod Prefixes

@@ -1,6 +1,6 @@
 //! Jobs, and their results.
 
-ghost use Rattle.std.specs.Prelude.{◌≡◌, ◌<◌, ℕ, List, IfOk, OnErr, Some, length, slice_get};
+ghost use Rattle.std.specs.Prelude.{◌≡◌, ◌<◌, ℕ, List, IfOk, IfSome, OnErr, Some, length, option_map, slice_get};
 ghost use Rattle.tw_types.specs.Value.{IsProper};
 ghost use Rattle.tw_types.specs.ValueOrder.{named};
 ghost use Rattle.tw_types.specs.declared.value.Value.TheVariants as value;
@@ -8,6 +8,7 @@ ghost use Rattle.tw_code.specs.machine.Position.{with_value};
 ghost use Rattle.tw_frame.specs.Drafts.{MaySet};
 ghost use Rattle.tw_frame.specs.JobBuffers.{IsRun, IsRunOf, done_of};
 ghost use Rattle.tw_frame.specs.Jobs.{AreOf, IsDone, IsJob, MayBeAt, position_of};
+ghost use Rattle.tw_frame.specs.Pace.{IsSeenJob, steps_of};
 
 use crate::context::Context;
 use crate::job_buffer::JobBuffer;
@@ -15,6 +16,7 @@ use crate::loops::Loops;
 use crate::run::{procedure_of, run_from};
 use std::alloc::{AllocError, Global};
 use std::marker::Model;
+use tw_stop::{Never, StopSignal};
 use tw_types::{Actor, TaskNo, Value, ValueRef};
 use tw_verify::Verified;
 
@@ -116,17 +118,27 @@ impl<'a> JobState<'a> {
         self.event_no
     }
 
-    /// Runs it in a copy of its context, and copies the resulting context once more.
-    pub(crate) fn run(
+    /// Runs it in a copy of its context, and copies the resulting context once more. Returns nothing if the stop signal is raised.
+    pub(crate) fn run<S: StopSignal>(
         &self,
         alloc: Global,
         after: &mut Context<'a>,
         again: &mut Context<'a>,
-    ) -> RunOutcome
+        stop: &mut S,
+    ) -> Option<RunOutcome>
         requires { MayBeAt self.now.program.program self.now.procedure self.now.position }
-        ensures { IsRun self.now.program.program self.now.procedure self.now.position after.new again.new result }
+        ensures run { IfSome result (IsRun self.now.program.program self.now.procedure self.now.position after.new again.new) }
+        ensures seen { IsSeenJob S.says stop.old stop.new (option_map steps_of result) }
     {
-        run_in(alloc, self.verified, self.procedure, &self.at, after, again)
+        run_in(
+            alloc,
+            self.verified,
+            self.procedure,
+            &self.at,
+            after,
+            again,
+            stop,
+        )
     }
 
     /// Issues it again, with the same values.
@@ -171,27 +183,30 @@ pub(crate) enum RunOutcome {
     Moved { steps: u64, short: bool },
 }
 
-/// Runs a task of a procedure from its position, in a copy of its context, and copies the resulting context once more.
-fn run_in<'a>(
+/// Runs a task of a procedure from its position, in a copy of its context, and copies the resulting context once more. Returns nothing
+/// if the stop signal is raised.
+fn run_in<'a, S: StopSignal>(
     alloc: Global,
     verified: &'a Verified,
     procedure: u8,
     at: &Context<'a>,
     after: &mut Context<'a>,
     again: &mut Context<'a>,
-) -> RunOutcome
+    stop: &mut S,
+) -> Option<RunOutcome>
     requires { IsJob verified.now.program procedure at.now.registers.types (position_of at.now) }
-    ensures { IsRun verified.now.program procedure (position_of at.now) after.new again.new result }
+    ensures run { IfSome result (IsRun verified.now.program procedure (position_of at.now) after.new again.new) }
+    ensures seen { IsSeenJob S.says stop.old stop.new (option_map steps_of result) }
 {
     let p = procedure_of(verified, procedure);
     let procedure = usize::from(procedure);
     if !p.code.as_slice()[at.place].is_local() {
-        return RunOutcome::Unmoved { short: false };
+        return Some(RunOutcome::Unmoved { short: false });
     }
     let Ok(()) = after.copy_from(alloc, at) else {
-        return RunOutcome::Unmoved { short: true };
+        return Some(RunOutcome::Unmoved { short: true });
     };
-    let loop_exit = run_from(
+    let Some(loop_exit) = run_from(
         alloc,
         p,
         verified.quick(procedure),
@@ -199,15 +214,18 @@ fn run_in<'a>(
         &mut after.registers,
         &mut after.loops,
         at.place,
-    );
+        stop,
+    ) else {
+        return None;
+    };
     after.place = loop_exit.place;
     let Ok(()) = again.copy_from(alloc, after) else {
-        return RunOutcome::Unmoved { short: true };
+        return Some(RunOutcome::Unmoved { short: true });
     };
-    RunOutcome::Moved {
+    Some(RunOutcome::Moved {
         steps: loop_exit.steps,
         short: loop_exit.short,
-    }
+    })
 }
 
 impl<'a> Job<'a> {
@@ -228,12 +246,27 @@ impl<'a> Job<'a> {
     pub fn run(self, alloc: Global) -> Done<'a>
         ensures { result.before ≡ self.entry }
     {
-        let Job { mut job_buffer } = self;
-        match job_buffer.as_mut() {
-            Some(job_buffer) => job_buffer.run(alloc),
+        match self.run_until(alloc, &mut Never) {
+            Some(done) => done,
             None => unreachable!(),
         }
-        Done { job_buffer }
+    }
+
+    /// Like `run`, but looks at a stop signal after 65,536 steps at the latest, and again. If it is raised, the job is dropped.
+    #[inline(always)]
+    pub fn run_until<S: StopSignal>(self, alloc: Global, stop: &mut S) -> Option<Done<'a>>
+        ensures before { IfSome result (λ done. done.before ≡ self.entry) }
+        ensures seen { IsSeenJob S.says stop.old stop.new (option_map (λ done. done.steps) result) }
+    {
+        let Job { mut job_buffer } = self;
+        let is_stopped = match job_buffer.as_mut() {
+            Some(job_buffer) => job_buffer.run(alloc, stop),
+            None => unreachable!(),
+        };
+        if is_stopped {
+            return None;
+        }
+        Some(Done { job_buffer })
     }
 }
 

@@ -1,13 +1,15 @@
 //! The memory of a job, which moves out with it and comes back with its result.
 
-ghost use Rattle.std.specs.Prelude.{◌≡◌, Some, false, true};
+ghost use Rattle.std.specs.Prelude.{◌≡◌, None, Some, false, true, if◌then◌else◌};
 ghost use Rattle.tw_frame.specs.JobBuffers.{IsRunOf, outcome_of};
 ghost use Rattle.tw_frame.specs.Jobs.{MayBeAt, position_of};
+ghost use Rattle.tw_frame.specs.Pace.{IsSeenJob};
 
 use crate::context::Context;
 use crate::job::{JobState, RunOutcome};
 use std::alloc::{AllocError, Global};
 use std::marker::Model;
+use tw_stop::StopSignal;
 
 /// The work done in a job: how many steps, whether it moved at all, and whether an allocation for the next step failed.
 #[derive(Clone, Copy)]
@@ -56,12 +58,14 @@ pub(crate) struct JobBuffer<'a> {
 }
 
 impl<'a> JobBuffer<'a> {
-    /// Runs the task in a copy of its context, and copies the resulting context once more.
+    /// Runs the task in a copy of its context, and copies the resulting context once more. Returns whether the stop signal was raised
+    /// meanwhile.
     #[inline(always)]
-    pub(crate) fn run(&mut self, alloc: Global)
+    pub(crate) fn run<S: StopSignal>(&mut self, alloc: Global, stop: &mut S) -> bool
         requires { MayBeAt self.old.lent.program.program self.old.lent.procedure self.old.lent.position }
         ensures lent { self.new.lent ≡ self.old.lent }
-        ensures run { IsRunOf self.new }
+        ensures run { result ≡ false → IsRunOf self.new }
+        ensures seen { IsSeenJob S.says stop.old stop.new (if result then None else Some self.new.outcome.steps) }
     {
         let JobBuffer {
             lent,
@@ -69,7 +73,13 @@ impl<'a> JobBuffer<'a> {
             again,
             outcome,
         } = self;
-        *outcome = JobOutcome::of(lent.run(alloc, after, again));
+        match lent.run(alloc, after, again, stop) {
+            Some(went) => {
+                *outcome = JobOutcome::of(went);
+                false
+            }
+            None => true,
+        }
     }
 
     /// Swaps the resulting context with the frame's, if the task moved. The job keeps the copy.

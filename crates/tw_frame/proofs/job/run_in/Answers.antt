@@ -8,76 +8,87 @@ use Rattle.tw_frame.specs.Jobs.{position_of}
 use Rattle.tw_frame.specs.Ready.{IsReached}
 use Rattle.tw_frame.specs.Positions.{position_at}
 use Rattle.tw_frame.proofs.Lending.{done_before, done_run, known, ready, short_before, there}
+use Rattle.tw_frame.proofs.Pacing.{nothing, unseen}
 use Rattle.tw_frame.proofs.Running.{is_below}
 use Rattle.tw_frame.proofs.job.run_in.Goals as goal
 
 pub offset_bounds-as_slice-at : goal.offset_bounds-as_slice-at
-offset_bounds-as_slice-at c =
+offset_bounds-as_slice-at g c =
     let k = known c.args.verified.now c.args.procedure c.args.at.now.registers.types (position_of c.args.at.now) c.requires c.procedure_of-p.result.now c.procedure_of-p.ensures.is c.procedure_of-p.ensures.accepted in
     omega (arith, k.place_in, k.few_places)
 
 pub bounds-as_slice-at : goal.bounds-as_slice-at
-bounds-as_slice-at c =
+bounds-as_slice-at g c =
     let k = known c.args.verified.now c.args.procedure c.args.at.now.registers.types (position_of c.args.at.now) c.requires c.procedure_of-p.result.now c.procedure_of-p.ensures.is c.procedure_of-p.ensures.accepted in
     subst (λ (code : List Instr). c.args.at.now.place < length code) (sym c.as_slice.ensures) k.place_in
 
-pub returns-then-not-is_local : goal.returns-then-not-is_local
-returns-then-not-is_local c =
+pub returns-then-not-is_local-clause-run : goal.returns-then-not-is_local-clause-run
+returns-then-not-is_local-clause-run g c =
     let k = known c.args.verified.now c.args.procedure c.args.at.now.registers.types (position_of c.args.at.now) c.requires c.procedure_of-p.result.now c.procedure_of-p.ensures.is c.procedure_of-p.ensures.accepted in
     done_before c.args.verified.now c.args.procedure c.args.at.now.registers.types (position_of c.args.at.now) c.procedure_of-p.result.now k c.index-as_slice-at.result (there c.args.verified.now c.args.procedure c.args.at.now.registers.types (position_of c.args.at.now) c.procedure_of-p.result.now k c.as_slice.result.now c.index-as_slice-at.result c.as_slice.ensures c.index-as_slice-at.is) (sym c.is_local.ensures ∙ c.if-not-is_local.true)
 
-pub returns-in_default : goal.returns-in_default
-returns-in_default c =
+pub returns-in_default-clause-run : goal.returns-in_default-clause-run
+returns-in_default-clause-run g c =
     let k = known c.args.verified.now c.args.procedure c.args.at.now.registers.types (position_of c.args.at.now) c.requires c.procedure_of-p.result.now c.procedure_of-p.ensures.is c.procedure_of-p.ensures.accepted in
     short_before c.args.verified.now c.args.procedure c.args.at.now.registers.types (position_of c.args.at.now) c.procedure_of-p.result.now k c.index-as_slice-at.result (there c.args.verified.now c.args.procedure c.args.at.now.registers.types (position_of c.args.at.now) c.procedure_of-p.result.now k c.as_slice.result.now c.index-as_slice-at.result c.as_slice.ensures c.index-as_slice-at.is) (sym c.is_local.ensures ∙ c.if-not-is_local.false) c.in_default.ensures.texts
 
 pub quick-requires : goal.quick-requires
-quick-requires c =
+quick-requires g c =
     let k = known c.args.verified.now c.args.procedure c.args.at.now.registers.types (position_of c.args.at.now) c.requires c.procedure_of-p.result.now c.procedure_of-p.ensures.is c.procedure_of-p.ensures.accepted in
     omega (arith, c.from-procedure.ensures, k.in_program)
 
 pub budget-requires : goal.budget-requires
-budget-requires c =
+budget-requires g c =
     let k = known c.args.verified.now c.args.procedure c.args.at.now.registers.types (position_of c.args.at.now) c.requires c.procedure_of-p.result.now c.procedure_of-p.ensures.is c.procedure_of-p.ensures.accepted in
     omega (arith, c.from-procedure.ensures, k.in_program)
 
-pub run_from-loop_exit-requires-clause-ready : goal.run_from-loop_exit-requires-clause-ready
-run_from-loop_exit-requires-clause-ready c =
+pub run_from-requires-clause-ready : goal.run_from-requires-clause-ready
+run_from-requires-clause-ready g c =
     let k = known c.args.verified.now c.args.procedure c.args.at.now.registers.types (position_of c.args.at.now) c.requires c.procedure_of-p.result.now c.procedure_of-p.ensures.is c.procedure_of-p.ensures.accepted in
     ready c.args.verified.now c.args.procedure c.args.at.now.registers.types (position_of c.args.at.now) c.procedure_of-p.result.now k c.from-procedure.result c.from-procedure.ensures c.quick.result.now c.budget.result c.quick.ensures c.budget.ensures.is
 
-pub run_from-loop_exit-requires-clause-typed : goal.run_from-loop_exit-requires-clause-typed
-run_from-loop_exit-requires-clause-typed c =
+pub run_from-requires-clause-typed : goal.run_from-requires-clause-typed
+run_from-requires-clause-typed g c =
     let k = known c.args.verified.now c.args.procedure c.args.at.now.registers.types (position_of c.args.at.now) c.requires c.procedure_of-p.result.now c.procedure_of-p.ensures.is c.procedure_of-p.ensures.accepted in
     ap (λ (x : Context). x.registers.types) c.in-Ok.ensures.copy ∙ k.typed
 
-pub run_from-loop_exit-requires-clause-fits_place : goal.run_from-loop_exit-requires-clause-fits_place
-run_from-loop_exit-requires-clause-fits_place c =
+pub run_from-requires-clause-fits_place : goal.run_from-requires-clause-fits_place
+run_from-requires-clause-fits_place g c =
     let k = known c.args.verified.now c.args.procedure c.args.at.now.registers.types (position_of c.args.at.now) c.requires c.procedure_of-p.result.now c.procedure_of-p.ensures.is c.procedure_of-p.ensures.accepted in
     rw c.in-Ok.ensures.copy k.fits_place
 
-pub returns-in_default-copy_from : goal.returns-in_default-copy_from
-returns-in_default-copy_from c =
+pub returns-in_default-copy_from-clause-run : goal.returns-in_default-copy_from-clause-run
+returns-in_default-copy_from-clause-run g c =
     let k = known c.args.verified.now c.args.procedure c.args.at.now.registers.types (position_of c.args.at.now) c.requires c.procedure_of-p.result.now c.procedure_of-p.ensures.is c.procedure_of-p.ensures.accepted in
     short_before c.args.verified.now c.args.procedure c.args.at.now.registers.types (position_of c.args.at.now) c.procedure_of-p.result.now k c.index-as_slice-at.result (there c.args.verified.now c.args.procedure c.args.at.now.registers.types (position_of c.args.at.now) c.procedure_of-p.result.now k c.as_slice.result.now c.index-as_slice-at.result c.as_slice.ensures c.index-as_slice-at.is) (sym c.is_local.ensures ∙ c.if-not-is_local.false)
-    (subst (λ (ts : List Scalar). HasText ts) (c.run_from-loop_exit.ensures.typed ∙ sym k.typed) c.in_default-copy_from.ensures.texts)
+    (subst (λ (ts : List Scalar). HasText ts) (c.run_from.ensures.typed ∙ sym k.typed) c.in_default-copy_from.ensures.texts)
 
-pub returns : goal.returns
-returns c =
+pub returns-clause-run : goal.returns-clause-run
+returns-clause-run g c =
     let k = known c.args.verified.now c.args.procedure c.args.at.now.registers.types (position_of c.args.at.now) c.requires c.procedure_of-p.result.now c.procedure_of-p.ensures.is c.procedure_of-p.ensures.accepted in
-    let came : Position = position_at c.run_from-loop_exit.result.place c.run_from-loop_exit.new.registers c.run_from-loop_exit.new.loops in
-    let reached : IsReached c.procedure_of-p.result.now (position_of c.args.at.now) c.run_from-loop_exit.result.steps came =
-    subst (λ (x : Context). IsReached c.procedure_of-p.result.now (position_at c.args.at.now.place x.registers x.loops) c.run_from-loop_exit.result.steps came) c.in-Ok.ensures.copy c.run_from-loop_exit.ensures.reached in
-    let below = is_below c.procedure_of-p.result.now c.quick.result.now c.budget.result (ready c.args.verified.now c.args.procedure c.args.at.now.registers.types (position_of c.args.at.now) c.procedure_of-p.result.now k c.from-procedure.result c.from-procedure.ensures c.quick.result.now c.budget.result c.quick.ensures c.budget.ensures.is) (position_of c.args.at.now) c.run_from-loop_exit.result.steps came reached in (
+    let came : Position = position_at c.in-Some.loop_exit.place c.run_from.new.registers c.run_from.new.loops in
+    let reached : IsReached c.procedure_of-p.result.now (position_of c.args.at.now) c.in-Some.loop_exit.steps came =
+    subst (λ (x : Context). IsReached c.procedure_of-p.result.now (position_at c.args.at.now.place x.registers x.loops) c.in-Some.loop_exit.steps came) c.in-Ok.ensures.copy c.in-Some.ensures.reached in
+    let below = is_below c.procedure_of-p.result.now c.quick.result.now c.budget.result (ready c.args.verified.now c.args.procedure c.args.at.now.registers.types (position_of c.args.at.now) c.procedure_of-p.result.now k c.from-procedure.result c.from-procedure.ensures c.quick.result.now c.budget.result c.quick.ensures c.budget.ensures.is) (position_of c.args.at.now) c.in-Some.loop_exit.steps came reached in (
       record {
         p = c.procedure_of-p.result.now;
         here = k.here;
         reached = reached;
-        stops = c.run_from-loop_exit.ensures.stops;
+        stops = c.in-Some.ensures.stops;
         few = omega (arith, below, c.budget.ensures.within);
       },
       λ q there. record {
-        typed = c.run_from-loop_exit.ensures.typed ∙ done_run c.args.verified.now c.args.procedure c.args.at.now.registers.types (position_of c.args.at.now) c.procedure_of-p.result.now k q there;
+        typed = c.run_from.ensures.typed ∙ done_run c.args.verified.now c.args.procedure c.args.at.now.registers.types (position_of c.args.at.now) c.procedure_of-p.result.now k q there;
         same = ap (λ (x : Context). x.registers) c.in-Ok-copy_from.ensures.copy;
       },
     )
+
+pub returns-then-not-is_local-clause-seen : goal.returns-then-not-is_local-clause-seen
+returns-then-not-is_local-clause-seen g c = unseen g.S.StopSignal.says c.args.stop.now
+
+pub returns-in_default-clause-seen : goal.returns-in_default-clause-seen
+returns-in_default-clause-seen g c = unseen g.S.StopSignal.says c.args.stop.now
+
+pub returns-in_default-copy_from-clause-seen : goal.returns-in_default-copy_from-clause-seen
+returns-in_default-copy_from-clause-seen g c =
+    nothing g.S.StopSignal.says c.args.stop.now c.run_from.new.stop c.in-Some.loop_exit.steps c.in-Some.ensures.seen

@@ -3,4 +3,4 @@ use Rattle.tw_frame.specs.Jobs.{JobView, MayBeAt}
 use Rattle.tw_frame.proofs.job.JobState.run.Goals as goal
 
 pub run_in-requires : goal.run_in-requires
-run_in-requires c = rw c.deref.ensures (record { own = c.self.invariant; fits_place = subst (λ (j : JobView). MayBeAt j.program.program j.procedure j.position) (sym c.self.view_is) c.requires })
+run_in-requires g c = rw c.deref.ensures (record { own = c.self.invariant; fits_place = subst (λ (j : JobView). MayBeAt j.program.program j.procedure j.position) (sym c.self.view_is) c.requires })
