@@ -91,7 +91,7 @@ module _ (old : PoolView) (s : State) (actor : Actor) (answer : Turn) (events : 
   due_made (Release engine rule) due none (inr l) = refused l.1.0 l.1.1
 
   goes_free : closing_at old s ≡ None → lent_to old s actor ≡ None → GoesFree old s actor answer events → Came None
-  goes_free runs_on none (inl l) = due_made l.0 l.1 none l.2
+  goes_free runs_on none (inl l) = due_made l.0 l.1 none l.3
   goes_free runs_on none (inr l) = idle l.1.0 l.1.1 none l.0 runs_on
 
   some_steps : (done : DoneView) → (done.steps == 0) ≡ false → length (steps_of actor done) ≡ 1

@@ -1,6 +1,6 @@
--- Two runs in one thread from one opening are equal, except for which of its notices a server delivers.
-use Rattle.std.proofs.Common.{◌≡◌, ◌≢◌, ◌⊎◌, ℕ, zero, suc, Bool, true, false, List, [], ◌∷◌, ◌++◌, append_assoc, Option, Some, None, refl, sym, ap, subst, ◌∙◌, inl, inr, append-nil}
-use Rattle.std.proofs.lemmas.Bool.{cases_eq, cases_order}
+-- Two runs in one thread from one opening are equal.
+use Rattle.std.proofs.Common.{◌≡◌, ◌⊎◌, ℕ, zero, suc, Bool, true, false, List, [], ◌∷◌, Option, Some, None, refl, sym, ap, slice_get, subst, ◌∙◌, inl, inr}
+use Rattle.std.proofs.lemmas.Bool.{cases_order}
 use Rattle.std.proofs.lemmas.Option.{same_Some}
 use Rattle.tw_types.specs.declared.actor.Actor.{Actor}
 use Rattle.tw_types.specs.declared.actor.Actor.TheVariants.{Engine, Server, Worker}
@@ -12,20 +12,20 @@ use Rattle.tw_types.specs.Outcome.{NotEnabled, Went as Gone}
 use Rattle.tw_types.proofs.Outcomes.{same_went, went_first}
 use Rattle.tw_code.specs.declared.instr.Instr.{Instr}
 use Rattle.tw_code.specs.declared.procedure.Procedure.{Procedure}
-use Rattle.tw_code.specs.machine.Due.{IsDueFree, event_of}
+use Rattle.tw_code.specs.machine.Due.{IsDelivery, IsDueFree, event_of}
 use Rattle.tw_code.specs.machine.Machine.{local_step, local_steps}
 use Rattle.tw_code.specs.machine.Position.{Position}
 use Rattle.tw_code.specs.machine.State.{State}
 use Rattle.tw_frame.specs.Jobs.{DoneView, JobView}
 use Rattle.tw_frame.specs.Ready.{IsStop}
+use Rattle.tw_pool_state.specs.Notes.{queue_at}
 use Rattle.tw_pool.specs.declared.answer.Closing.{Closing}
 use Rattle.tw_pool.specs.declared.answer.Turn.{Turn}
 use Rattle.tw_pool.specs.declared.answer.Turn.TheVariants.{Over, Foreign, Owed, NoMemory, Run, Ended, Went, Idle}
-use Rattle.tw_pool.specs.PoolView.{PoolView, with_events}
-use Rattle.tw_pool.specs.Turns.{GoesFree, Lends, Makes, TakesBack, Turns, TurnsUnless, closing_at, instr_after, is_last, lent_to, steps_of}
+use Rattle.tw_pool.specs.PoolView.{PoolView, queues_of, with_events}
+use Rattle.tw_pool.specs.Turns.{GoesFree, Lends, Makes, TakesBack, Turns, TurnsUnless, IsOldest, closing_at, instr_after, is_last, lent_to, steps_of}
 use Rattle.tw_in_turn.specs.Drawn.{place_for}
 use Rattle.tw_in_turn.specs.InTurn.{ComesTo, GoesOn, HasDone, IsAfter, IsDrawn, IsIdle, IsMove, IsNext, IsOver, IsWorkOf, actor_from}
-use Rattle.tw_in_turn.specs.Same.{AreSame, PartAtNotice, delivery}
 
 -- ---- results of jobs
 
@@ -87,20 +87,6 @@ goes_without_failure Idle on = tt
 abbrev BothSame : Turn → Turn → List Event → List Event → Type 0
 BothSame a b xs ys = (a ≡ b) × (xs ≡ ys)
 
--- two notices of one server
-record TwoNotices (a b : Turn) (xs ys : List Event) : Type 0 where
-  server : ℕ
-  one : Notice
-  other : Notice
-  apart : one ≢ other
-  a_is : a ≡ Went
-  b_is : b ≡ Went
-  xs_is : xs ≡ delivery server one ∷ []
-  ys_is : ys ≡ delivery server other ∷ []
-
-abbrev Either : Turn → Turn → List Event → List Event → Type 0
-Either a b xs ys = BothSame a b xs ys ⊎ TwoNotices a b xs ys
-
 refused_not : (a : Turn) (given : Option DoneView) → IsNoFailure a → a ≡ NoMemory given → ⊥
 refused_not a given fits_place is = subst IsNoFailure is fits_place
 
@@ -130,35 +116,24 @@ module _ (p : PoolView) (a b : Turn) (xs ys : List Event) (sa : IsNoFailure a) (
 
   -- ---- due events
 
-  same_notice : (n m : Notice) → (n ≡ m) ⊎ (n ≢ m)
-  same_notice n m = elim (cases_eq n.datum m.datum) as (λ _. (n ≡ m) ⊎ (n ≢ m)) [
-    | inr apart ↦ inr (λ e. apart (ap (λ (x : Notice). x.datum) e))
-    | inl datum ↦ elim (cases_eq n.rule m.rule) as (λ _. (n ≡ m) ⊎ (n ≢ m)) [
-      | inr apart ↦ inr (λ e. apart (ap (λ (x : Notice). x.rule) e))
-      | inl rule ↦ elim (cases_eq n.parameter m.parameter) as (λ _. (n ≡ m) ⊎ (n ≢ m)) [
-        | inr apart ↦ inr (λ e. apart (ap (λ (x : Notice). x.parameter) e))
-        | inl parameter ↦ inl (λ i. record { datum = datum i; rule = rule i; parameter = parameter i })
-      ]
-    ]
-  ]
+  -- of one server both deliver the first notice
+  oldest_same : (s : State) (server : ℕ) (e f : Event) → IsDelivery p.layout server s e → IsDelivery p.layout server s f → IsOldest p e → IsOldest p f → f ≡ e
+  oldest_same s server e f de df oe of =
+      let one : slice_get (queue_at (queues_of p) server) 0 ≡ Some de.notice = subst (IsOldest p) de.is oe in
+      let other : slice_get (queue_at (queues_of p) server) 0 ≡ Some df.notice = subst (IsOldest p) df.is of in
+      let same : df.notice ≡ de.notice = same_Some df.notice de.notice (sym other ∙ one) in
+      df.is ∙ (ap (λ (n : Notice). Deliver server n.datum n.rule n.parameter) same ∙ sym de.is)
 
-  deliveries : (server : ℕ) (n m : Notice) → Makes p (Server server) None [] (delivery server n) a xs → Makes p (Server server) None [] (delivery server m) b ys → Either a b xs ys
-  deliveries server n m l k = elim (same_notice n m) as (λ _. Either a b xs ys) [
-    | inl is ↦ inl (l.0 ∙ sym k.0, l.1 ∙ (ap (λ x. delivery server x ∷ []) is ∙ sym k.1))
-    | inr apart ↦ inr (record { server = server; one = n; other = m; apart = apart; a_is = l.0; b_is = k.0; xs_is = l.1; ys_is = k.1 })
-  ]
+  due_same : (s : State) (actor : Actor) (e f : Event) → IsDueFree p.layout actor s e → IsDueFree p.layout actor s f → IsOldest p e → IsOldest p f → f ≡ e
+  due_same s (Engine n) e f de df oe of = same_Some f e (sym df ∙ de)
+  due_same s (Worker n) e f de df oe of = same_Some f e (sym df ∙ de)
+  due_same s (Server n) e f de df oe of = oldest_same s n e f de df oe of
 
-  due_same : (s : State) (actor : Actor) (e f : Event) → IsDueFree p.layout actor s e → IsDueFree p.layout actor s f → Makes p actor None [] e a xs → Makes p actor None [] f b ys → Either a b xs ys
-  due_same s (Engine n) e f de df l m = inl (makes_same (Engine n) None [] e l (subst (λ x. Makes p (Engine n) None [] x b ys) (same_Some f e (sym df ∙ de)) m))
-  due_same s (Worker n) e f de df l m = inl (makes_same (Worker n) None [] e l (subst (λ x. Makes p (Worker n) None [] x b ys) (same_Some f e (sym df ∙ de)) m))
-  due_same s (Server n) e f de df l m =
-      deliveries n de.notice df.notice (subst (λ x. Makes p (Server n) None [] x a xs) de.is l) (subst (λ x. Makes p (Server n) None [] x b ys) df.is m)
-
-  free_same : (s : State) (actor : Actor) → GoesFree p s actor a xs → GoesFree p s actor b ys → Either a b xs ys
-  free_same s actor (inl l) (inl m) = due_same s actor l.0 m.0 l.1 m.1 l.2 m.2
+  free_same : (s : State) (actor : Actor) → GoesFree p s actor a xs → GoesFree p s actor b ys → BothSame a b xs ys
+  free_same s actor (inl l) (inl m) = makes_same actor None [] l.0 l.3 (subst (λ x. Makes p actor None [] x b ys) (due_same s actor l.0 m.0 l.1 m.1 l.2 m.2) m.3)
   free_same s actor (inl l) (inr m) = absurd (m.0 l.0 l.1)
   free_same s actor (inr l) (inl m) = absurd (l.0 m.0 m.1)
-  free_same s actor (inr l) (inr m) = inl (l.1.0 ∙ sym m.1.0, l.1.1 ∙ sym m.1.1)
+  free_same s actor (inr l) (inr m) = (l.1.0 ∙ sym m.1.0, l.1.1 ∙ sym m.1.1)
 
   -- ---- all lines
 
@@ -167,22 +142,22 @@ module _ (p : PoolView) (a b : Turn) (xs ys : List Event) (sa : IsNoFailure a) (
   back_same actor false true done l m = (l.0 ∙ sym m.0, l.1 ∙ sym m.1)
   back_same actor false false done l m = makes_same actor (Some done) (steps_of actor done) (event_of actor (instr_after p.program.program done)) l m
 
-  turns_same : (s : State) (actor : Actor) (job : Option JobView) (given : Option DoneView) → Turns p s actor job given a xs → Turns p s actor job given b ys → Either a b xs ys
+  turns_same : (s : State) (actor : Actor) (job : Option JobView) (given : Option DoneView) → Turns p s actor job given a xs → Turns p s actor job given b ys → BothSame a b xs ys
   turns_same s actor None None l m = free_same s actor l m
-  turns_same s actor None (Some done) l m = inl (l.0 ∙ sym m.0, l.1 ∙ sym m.1)
-  turns_same s actor (Some job) None l m = inl (l.0 ∙ sym m.0, l.1 ∙ sym m.1)
-  turns_same s actor (Some job) (Some done) (inl l) (inl m) = inl (back_same actor done.short (is_last p done) done l.1 m.1)
+  turns_same s actor None (Some done) l m = (l.0 ∙ sym m.0, l.1 ∙ sym m.1)
+  turns_same s actor (Some job) None l m = (l.0 ∙ sym m.0, l.1 ∙ sym m.1)
+  turns_same s actor (Some job) (Some done) (inl l) (inl m) = back_same actor done.short (is_last p done) done l.1 m.1
   turns_same s actor (Some job) (Some done) (inl l) (inr m) = absurd (m.0 l.0)
   turns_same s actor (Some job) (Some done) (inr l) (inl m) = absurd (l.0 m.0)
-  turns_same s actor (Some job) (Some done) (inr l) (inr m) = inl (l.1.0 ∙ sym m.1.0, l.1.1 ∙ sym m.1.1)
+  turns_same s actor (Some job) (Some done) (inr l) (inr m) = (l.1.0 ∙ sym m.1.0, l.1.1 ∙ sym m.1.1)
 
-  unless_same : (s : State) (actor : Actor) (closing : Option Closing) (given : Option DoneView) → TurnsUnless closing p s actor given a xs → TurnsUnless closing p s actor given b ys → Either a b xs ys
-  unless_same s actor (Some closing) given l m = inl (l.0 ∙ sym m.0, l.1 ∙ sym m.1)
+  unless_same : (s : State) (actor : Actor) (closing : Option Closing) (given : Option DoneView) → TurnsUnless closing p s actor given a xs → TurnsUnless closing p s actor given b ys → BothSame a b xs ys
+  unless_same s actor (Some closing) given l m = (l.0 ∙ sym m.0, l.1 ∙ sym m.1)
   unless_same s actor None given l m = turns_same s actor (lent_to p s actor) given l m
 
 -- ---- two moves from one pool
 
-move_same : (old new other : PoolView) (actor : Actor) (a b : Turn) (m : IsMove old actor a new) (n : IsMove old actor b other) → IsNoFailure a → IsNoFailure b → Either a b m.turn.events n.turn.events
+move_same : (old new other : PoolView) (actor : Actor) (a b : Turn) (m : IsMove old actor a new) (n : IsMove old actor b other) → IsNoFailure a → IsNoFailure b → BothSame a b m.turn.events n.turn.events
 move_same old new other actor a b m n sa sb =
     let s = m.turn.state in
     let state : n.turn.state ≡ s = same_went n.turn.state s (sym n.turn.has_state ∙ m.turn.has_state) in
@@ -191,52 +166,14 @@ move_same old new other actor a b m n sa sb =
     let same = subst (λ (o : Option DoneView). TurnsUnless (closing_at old s) old s actor o b n.turn.events) given line in
     unless_same old a b m.turn.events n.turn.events sa sb s actor (closing_at old s) m.given m.turn.is same
 
--- ---- lists of events
-
-parts_on : (h k xs ys : List Event) → PartAtNotice h k → PartAtNotice (h ++ xs) (k ++ ys)
-parts_on h k xs ys d = record {
-  before = d.before;
-  server = d.server;
-  notice = d.notice;
-  instead = d.instead;
-  apart = d.apart;
-  notice_after = d.notice_after ++ xs;
-  other_after = d.other_after ++ ys;
-  is = ap (λ es. es ++ xs) d.is ∙ append_assoc d.before (delivery d.server d.notice ∷ d.notice_after) xs;
-  is_other = ap (λ es. es ++ ys) d.is_other ∙ append_assoc d.before (delivery d.server d.instead ∷ d.other_after) ys;
-}
-
-history_of : (old new : PoolView) (actor : Actor) (a : Turn) (m : IsMove old actor a new) → new.history ≡ old.history ++ m.turn.events
-history_of old new actor a m = ap (λ (p : PoolView). p.history) m.turn.appended
-
--- two moves from one pool leave the same pool, or part there
+-- two moves from one pool leave the same pool
 abbrev LeadsSame : Turn → Turn → PoolView → PoolView → Type 0
-LeadsSame a b p q = ((a ≡ b) × (p ≡ q)) ⊎ ((a ≡ Went) × (b ≡ Went) × PartAtNotice p.history q.history)
+LeadsSame a b p q = (a ≡ b) × (p ≡ q)
 
 leads_same : (old new other : PoolView) (actor : Actor) (a b : Turn) → IsMove old actor a new → IsMove old actor b other → IsNoFailure a → IsNoFailure b → LeadsSame a b new other
-leads_same old new other actor a b m n sa sb = by (move_same old new other actor a b m n sa sb)
-  where
-    by : Either a b m.turn.events n.turn.events → LeadsSame a b new other
-    by (inl same) = inl (same.0, m.turn.appended ∙ (ap (with_events old) same.1 ∙ sym n.turn.appended))
-    by (inr two) = inr (
-      two.a_is,
-      two.b_is,
-      record {
-        before = old.history;
-        server = two.server;
-        notice = two.one;
-        instead = two.other;
-        apart = two.apart;
-        notice_after = [];
-        other_after = [];
-        is = history_of old new actor a m ∙ ap (λ es. old.history ++ es) two.xs_is;
-        is_other = history_of old other actor b n ∙ ap (λ es. old.history ++ es) two.ys_is;
-      },
-    )
-
--- two pools after equally many steps
-abbrev PoolsSame : PoolView → PoolView → Type 0
-PoolsSame p q = (p ≡ q) ⊎ PartAtNotice p.history q.history
+leads_same old new other actor a b m n sa sb =
+    let same = move_same old new other actor a b m n sa sb in
+    (same.0, m.turn.appended ∙ (ap (with_events old) same.1 ∙ sym n.turn.appended))
 
 -- two actors that make the next step from one pool
 drawn_same : (seed : ℕ) (p : PoolView) (turns : ℕ) (one other : Actor) → IsDrawn seed p turns one → IsDrawn seed p turns other → one ≡ other
@@ -250,7 +187,7 @@ next_same : (seed : Option ℕ) (p : PoolView) (turns : ℕ) (one other : Actor)
 next_same None p turns one other c d = c ∙ sym d
 next_same (Some seed) p turns one other c d = drawn_same seed p turns one other c d
 
--- two next steps from one pool leave the same pool, or part there
+-- two next steps from one pool leave the same pool
 next_leads : (seed : Option ℕ) (p q new other : PoolView) (turns : ℕ) (u v : Actor) (a b : Turn) → p ≡ q → IsNext seed p turns u → IsNext seed q turns v
     → IsMove p u a new → IsMove q v b other → IsNoFailure a → IsNoFailure b → LeadsSame a b new other
 next_leads seed p q new other turns u v a b same c d m n sa sb =
@@ -258,20 +195,13 @@ next_leads seed p q new other turns u v a b same c d m n sa sb =
     let move : IsMove p v b other = subst (λ (o : PoolView). IsMove o v b other) (sym same) n in
     leads_same p new other u a b m (subst (λ (x : Actor). IsMove p x b other) actor move) sa sb
 
-after_same : (seed : Option ℕ) (first : PoolView) (turns : ℕ) (p q : PoolView) → IsAfter seed first turns p → IsAfter seed first turns q → PoolsSame p q
-after_same seed first zero p q h k = inl (h ∙ sym k)
-after_same seed first (suc turns) p q (x, u, a, h, c, m, on) (y, v, b, k, d, n, goes) = by (after_same seed first turns x y h k)
-  where
-    by : PoolsSame x y → PoolsSame p q
-    by (inl same) = next (next_leads seed x y p q turns u v a b same c d m n (goes_without_failure a on) (goes_without_failure b goes))
-      where
-        next : LeadsSame a b p q → PoolsSame p q
-        next (inl l) = inl l.1
-        next (inr l) = inr l.2
-    by (inr part) = inr (subst (λ (h : List Event). PartAtNotice h q.history) (sym (history_of x p u a m)) (subst (λ (k : List Event). PartAtNotice (x.history ++ m.turn.events) k) (sym (history_of y q v b n)) (parts_on x.history y.history m.turn.events n.turn.events part)))
+after_same : (seed : Option ℕ) (first : PoolView) (turns : ℕ) (p q : PoolView) → IsAfter seed first turns p → IsAfter seed first turns q → p ≡ q
+after_same seed first zero p q h k = h ∙ sym k
+after_same seed first (suc turns) p q (x, u, a, h, c, m, on) (y, v, b, k, d, n, goes) =
+    (next_leads seed x y p q turns u v a b (after_same seed first turns x y h k) c d m n (goes_without_failure a on) (goes_without_failure b goes)).1
 
--- a later pool continues from an earlier one
-record GoesBy (seed : Option ℕ) (first : PoolView) (turns : ℕ) (q : PoolView) : Type 0 where
+-- a run goes on after so many steps
+record GoesBy (seed : Option ℕ) (first : PoolView) (turns : ℕ) : Type 0 where
   before : PoolView
   next : PoolView
   actor : Actor
@@ -280,86 +210,34 @@ record GoesBy (seed : Option ℕ) (first : PoolView) (turns : ℕ) (q : PoolView
   chosen : IsNext seed before turns actor
   move : IsMove before actor answer next
   on : GoesOn answer
-  more : List Event
-  grown : q.history ≡ next.history ++ more
 
 -- some steps later
 abbrev later_on : ℕ → ℕ → ℕ
 later_on zero turns = turns
 later_on (suc later) turns = suc (later_on later turns)
 
-goes_by : (seed : Option ℕ) (first : PoolView) (turns later : ℕ) (q : PoolView) → IsAfter seed first (suc (later_on later turns)) q → GoesBy seed first turns q
-goes_by seed first turns zero q (x, u, a, h, c, m, on) =
-    record { before = x; next = q; actor = u; answer = a; after = h; chosen = c; move = m; on = on; more = []; grown = sym (append-nil q.history) }
-goes_by seed first turns (suc later) q (x, u, a, h, c, m, on) =
-    let g = goes_by seed first turns later x h in
-    record {
-      before = g.before;
-      next = g.next;
-      actor = g.actor;
-      answer = g.answer;
-      after = g.after;
-      chosen = g.chosen;
-      move = g.move;
-      on = g.on;
-      more = g.more ++ m.turn.events;
-      grown = history_of x q u a m ∙ (ap (λ es. es ++ m.turn.events) g.grown ∙ append_assoc g.next.history g.more m.turn.events);
-    }
+goes_by : (seed : Option ℕ) (first : PoolView) (turns later : ℕ) (q : PoolView) → IsAfter seed first (suc (later_on later turns)) q → GoesBy seed first turns
+goes_by seed first turns zero q (x, u, a, h, c, m, on) = record { before = x; next = q; actor = u; answer = a; after = h; chosen = c; move = m; on = on }
+goes_by seed first turns (suc later) q (x, u, a, h, c, m, on) = goes_by seed first turns later x h
 
 over_without_failure : (a : Turn) → IsOver a → IsNoFailure a
 over_without_failure a over = subst IsNoFailure (sym over.1) tt
 
-flipped : (h k : List Event) → AreSame h k → AreSame k h
-flipped h k (inl is) = inl (sym is)
-flipped h k (inr d) = inr (record {
-  before = d.before;
-  server = d.server;
-  notice = d.instead;
-  instead = d.notice;
-  apart = λ e. d.apart (sym e);
-  notice_after = d.other_after;
-  other_after = d.notice_after;
-  is = d.is_other;
-  is_other = d.is;
-})
-
 module _ (seed : Option ℕ) (first p q : PoolView) (c : ComesTo seed first IsOver p) (d : ComesTo seed first IsOver q) where
   -- as many turns
-  as_many : c.turns ≡ d.turns → AreSame p.history q.history
-  as_many is = by (after_same seed first d.turns c.before d.before (subst (λ n. IsAfter seed first n c.before) is c.after) d.after)
-    where
-      by : PoolsSame c.before d.before → AreSame p.history q.history
-      by (inl same) = next (next_leads seed c.before d.before p q d.turns c.actor d.actor c.answer d.answer same (subst (λ n. IsNext seed c.before n c.actor) is c.next) d.next c.last d.last
-          (over_without_failure c.answer c.is) (over_without_failure d.answer d.is))
-        where
-          next : LeadsSame c.answer d.answer p q → AreSame p.history q.history
-          next (inl l) = inl (ap (λ (o : PoolView). o.history) l.1)
-          next (inr l) = inr l.2
-      by (inr part) = inr (subst (λ (h : List Event). PartAtNotice h q.history) (sym (history_of c.before p c.actor c.answer c.last))
-          (subst (λ (k : List Event). PartAtNotice (c.before.history ++ c.last.turn.events) k) (sym (history_of d.before q d.actor d.answer d.last)) (parts_on c.before.history d.before.history c.last.turn.events d.last.turn.events part)))
+  as_many : c.turns ≡ d.turns → p ≡ q
+  as_many is =
+      let same = after_same seed first d.turns c.before d.before (subst (λ n. IsAfter seed first n c.before) is c.after) d.after in
+      (next_leads seed c.before d.before p q d.turns c.actor d.actor c.answer d.answer same (subst (λ n. IsNext seed c.before n c.actor) is c.next) d.next c.last d.last
+      (over_without_failure c.answer c.is) (over_without_failure d.answer d.is)).1
 
-  -- fewer turns
-  fewer : (later : ℕ) → d.turns ≡ suc (later_on later c.turns) → AreSame p.history q.history
-  fewer later is = by (after_same seed first c.turns c.before g.before c.after g.after)
-    where
-      g : GoesBy seed first c.turns d.before
-      g = goes_by seed first c.turns later d.before (subst (λ n. IsAfter seed first n d.before) is d.after)
-
-      end : q.history ≡ g.next.history ++ (g.more ++ d.last.turn.events)
-      end = history_of d.before q d.actor d.answer d.last ∙ (ap (λ es. es ++ d.last.turn.events) g.grown ∙ append_assoc g.next.history g.more d.last.turn.events)
-
-      end_before : q.history ≡ g.before.history ++ (g.move.turn.events ++ (g.more ++ d.last.turn.events))
-      end_before = end ∙ (ap (λ es. es ++ (g.more ++ d.last.turn.events)) (history_of g.before g.next g.actor g.answer g.move) ∙ append_assoc g.before.history g.move.turn.events (g.more ++ d.last.turn.events))
-
-      by : PoolsSame c.before g.before → AreSame p.history q.history
-      by (inl same) = absurd (next (next_leads seed c.before g.before p g.next c.turns c.actor g.actor c.answer g.answer same c.next g.chosen c.last g.move (over_without_failure c.answer c.is) (goes_without_failure g.answer g.on)))
-        where
-          next : LeadsSame c.answer g.answer p g.next → ⊥
-          next (inl l) = subst GoesOn (sym l.0 ∙ c.is.1) g.on
-          next (inr l) = let no_way : Over c.is.0 ≡ Went = sym c.is.1 ∙ l.0 in cc
-      by (inr part) = inr (subst (λ (h : List Event). PartAtNotice h q.history) (sym (history_of c.before p c.actor c.answer c.last))
-          (subst (λ (k : List Event). PartAtNotice (c.before.history ++ c.last.turn.events) k) (sym end_before)
-          (parts_on c.before.history g.before.history c.last.turn.events (g.move.turn.events ++ (g.more ++ d.last.turn.events)) part)))
+  -- not fewer turns: there the one is over, and the other goes on
+  no_fewer : (later : ℕ) → d.turns ≡ suc (later_on later c.turns) → ⊥
+  no_fewer later is =
+      let g = goes_by seed first c.turns later d.before (subst (λ n. IsAfter seed first n d.before) is d.after) in
+      let same = after_same seed first c.turns c.before g.before c.after g.after in
+      let leads = next_leads seed c.before g.before p g.next c.turns c.actor g.actor c.answer g.answer same c.next g.chosen c.last g.move (over_without_failure c.answer c.is) (goes_without_failure g.answer g.on) in
+      subst GoesOn (sym leads.0 ∙ c.is.1) g.on
 
 abbrev Order : ℕ → ℕ → Type 0
 Order m n = (m ≡ n) ⊎ (((k : ℕ) × (n ≡ suc (later_on k m))) ⊎ ((k : ℕ) × (m ≡ suc (later_on k n))))
@@ -383,10 +261,10 @@ order zero (suc n) = inr (inl (n, ap suc (later_zero n)))
 order (suc m) zero = inr (inr (m, ap suc (later_zero m)))
 order (suc m) (suc n) = order_on m n (order m n)
 
-pub one_run : (seed : Option ℕ) (first p q : PoolView) → ComesTo seed first IsOver p → ComesTo seed first IsOver q → AreSame p.history q.history
+pub one_run : (seed : Option ℕ) (first p q : PoolView) → ComesTo seed first IsOver p → ComesTo seed first IsOver q → p ≡ q
 one_run seed first p q c d = by (order c.turns d.turns)
   where
-    by : Order c.turns d.turns → AreSame p.history q.history
+    by : Order c.turns d.turns → p ≡ q
     by (inl is) = as_many seed first p q c d is
-    by (inr (inl less)) = fewer seed first p q c d less.0 less.1
-    by (inr (inr more)) = flipped q.history p.history (fewer seed first q p d c more.0 more.1)
+    by (inr (inl less)) = absurd (no_fewer seed first p q c d less.0 less.1)
+    by (inr (inr more)) = absurd (no_fewer seed first q p d c more.0 more.1)

@@ -1,16 +1,14 @@
 //! Theorems on runs in one thread.
 
-ghost use Rattle.std.specs.Prelude.{ℕ, Option};
+ghost use Rattle.std.specs.Prelude.{◌≡◌, ℕ, Option};
 ghost use Rattle.tw_in_turn.specs.Bounded.{EndsByItself, HasFew, IsBoundedBy};
 ghost use Rattle.tw_in_turn.specs.InTurn.{ComesTo, IsOver};
-ghost use Rattle.tw_in_turn.specs.Same.{AreSame};
 ghost use Rattle.tw_pool.specs.PoolView.{PoolView};
 ghost use Rattle.tw_verify.specs.Typed.{TypedProgram};
 
-/// Proves that two runs in one thread from the same opening, with the same seed or none, have the same events, except for which of its
-/// notices a server delivers.
+/// Proves that two runs in one thread from the same opening, with the same seed or none, end in the same pool: with the same events.
 pub fn one_run()
-    ensures { (seed : Option ℕ) (first p q : PoolView) → ComesTo seed first IsOver p → ComesTo seed first IsOver q → AreSame p.history q.history }
+    ensures { (seed : Option ℕ) (first p q : PoolView) → ComesTo seed first IsOver p → ComesTo seed first IsOver q → p ≡ q }
 {}
 
 /// Proves that no run of a program whose events have a bound has more of them, in threads or in one thread. Also that a run in one

@@ -161,10 +161,11 @@ module _ (verified : TypedProgram) (inputs : List Input) (layout : ActorCounts) 
       deliver_kept = made_free verified inputs layout traced.limit traced.events old h (Deliver server n.datum n.rule n.parameter) new goes (room_here room) (free_here (Server server) free)
           (deliver_frames verified.program layout state (state_of new goes.left) server n goes.step_is)
 
-      pub deliver_line : GoesFree w state (Server server) Made (Deliver server n.datum n.rule n.parameter ∷ [])
-      deliver_line = inl (
+      pub deliver_line : slice_get (queue_at old.store.queues server) 0 ≡ Some n → GoesFree w state (Server server) Made (Deliver server n.datum n.rule n.parameter ∷ [])
+      deliver_line oldest = inl (
         Deliver server n.datum n.rule n.parameter,
         record { notice = n; waits = waits.0; own = ap (λ (x : PoolView). server_of x.layout.servers n.datum) (sym seen) ∙ waits.1; is = refl },
+        subst (λ (x : PoolView). slice_get (queue_at (queues_of x) server) 0 ≡ Some n) seen (ap (λ qs. slice_get (queue_at qs server) 0) (sym h.queues) ∙ oldest),
         (refl, refl),
       )
 
@@ -196,7 +197,7 @@ module _ (verified : TypedProgram) (inputs : List Input) (layout : ActorCounts) 
       ask_due = ap (λ o. first_of engine o (next_release engine state.rules) (best (Engine engine) state.tasks)) asked
 
       ask_refused : AsksOpen state rule parameter → GoesFree w state (Engine engine) (NoMemory None) []
-      ask_refused takes = inl (Ask engine rule parameter, ask_due, inr (wanted (Ask engine rule parameter) takes, (refl, refl)))
+      ask_refused takes = inl (Ask engine rule parameter, ask_due, tt, inr (wanted (Ask engine rule parameter) takes, (refl, refl)))
 
       module _ (new : Parts) (makes : Makes verified layout (Ask engine rule parameter) old new) where
         ask_goes : Goes verified layout (Ask engine rule parameter) old h.notices new
@@ -216,7 +217,7 @@ module _ (verified : TypedProgram) (inputs : List Input) (layout : ActorCounts) 
             (ask_frames verified.program layout state (state_of new ask_goes.left) engine rule parameter ask_goes.step_is)
 
         pub ask_line : GoesFree w state (Engine engine) Made (Ask engine rule parameter ∷ [])
-        ask_line = inl (Ask engine rule parameter, ask_due, inl (refl, refl))
+        ask_line = inl (Ask engine rule parameter, ask_due, tt, inl (refl, refl))
 
     pub ask_refused_for : IsSome (next_ask engine old.rules.rules) → ((q : ℕ × ℕ) (ns : Notices) → next_ask engine old.rules.rules ≡ Some q → AsksOpen (state_of old ns) q.0 q.1)
         → GoesFree w state (Engine engine) (NoMemory None) []
@@ -234,7 +235,7 @@ module _ (verified : TypedProgram) (inputs : List Input) (layout : ActorCounts) 
       release_due = ap (λ o. first_of engine o (next_release engine state.rules) (best (Engine engine) state.tasks)) (none state has_state) ∙ ap (λ o. first_of engine None o (best (Engine engine) state.tasks)) released
 
       release_refused : GoesFree w state (Engine engine) (NoMemory None) []
-      release_refused = inl (Release engine rule, release_due, inr (wanted (Release engine rule) tt, (refl, refl)))
+      release_refused = inl (Release engine rule, release_due, tt, inr (wanted (Release engine rule) tt, (refl, refl)))
 
       module _ (new : Parts) (makes : Makes verified layout (Release engine rule) old new) where
         release_goes : Goes verified layout (Release engine rule) old h.notices new
@@ -253,7 +254,7 @@ module _ (verified : TypedProgram) (inputs : List Input) (layout : ActorCounts) 
             (release_frames verified.program layout state (state_of new release_goes.left) engine rule release_goes.step_is)
 
         pub release_line : GoesFree w state (Engine engine) Made (Release engine rule ∷ [])
-        release_line = inl (Release engine rule, release_due, inl (refl, refl))
+        release_line = inl (Release engine rule, release_due, tt, inl (refl, refl))
 
     pub release_refused_for : AsksNone w engine → IsSome (next_release engine old.rules.rules) → GoesFree w state (Engine engine) (NoMemory None) []
     release_refused_for none some = by (next_release engine old.rules.rules) refl some
@@ -321,6 +322,7 @@ module _ (verified : TypedProgram) (inputs : List Input) (layout : ActorCounts) 
         inl (
           Take actor,
           is_due actor first (entry_by bare_task takes.e) is,
+          tt,
           inr (wanted (Take actor) (record { e = entry_by bare_task takes.e; is = is; texts = takes.texts }), (refl, refl)),
         )
 
@@ -337,4 +339,4 @@ module _ (verified : TypedProgram) (inputs : List Input) (layout : ActorCounts) 
           (λ g at. ap (λ (x : FrameView). x.event_no) (same_Some g f (sym at ∙ is_running)) ∙ by_number)
 
       pub take_line : GoesFree w state actor (Run (job_of f)) (Take actor ∷ [])
-      take_line = inl (Take actor, is_due actor first (entry_by bare_task t) (best_is ∙ ap (option_map (entry_by bare_task)) is), inl (lends actor (Take actor ∷ []) new take_kept f is_running by_number))
+      take_line = inl (Take actor, is_due actor first (entry_by bare_task t) (best_is ∙ ap (option_map (entry_by bare_task)) is), tt, inl (lends actor (Take actor ∷ []) new take_kept f is_running by_number))

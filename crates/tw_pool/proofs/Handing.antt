@@ -40,6 +40,7 @@ use Rattle.tw_pool_state.specs.Events.{Goes, IsLent, IsOwed, IsSmall, Makes, Mak
 use Rattle.tw_pool_state.specs.Fits.{AreParts}
 use Rattle.tw_pool_state.specs.Memory.{CallTakes, EventTakes, InstrTakes, IsAtAllocating}
 use Rattle.tw_pool_state.specs.Parts.{state_of}
+use Rattle.tw_pool_state.specs.Queued.{no_notices, queues_after, queues_along}
 use Rattle.tw_pool_state.specs.declared.parts.Parts.{Parts}
 use Rattle.tw_pool_state.proofs.Goings.{lent_parts, lent_state}
 use Rattle.tw_pool.specs.declared.answer.Closing.TheVariants.{Limit}
@@ -51,6 +52,7 @@ use Rattle.tw_pool.specs.Kept.{AreLent, IsKept, IsOwedBy}
 use Rattle.tw_pool.specs.PoolView.{HasState, PoolView, with_events}
 use Rattle.tw_pool.specs.Turns.{Answers, IsTurnBy, Lends, Line, OrNoMemory, TakesMemory, is_last, instr_after, lent_to, steps_of}
 use Rattle.tw_pool.specs.Words.{FitsWord}
+use Rattle.tw_pool.proofs.Queueing.{queues_more}
 use Rattle.tw_pool.proofs.Counting.{AreBy, has_place, itself, others_same, the_same}
 use Rattle.tw_pool.proofs.Freely.{has_state, lends, line_traced, room_here, state, viewed}
 use Rattle.tw_pool.proofs.Keeping.{no_task}
@@ -90,6 +92,7 @@ pub record AreAt (verified : TypedProgram) (inputs : List Input) (layout : Actor
   pub notices : Notices
   pub replays : reached verified.program inputs layout history ≡ Went (state_of p notices)
   pub parts : AreParts verified layout p notices
+  pub queues : p.store.queues ≡ queues_along verified.program layout history (opening verified.program inputs) (no_notices layout)
 
 then_at : (verified : TypedProgram) (inputs : List Input) (layout : ActorCounts) (history : List Event) (p new : Parts) (at : AreAt verified inputs layout history p) (e : Event) → Goes verified layout e p at.notices new
     → AreAt verified inputs layout (history ++ e ∷ []) new
@@ -97,6 +100,8 @@ then_at verified inputs layout history p new at e goes = record {
   notices = goes.left;
   replays = run_more verified.program layout history e (opening verified.program inputs) (state_of p at.notices) (state_of new goes.left) at.replays goes.step_is;
   parts = goes.parts;
+  queues = goes.queues ∙ (ap (queues_after verified.program e (state_of p at.notices)) at.queues
+      ∙ sym (queues_more verified.program layout history e (opening verified.program inputs) (state_of p at.notices) (state_of new goes.left) (no_notices layout) at.replays goes.step_is));
 }
 
 end_frames : (program : List Procedure) (layout : ActorCounts) (actor : Actor) (s t : State) → step program layout (End actor) s ≡ Went t → get t.frames actor ≡ None
@@ -164,7 +169,7 @@ module _ (verified : TypedProgram) (inputs : List Input) (layout : ActorCounts) 
     pub fits : IfSome o FitsWord
 
   abbrev at_old : AreAt verified inputs layout traced.events old
-  at_old = record { notices = h.notices; replays = h.replays; parts = h.parts }
+  at_old = record { notices = h.notices; replays = h.replays; parts = h.parts; queues = h.queues }
 
   pub has_come : done.steps ≤ greatest_budget → (o : Option Event) → Local_is o → HasCome o
   has_come few None l =
@@ -304,6 +309,7 @@ module _ (verified : TypedProgram) (inputs : List Input) (layout : ActorCounts) 
     notices = (at_two (End actor) refl o c new makes).notices;
     replays = (at_two (End actor) refl o c new makes).replays;
     parts = (at_two (End actor) refl o c new makes).parts;
+    queues = (at_two (End actor) refl o c new makes).queues;
     lent = lent_others;
   }
     where
@@ -336,7 +342,7 @@ module _ (verified : TypedProgram) (inputs : List Input) (layout : ActorCounts) 
             h.lent a f (sym (others a other) ∙ is_running) ∙ sym (others_same a actor other traced.events es by)
 
     kept_lent : IsKept verified inputs layout traced.limit (traced.events ++ es) new
-    kept_lent = record { given = h.given; few = h.few; within = within; notices = at.notices; replays = at.replays; parts = at.parts; lent = lent_all }
+    kept_lent = record { given = h.given; few = h.few; within = within; notices = at.notices; replays = at.replays; parts = at.parts; queues = at.queues; lent = lent_all }
 
     line_lent : Lends w actor es (Run job) es
     line_lent = subst (λ j. Lends w actor es (Run j) es) (sym lent.job_is) (lends verified inputs layout stopped traced old h w seen actor es new kept_lent lent.f lent.is_running (lent.number ∙ number))
@@ -359,6 +365,7 @@ module _ (verified : TypedProgram) (inputs : List Input) (layout : ActorCounts) 
       notices = at.notices;
       replays = at.replays ∙ ap Went (sym (lent_state came_lent old.running_tasks.tasks actor (come its.0 done) event_no refl at.notices));
       parts = lent_parts came_lent old.running_tasks.tasks actor (come its.0 done) event_no refl verified layout at.notices at.parts;
+      queues = at.queues;
     })
 
     others_at : (a : Actor) → a ≢ actor → get new.running_tasks.tasks a ≡ get old.running_tasks.tasks a

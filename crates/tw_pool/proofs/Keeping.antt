@@ -26,10 +26,12 @@ use Rattle.tw_frame.specs.Jobs.{FrameView, bare_frame}
 use Rattle.tw_pool_state.specs.Events.{Goes, Untouched}
 use Rattle.tw_pool_state.specs.Fits.{AreParts, IsReached}
 use Rattle.tw_pool_state.specs.Parts.{state_of}
+use Rattle.tw_pool_state.specs.Queued.{no_notices, queues_after}
 use Rattle.tw_pool_state.specs.RunningTasks.{RunningView}
 use Rattle.tw_pool_state.specs.declared.parts.Parts.{Parts}
 use Rattle.tw_pool.specs.Actors.{events_of, same_actor}
 use Rattle.tw_pool.specs.Kept.{AreLent, IsKept}
+use Rattle.tw_pool.proofs.Queueing.{queues_more}
 use Rattle.tw_pool.proofs.Counting.{itself, of_more, the_same}
 
 -- ---- who made an event more
@@ -85,6 +87,8 @@ module _ (verified : TypedProgram) (inputs : List Input) (layout : ActorCounts) 
         notices = goes.left;
         replays = run_more verified.program layout history event (opening verified.program inputs) (state_of old h.notices) (state_of new goes.left) h.replays goes.step_is;
         parts = goes.parts;
+        queues = goes.queues ∙ (ap (queues_after verified.program event (state_of old h.notices)) h.queues
+            ∙ sym (queues_more verified.program layout history event (opening verified.program inputs) (state_of old h.notices) (state_of new goes.left) (no_notices layout) h.replays goes.step_is));
         lent = lent;
       }
 
@@ -145,5 +149,6 @@ module _ (verified : TypedProgram) (inputs : List Input) (layout : ActorCounts) 
       notices = h.notices;
       replays = h.replays ∙ ap Went (sym same_state);
       parts = still_parts;
+      queues = u.store.queues ∙ h.queues;
       lent = subst (λ (r : RunningView). AreLent history r.tasks) (sym u.running_tasks) h.lent;
     }

@@ -4,6 +4,7 @@ pub mod Lines
 pub mod Opened
 mod Pendings
 mod Fitting
+mod Queueing
 mod Keeping
 mod Freely
 mod Handing

@@ -102,7 +102,7 @@ module _ (p : PoolView) (s : State) (actor : Actor) (answer : Turn) (events : Li
       by (inr is) = subst (AreOwn actor) (sym is) (own_after actor done (event_of actor (instr_after p.program.program done)) (actor_of_next actor (instr_after p.program.program done)))
 
   free : GoesFree p s actor answer events → AreOwn actor events
-  free (inl l) = by (made p actor None [] l.0 answer events l.2)
+  free (inl l) = by (made p actor None [] l.0 answer events l.3)
     where
       by : (events ≡ []) ⊎ (events ≡ l.0 ∷ []) → AreOwn actor events
       by (inl is) = none_then is

@@ -1,5 +1,5 @@
 -- Invariants of a pool before its first event.
-use Rattle.std.proofs.Common.{◌≡◌, ℕ, List, [], sym, ap, ◌∙◌, arith, Some, None}
+use Rattle.std.proofs.Common.{◌≡◌, ℕ, List, [], sym, ap, ◌∙◌, arith, Some, None, replicate}
 use Rattle.std.specs.FinMap as fin
 use Rattle.std.specs.FinMap.{get, get-empty}
 use Rattle.std.specs.FinSet as set
@@ -17,6 +17,7 @@ use Rattle.tw_pool_state.specs.RunningTasks.{TasksByActor}
 use Rattle.tw_pool_state.specs.declared.parts.Parts.{Parts}
 use Rattle.tw_pool.specs.Kept.{AreLent, IsKept}
 use Rattle.tw_pool.specs.Openings.{MayOpen}
+use Rattle.tw_pool.proofs.Queueing.{none_queued}
 
 nobody : (running_tasks : TasksByActor) → running_tasks ≡ fin.empty → AreLent [] running_tasks
 nobody running_tasks none actor f at = let no_one : None ≡ Some f = sym (get-empty actor_cmp actor) ∙ (sym (ap (λ (s : TasksByActor). get s actor) none) ∙ at) in cc
@@ -34,5 +35,6 @@ kept verified inputs layout limit p may opens = record {
   notices = set.empty;
   replays = replays_nothing verified inputs layout (state_of p set.empty) opens.state;
   parts = opens.parts;
+  queues = none_queued p.store.queues opens.parts.queued ∙ ap (λ n. replicate n []) opens.parts.servers;
   lent = nobody p.running_tasks.tasks opens.nobody;
 }

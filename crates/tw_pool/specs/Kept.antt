@@ -10,12 +10,13 @@ use Rattle.tw_types.specs.Notices.{Notices}
 use Rattle.tw_types.specs.Outcome.{Went}
 use Rattle.tw_types.specs.Rule.{next_ask, next_release}
 use Rattle.tw_code.specs.machine.Inputs.{AreInputsOf}
-use Rattle.tw_code.specs.machine.Opening.{reached}
+use Rattle.tw_code.specs.machine.Opening.{opening, reached}
 use Rattle.tw_code.specs.machine.State.{State}
 use Rattle.tw_verify.specs.Typed.{TypedProgram}
 use Rattle.tw_frame.specs.Jobs.{DoneView, FrameView}
 use Rattle.tw_pool_state.specs.Fits.{AreParts}
 use Rattle.tw_pool_state.specs.Parts.{state_of}
+use Rattle.tw_pool_state.specs.Queued.{no_notices, queues_along}
 use Rattle.tw_pool_state.specs.RunningTasks.{TasksByActor}
 use Rattle.tw_pool_state.specs.declared.parts.Parts.{Parts}
 use Rattle.tw_pool.specs.Actors.{events_of}
@@ -34,6 +35,7 @@ pub record IsKept (verified : TypedProgram) (inputs : List Input) (layout : Acto
   pub notices : Notices
   pub replays : reached verified.program inputs layout history ≡ Went (state_of p notices)
   pub parts : AreParts verified layout p notices
+  pub queues : p.store.queues ≡ queues_along verified.program layout history (opening verified.program inputs) (no_notices layout)
   pub lent : AreLent history p.running_tasks.tasks
 
 -- holds if this is so in the pool's state

@@ -4,9 +4,10 @@ use Rattle.tw_types.specs.declared.event.Event.{Event}
 use Rattle.tw_types.specs.declared.input.Input.{Input}
 use Rattle.tw_types.specs.Layout.{ActorCounts}
 use Rattle.tw_types.specs.Outcome.{Went}
-use Rattle.tw_code.specs.machine.Opening.{reached}
+use Rattle.tw_code.specs.machine.Opening.{opening, reached}
 use Rattle.tw_code.specs.machine.State.{State}
 use Rattle.tw_verify.specs.Typed.{TypedProgram}
+use Rattle.tw_pool_state.specs.Queued.{Queues, no_notices, queues_along}
 
 -- the program and its inputs, the limit of events, whether the run was stopped, and the events
 pub record PoolView : Type 0 where
@@ -20,6 +21,10 @@ pub record PoolView : Type 0 where
 -- holds for its state: the machine's, which the events reach from the opening
 abbrev pub HasState : PoolView → State → Type 0
 HasState p s = reached p.program.program p.inputs p.layout p.history ≡ Went s
+
+-- returns its queues of notices: those that the events make, from none on
+abbrev pub queues_of : PoolView → Queues
+queues_of p = queues_along p.program.program p.layout p.history (opening p.program.program p.inputs) (no_notices p.layout)
 
 -- appends these events
 abbrev pub with_events : PoolView → List Event → PoolView

@@ -11,6 +11,8 @@ use Rattle.tw_soundness.proofs.Accepted.{all_found}
 use Rattle.tw_soundness.proofs.Live.{output_is_live, register_is_live, rule_is_live, task_is_live}
 use Rattle.tw_soundness.proofs.Safe.{kept_by}
 use Rattle.tw_soundness.proofs.Turning.{data_goes}
+use Rattle.tw_pool_state.specs.Queued.{arrived, queues_after}
+use Rattle.tw_pool_state.proofs.Arriving.{call_queues, notified_arrive}
 use Rattle.tw_pool_state.proofs.Fitting.{seen}
 use Rattle.tw_pool_state.proofs.Goings.{may_be_at}
 use Rattle.tw_pool_state.proofs.Keeping.{all_kept, args_kept, file_kept}
@@ -148,8 +150,12 @@ module _ (verified : TypedProgram) (layout : ActorCounts) (old : Parts) (notices
       )) h.rights_fit.outputs);
     }
 
+    queues_now : new.store.queues ≡ queues_after verified.program (Call actor) (state_of old notices) old.store.queues
+    queues_now = notified_arrive old.store new.store o.more o.notified ∙ (ap (λ ns. arrived ns old.store.queues) (o.made notices)
+        ∙ sym (call_queues verified.program (state_of old notices) actor (bare_frame f) p (instr.Data d) old.store.queues there here at))
+
     pub called : Goes verified layout (Call actor) old notices new
-    called = goes_to verified layout old notices h (Call actor) new left _ goes same_state queues_are.0 (queues_are.1 ∙ h.servers) layout_is fit_is
+    called = goes_to verified layout old notices h (Call actor) new left _ goes same_state queues_are.0 (queues_are.1 ∙ h.servers) queues_now layout_is fit_is
         (λ other apart. ap (λ m. get m other) running_tasks ∙ get_other old.running_tasks.tasks actor g other apart)
 
   pub may_do : IsSmall (state_of old notices) → MayDo d old.store f

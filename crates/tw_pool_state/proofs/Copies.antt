@@ -57,7 +57,7 @@ module _ (to from : ℕ) (s : Served) (f : FrameView) (m : MayDo (on_data.CopyRe
           ∙ (λ i. record { store = sym now.store i; notices = ns; rights = slice_set (bare_file f.held) to (Some (sym (ap (λ (r : Right). r.id) same) i)); position = at_next_place f.position })
 
       pub read_copied_done : (g : FrameView) → g ≡ record f { position = at_next_place f.position; held = slice_set f.held to (Some (held.Read copy)); spent = f.spent + 1 } → IsDone (on_data.CopyRead to from) s new f g
-      read_copied_done = filled_done (on_data.CopyRead to from) s new f [] (inl (refl, now.queues)) (now_stays s new now.places) to (held.Read copy)
+      read_copied_done = filled_done (on_data.CopyRead to from) s new f [] (inl (refl, now.queues)) (now_stays s new now.places) (λ ns. refl) to (held.Read copy)
           (ap (λ ps. get ps copy.id) now.places ∙ ap (λ (r : Right). get s.places r.id) same ∙ copy_read_here ∙ ap (λ (r : Right). Some r.place) (sym same)) copy_read_goes refl
           (λ registers typing kinds asked. map-set (option_map typed_writes) typing to (right_at typing from) ∙ ap (λ (o : Option Bool). slice_set (kinds_in typing) to o) (copied_kind typing from false reads (λ t e. read_no_write t.mode e) asked.1.0))
 
@@ -96,6 +96,6 @@ module _ (to from : ℕ) (s : Served) (f : FrameView) (m : MayDo (on_data.CopyWr
           ∙ (λ i. record { store = sym now.store i; notices = ns; rights = slice_set (bare_file f.held) to (Some (sym (ap (λ (r : Right). r.id) same) i)); position = at_next_place f.position })
 
       pub write_copied_done : (g : FrameView) → g ≡ record f { position = at_next_place f.position; held = slice_set f.held to (Some (held.Write copy)); spent = f.spent + 1 } → IsDone (on_data.CopyWrite to from) s new f g
-      write_copied_done = filled_done (on_data.CopyWrite to from) s new f [] (inl (refl, now.queues)) (now_stays s new now.places) to (held.Write copy)
+      write_copied_done = filled_done (on_data.CopyWrite to from) s new f [] (inl (refl, now.queues)) (now_stays s new now.places) (λ ns. refl) to (held.Write copy)
           (ap (λ ps. get ps copy.id) now.places ∙ ap (λ (r : Right). get s.places r.id) same ∙ copy_write_here ∙ ap (λ (r : Right). Some r.place) (sym same)) copy_write_goes refl
           (λ registers typing kinds asked. map-set (option_map typed_writes) typing to (right_at typing from) ∙ ap (λ (o : Option Bool). slice_set (kinds_in typing) to o) (copied_kind typing from true writes_one (λ t e. e) asked.1.0))

@@ -1,5 +1,5 @@
 -- A server delivers: on the parts.
-use Rattle.std.proofs.Common.{map, ◌≡◌, ◌<◌, ℕ, true, false, nat_lt, nat_eq, List, ◌∷◌, Some, refl, sym, ap, subst, ◌∙◌, length, set, slice_get, option_map, arith}
+use Rattle.std.proofs.Common.{map, ◌≡◌, ◌<◌, ℕ, true, false, nat_lt, nat_eq, List, ◌∷◌, Some, refl, sym, ap, subst, ◌∙◌, drop, length, set, slice_get, option_map, arith}
 use Rattle.tw_pool_state.proofs.PartNames.{ActorCounts, AreParts, AreQueued, Arg, Deliver, Goes, Notice, Notices, Parts, Procedure, Right, Rule, RuleOf, RulesOf, RightsFit, State, TypedProgram, Went, at_stage, bare_frame, bare_rule, bare_task, get, insert, insert_mapped, is_settled, length-set, mapped, nat_cmp-IsAntisymmetric, nat_cmp_total, nat_tests, queue_at, server_of, state_of, with_stage, RunningView}
 use Rattle.std.specs.FinSet as set_of
 use Rattle.tw_types.specs.declared.stage.Stage.{Stage}
@@ -73,6 +73,7 @@ module _ (verified : TypedProgram) (layout : ActorCounts) (old : Parts) (notices
     delivers = goes_to verified layout old notices h (Deliver server n.datum n.rule n.parameter) new left _ came same_state
         (subst (λ qs. AreQueued qs left) (sym queues) (notes.taken old.store.queues notices h.queued server inside n rest is))
         (ap length queues ∙ length-set old.store.queues server rest ∙ h.servers)
+        (queues ∙ ap (λ q. set old.store.queues server (drop 1 q)) (sym is))
         (ap (λ (r : RunningView). r.layout) running_tasks) fit_is (λ actor other. ap (λ (r : RunningView). get r.tasks actor) running_tasks)
       where
         staged_fit : RightsFit verified old.store.places old.running_tasks.tasks old.tasks.tasks (staged old.rules.rules n.rule n.parameter Ready) old.outputs

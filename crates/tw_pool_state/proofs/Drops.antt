@@ -29,6 +29,9 @@ module _ (datum : ℕ) (s : Served) (f : FrameView) (m : MayDo (on_data.DropWrit
     drop_write_live : (x : Datum) × (get s.store.live right.id ≡ Some x)
     drop_write_live = let h = there_then (get s.store.live right.id) FreedDatum _ tt drop_write_allowed in (h.0, h.1)
 
+    drop_write_at : right_at (bare_file f.held) datum ≡ Some right.id
+    drop_write_at = drop_write_is.1 ∙ ap Some (drop_write_its drop_write_is.0 drop_write_is.1)
+
     module _ (new : Served) (left : IsLeft s new right.id one_write_less) where
       drop_write_goes : (ns : Notices) (k : Context) → data_instr (on_data.DropWrite datum) (sees s ns f) ≡ Ok k
           → k ≡ record { store = new.store; notices = with_notices ns (notices_after s.store right.id one_write_less); rights = slice_set (bare_file f.held) datum None; position = at_next_place f.position }
@@ -42,7 +45,7 @@ module _ (datum : ℕ) (s : Served) (f : FrameView) (m : MayDo (on_data.DropWrit
 
       pub write_dropped_done : (g : FrameView) → g ≡ record f { position = at_next_place f.position; held = slice_set f.held datum None; spent = f.spent + 1 } → IsDone (on_data.DropWrite datum) s new f g
       write_dropped_done = emptied_done (on_data.DropWrite datum) s new f (notices_after s.store right.id one_write_less) (left_notified s new right.id one_write_less left drop_write_live.0 drop_write_live.1 refl)
-          (left_stays s new right.id one_write_less left) datum drop_write_goes refl (λ typing. refl)
+          (left_stays s new right.id one_write_less left) (λ ns. rw (drop_write_at) refl) datum drop_write_goes refl (λ typing. refl)
 
 -- ---- a read right
 
@@ -75,4 +78,4 @@ module _ (datum : ℕ) (s : Served) (f : FrameView) (m : MayDo (on_data.DropRead
           ∙ (λ i. record { store = sym store i; notices = ns; rights = slice_set (bare_file f.held) datum None; position = at_next_place f.position })
 
       pub read_dropped_done : (g : FrameView) → g ≡ record f { position = at_next_place f.position; held = slice_set f.held datum None; spent = f.spent + 1 } → IsDone (on_data.DropRead datum) s new f g
-      read_dropped_done = emptied_done (on_data.DropRead datum) s new f [] (inl (refl, quiet)) (λ id place was now there. keeps.stays id now.0 now.1 ∙ there) datum drop_read_goes refl (λ typing. refl)
+      read_dropped_done = emptied_done (on_data.DropRead datum) s new f [] (inl (refl, quiet)) (λ id place was now there. keeps.stays id now.0 now.1 ∙ there) (λ ns. refl) datum drop_read_goes refl (λ typing. refl)

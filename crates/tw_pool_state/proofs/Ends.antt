@@ -39,7 +39,7 @@ module _ (verified : TypedProgram) (layout : ActorCounts) (old : Parts) (notices
     }
 
     pub ended : Goes verified layout (End actor) old notices new
-    ended = goes_to verified layout old notices h (End actor) new notices _ goes same_state (rw store h.queued) (rw store h.servers) layout_is fit_is
+    ended = goes_to verified layout old notices h (End actor) new notices _ goes same_state (rw store h.queued) (rw store h.servers) (rw store refl) layout_is fit_is
         (λ other apart. ap (λ m. get m other) running_tasks ∙ get_other_left old.running_tasks.tasks actor other apart)
       where
         fit_is : RightsFit verified new.store.places new.running_tasks.tasks new.tasks.tasks new.rules.rules new.outputs

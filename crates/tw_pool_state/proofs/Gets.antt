@@ -44,4 +44,4 @@ module _ (to datum : ℕ) (s : Served) (f : FrameView) (m : MayDo (on_data.Get t
           sym (same_ok _ k x.2) ∙ (λ i. record { store = s.store; notices = ns; rights = bare_file f.held; position = at_next_place (with_value f.position to (is_v i)) })
 
       pub got_done : (g : FrameView) → g ≡ record f { position = at_next_place (with_value f.position to value); spent = f.spent + 1 } → IsDone (on_data.Get to datum) s s f g
-      got_done = moved_done (on_data.Get to datum) s s f [] (inl (refl, refl)) (now_stays s s refl) Completed (at_next_place (with_value f.position to value)) goes refl (λ typing. refl)
+      got_done = moved_done (on_data.Get to datum) s s f [] (inl (refl, refl)) (now_stays s s refl) (λ ns. refl) Completed (at_next_place (with_value f.position to value)) goes refl (λ typing. refl)

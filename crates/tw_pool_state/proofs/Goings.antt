@@ -51,7 +51,7 @@ module _ (verified : TypedProgram) (layout : ActorCounts) (old : Parts) (notices
   same_state = ap (λ m. record (state_of old notices) { frames = m }) (insert_mapped bare_frame actor_cmp_total actor_cmp-IsAntisymmetric old.running_tasks.tasks actor (come f done))
 
   pub gone : 0 < done.steps → Goes verified layout (Local actor done.steps) old notices (with_done old actor f done)
-  gone some = goes_to verified layout old notices h (Local actor done.steps) (with_done old actor f done) notices _ (goes some) same_state h.queued h.servers refl
+  gone some = goes_to verified layout old notices h (Local actor done.steps) (with_done old actor f done) notices _ (goes some) same_state h.queued h.servers refl refl
       (fit_by_actor verified old.store.places old.running_tasks.tasks old.tasks.tasks old.rules.rules old.outputs h.rights_fit actor (come f done) fits)
       (get_other old.running_tasks.tasks actor (come f done))
 
@@ -113,6 +113,7 @@ module _ (new : Parts) (running_tasks : TasksByActor) (actor : Actor) (f : Frame
     left = goes.left;
     step_is = goes.step_is ∙ ap Went (sym (lent_state goes.left));
     parts = lent_parts verified layout goes.left goes.parts;
+    queues = goes.queues;
     others = λ other apart. ap (λ m. get m other) is_running ∙ get_other running_tasks actor (lent_as event_no f) other (λ e. apart (e ∙ sym own)) ∙ sym (get_other running_tasks actor f other (λ e. apart (e ∙ sym own))) ∙ goes.others other apart;
   }
 

@@ -90,12 +90,12 @@ module _ (by : Scalar) (container subscript member skip : ℕ) (s : Served) (f :
     module _ (new : Served) where
       -- the subscript is there
       pub inserted_none : IsSome (member_at s.store box.id n) → IsUnchanged s new → (g : FrameView) → g ≡ record f { position = at_goal f.position skip; spent = f.spent + 1 } → IsDone (on_data.Insert by container subscript member skip) s new f g
-      inserted_none some u = moved_done (on_data.Insert by container subscript member skip) s new f [] (inl (refl, u.queues)) (now_stays s new u.places) Skipped (at_goal f.position skip)
+      inserted_none some u = moved_done (on_data.Insert by container subscript member skip) s new f [] (inl (refl, u.queues)) (now_stays s new u.places) (λ ns. refl) Skipped (at_goal f.position skip)
           (λ ns k e. comes ns k e ∙ ap (after_insert (sees s ns f) box.id n right.id member skip) (present (member_at s.store box.id n) some).1 ∙ (λ i. record { store = sym u.store i; notices = ns; rights = bare_file f.held; position = at_goal f.position skip }))
           refl (λ typing. refl)
 
       pub inserted_some : (member_at s.store box.id n ≡ None) → IsNow (inserted s.store box.id n right.id) s new → (g : FrameView) → g ≡ record f { position = at_next_place f.position; held = slice_set f.held member None; spent = f.spent + 1 }
           → IsDone (on_data.Insert by container subscript member skip) s new f g
-      inserted_some none l = emptied_done (on_data.Insert by container subscript member skip) s new f [] (inl (refl, l.queues)) (now_stays s new l.places) member
+      inserted_some none l = emptied_done (on_data.Insert by container subscript member skip) s new f [] (inl (refl, l.queues)) (now_stays s new l.places) (λ ns. refl) member
           (λ ns k e. comes ns k e ∙ ap (after_insert (sees s ns f) box.id n right.id member skip) none ∙ (λ i. record { store = sym l.store i; notices = ns; rights = slice_set (bare_file f.held) member None; position = at_next_place f.position }))
           refl (λ typing. refl)

@@ -12,6 +12,7 @@ use Rattle.tw_code.proofs.Runs.{run_more}
 use Rattle.tw_soundness.specs.Invariant.{IsHeld}
 use Rattle.tw_soundness.proofs.Safe.{reached_is_held}
 use Rattle.tw_queue.specs.Queues.{IsTarget}
+use Rattle.tw_pool_state.specs.Queued.{queues_after}
 use Rattle.tw_pool_state.proofs.Fitting.{seen}
 
 module _ (verified : TypedProgram) (layout : ActorCounts) (p : Parts) (notices : Notices) (h : AreParts verified layout p notices) where
@@ -31,9 +32,9 @@ module _ (verified : TypedProgram) (layout : ActorCounts) (p : Parts) (notices :
 
   -- an event, from what it leaves
   pub goes_to : (event : Event) (new : Parts) (left : Notices) (next : State) → step verified.program layout event (state_of p notices) ≡ Went next → state_of new left ≡ next
-      → AreQueued new.store.queues left → length new.store.queues ≡ layout.servers → new.running_tasks.layout ≡ p.running_tasks.layout → RightsFit verified new.store.places new.running_tasks.tasks new.tasks.tasks new.rules.rules new.outputs
+      → AreQueued new.store.queues left → length new.store.queues ≡ layout.servers → new.store.queues ≡ queues_after verified.program event (state_of p notices) p.store.queues → new.running_tasks.layout ≡ p.running_tasks.layout → RightsFit verified new.store.places new.running_tasks.tasks new.tasks.tasks new.rules.rules new.outputs
       → ((actor : Actor) → actor ≢ actor_of event → get new.running_tasks.tasks actor ≡ get p.running_tasks.tasks actor) → Goes verified layout event p notices new
-  goes_to event new left next step_is same queued servers own rights_fit others =
+  goes_to event new left next step_is same queued servers queues own rights_fit others =
       let went : step verified.program layout event (state_of p notices) ≡ Went (state_of new left) = step_is ∙ ap Went (sym same) in
       record {
         left = left;
@@ -46,6 +47,7 @@ module _ (verified : TypedProgram) (layout : ActorCounts) (p : Parts) (notices :
           layout_is = own ∙ h.layout_is;
           rights_fit = rights_fit;
         };
+        queues = queues;
         others = others;
       }
 

@@ -6,6 +6,7 @@ use Rattle.tw_rights.specs.Kinds.{kinds_of, writes}
 use Rattle.tw_code.specs.declared.flow.Way.{Way}
 use Rattle.tw_code.specs.declared.instr.DataInstr.{DataInstr}
 use Rattle.tw_code.specs.accepting.Flow.{data_flow, onward}
+use Rattle.tw_pool_state.specs.Queued.{notices_made}
 
 pub same_ok : (a b : Context) → ◌≡◌ {A = Result Context Cause} (Ok a) (Ok b) → a ≡ b
 same_ok a b e = cc
@@ -13,7 +14,7 @@ same_ok a b e = cc
 -- ---- the three ways
 
 module _ (d : DataInstr) (old new : Served) (f : FrameView) (more : List Notice) (notified : AreNotified old new more)
-    (stays : (id place : ℕ) → IsLive old id → IsLive new id → get old.places id ≡ Some place → get new.places id ≡ Some place) where
+    (stays : (id place : ℕ) → IsLive old id → IsLive new id → get old.places id ≡ Some place → get new.places id ≡ Some place) (made : (ns : Notices) → more ≡ notices_made d (sees old ns f)) where
   module _ (register : ℕ) (goes : (ns : Notices) (k : Context) → data_instr d (sees old ns f) ≡ Ok k
       → k ≡ record { store = new.store; notices = with_notices ns more; rights = slice_set (bare_file f.held) register None; position = at_next_place f.position })
       (onwards : onward Completed f.position.place (data_flow d) ≡ Some (f.position.place + 1)) (empties : (typing : Typing) → after_data Completed d typing ≡ slice_set typing register None) where
@@ -25,6 +26,7 @@ module _ (d : DataInstr) (old new : Served) (f : FrameView) (more : List Notice)
       more = more;
       goes = λ ns k e. goes ns k e ∙ (λ i. record { store = new.store; notices = with_notices ns more; rights = sym (map-set (option_map id_of) f.held register None) i; position = at_next_place f.position });
       notified = notified;
+      made = made;
       stays = stays;
       own = λ k h there. elim (set_own f.held register k None h there) as (λ _. (slice_index_or f.held k None ≡ Some h) ⊎ IsAt new.places (right_in h)) [
         | inl before ↦ inl before
@@ -51,6 +53,7 @@ module _ (d : DataInstr) (old new : Served) (f : FrameView) (more : List Notice)
       more = more;
       goes = λ ns k e. goes ns k e ∙ (λ i. record { store = new.store; notices = with_notices ns more; rights = sym (map-set (option_map id_of) f.held register (Some h)) i; position = at_next_place f.position });
       notified = notified;
+      made = made;
       stays = stays;
       own = λ k x there. elim (set_own f.held register k (Some h) x there) as (λ _. (slice_index_or f.held k None ≡ Some x) ⊎ IsAt new.places (right_in x)) [
         | inl before ↦ inl before
@@ -76,6 +79,7 @@ module _ (d : DataInstr) (old new : Served) (f : FrameView) (more : List Notice)
       more = more;
       goes = goes;
       notified = notified;
+      made = made;
       stays = stays;
       own = λ k h there. inl there;
       way = way;
@@ -89,7 +93,7 @@ module _ (d : DataInstr) (old new : Served) (f : FrameView) (more : List Notice)
 
 -- ---- notices
 
-queued_none : (queues : List (List Notice)) (k : ℕ) → slice_set queues k (slice_index_or queues k [] ++ []) ≡ queues
+pub queued_none : (queues : List (List Notice)) (k : ℕ) → slice_set queues k (slice_index_or queues k [] ++ []) ≡ queues
 queued_none [] k = refl
 queued_none (q ∷ queues) zero = ap (λ p. p ∷ queues) (append-nil q)
 queued_none (q ∷ queues) (suc k) = ap (λ qs. q ∷ qs) (queued_none queues k)

@@ -1,3 +1,4 @@
+mod Arriving
 mod Law
 mod Runners
 mod FrameBufferLists

@@ -65,13 +65,13 @@ module _ (by : Scalar) (member container subscript skip : ℕ) (s : Served) (f :
 
     module _ (new : Served) where
       pub looked_none : IsLook s right.id n None new → (g : FrameView) → g ≡ record f { position = at_goal f.position skip; spent = f.spent + 1 } → IsDone (on_data.Look by member container subscript skip) s new f g
-      looked_none l = moved_done (on_data.Look by member container subscript skip) s new f [] (inl (refl, l.1.queues)) (now_stays s new l.1.places) Skipped (at_goal f.position skip)
+      looked_none l = moved_done (on_data.Look by member container subscript skip) s new f [] (inl (refl, l.1.queues)) (now_stays s new l.1.places) (λ ns. refl) Skipped (at_goal f.position skip)
           (λ ns k e. comes ns k e ∙ ap (after_look (sees s ns f) member skip) l.0 ∙ (λ i. record { store = sym l.1.store i; notices = ns; rights = bare_file f.held; position = at_goal f.position skip }))
           refl (λ typing. refl)
 
       pub looked_some : (found : Right) → IsLook s right.id n (Some found) new → (g : FrameView) → g ≡ record f { position = at_next_place f.position; held = slice_set f.held member (Some (held.Read found)); spent = f.spent + 1 }
           → IsDone (on_data.Look by member container subscript skip) s new f g
-      looked_some found l = filled_done (on_data.Look by member container subscript skip) s new f [] (inl (refl, l.2.queues)) (now_stays s new l.2.places) member (held.Read found) (ap (λ ps. get ps found.id) l.2.places ∙ l.1)
+      looked_some found l = filled_done (on_data.Look by member container subscript skip) s new f [] (inl (refl, l.2.queues)) (now_stays s new l.2.places) (λ ns. refl) member (held.Read found) (ap (λ ps. get ps found.id) l.2.places ∙ l.1)
           (λ ns k e. comes ns k e ∙ ap (after_look (sees s ns f) member skip) l.0 ∙ (λ i. record { store = sym l.2.store i; notices = ns; rights = slice_set (bare_file f.held) member (Some found.id); position = at_next_place f.position }))
           refl
           (λ registers typing kinds asked. map-set (option_map typed_writes) typing member (a_member_read (right_at typing container))

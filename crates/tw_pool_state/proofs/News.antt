@@ -56,6 +56,7 @@ module _ (write read : ℕ) (ty : NestedScalar) (s : Served) (f : FrameView) (m 
       more = [];
       goes = goes;
       notified = inl (refl, quiet);
+      made = λ ns. refl;
       stays = λ d place was now there. other d place (m.store.fresh d was.0 was.1) there;
       own = own_is;
       way = Completed;

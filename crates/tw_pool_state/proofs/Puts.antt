@@ -4,6 +4,7 @@ use Rattle.tw_pool_state.proofs.PartNames.{Action, Actor, ActorCounts, AreParts,
 use Rattle.tw_rights.specs.Bundled.{bundled}
 use Rattle.tw_code.specs.declared.instr.Instr.TheVariants as instr
 use Rattle.tw_code.specs.machine.Machine.{step}
+use Rattle.tw_pool_state.proofs.Arriving.{call_queues}
 use Rattle.tw_pool_state.proofs.Fitting.{seen, fit_put, fit_by_actor}
 use Rattle.tw_pool_state.proofs.Goings.{position_then}
 use Rattle.tw_pool_state.proofs.Handovers.{args_match, bare_args, fits_after, frame_is}
@@ -60,7 +61,7 @@ module _ (verified : TypedProgram) (layout : ActorCounts) (old : Parts) (notices
       }
 
       pub put_goes : Goes verified layout (Call actor) old notices new
-      put_goes = goes_to verified layout old notices h (Call actor) new notices _ goes same_state (rw store h.queued) (rw store h.servers) layout_is fit_is
+      put_goes = goes_to verified layout old notices h (Call actor) new notices _ goes same_state (rw store h.queued) (rw store h.servers) (ap (λ st. st.queues) store ∙ sym (call_queues verified.program (state_of old notices) actor (bare_frame f) p (instr.Put action) old.store.queues (seen bare_frame old.running_tasks.tasks actor (Some f) runs) here at)) layout_is fit_is
           (λ other apart. ap (λ m. get m other) running_tasks ∙ get_other old.running_tasks.tasks actor (gone_on f file) other apart)
         where
           put_there : RightsFit verified old.store.places old.running_tasks.tasks (insert old.tasks.tasks old.next_task task) old.rules.rules old.outputs

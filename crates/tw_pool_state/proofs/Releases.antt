@@ -79,7 +79,7 @@ module _ (verified : TypedProgram) (layout : ActorCounts) (old : Parts) (notices
       }
 
       pub releases : Goes verified layout (Release engine number) old notices new
-      releases = goes_to verified layout old notices h (Release engine number) new notices _ goes same_state (rw store h.queued) (rw store h.servers) (ap (λ (r : RunningView). r.layout) running_tasks) fit_is (λ actor other. ap (λ (r : RunningView). get r.tasks actor) running_tasks)
+      releases = goes_to verified layout old notices h (Release engine number) new notices _ goes same_state (rw store h.queued) (rw store h.servers) (rw store refl) (ap (λ (r : RunningView). r.layout) running_tasks) fit_is (λ actor other. ap (λ (r : RunningView). get r.tasks actor) running_tasks)
         where
           fit_is : RightsFit verified new.store.places new.running_tasks.tasks new.tasks.tasks new.rules.rules new.outputs
           fit_is = rw (store, running_tasks, tasks, rules, outputs) (fit_released verified old.store.places old.running_tasks.tasks old.tasks.tasks old.rules.rules old.outputs h.rights_fit number old.next_task its.x kind its.there)

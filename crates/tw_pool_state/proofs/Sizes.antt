@@ -62,7 +62,7 @@ module _ (to container : ℕ) (s : Served) (f : FrameView) (m : MayDo (on_data.S
           sym (same_ok _ k a.1) ∙ (λ i. record { store = s.store; notices = ns; rights = bare_file f.held; position = at_next_place (with_value f.position to (value.Int (pos (same i)))) })
 
       pub size_done : (g : FrameView) → g ≡ record f { position = at_next_place (with_value f.position to (value.Int (pos size))); spent = f.spent + 1 } → IsDone (on_data.Size to container) s s f g
-      size_done = moved_done (on_data.Size to container) s s f [] (inl (refl, refl)) (now_stays s s refl) Completed (at_next_place (with_value f.position to (value.Int (pos size)))) size_goes refl (λ typing. refl)
+      size_done = moved_done (on_data.Size to container) s s f [] (inl (refl, refl)) (now_stays s s refl) (λ ns. refl) Completed (at_next_place (with_value f.position to (value.Int (pos size)))) size_goes refl (λ typing. refl)
 
 -- ---- a subscript
 
@@ -122,10 +122,10 @@ module _ (by : Scalar) (to container index skip : ℕ) (s : Served) (f : FrameVi
 
     pub subscript_some : (n : Subscript) → subscript_after count (map.keys (members_at s.store right.id)) ≡ Some n → (g : FrameView) → g ≡ record f { position = at_next_place (with_value f.position to n); spent = f.spent + 1 }
         → IsDone (on_data.SubscriptAt by to container index skip) s s f g
-    subscript_some n found = moved_done (on_data.SubscriptAt by to container index skip) s s f [] (inl (refl, refl)) (now_stays s s refl) Completed (at_next_place (with_value f.position to n))
+    subscript_some n found = moved_done (on_data.SubscriptAt by to container index skip) s s f [] (inl (refl, refl)) (now_stays s s refl) (λ ns. refl) Completed (at_next_place (with_value f.position to n))
         (λ ns k e. subscript_goes ns k e ∙ (λ i. record { store = s.store; notices = ns; rights = bare_file f.held; position = found_at (found i) })) refl (λ typing. refl)
 
     pub subscript_none : subscript_after count (map.keys (members_at s.store right.id)) ≡ None → (g : FrameView) → g ≡ record f { position = at_goal f.position skip; spent = f.spent + 1 }
         → IsDone (on_data.SubscriptAt by to container index skip) s s f g
-    subscript_none none = moved_done (on_data.SubscriptAt by to container index skip) s s f [] (inl (refl, refl)) (now_stays s s refl) Skipped (at_goal f.position skip)
+    subscript_none none = moved_done (on_data.SubscriptAt by to container index skip) s s f [] (inl (refl, refl)) (now_stays s s refl) (λ ns. refl) Skipped (at_goal f.position skip)
         (λ ns k e. subscript_goes ns k e ∙ (λ i. record { store = s.store; notices = ns; rights = bare_file f.held; position = found_at (none i) })) refl (λ typing. refl)

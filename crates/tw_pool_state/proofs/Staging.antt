@@ -134,7 +134,7 @@ module _ (verified : TypedProgram) (layout : ActorCounts) (old : Parts) (notices
 
       pub asks : Goes verified layout (Ask engine number parameter) old notices new
       asks = goes_to verified layout old notices h (Ask engine number parameter) new notices _ (goes ∙ ap Went leads) same_state
-          (subst (λ qs. AreQueued qs notices) (sym queues) h.queued) (ap length queues ∙ h.servers) (ap (λ (r : RunningView). r.layout) running_tasks) fit_is (λ actor other. ap (λ (r : RunningView). get r.tasks actor) running_tasks)
+          (subst (λ qs. AreQueued qs notices) (sym queues) h.queued) (ap length queues ∙ h.servers) queues (ap (λ (r : RunningView). r.layout) running_tasks) fit_is (λ actor other. ap (λ (r : RunningView). get r.tasks actor) running_tasks)
         where
           staged_fit : RightsFit verified old.store.places old.running_tasks.tasks old.tasks.tasks (staged old.rules.rules number parameter stage) old.outputs
           staged_fit = subst (λ rs. RightsFit verified old.store.places old.running_tasks.tasks old.tasks.tasks rs old.outputs) (sym (staged_is old.rules.rules number its.x parameter stage its.there))

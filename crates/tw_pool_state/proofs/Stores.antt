@@ -32,6 +32,9 @@ module _ (datum from : ℕ) (s : Served) (f : FrameView) (m : MayDo (on_data.Sto
       live : (x : Datum) × (get s.store.live right.id ≡ Some x)
       live = let h = there_then (get s.store.live right.id) FreedDatum _ tt store_allowed in (h.0, h.1)
 
+      store_at : right_at (bare_file f.held) datum ≡ Some right.id
+      store_at = asks.3 ∙ ap Some (its asks.1 asks.3)
+
       module _ (new : Served) (left : IsLeft s new right.id (set_to value)) where
         goes : (ns : Notices) (k : Context) → data_instr (on_data.Store datum from) (sees s ns f) ≡ Ok k
             → k ≡ record { store = new.store; notices = with_notices ns (notices_after s.store right.id (set_to value)); rights = slice_set (bare_file f.held) datum None; position = at_next_place f.position }
@@ -48,4 +51,4 @@ module _ (datum from : ℕ) (s : Served) (f : FrameView) (m : MayDo (on_data.Sto
 
         pub stored_done : (g : FrameView) → g ≡ record f { position = at_next_place f.position; held = slice_set f.held datum None; spent = f.spent + 1 } → IsDone (on_data.Store datum from) s new f g
         stored_done = emptied_done (on_data.Store datum from) s new f (notices_after s.store right.id (set_to value)) (left_notified s new right.id (set_to value) left live.0 live.1 refl)
-            (left_stays s new right.id (set_to value) left) datum goes refl (λ typing. refl)
+            (left_stays s new right.id (set_to value) left) (λ ns. rw (store_at, v_at) refl) datum goes refl (λ typing. refl)

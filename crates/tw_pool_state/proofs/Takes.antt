@@ -134,7 +134,7 @@ module _ (verified : TypedProgram) (layout : ActorCounts) (old : Parts) (notices
       }
 
       pub takes : Goes verified layout (Take actor) old notices new
-      takes = goes_to verified layout old notices h (Take actor) new notices _ goes same_state (rw store h.queued) (rw store h.servers) layout_is fit_is
+      takes = goes_to verified layout old notices h (Take actor) new notices _ goes same_state (rw store h.queued) (rw store h.servers) (rw store refl) layout_is fit_is
           (λ other apart. ap (λ m. get m other) running_tasks ∙ get_other old.running_tasks.tasks actor (record begun { event_no = event_no }) other apart)
         where
           without_it : RightsFit verified old.store.places old.running_tasks.tasks (remove old.tasks.tasks e.0) old.rules.rules old.outputs

@@ -26,6 +26,7 @@ use Rattle.tw_frame.specs.Jobs.{DoneView, DraftView, FrameView, JobView, MayBeAt
 use Rattle.tw_pool_state.specs.Coming.{come, lent_as}
 use Rattle.tw_pool_state.specs.Fits.{ArePlaced, IsAt, kinds_in, right_in}
 use Rattle.tw_pool_state.specs.Memory.{TakesMemory}
+use Rattle.tw_pool_state.specs.Queued.{notices_made}
 
 -- returns the instruction's context, if these are the notices
 abbrev pub sees : Served → Notices → FrameView → Context
@@ -64,6 +65,7 @@ pub record IsDone (d : DataInstr) (old new : Served) (f g : FrameView) : Type 0 
   pub more : List Notice
   pub goes : (ns : Notices) (left : Context) → data_instr d (sees old ns f) ≡ Ok left → left ≡ sees new (with_notices ns more) g
   pub notified : AreNotified old new more
+  pub made : (ns : Notices) → more ≡ notices_made d (sees old ns f)
   -- data that stay live keep their places
   pub stays : (id place : ℕ) → IsLive old id → IsLive new id → get old.places id ≡ Some place → get new.places id ≡ Some place
   -- each right of the task was its own, or has its datum's place now

@@ -20,16 +20,18 @@ use Rattle.tw_frame.specs.Jobs.{DoneView, FrameView, JobView, job_of}
 use Rattle.tw_pool_state.specs.Coming.{come}
 use Rattle.tw_pool_state.specs.Fits.{AreParts}
 use Rattle.tw_pool_state.specs.Parts.{state_of}
+use Rattle.tw_pool_state.specs.Queued.{queues_after}
 use Rattle.tw_pool_state.specs.RunningTasks.{with_running}
 use Rattle.tw_pool_state.specs.declared.parts.Parts.{Parts}
 
 -- ---- events
 
--- the event succeeds, the results are parts again, and no other actor's task has changed
+-- the event succeeds, the results are parts again, the queues have its notices, and no other actor's task has changed
 pub record Goes (verified : TypedProgram) (layout : ActorCounts) (event : Event) (old : Parts) (notices : Notices) (new : Parts) : Type 0 where
   pub left : Notices
   pub step_is : step verified.program layout event (state_of old notices) ≡ Went (state_of new left)
   pub parts : AreParts verified layout new left
+  pub queues : new.store.queues ≡ queues_after verified.program event (state_of old notices) old.store.queues
   pub others : (actor : Actor) → actor ≢ actor_of event → get new.running_tasks.tasks actor ≡ get old.running_tasks.tasks actor
 
 -- holds if it does so for any set of notices that has those in the queues

@@ -1,6 +1,6 @@
 //! A server delivers a notice.
 
-ghost use Rattle.std.specs.Prelude.{◌≡◌, ◌<◌, [], MatchOption, length};
+ghost use Rattle.std.specs.Prelude.{◌≡◌, ◌<◌, [], MatchOption, Some, length, slice_get};
 ghost use Rattle.tw_types.specs.declared.event.Event.TheVariants.{Deliver};
 ghost use Rattle.tw_types.specs.Layout.{ActorCounts};
 ghost use Rattle.tw_types.specs.Notices.{Notices};
@@ -19,7 +19,7 @@ impl<'a> Parts<'a> {
         requires parts { (verified : TypedProgram) × (layout : ActorCounts) × (notices : Notices) × AreParts verified layout self.old notices }
         ensures { MatchOption result
             ((queue_at self.old.store.queues server ≡ []) × Untouched self.old self.new)
-            (λ n. (verified : TypedProgram) (layout : ActorCounts) → Makes verified layout (Deliver server n.datum n.rule n.parameter) self.old self.new) }
+            (λ n. (slice_get (queue_at self.old.store.queues server) 0 ≡ Some n) × ((verified : TypedProgram) (layout : ActorCounts) → Makes verified layout (Deliver server n.datum n.rule n.parameter) self.old self.new)) }
     {
         let notice = self.store.take_note(server)?;
         self.rules.mark_ready(notice.rule, notice.parameter);
