@@ -1,7 +1,7 @@
 -- The queues after an instruction that is an event of its own.
-use Rattle.std.proofs.Common.{map as each, ◌≡◌, ◌∙◌, ℕ, List, [], ◌∷◌, Some, refl, sym, ap, subst, slice_get, inl, inr}
-use Rattle.tw_pool_state.proofs.PartNames.{Actor, AreNotified, Notice, Procedure, Served, State, get, notice_to, queued, server_of, Call}
-use Rattle.tw_types.specs.declared.subscriber.Subscriber.{Subscriber}
+use Rattle.std.proofs.Common.{map as each, ◌≡◌, ◌∙◌, ℕ, List, [], ◌∷◌, Some, refl, sym, ap, slice_get, inl, inr}
+use Rattle.tw_pool_state.proofs.PartNames.{Actor, AreNotified, Notice, Procedure, Served, State, get, notice_to, queued, Call}
+use Rattle.tw_types.specs.declared.notice.Subscriber.{Subscriber}
 use Rattle.tw_code.specs.declared.instr.Instr.{Instr}
 use Rattle.tw_code.specs.machine.State.{Frame, context_of}
 use Rattle.tw_pool_state.specs.Queued.{Queues, arrived, notices_of_instr, queues_after}

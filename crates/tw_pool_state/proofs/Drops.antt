@@ -45,7 +45,7 @@ module _ (datum : ℕ) (s : Served) (f : FrameView) (m : MayDo (on_data.DropWrit
 
       pub write_dropped_done : (g : FrameView) → g ≡ record f { position = at_next_place f.position; held = slice_set f.held datum None; spent = f.spent + 1 } → IsDone (on_data.DropWrite datum) s new f g
       write_dropped_done = emptied_done (on_data.DropWrite datum) s new f (notices_after s.store right.id one_write_less) (left_notified s new right.id one_write_less left drop_write_live.0 drop_write_live.1 refl)
-          (left_stays s new right.id one_write_less left) (λ ns. rw (drop_write_at) refl) datum drop_write_goes refl (λ typing. refl)
+          (left_stays s new right.id one_write_less left) (λ ns. rw drop_write_at refl) datum drop_write_goes refl (λ typing. refl)
 
 -- ---- a read right
 

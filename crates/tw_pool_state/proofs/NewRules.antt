@@ -1,6 +1,6 @@
 -- RULE: on the parts.
 use Rattle.std.proofs.Common.{map as each, ◌≡◌, ◌+◌, ◌∙◌, List, Option, Some, refl, sym, ap, subst, slice_get}
-use Rattle.tw_pool_state.proofs.PartNames.{Action, Actor, ActorCounts, AreParts, Arg, Call, Completed, FrameFits, FrameView, Goes, Held, MayBeAt, Notices, Parts, Procedure, Right, RuleOf, RightsFit, TypedProgram, Value, Went, actor_cmp-IsAntisymmetric, actor_cmp_total, at_next_place, bare_frame, bare_rule, bare_task, context_of, get, gone_after, gone_on, insert, insert_mapped, mapped, named_values, nat_cmp-IsAntisymmetric, nat_cmp_total, new_rule, number_in_kind, state_of, typed_after, typings_of, with_frame, with_rule}
+use Rattle.tw_pool_state.proofs.PartNames.{Action, Actor, ActorCounts, AreParts, Arg, Call, Completed, FrameFits, FrameView, Goes, Held, MayBeAt, Notices, Parts, Procedure, Right, RuleOf, RightsFit, Served, TypedProgram, Value, Went, actor_cmp-IsAntisymmetric, actor_cmp_total, at_next_place, bare_frame, bare_rule, bare_task, context_of, get, gone_after, gone_on, insert, insert_mapped, mapped, named_values, nat_cmp-IsAntisymmetric, nat_cmp_total, new_rule, number_in_kind, state_of, typed_after, typings_of, with_frame, with_rule}
 use Rattle.tw_rights.specs.Bundled.{bundled}
 use Rattle.tw_code.specs.declared.instr.Instr.TheVariants as instr
 use Rattle.tw_code.specs.machine.Machine.{step}
@@ -62,7 +62,7 @@ module _ (verified : TypedProgram) (layout : ActorCounts) (old : Parts) (notices
       }
 
       pub rule_goes : Goes verified layout (Call actor) old notices new
-      rule_goes = goes_to verified layout old notices h (Call actor) new notices _ goes same_state (rw store h.queued) (rw store h.servers) (ap (λ st. st.queues) store ∙ sym (call_queues verified.program (state_of old notices) actor (bare_frame f) p (instr.Rule action) old.store.queues (seen bare_frame old.running_tasks.tasks actor (Some f) runs) here at)) layout_is fit_is
+      rule_goes = goes_to verified layout old notices h (Call actor) new notices _ goes same_state (rw store h.queued) (rw store h.servers) (ap (λ (x : Served). x.queues) store ∙ sym (call_queues verified.program (state_of old notices) actor (bare_frame f) p (instr.Rule action) old.store.queues (seen bare_frame old.running_tasks.tasks actor (Some f) runs) here at)) layout_is fit_is
           (λ other apart. ap (λ m. get m other) running_tasks ∙ get_other old.running_tasks.tasks actor (gone_on f file) other apart)
         where
           ruled_there : RightsFit verified old.store.places old.running_tasks.tasks old.tasks.tasks (insert old.rules.rules old.rules.next rule) old.outputs

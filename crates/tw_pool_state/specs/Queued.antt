@@ -2,7 +2,6 @@
 use Rattle.std.specs.Prelude.{ℕ, List, [], ◌∷◌, Option, Some, None, drop, replicate, slice_get, slice_set, unwrap_or}
 use Rattle.std.specs.FinMap.{get}
 use Rattle.std.specs.Option.{option_and_then, option_map}
-use Rattle.tw_types.specs.declared.actor.Actor.{Actor}
 use Rattle.tw_types.specs.declared.event.Event.{Event}
 use Rattle.tw_types.specs.declared.event.Event.TheVariants.{Take, Local, Call, End, Ask, Deliver, Release}
 use Rattle.tw_types.specs.declared.notice.Notice.{Notice}
@@ -75,12 +74,12 @@ queues_after program (Release engine rule) s queues = queues
 -- returns the queues after events from a state
 abbrev pub queues_along : List Procedure → ActorCounts → List Event → State → Queues → Queues
 queues_along program layout [] s queues = queues
-queues_along program layout (event ∷ events) s queues = from (step program layout event s)
+queues_along program layout (event ∷ events) s queues = from (step program layout event s) (λ t. queues_along program layout events t (queues_after program event s queues))
   where
-    from : Outcome State → Queues
-    from (Went t) = queues_along program layout events t (queues_after program event s queues)
-    from NotEnabled = queues
-    from (Trap cause) = queues
+    from : Outcome State → (State → Queues) → Queues
+    from (Went t) rest = rest t
+    from NotEnabled rest = queues
+    from (Trap cause) rest = queues
 
 -- the queues before the first event
 abbrev pub no_notices : ActorCounts → Queues
