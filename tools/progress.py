@@ -27,7 +27,10 @@ ROOT = Path(__file__).resolve().parent.parent
 PROGRAM = os.environ.get("TW_PROGRAM") or str(ROOT / "crates" / "tw_main" / "out" / "tw_main")
 SECONDS = 60
 SHORT = "proc control write int\nregs int\nINT v0 7\nSTORE d0 v0\nRET\n"
-NO_LINES = "tw: --each needs lines of inputs: tw run FILE --each LINES\ntw: tw run --help lists its arguments\n"
+NO_LINES = (
+    "tw: --each needs lines of inputs: tw run FILE --each LINES; those in FILE itself follow a line `inputs`\n"
+    "tw: tw run --help lists its arguments\n"
+)
 REFUSED = "error: --workers takes a number from 1 to 16\ntw: tw run --help lists its arguments\n"
 # The most tasks that an event limit of 1,000,000 allows, with five events each.
 MOST_TASKS = 199_000

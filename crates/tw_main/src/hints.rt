@@ -59,7 +59,9 @@ pub fn complain_missing(stderr: &Stderr, word: &str) -> io::Result<()> {
 
 /// Prints that there are no lines to answer.
 pub fn complain_lineless(stderr: &Stderr, name: &str) -> io::Result<()> {
-    eprintln!(stderr; "tw: --each needs lines of inputs: {name} run FILE --each LINES")
+    eprintln!(stderr;
+        "tw: --each needs lines of inputs: {name} run FILE --each LINES; those in FILE itself follow a line `inputs`"
+    )
 }
 
 /// Prints that a terminal is read for a file's content.
