@@ -91,7 +91,7 @@ def report_object(report: str) -> dict[str, Any]:
         elif member := re.fullmatch(r'  at ("(?:[^"\\]|\\.)*"|-?\d+) (.*)', line):
             key = quoted_text(member[1]) if member[1].startswith('"') else member[1]
             outputs[-1][key] = scalar(member[2])
-        elif line in ("quiet", "limit", "running"):
+        elif line in ("quiet", "limit", "stopped", "running"):
             found["status"] = line
         elif line.startswith("stuck "):
             found |= {"status": "stuck", "pending": int(line.split()[1])}
