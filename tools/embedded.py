@@ -111,13 +111,13 @@ def compare_unread(words: list[str]) -> None:
             os.close(write)
 
 
-def compare_call(name: str, order: list[str], text: str, call: Callable[[], str]) -> None:
+def compare_call(name: str, order: list[str], data: bytes, call: Callable[[], str]) -> None:
     """Compares what a function of the Python module gives, or refuses, with the program's text."""
     try:
         got = call()
     except module().Refused as why:
         got = why.text
-    wanted = started(tw, order, text.encode())[1].decode()
+    wanted = started(tw, order, data)[1].decode()
     say(got == wanted, "python", name, order, got[:100], wanted[:100])
 
 
@@ -133,6 +133,15 @@ def reported(text: str, inputs: list[str]) -> str:
     return str(module().load(text).run(*map(module().read_input, inputs), workers=2).text)
 
 
+def compare_report(name: str, assembles: list[str], text: str, inputs: list[str]) -> None:
+    """Compares a run's report, which has no line of the text, so it is that of the program's bytes. A rejected program's error has its line."""
+    data = text.encode()
+    words = ["--in-turn", "--workers", "2", *inputs]
+    is_accepted = started(tw, ["check", "--text"], data)[0] == 0
+    order, given = (["run", *words], started(tw, assembles, data)[1]) if is_accepted else (["run", "--text", *words], data)
+    compare_call(name, order, given, partial(reported, text, inputs))
+
+
 def compare_calls() -> None:
     """Compares the functions of the Python module with the program."""
     yuglemit = module()
@@ -140,12 +149,11 @@ def compare_calls() -> None:
         with open(f"{folder}/{name}", encoding="utf-8") as file:
             text = file.read()
         inputs = [word for word in (shown_words(name) or [[]])[0] if ":" in word]
-        order = ["asm", "--names"] if name.endswith(".twn") else ["asm"]
-        compare_call(name, order, text, partial(hex_of, text))
-        compare_call(name, ["check", "--text"], text, partial(checked, text))
-        order = ["run", "--text", "--in-turn", "--workers", "2", *inputs]
+        data, order = text.encode(), ["asm", "--names"] if name.endswith(".twn") else ["asm"]
+        compare_call(name, order, data, partial(hex_of, text))
+        compare_call(name, ["check", "--text"], data, partial(checked, text))
         if inputs or not re.search(r"^proc control.*\b(closed|ref)\b", text, re.M):  # inputs that main doesn't ask for are a TypeError
-            compare_call(name, order, text, partial(reported, text, inputs))
+            compare_report(name, order, text, inputs)
         try:
             answer = "accepted" if yuglemit.verify(yuglemit.assemble(text)) else ""
         except yuglemit.Refused as why:
