@@ -162,8 +162,13 @@ run_counted() {
         tools/refused.sh -n "$1" "$0" check --text --order <examples/pipeline.tw && tools/refused.sh -n "$1" "$0" check --text --order <examples/barrier.twn &&
         tools/refused.sh -n "$1" "$0" check --text --order --json <examples/barrier.twn &&
         tools/refused.sh -t "$0" run --text --workers 4 int:39 <examples/pipeline.tw &&
+        tools/refused.sh -n "$1" "$0" run --text --order int:39 <examples/pipeline.tw &&
+        tools/refused.sh -n "$1" "$0" run --text --json --order --in-turn int:39 <examples/pipeline.tw &&
+        tools/refused.sh -n "$1" "$0" run --text --seconds 100 int:39 <examples/pipeline.tw && tools/refused.sh -t "$0" run --text --seconds 100 int:39 <examples/pipeline.tw &&
+        tools/refused.sh -n "$1" "$0" run --text --in-turn --seconds 100 int:39 <examples/pipeline.tw &&
         tools/refused.sh -n "$1" "$0" run --text --each --jobs 4 <"$2.both" && tools/refused.sh -t "$0" run --text --each --jobs 4 <"$2.both" &&
-        tools/refused.sh -n "$1" "$0" run examples/pipeline.tw --each - --jobs 4 <"$2" && tools/refused.sh -t "$0" run examples/pipeline.tw --each - --jobs 4 <"$2"' \
+        tools/refused.sh -n "$1" "$0" run examples/pipeline.tw --each - --jobs 4 <"$2" && tools/refused.sh -t "$0" run examples/pipeline.tw --each - --jobs 4 <"$2" &&
+        tools/refused.sh -n "$1" "$0" run examples/pipeline.tw --each - --jobs 4 --seconds 100 <"$2" && tools/refused.sh -t "$0" run examples/pipeline.tw --each - --jobs 4 --seconds 100 <"$2"' \
         "$program" "$requests" "$logs/lines"
     times=$(whole_or_quick 100 3)
     all_lines load 1800 "^ *$times status 0, last line quiet, checksum [0-9a-f]+, errors ''\$|^[0-9]+ of $times\$" tools/load.sh "$times"
@@ -176,6 +181,7 @@ run_harnesses() {
     harness json 600 tools/json_runs.py "$program"
     harness progress 300 tools/progress.py
     harness stream 300 tools/stream.py "$program"
+    harness seconds 600 tools/seconds.py "$program" "$library"
     harness memory 1800 python3 -B tools/memory.py "$program"
     harness_with "cc rt" loaded 900 tools/loaded.sh
     # shellcheck disable=SC2046
