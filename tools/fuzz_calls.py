@@ -17,7 +17,7 @@ from fuzz_common import Corpus, RunTest, FuzzTest, case_word, difference, input_
 
 COMMANDS = ["asm", "disasm", "check", "run", "replay", "picture", "explain", "help", "--help", "-h", "--version", "-V", ""]
 FLAGS = ["--text", "--names", "--plain", "--places", "--bounds", "--trace", "--stats", "--picture", "--quiet", "--in-turn", "--inputs", "--inputs-json", "--help", "-h", "--", "-",
-         "--json", "--each", "--bounds=all", "--order"]
+         "--json", "--each", "--bounds=all", "--order", "--seed=7", "--seed=0", "--seconds=0", "--seconds=1000", "--seconds=4294967295", "--seconds=4294967296"]
 NUMBERED = ["--engines", "--servers", "--workers", "--limit", "--from", "--to", "--jobs", "--most-tasks", "--most-instructions", "--most-data", "--most-bytes", "--most-budget"]
 READING = ("asm", "check", "disasm", "picture", "replay", "run")
 VALUES = ["0", "1", "2", "4", "5", "16", "17", "100", "1000000", "1000001", "4294967295", "4294967296", "-1", "+1", "01", "x", "", "1.0", "99999999999999999999"]
