@@ -3,9 +3,9 @@
 """Checks that `tw run --seconds N` stops runs: seconds.py [TW [LIBRARY]]
 
 Runs that take minutes are stopped after a second and not before: in turn, by a seed, in threads, on a terminal; and a line of --each, while the
-others have their own ends. The same again beside busy processes, two for each processor. What a run takes too long is processor time, since on
-a busy machine the clock goes on while a run waits. The clock is looked at in the quickest of some runs. A signal ends such a run at once. A
-session of the library has no clock: it rejects what the command rejects, and else ignores the option. Without TW it is the release's program
+others have their own ends. The same again beside busy processes, two for each processor. On a busy machine a run waits while time passes, so
+the limit of each run is in processor time, and only the quickest of some runs has to end soon by the clock. A signal ends such a run at once.
+A session of the library has no clock: it rejects what the command rejects, and else ignores the option. Without TW it is the release's program
 and library.
 """
 
@@ -88,7 +88,7 @@ A_SECOND = Window(1.0, 3.0, 2.0)
 
 @dataclass(frozen=True)
 class Ran:
-    """What came of a command: its status, its output, its seconds by the clock, and those of processors."""
+    """A command's status, its output, its seconds by the clock, and those of processors."""
 
     status: int
     output: str
@@ -128,7 +128,7 @@ def in_time(window: Window, make: Callable[[], Ran]) -> Ran:
 
 
 def command(given: Given, *words: str) -> list[str]:
-    """Returns a command of a run that goes on."""
+    """Returns the command of a run that takes minutes."""
     return [given.tw, "run", given.turns, f"int:{MANY}", MOST_EVENTS, *words]
 
 
