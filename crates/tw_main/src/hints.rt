@@ -146,7 +146,7 @@ pub fn print_hints(stderr: &Stderr, answered: &Answered<'_>) -> io::Result<()> {
         }
         Status::Ended(Close::Limit) if draws(answered.words) => {
             eprintln!(stderr;
-                "tw: the run reached its limit of events; --limit takes up to 1000000"
+                "tw: the run reached its limit of events, or that of --seconds; --limit takes up to 1000000"
             )
         }
         Status::ReadFailed => eprintln!(stderr; "tw: standard input can't be read"),
