@@ -273,7 +273,7 @@ static inline size_t yuglemit_raw_count(size_t size) { return size / sizeof(uint
  * was. *status is the exit status, a yuglemit_status.
  * Returns the length of the text: if it is more than `room_length`, nothing is written to `room`; call again with as much.
  * A program is run in the caller's thread, its actors in turn, as by `tw run --in-turn`: `--workers 4` are four workers of that one thread,
- * and the second call answers the same: tests show that, and if its run ends by itself and yuglemit_program_order writes 0, it is proved.
+ * and the second call answers the same: its run has the same events and the same results, by proof, unless memory runs out.
  * Nothing is printed before the end, nor on standard error.
  * yuglemit_session_text, below, takes arguments with line feeds, and needs no second call. */
 size_t yuglemit_session(const uint8_t *words, size_t words_length, const uint8_t *input, size_t input_length,

@@ -1,5 +1,5 @@
 -- Two runs in one thread from one opening are equal.
-use Rattle.std.proofs.Common.{◌≡◌, ◌⊎◌, ℕ, zero, suc, Bool, true, false, List, [], ◌∷◌, Option, Some, None, refl, sym, ap, slice_get, subst, ◌∙◌, inl, inr}
+use Rattle.std.proofs.Common.{◌≡◌, ◌⊎◌, ℕ, zero, suc, Bool, true, false, List, [], ◌∷◌, Option, Some, None, refl, sym, ap, subst, ◌∙◌, inl, inr}
 use Rattle.std.proofs.lemmas.Bool.{cases_order}
 use Rattle.std.proofs.lemmas.Option.{same_Some}
 use Rattle.tw_types.specs.declared.actor.Actor.{Actor}
@@ -14,18 +14,22 @@ use Rattle.tw_code.specs.declared.instr.Instr.{Instr}
 use Rattle.tw_code.specs.declared.procedure.Procedure.{Procedure}
 use Rattle.tw_code.specs.machine.Due.{IsDelivery, IsDueFree, event_of}
 use Rattle.tw_code.specs.machine.Machine.{local_step, local_steps}
+use Rattle.tw_code.specs.machine.Pending.{pending_rules}
 use Rattle.tw_code.specs.machine.Position.{Position}
 use Rattle.tw_code.specs.machine.State.{State}
 use Rattle.tw_frame.specs.Jobs.{DoneView, JobView}
 use Rattle.tw_frame.specs.Ready.{IsStop}
-use Rattle.tw_pool_state.specs.Notes.{queue_at}
 use Rattle.tw_pool.specs.declared.answer.Closing.{Closing}
 use Rattle.tw_pool.specs.declared.answer.Turn.{Turn}
 use Rattle.tw_pool.specs.declared.answer.Turn.TheVariants.{Over, Foreign, Owed, NoMemory, Run, Ended, Went, Idle}
-use Rattle.tw_pool.specs.PoolView.{PoolView, queues_of, with_events}
+use Rattle.tw_pool.specs.Ends.{FinalView, IsShut}
+use Rattle.tw_pool.specs.History.{HistoryView}
+use Rattle.tw_pool.specs.PoolView.{PoolView, oldest_notice, with_events}
 use Rattle.tw_pool.specs.Turns.{GoesFree, Lends, Makes, TakesBack, Turns, TurnsUnless, IsOldest, closing_at, instr_after, is_last, lent_to, steps_of}
 use Rattle.tw_in_turn.specs.Drawn.{place_for}
-use Rattle.tw_in_turn.specs.InTurn.{ComesTo, GoesOn, HasDone, IsAfter, IsDrawn, IsIdle, IsMove, IsNext, IsOver, IsWorkOf, actor_from}
+use Rattle.tw_in_turn.specs.InTurn.{ComesTo, GoesOn, HasDone, IsAfter, IsDrawn, IsIdle, IsLeft, IsMove, IsNext, IsOver, IsWorkOf, actor_from}
+use Rattle.tw_in_turn.specs.Same.{AreSameFinals}
+use Rattle.tw_in_turn.specs.declared.run.InTurnResult.TheVariants as left
 
 -- ---- results of jobs
 
@@ -116,18 +120,18 @@ module _ (p : PoolView) (a b : Turn) (xs ys : List Event) (sa : IsNoFailure a) (
 
   -- ---- due events
 
-  -- of one server both deliver the first notice
+  -- both deliver their server's oldest notice
   oldest_same : (s : State) (server : ℕ) (e f : Event) → IsDelivery p.layout server s e → IsDelivery p.layout server s f → IsOldest p e → IsOldest p f → f ≡ e
-  oldest_same s server e f de df oe of =
-      let one : slice_get (queue_at (queues_of p) server) 0 ≡ Some de.notice = subst (IsOldest p) de.is oe in
-      let other : slice_get (queue_at (queues_of p) server) 0 ≡ Some df.notice = subst (IsOldest p) df.is of in
+  oldest_same s server e f de df first last =
+      let one : oldest_notice p server ≡ Some de.notice = subst (IsOldest p) de.is first in
+      let other : oldest_notice p server ≡ Some df.notice = subst (IsOldest p) df.is last in
       let same : df.notice ≡ de.notice = same_Some df.notice de.notice (sym other ∙ one) in
       df.is ∙ (ap (λ (n : Notice). Deliver server n.datum n.rule n.parameter) same ∙ sym de.is)
 
   due_same : (s : State) (actor : Actor) (e f : Event) → IsDueFree p.layout actor s e → IsDueFree p.layout actor s f → IsOldest p e → IsOldest p f → f ≡ e
-  due_same s (Engine n) e f de df oe of = same_Some f e (sym df ∙ de)
-  due_same s (Worker n) e f de df oe of = same_Some f e (sym df ∙ de)
-  due_same s (Server n) e f de df oe of = oldest_same s n e f de df oe of
+  due_same s (Engine n) e f de df first last = same_Some f e (sym df ∙ de)
+  due_same s (Worker n) e f de df first last = same_Some f e (sym df ∙ de)
+  due_same s (Server n) e f de df first last = oldest_same s n e f de df first last
 
   free_same : (s : State) (actor : Actor) → GoesFree p s actor a xs → GoesFree p s actor b ys → BothSame a b xs ys
   free_same s actor (inl l) (inl m) = makes_same actor None [] l.0 l.3 (subst (λ x. Makes p actor None [] x b ys) (due_same s actor l.0 m.0 l.1 m.1 l.2 m.2) m.3)
@@ -200,7 +204,7 @@ after_same seed first zero p q h k = h ∙ sym k
 after_same seed first (suc turns) p q (x, u, a, h, c, m, on) (y, v, b, k, d, n, goes) =
     (next_leads seed x y p q turns u v a b (after_same seed first turns x y h k) c d m n (goes_without_failure a on) (goes_without_failure b goes)).1
 
--- a run goes on after so many steps
+-- a run continues after so many steps
 record GoesBy (seed : Option ℕ) (first : PoolView) (turns : ℕ) : Type 0 where
   before : PoolView
   next : PoolView
@@ -231,7 +235,7 @@ module _ (seed : Option ℕ) (first p q : PoolView) (c : ComesTo seed first IsOv
       (next_leads seed c.before d.before p q d.turns c.actor d.actor c.answer d.answer same (subst (λ n. IsNext seed c.before n c.actor) is c.next) d.next c.last d.last
       (over_without_failure c.answer c.is) (over_without_failure d.answer d.is)).1
 
-  -- not fewer turns: there the one is over, and the other goes on
+  -- not fewer turns: then one would be over, and the other not
   no_fewer : (later : ℕ) → d.turns ≡ suc (later_on later c.turns) → ⊥
   no_fewer later is =
       let g = goes_by seed first c.turns later d.before (subst (λ n. IsAfter seed first n d.before) is d.after) in
@@ -268,3 +272,21 @@ one_run seed first p q c d = by (order c.turns d.turns)
     by (inl is) = as_many seed first p q c d is
     by (inr (inl less)) = absurd (no_fewer seed first p q c d less.0 less.1)
     by (inr (inr more)) = absurd (no_fewer seed first q p d c more.0 more.1)
+
+-- ---- the results
+
+same_shut : (p : PoolView) (one other : FinalView) (h k : HistoryView) → IsShut p one h → IsShut p other k → (h.events ≡ k.events) × AreSameFinals one other
+same_shut p one other h k a b =
+    let state : a.state ≡ b.state = same_went a.state b.state (sym a.has_state ∙ b.has_state) in (
+      a.events ∙ sym b.events,
+      record {
+        store = a.left.store ∙ (ap (λ (s : State). s.store) state ∙ sym b.left.store);
+        outputs = a.left.outputs ∙ (ap (λ (s : State). s.outputs) state ∙ sym b.left.outputs);
+        pending = a.left.pending ∙ (ap (pending_rules p.program.program) state ∙ sym b.left.pending);
+        closing = a.closing ∙ (ap (closing_at p) state ∙ sym b.closing);
+      },
+    )
+
+pub same_left : (seed : Option ℕ) (first : PoolView) (one other : FinalView) (h k : HistoryView) → IsLeft seed first (left.Over one h) → IsLeft seed first (left.Over other k) → (h.events ≡ k.events) × AreSameFinals one other
+same_left seed first one other h k (p, c, a, ended) (q, d, b, over) =
+    same_shut p one other h k a.shut (subst (λ (x : PoolView). IsShut x other k) (one_run seed first q p d c) b.shut)

@@ -1,5 +1,5 @@
 -- Steps of an actor without a task: the lines of the table, from the events of the parts.
-use Rattle.std.proofs.Common.{IsSome, ◌≡◌, ◌<◌, ◌+◌, ◌^◌, ◌==◌, nat_lt, ◌&&◌, ℕ, Bool, true, false, List, [], ◌∷◌, ◌++◌, length, Option, Some, None, refl, sym, ap, subst, ◌∙◌, arith, inl, inr, option_map, append-nil}
+use Rattle.std.proofs.Common.{IsSome, ◌≡◌, ◌<◌, ◌+◌, ◌^◌, ◌==◌, nat_lt, ◌&&◌, ℕ, Bool, true, false, List, [], ◌∷◌, ◌++◌, length, Option, Some, None, refl, sym, ap, subst, ◌∙◌, arith, inl, inr, option_map, append-nil, slice_get}
 use Rattle.std.proofs.lemmas.Bool.{and_parts, eqb-true}
 use Rattle.std.proofs.lemmas.Option.{same_Some}
 use Rattle.std.specs.declared.alloc.AllocError.{AllocError}
@@ -46,7 +46,7 @@ use Rattle.tw_pool.specs.declared.answer.Turn.TheVariants.{Idle, NoMemory, Run, 
 use Rattle.tw_pool.specs.Actors.{events_of}
 use Rattle.tw_pool.specs.History.{HistoryView}
 use Rattle.tw_pool.specs.Kept.{AsksNone, IsFree, IsKept, MayTakeNow, ReleasesNone}
-use Rattle.tw_pool.specs.PoolView.{PoolView, HasState, with_events}
+use Rattle.tw_pool.specs.PoolView.{PoolView, HasState, oldest_notice, with_events}
 use Rattle.tw_pool.specs.Turns.{GoesFree, IsTurnBy, Lends, Line, TakesMemory, lent_to}
 use Rattle.tw_pool.specs.Words.{FitsWord}
 use Rattle.tw_pool.proofs.Fitting.{few_parameters, low_datum, small_numbers}
@@ -165,7 +165,7 @@ module _ (verified : TypedProgram) (inputs : List Input) (layout : ActorCounts) 
       deliver_line oldest = inl (
         Deliver server n.datum n.rule n.parameter,
         record { notice = n; waits = waits.0; own = ap (λ (x : PoolView). server_of x.layout.servers n.datum) (sym seen) ∙ waits.1; is = refl },
-        subst (λ (x : PoolView). slice_get (queue_at (queues_of x) server) 0 ≡ Some n) seen (ap (λ qs. slice_get (queue_at qs server) 0) (sym h.queues) ∙ oldest),
+        subst (λ (x : PoolView). oldest_notice x server ≡ Some n) seen (ap (λ qs. slice_get (queue_at qs server) 0) (sym h.queues) ∙ oldest),
         (refl, refl),
       )
 

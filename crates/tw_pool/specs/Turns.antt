@@ -14,13 +14,12 @@ use Rattle.tw_code.specs.machine.Ending.{ending}
 use Rattle.tw_code.specs.machine.State.{Frame, State}
 use Rattle.tw_frame.specs.Jobs.{DoneView, JobView}
 use Rattle.tw_pool_state.specs.Memory.{EventTakes}
-use Rattle.tw_pool_state.specs.Notes.{queue_at}
 use Rattle.tw_pool.specs.declared.answer.Closing.{Closing}
 use Rattle.tw_pool.specs.declared.answer.Closing.TheVariants.{Quiet, Stuck, Stopped, Limit}
 use Rattle.tw_pool.specs.declared.answer.Turn.{Turn}
 use Rattle.tw_pool.specs.declared.answer.Turn.TheVariants.{Over, Foreign, Owed, NoMemory, Run, Ended, Went, Idle}
 use Rattle.tw_pool.specs.Actors.{events_of}
-use Rattle.tw_pool.specs.PoolView.{PoolView, HasState, queues_of, with_events}
+use Rattle.tw_pool.specs.PoolView.{PoolView, HasState, oldest_notice, with_events}
 
 -- ---- the state before a step
 
@@ -97,14 +96,14 @@ TakesBack false false p actor done = Makes p actor (Some done) (steps_of actor d
 
 -- ---- an actor without a job: a due event is made, or none is due
 
--- holds for a delivery of the first notice in its server's queue, and for any other event
+-- holds for a delivery of its server's oldest notice, and for any other event
 abbrev pub IsOldest : PoolView → Event → Type 0
 IsOldest p (Take actor) = Unit {0}
 IsOldest p (Local actor steps) = Unit {0}
 IsOldest p (Call actor) = Unit {0}
 IsOldest p (End actor) = Unit {0}
 IsOldest p (Ask engine rule parameter) = Unit {0}
-IsOldest p (Deliver server datum rule parameter) = slice_get (queue_at (queues_of p) server) 0 ≡ Some (record { datum = datum; rule = rule; parameter = parameter })
+IsOldest p (Deliver server datum rule parameter) = oldest_notice p server ≡ Some (record { datum = datum; rule = rule; parameter = parameter })
 IsOldest p (Release engine rule) = Unit {0}
 
 abbrev pub GoesFree : PoolView → State → Actor → Line
