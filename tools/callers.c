@@ -231,6 +231,171 @@ static void check_large(void) {
     __real_free(room);
 }
 
+/* ---- Each call with each kind of handle, and each layout. The rest of what a call takes is right. */
+
+enum { EMPTY, OF_PROGRAM, OF_INPUTS, OF_CONTAINER, OF_STOP, OF_REPORT, OF_TEXT, KINDS };
+enum { ROOM = 8 };
+
+static uint8_t run_with(void *program, void *inputs, void *stop) {
+    yuglemit_program of = {program};
+    yuglemit_inputs given = {inputs};
+    yuglemit_stop flag = {stop};
+    yuglemit_options options = YUGLEMIT_OPTIONS;
+    yuglemit_report report = {NULL};
+    uint8_t code = yuglemit_run(&of, &given, &options, &flag, &report);
+    yuglemit_report_free(report);
+    return code;
+}
+
+static uint8_t ask_program(int row, void *at) {
+    yuglemit_program program = {at}, other = {NULL};
+    yuglemit_bounds bounds = YUGLEMIT_BOUNDS;
+    yuglemit_order order = YUGLEMIT_ORDER;
+    yuglemit_procedure procedure = YUGLEMIT_PROCEDURE;
+    yuglemit_parameter parameter = YUGLEMIT_PARAMETER;
+    yuglemit_needs needs = YUGLEMIT_NEEDS;
+    yuglemit_inputs none = {NULL};
+    size_t count;
+    uint64_t budget;
+    switch (row) {
+    case 0: return yuglemit_program_procedures(&program, &count);
+    case 1: return yuglemit_program_budget(&program, 0, &budget);
+    case 2: return yuglemit_program_bounds(&program, 1, &bounds);
+    case 3: return yuglemit_program_order(&program, &order);
+    case 4: return yuglemit_program_procedure(&program, 0, &procedure);
+    case 5: return yuglemit_program_parameter(&program, 0, 0, &parameter);
+    case 6: return yuglemit_program_needs(&program, &needs);
+    case 7: return yuglemit_program_share(&program, &other);
+    case 8: return yuglemit_unfit_input(&program, &none, &count);
+    case 9: return run_with(at, NULL, NULL);
+    default: return YUGLEMIT_DONE;
+    }
+}
+
+static uint8_t ask_report(int row, void *at) {
+    yuglemit_report report = {at};
+    yuglemit_ending ending = YUGLEMIT_ENDING;
+    yuglemit_item item;
+    yuglemit_member member;
+    yuglemit_text text = {NULL};
+    uint8_t room[ROOM] = {0};
+    size_t place;
+    uint64_t count;
+    switch (row) {
+    case 0: return yuglemit_report_ending(&report, &ending);
+    case 1: return yuglemit_report_instructions(&report, &count);
+    case 2: return yuglemit_report_output(&report, 0, &item);
+    case 3: return yuglemit_report_member(&report, 0, 0, &member);
+    case 4: return yuglemit_report_members(&report, 0, 0, &member, 1);
+    case 5: return yuglemit_report_find_int(&report, 0, 0, &place);
+    case 6: return yuglemit_report_find_text(&report, 0, room, 0, &place);
+    case 7: return yuglemit_report_text(&report, 0, room, ROOM);
+    case 8: return yuglemit_report_member_text(&report, 0, 0, room, ROOM);
+    case 9: return yuglemit_report_subscript_text(&report, 0, 0, room, ROOM);
+    case 10: return yuglemit_print_report(&report, &text);
+    case 11: return yuglemit_print_trace(&report, &text);
+    case 12: return yuglemit_print_json(&report, &text);
+    default: return YUGLEMIT_DONE;
+    }
+}
+
+static uint8_t ask_container(int row, void *at) {
+    static const uint8_t one[] = "1";
+    yuglemit_container container = {at};
+    yuglemit_inputs inputs = {NULL};
+    switch (row) {
+    case 0: return yuglemit_member_int(&container, 1, 1);
+    case 1: return yuglemit_member_text(&container, 1, one, 1);
+    case 2: return yuglemit_member_int_by_text(&container, one, 1, 1);
+    case 3: return yuglemit_member_text_by_text(&container, one, 1, one, 1);
+    case 4: return yuglemit_input_container(&inputs, &container);
+    default: return YUGLEMIT_DONE;
+    }
+}
+
+static uint8_t ask_inputs(int row, handles *all, void *at) {
+    yuglemit_inputs inputs = {at};
+    size_t index;
+    switch (row) {
+    case 0: return yuglemit_input_int(&inputs, 1);
+    case 1: return yuglemit_input_text(&inputs, (const uint8_t *)"1", 1);
+    case 2: return yuglemit_input_container(&inputs, &all->container);
+    case 3: return yuglemit_unfit_input(&all->program, &inputs, &index);
+    case 4: return run_with(all->program.at, at, NULL);
+    default: return YUGLEMIT_DONE;
+    }
+}
+
+static uint8_t ask_stop(int row, handles *all, void *at) {
+    yuglemit_stop stop = {at}, other = {NULL};
+    switch (row) {
+    case 0: return yuglemit_stop_raise(&stop);
+    case 1: return yuglemit_stop_lower(&stop);
+    case 2: return yuglemit_stop_share(&stop, &other);
+    case 3: return run_with(all->program.at, all->inputs.at, at);
+    default: return YUGLEMIT_DONE;
+    }
+}
+
+static uint8_t ask_text(int row, void *at) {
+    yuglemit_text text = {at};
+    uint8_t room[ROOM];
+    size_t size;
+    switch (row) {
+    case 0: return yuglemit_text_length(&text, &size);
+    case 1: return yuglemit_text_copy(&text, room, ROOM);
+    default: return YUGLEMIT_DONE;
+    }
+}
+
+/* Makes each kind of handle. The one of inputs has what the program takes. */
+static void make_each(handles *all) {
+    check(load(all, program_bytes, program_length, YUGLEMIT_BYTES) == 0 && yuglemit_input_text(&all->inputs, (const uint8_t *)"41", 2) == 0, "a program and inputs");
+    check(yuglemit_container_new(&all->container, 'i', 'i') == 0 && yuglemit_stop_new(&all->stop) == 0, "a container and a flag");
+    check(run(all) == 0 && yuglemit_print_report(&all->report, &all->text) == 0, "a report and a text");
+}
+
+/* Each call with each kind of handle that it doesn't take. An empty handle has no input, and a run without a flag has an empty one. */
+static void check_pairs(void) {
+    handles all = {{NULL}, {NULL}, {NULL}, {NULL}, {NULL}, {NULL}, {NULL}};
+    make_each(&all);
+    void *const each[KINDS] = {NULL, all.program.at, all.inputs.at, all.container.at, all.stop.at, all.report.at, all.text.at};
+    for (int kind = 0; kind < KINDS; kind++) {
+        void *at = each[kind];
+        for (int row = 0; row < 10; row++) check(kind == OF_PROGRAM || ask_program(row, at) == YUGLEMIT_NO_PROGRAM, "it holds no program");
+        for (int row = 0; row < 13; row++) check(kind == OF_REPORT || ask_report(row, at) == YUGLEMIT_NO_REPORT, "it holds no report");
+        for (int row = 0; row < 5; row++) check(kind == OF_CONTAINER || ask_container(row, at) == YUGLEMIT_NO_CONTAINER, "it holds no container");
+        for (int row = 0; row < 5; row++) check(kind == EMPTY || kind == OF_INPUTS || ask_inputs(row, &all, at) == YUGLEMIT_NO_INPUTS, "it holds no inputs");
+        for (int row = 0; row < 4; row++) check(kind == OF_STOP || (kind == EMPTY && row == 3) || ask_stop(row, &all, at) == YUGLEMIT_NO_STOP, "it holds no flag");
+        for (int row = 0; row < 2; row++) check(kind == OF_TEXT || ask_text(row, at) == YUGLEMIT_NO_STRING, "it holds no text");
+    }
+    check(ask_program(0, all.program.at) == 0 && ask_report(7, all.report.at) == 0 && ask_text(0, all.text.at) == 0, "what they held");
+    check(ask_container(0, all.container.at) == 0 && ask_inputs(4, &all, all.inputs.at) == 0 && ask_stop(2, &all, NULL) == YUGLEMIT_NO_STOP, "is as it was");
+    free_all(&all);
+}
+
+/* Layouts and limits, beside their bounds and where a byte or 32 bits would cut them. */
+static void check_layouts(void) {
+    static const uint64_t counts[] = {0, 1, 2, 3, 4, 5, 15, 16, 17, 255, 256, 257, 65537, 4294967297, UINT64_MAX};
+    static const uint64_t limits[] = {0, 1, 10000, 1000000, 1000001, 4294967297, UINT64_MAX};
+    enum { COUNTS = sizeof counts / sizeof *counts, LIMITS = sizeof limits / sizeof *limits };
+    handles all = {{NULL}, {NULL}, {NULL}, {NULL}, {NULL}, {NULL}, {NULL}};
+    yuglemit_options options = YUGLEMIT_OPTIONS;
+    int wrong = 0;
+    make_each(&all);
+    for (int k = 0; k < COUNTS * COUNTS * COUNTS * LIMITS; k++) {
+        options.engines = counts[k % COUNTS];
+        options.servers = counts[k / COUNTS % COUNTS];
+        options.workers = counts[k / COUNTS / COUNTS % COUNTS];
+        options.limit = limits[k / COUNTS / COUNTS / COUNTS];
+        int is_layout = options.engines - 1 < 4 && options.servers - 1 < 4 && options.workers - 1 < 16;
+        uint8_t code = yuglemit_run(&all.program, &all.inputs, &options, &all.stop, &all.report);
+        wrong += code != (!is_layout ? YUGLEMIT_NO_LAYOUT : options.limit - 1 < 1000000 ? YUGLEMIT_DONE : YUGLEMIT_NO_LIMIT);
+    }
+    check(!wrong, "layouts and limits");
+    free_all(&all);
+}
+
 int main(int argc, char **argv) {
     FILE *file = argc >= 2 ? fopen(argv[1], "rb") : NULL;
     if (!file) return 2;
@@ -239,6 +404,8 @@ int main(int argc, char **argv) {
     if (argc > 2) large_length = strtoul(argv[2], NULL, 10);
     long before = held;
     check_empty();
+    check_pairs();
+    check_layouts();
     check_many();
     check_refused();
     check_large();
