@@ -249,6 +249,16 @@ typedef struct yuglemit_ending {
 
 #define YUGLEMIT_ENDING {sizeof(yuglemit_ending), 0, 0, 0}
 
+/* The meter of a run: how much it did. No number is above the bound of its name. */
+typedef struct yuglemit_meter {
+    size_t size;
+    uint64_t events;
+    uint64_t tasks;        /* tasks that were taken, main's included */
+    uint64_t instructions; /* instructions that were executed; UINT64_MAX if they were more */
+} yuglemit_meter;
+
+#define YUGLEMIT_METER {sizeof(yuglemit_meter), 0, 0, 0}
+
 /* A datum of a report. This struct and the next never change, since reports are read in arrays of them. */
 typedef struct yuglemit_item {
     int64_t number;        /* i: the integer */
@@ -550,6 +560,14 @@ uint8_t yuglemit_raw_report_subscript_text(yuglemit_report *report, size_t outpu
 static inline uint8_t yuglemit_report_subscript_text(const yuglemit_report *report, size_t output, size_t place, uint8_t *room, size_t room_length) {
     yuglemit_report same = *report;
     return yuglemit_raw_report_subscript_text(&same, output, place, room, room_length);
+}
+
+/* Writes how much the run did, until it ended or was stopped. It takes time by the number of events. _NO_SIZE. */
+uint8_t yuglemit_raw_report_meter(yuglemit_report *report, uint64_t *meter, size_t count);
+static inline uint8_t yuglemit_report_meter(const yuglemit_report *report, yuglemit_meter *meter) {
+    if (!yuglemit_raw_is_size(meter->size)) return YUGLEMIT_NO_SIZE;
+    yuglemit_report same = *report;
+    return yuglemit_raw_report_meter(&same, &meter->events, yuglemit_raw_count(meter->size));
 }
 
 /* Writes how many instructions the run executed; UINT64_MAX if they were more. */

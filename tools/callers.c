@@ -102,6 +102,7 @@ static int make_all(handles *all) {
     yuglemit_ending ending = YUGLEMIT_ENDING;
     yuglemit_bounds bounds = YUGLEMIT_BOUNDS;
     yuglemit_order order = YUGLEMIT_ORDER;
+    yuglemit_meter meter = YUGLEMIT_METER;
     int holds = is_memory(load(all, program_bytes, program_length, YUGLEMIT_ANY_FORMAT)) && is_memory(load(&other, source, sizeof source - 1, YUGLEMIT_TEXT));
     holds = holds && is_kept(words, sizeof words, source, sizeof source - 1, &other.text);
     holds = holds && is_memory(yuglemit_source_name(source, sizeof source - 1, 0, &all->text)) && is_memory(yuglemit_stop_new(&all->stop));
@@ -115,6 +116,7 @@ static int make_all(handles *all) {
     }
     if (all->report.at) {
         holds = holds && yuglemit_report_ending(&all->report, &ending) == 0 && is_memory(yuglemit_print_report(&all->report, &all->text));
+        holds = holds && yuglemit_report_meter(&all->report, &meter) == 0 && meter.events == ending.events;
         holds = holds && is_memory(yuglemit_print_trace(&all->report, &all->text));
         uint8_t code = yuglemit_print_json(&all->report, &all->text);
         holds = holds && (is_memory(code) || (code == YUGLEMIT_NO_END && ending.status == 5));
@@ -275,6 +277,7 @@ static uint8_t ask_program(int row, void *at) {
 static uint8_t ask_report(int row, void *at) {
     yuglemit_report report = {at};
     yuglemit_ending ending = YUGLEMIT_ENDING;
+    yuglemit_meter meter = YUGLEMIT_METER;
     yuglemit_item item;
     yuglemit_member member;
     yuglemit_text text = {NULL};
@@ -283,18 +286,19 @@ static uint8_t ask_report(int row, void *at) {
     uint64_t count;
     switch (row) {
     case 0: return yuglemit_report_ending(&report, &ending);
-    case 1: return yuglemit_report_instructions(&report, &count);
-    case 2: return yuglemit_report_output(&report, 0, &item);
-    case 3: return yuglemit_report_member(&report, 0, 0, &member);
-    case 4: return yuglemit_report_members(&report, 0, 0, &member, 1);
-    case 5: return yuglemit_report_find_int(&report, 0, 0, &place);
-    case 6: return yuglemit_report_find_text(&report, 0, room, 0, &place);
-    case 7: return yuglemit_report_text(&report, 0, room, ROOM);
-    case 8: return yuglemit_report_member_text(&report, 0, 0, room, ROOM);
-    case 9: return yuglemit_report_subscript_text(&report, 0, 0, room, ROOM);
-    case 10: return yuglemit_print_report(&report, &text);
-    case 11: return yuglemit_print_trace(&report, &text);
-    case 12: return yuglemit_print_json(&report, &text);
+    case 1: return yuglemit_report_meter(&report, &meter);
+    case 2: return yuglemit_report_instructions(&report, &count);
+    case 3: return yuglemit_report_output(&report, 0, &item);
+    case 4: return yuglemit_report_member(&report, 0, 0, &member);
+    case 5: return yuglemit_report_members(&report, 0, 0, &member, 1);
+    case 6: return yuglemit_report_find_int(&report, 0, 0, &place);
+    case 7: return yuglemit_report_find_text(&report, 0, room, 0, &place);
+    case 8: return yuglemit_report_text(&report, 0, room, ROOM);
+    case 9: return yuglemit_report_member_text(&report, 0, 0, room, ROOM);
+    case 10: return yuglemit_report_subscript_text(&report, 0, 0, room, ROOM);
+    case 11: return yuglemit_print_report(&report, &text);
+    case 12: return yuglemit_print_trace(&report, &text);
+    case 13: return yuglemit_print_json(&report, &text);
     default: return YUGLEMIT_DONE;
     }
 }
@@ -363,13 +367,13 @@ static void check_pairs(void) {
     for (int kind = 0; kind < KINDS; kind++) {
         void *at = each[kind];
         for (int row = 0; row < 10; row++) check(kind == OF_PROGRAM || ask_program(row, at) == YUGLEMIT_NO_PROGRAM, "it holds no program");
-        for (int row = 0; row < 13; row++) check(kind == OF_REPORT || ask_report(row, at) == YUGLEMIT_NO_REPORT, "it holds no report");
+        for (int row = 0; row < 14; row++) check(kind == OF_REPORT || ask_report(row, at) == YUGLEMIT_NO_REPORT, "it holds no report");
         for (int row = 0; row < 5; row++) check(kind == OF_CONTAINER || ask_container(row, at) == YUGLEMIT_NO_CONTAINER, "it holds no container");
         for (int row = 0; row < 5; row++) check(kind == EMPTY || kind == OF_INPUTS || ask_inputs(row, &all, at) == YUGLEMIT_NO_INPUTS, "it holds no inputs");
         for (int row = 0; row < 4; row++) check(kind == OF_STOP || (kind == EMPTY && row == 3) || ask_stop(row, &all, at) == YUGLEMIT_NO_STOP, "it holds no flag");
         for (int row = 0; row < 2; row++) check(kind == OF_TEXT || ask_text(row, at) == YUGLEMIT_NO_STRING, "it holds no text");
     }
-    check(ask_program(0, all.program.at) == 0 && ask_report(7, all.report.at) == 0 && ask_text(0, all.text.at) == 0, "what they held");
+    check(ask_program(0, all.program.at) == 0 && ask_report(8, all.report.at) == 0 && ask_text(0, all.text.at) == 0, "what they held");
     check(ask_container(0, all.container.at) == 0 && ask_inputs(4, &all, all.inputs.at) == 0 && ask_stop(2, &all, NULL) == YUGLEMIT_NO_STOP, "is as it was");
     free_all(&all);
 }

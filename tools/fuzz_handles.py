@@ -50,6 +50,10 @@ class Ending(Struct):
     _fields_ = fields("events", "outputs", "status")
 
 
+class Meter(Struct):
+    _fields_ = fields("events", "tasks", "instructions")
+
+
 class Options(Struct):
     _fields_ = fields("limit", "engines", "servers", "workers")
 
@@ -96,7 +100,7 @@ def handles(library: Library) -> Any:
         "raw_run": [pointer, pointer, *numbers, *numbers, pointer, pointer], "raw_unfit_input": [pointer, pointer, pointer],
         "raw_report_find_int": [pointer, size, ctypes.c_int64, pointer], "raw_report_find_text": [pointer, size, ctypes.c_char_p, size, pointer],
         "raw_program_bounds": [pointer, size, *numbers], "raw_program_order": [pointer, *numbers],
-        "raw_report_ending": [pointer, *numbers], "raw_report_output": [pointer, size, pointer],
+        "raw_report_ending": [pointer, *numbers], "raw_report_meter": [pointer, *numbers], "raw_report_output": [pointer, size, pointer],
         "raw_report_member": [pointer, size, size, pointer], "raw_report_members": [pointer, size, size, pointer, size],
         "raw_report_text": [pointer, size, pointer, size], "raw_report_member_text": [pointer, size, size, pointer, size],
         "raw_report_subscript_text": [pointer, size, size, pointer, size], "program_free": [pointer], "inputs_free": [pointer], "report_free": [pointer],
@@ -354,8 +358,14 @@ class HandlesTest(RunTest):
         machine = run_in_turn(self.program, list(self.inputs), self.layout, self.limit)
         expect("ending", 0, native.yuglemit_raw_report_ending(ctypes.byref(report), *ending.listed()))
         expect("ending", (machine.events, len(machine.outputs), status_of(machine)), (ending.events, ending.outputs, ending.status))
+        self.compare_meter(native, report, [machine.events, sum(made.event[0] == "take" for made in machine.made), sum(machine.spent.values())])
         for output, number in enumerate(machine.outputs):
             Report(native, report, machine).compare(output, number)
+
+    def compare_meter(self, native: Any, report: Any, expected: list[int]) -> None:
+        found = Meter(77, 77, 77)
+        expect("meter", 0, native.yuglemit_raw_report_meter(ctypes.byref(report), *found.listed()))
+        expect("meter", expected, [found.events, found.tasks, found.instructions])
 
     def compare_stopped(self, native: Any, program: Any, inputs: Any) -> None:
         """Makes a run whose flag is raised: it is opened or refused as ever, and has no event."""
@@ -368,6 +378,7 @@ class HandlesTest(RunTest):
             if not answer:
                 expect("its ending", 0, native.yuglemit_raw_report_ending(ctypes.byref(report), *ending.listed()))
                 expect("its ending", (0, 8), (ending.events, ending.status))
+                self.compare_meter(native, report, [0, 0, 0])
         finally:
             for handle, name in ((stop, "stop"), (other, "stop"), (report, "report")):
                 getattr(native, f"yuglemit_{name}_free")(handle)

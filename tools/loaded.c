@@ -169,9 +169,11 @@ static void check_kinds(yuglemit_program *program) {
     yuglemit_inputs of_program = {share.at};
     yuglemit_report of_inputs = {inputs.at};
     yuglemit_ending ending = {sizeof ending, 1, 1, 1};
+    yuglemit_meter meter = {sizeof meter, 1, 1, 1};
     check(yuglemit_program_share(&of_report, &other) == YUGLEMIT_NO_PROGRAM && !other.at, "a report isn't shared");
     check(yuglemit_input_int(&of_program, 1) == YUGLEMIT_NO_INPUTS, "a program takes no input");
     check(yuglemit_report_ending(&of_inputs, &ending) == YUGLEMIT_NO_REPORT && ending.events == 1, "inputs have no ending");
+    check(yuglemit_report_meter(&of_inputs, &meter) == YUGLEMIT_NO_REPORT && meter.events == 1, "inputs have no meter");
     check(run(&of_report, &none, LIMIT, &unused) == YUGLEMIT_NO_PROGRAM, "a report isn't run");
     check(run(program, &of_program, LIMIT, &unused) == YUGLEMIT_NO_INPUTS, "a program is no input");
     check(!unused.at && !other.at, "nothing is made");
@@ -408,6 +410,29 @@ static void run_text(const char *text, yuglemit_inputs *inputs, yuglemit_report 
     yuglemit_program_free(program);
 }
 
+/* What a run did: main's task makes 2 PUT and a RET, and each of the two tasks that it puts 2 INT and a RET. Main's events are Take, Call, Call and
+ * End, those of a leaf Take, Local and End. As many numbers are written as there is room for. */
+static void check_meter(void) {
+    static const uint64_t did[] = {10, 3, 9};
+    struct { yuglemit_meter meter; uint64_t more[2]; } large = {YUGLEMIT_METER, {9, 9}};
+    yuglemit_inputs inputs = {NULL};
+    yuglemit_report report = {NULL};
+    uint64_t *numbers = &large.meter.events;
+    check(yuglemit_report_meter(&report, &large.meter) == YUGLEMIT_NO_REPORT && numbers[0] == 0, "no report, no meter");
+    run_text("proc control\nregs\nPUT 1 0 any\nPUT 1 0 any\nRET\nproc leaf\nregs int\nINT v0 7\nINT v0 8\nRET\n", &inputs, &report);
+    for (size_t count = 0; count <= 5; count++) {
+        for (size_t k = 0; k < 5; k++) numbers[k] = 9;
+        large.meter.size = 8 * (count + 1);
+        check(yuglemit_report_meter(&report, &large.meter) == 0, "a meter of a size");
+        for (size_t k = 0; k < 5; k++) check(numbers[k] == (k < count && k < 3 ? did[k] : 9), "a number is written, or stays");
+    }
+    for (size_t size = 0; size < 8; size++) {
+        large.meter.size = size;
+        check(yuglemit_report_meter(&report, &large.meter) == YUGLEMIT_NO_SIZE, "no room for a size");
+    }
+    yuglemit_report_free(report);
+}
+
 /* Members by subscript: -6, -3, 0, 3 and 6 in one output, a text in the other. */
 static void check_finds(void) {
     const char *by_int = "proc control write cont int\nregs int int\nINT v0 -6\nINT v1 3\nREPEAT 5\nNEW d1 d2 int\nSTORE d1 v0\nINS d0 v0 d2 have\nJMP next\nhave:\nDROPR d2\n"
@@ -453,6 +478,7 @@ static void check_stop(yuglemit_program *program) {
     yuglemit_report report = {NULL};
     yuglemit_stop stop = {NULL}, other = {NULL};
     yuglemit_ending ending = YUGLEMIT_ENDING;
+    yuglemit_meter meter = YUGLEMIT_METER;
     check(yuglemit_input_text(&inputs, (const uint8_t *)"41", 2) == 0, "a text");
     check(yuglemit_stop_raise(&stop) == YUGLEMIT_NO_STOP && yuglemit_stop_share(&stop, &other) == YUGLEMIT_NO_STOP, "there is no flag yet");
     check(yuglemit_stop_new(&stop) == 0 && yuglemit_stop_share(&stop, &other) == 0 && other.at != stop.at, "a flag and its other handle");
@@ -460,6 +486,7 @@ static void check_stop(yuglemit_program *program) {
     check(yuglemit_report_ending(&report, &ending) == 0 && ending.status == 0, "isn't stopped");
     check(yuglemit_stop_raise(&other) == 0 && yuglemit_run(program, &inputs, &options, &stop, &report) == 0, "a run with a raised flag");
     check(yuglemit_report_ending(&report, &ending) == 0 && ending.status == 8 && ending.events == 0, "is stopped before its first event");
+    check(yuglemit_report_meter(&report, &meter) == 0 && meter.events == 0 && meter.tasks == 0 && meter.instructions == 0, "did nothing");
     check(yuglemit_stop_lower(&stop) == 0 && yuglemit_run(program, &inputs, &options, &other, &report) == 0, "a run with a lowered flag");
     check(yuglemit_report_ending(&report, &ending) == 0 && ending.status == 0, "ends by itself");
     yuglemit_stop of_report = {report.at};
@@ -661,10 +688,12 @@ static void *read_report(void *given) {
     size_t wrong = 0;
     for (int k = 0; k < RUNS; k++) {
         yuglemit_ending ending = YUGLEMIT_ENDING;
+        yuglemit_meter meter = YUGLEMIT_METER;
         yuglemit_item item;
         yuglemit_text text = {NULL};
         uint8_t room[4];
         wrong += yuglemit_report_ending(report, &ending) || ending.outputs != 1;
+        wrong += yuglemit_report_meter(report, &meter) || meter.events != ending.events;
         wrong += yuglemit_report_output(report, 0, &item) || item.length != 2;
         wrong += yuglemit_report_text(report, 0, room, sizeof room) || memcmp(room, "42", 2);
         wrong += yuglemit_print_report(report, &text) || yuglemit_print_json(report, &text);
@@ -764,6 +793,7 @@ static void *check_all(void *unused) {
     check_order();
     check_unfit(&program);
     check_report(&program);
+    check_meter();
     check_finds();
     check_members();
     check_codes();

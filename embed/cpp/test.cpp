@@ -85,6 +85,7 @@ void test_result_stops() {
     CHECK(stop && other && other->try_raise());
     auto report = endless->try_run({}, {}, *stop);
     CHECK(report->end() == End::stopped && report->events() == 0 && fails_as(report->try_json(), Kind::use));
+    CHECK(report->try_meter()->events == 0 && report->try_meter()->tasks == 0 && report->try_meter()->instructions == 0);
     { const auto gone = std::move(*other); }
     CHECK(stop->try_lower() && !other->try_lower() && !other->try_raise() && fails_as(other->try_share(), Kind::use));
 }
@@ -186,6 +187,7 @@ void test_printed() {
     options.engines = options.workers = 2;
     auto report = program.run({std::int64_t{39}}, options);
     CHECK(report.text() == "out 0 int 42\nquiet\n" && report.instructions() == 24);
+    CHECK(report.meter().events == report.events() && report.meter().tasks == 4 && report.meter().instructions == 24);
     CHECK(report.trace().substr(0, 7) == "events\n" && report.json().find("\"outputs\":[42]") != std::string::npos);
     Stop stop;
     stop.raise();

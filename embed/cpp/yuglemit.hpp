@@ -293,6 +293,11 @@ public:
     std::size_t events() const { return static_cast<std::size_t>(ending_.events); }
     std::size_t output_count() const { return static_cast<std::size_t>(ending_.outputs); }
 
+    // The run's events, the tasks that it took, and the instructions that it executed, also if it was stopped.
+    Result<yuglemit_meter> try_meter() const {
+        return detail::written<yuglemit_meter>([&](auto at) { return yuglemit_report_meter(handle_.get(), at); }, YUGLEMIT_METER);
+    }
+
     // How many instructions the run executed; the greatest number if they were more.
     Result<std::uint64_t> try_instructions() const {
         return detail::written<std::uint64_t>([&](auto at) { return yuglemit_report_instructions(handle_.get(), at); });
@@ -339,6 +344,7 @@ public:
     }
 
 #ifdef __cpp_exceptions
+    yuglemit_meter meter() const { return detail::value_of(try_meter()); }
     std::uint64_t instructions() const { return detail::value_of(try_instructions()); }
     std::string text() const { return detail::value_of(try_text()); }
     std::string trace() const { return detail::value_of(try_trace()); }

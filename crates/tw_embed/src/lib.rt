@@ -32,9 +32,9 @@ pub use reports::{
     yuglemit_raw_print_json, yuglemit_raw_print_report, yuglemit_raw_print_trace,
     yuglemit_raw_report_ending, yuglemit_raw_report_find_int, yuglemit_raw_report_find_text,
     yuglemit_raw_report_instructions, yuglemit_raw_report_member, yuglemit_raw_report_member_text,
-    yuglemit_raw_report_members, yuglemit_raw_report_output, yuglemit_raw_report_subscript_text,
-    yuglemit_raw_report_text, yuglemit_raw_text_copy, yuglemit_raw_text_length,
-    yuglemit_report_free, yuglemit_text_free,
+    yuglemit_raw_report_members, yuglemit_raw_report_meter, yuglemit_raw_report_output,
+    yuglemit_raw_report_subscript_text, yuglemit_raw_report_text, yuglemit_raw_text_copy,
+    yuglemit_raw_text_length, yuglemit_report_free, yuglemit_text_free,
 };
 pub use runs::{
     yuglemit_raw_run, yuglemit_raw_stop_lower, yuglemit_raw_stop_raise, yuglemit_raw_stop_share,

@@ -4,6 +4,7 @@ ghost use Rattle.std.specs.Prelude.{◌≡◌};
 ghost use Rattle.tw_handles.specs.Finding.{IsPlace, IsTextPlace};
 ghost use Rattle.tw_handles.specs.Many.{AreMembers};
 ghost use Rattle.tw_handles.specs.Members.{IsMember, IsMemberText, IsSubscriptText};
+ghost use Rattle.tw_handles.specs.Meter.{IsMetered};
 ghost use Rattle.tw_handles.specs.Reading.{IsEnding, IsOutput, IsOutputText};
 ghost use Rattle.tw_handles.specs.Texts.{IsInstructionCount, IsJsonPrinted, IsReportPrinted, IsTextCopied, IsTextLength, IsTracePrinted};
 ghost use Rattle.tw_types.specs.declared.value.Value.TheVariants as value;
@@ -140,6 +141,19 @@ pub extern "C" fn yuglemit_raw_report_find_text(
     ensures is { IsTextPlace subscript.now report.old.held index place.old place.new result }
 {
     tw_handles::find_text(alloc, report, index, subscript, place)
+}
+
+/// Exports `tw_handles::report_meter`.
+#[unsafe(no_mangle)]
+pub extern "C" fn yuglemit_raw_report_meter(
+    alloc: Global,
+    report: &mut Handle,
+    numbers: &mut [u64],
+) -> u8
+    ensures kept { report.new.held ≡ report.old.held }
+    ensures is { IsMetered report.old.held numbers.old numbers.new result }
+{
+    tw_handles::report_meter(alloc, report, numbers)
 }
 
 /// Exports `tw_handles::instructions`.

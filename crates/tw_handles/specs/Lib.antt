@@ -16,6 +16,8 @@ pub mod Loading
 pub mod Many
 -- Calls on the members of an output.
 pub mod Members
+-- The meter of a run.
+pub mod Meter
 -- Numbers that are written for C.
 pub mod Numbers
 -- Calls on a report.

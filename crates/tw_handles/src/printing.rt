@@ -159,7 +159,7 @@ fn capped(number: u128) -> u64
     }
 }
 
-fn instructions_of(left: &StoppableResult) -> u64
+pub(crate) fn instructions_of(left: &StoppableResult) -> u64
     ensures { result ≡ capped_is (instructions_in_is (history_is left.now).events) }
 {
     capped(instructions_in(history_of(left)))

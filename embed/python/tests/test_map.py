@@ -294,7 +294,7 @@ class Map(unittest.TestCase):
             plain = list(yuglemit.map([PROGRAM, stuck], [INPUTS[7], ()], executor))
             full = list(yuglemit.map(PROGRAM, INPUTS[7:8], executor, text=True, trace=True, line=True))
             with mock.patch("yuglemit._native.session", side_effect=AssertionError), mock.patch("yuglemit._native.run", side_effect=AssertionError):
-                self.assertEqual((plain[0].events, plain[0].instructions), (once.events, once.instructions))
+                self.assertEqual((plain[0].events, plain[0].tasks, plain[0].instructions), (once.events, once.tasks, once.instructions))
                 self.assertEqual((plain[1].end, plain[1].circle), ("stuck", [(1, 1, 1)]))
                 for name in ("text", "trace", "line"):
                     with self.assertRaisesRegex(ValueError, f"if {name}=True asked for it"):

@@ -260,8 +260,9 @@ class Programs(unittest.TestCase):
         for name, values in inputs.items():
             program = yuglemit.load(EXAMPLES / f"{name}.twn")
             report = program.run(*values)
-            assert program.bounds.events is not None and program.bounds.instructions is not None
+            assert program.bounds.events is not None and program.bounds.tasks is not None and program.bounds.instructions is not None
             self.assertLessEqual(report.events, program.bounds.events, name)
+            self.assertLessEqual(report.tasks, program.bounds.tasks, name)
             self.assertLessEqual(report.instructions, program.bounds.instructions, name)
             self.assertLess(program.bounds.seconds(), 10, name)
 
@@ -331,7 +332,7 @@ class Reports(unittest.TestCase):
     def test_numbers_trace_and_timeline(self) -> None:
         program = yuglemit.load(example("pipeline.twn"))
         report = program.run(39, engines=2, workers=2)
-        self.assertEqual((report.events, report.instructions), (33, 24))
+        self.assertEqual((report.events, report.tasks, report.instructions), (33, 4, 24))
         kept = program.run(39, engines=2, workers=2, trace=True)
         self.assertEqual((kept.trace, kept.text, kept.events), (report.trace, report.text, 33))
         self.assertEqual(len(kept.trace.split("\n")), 33 + 3)
@@ -361,7 +362,7 @@ class Reports(unittest.TestCase):
     def test_reports_travel(self) -> None:
         report = yuglemit.load(DOUBLE).run(4)
         again = pickle.loads(pickle.dumps(report))
-        self.assertEqual((again.outputs, again.events, again.instructions), ([8], report.events, report.instructions))
+        self.assertEqual((again.outputs, again.events, again.tasks, again.instructions), ([8], report.events, 1, report.instructions))
         with self.assertRaisesRegex(ValueError, "text=True asked for it"):
             _ = again.text
         made = again.again()

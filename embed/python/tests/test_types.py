@@ -32,7 +32,7 @@ with ProcessPoolExecutor() as pool:
     for one in yuglemit.map(program, pairs, pool, chunk=3, window=4, on_broken="here", text=True):
         print(one.error, one.line)
 for one in yuglemit.map([program, program], iter([1, 2])):
-    print(one.instructions)
+    print(one.tasks + one.instructions)
 for one in yuglemit.map(program, range(4), progress=lambda done, count: print(done / count)):
     print(one.again(timeout=3).trace)
 

@@ -68,13 +68,19 @@ class Layout(NamedTuple):
     most_rules: Optional[int] = None
 
 
+class Meter(NamedTuple):
+    """The events of a run, the tasks that it took, and the instructions that it executed."""
+
+    events: int
+    tasks: int
+    instructions: int
+
+
 class Ran(NamedTuple):
-    """A report: the end, the events, the instructions, the outputs, the numbers of outputs that are unset or open, and what the library keeps of
-    it."""
+    """A report: the end, what the run did, the outputs, the numbers of outputs that are unset or open, and what the library keeps of it."""
 
     end: str
-    events: int
-    instructions: int
+    meter: Meter
     outputs: List[Output]
     unfinished: List[int]
     kept: "Kept"
@@ -319,10 +325,10 @@ def run(program: Loaded, given: Sequence[Given], layout: Layout, stop: Optional[
 
 def _ran(report: _Owner) -> Ran:
     """Reads a report."""
-    ending, instructions = numbers(0, 0, 0), ctypes.c_uint64()
+    ending, meter = numbers(0, 0, 0), numbers(0, 0, 0)
     _done(short().yuglemit_raw_report_ending(report.seen(), ending, len(ending)))
-    _done(short().yuglemit_raw_report_instructions(report.seen(), ctypes.byref(instructions)))
-    events, count, status = ending
+    _done(short().yuglemit_raw_report_meter(report.seen(), meter, len(meter)))
+    _, count, status = ending
     outputs: List[Output] = []
     unfinished: List[int] = []
     for number in range(count):
@@ -331,7 +337,7 @@ def _ran(report: _Owner) -> Ran:
         outputs.append(_output(report, number, item))
         if item.kind not in b"it" and not (item.kind == ord("c") and item.closed):
             unfinished.append(number)
-    return Ran(ENDS[status], events, instructions.value, outputs, unfinished, Kept(report))
+    return Ran(ENDS[status], Meter(*meter), outputs, unfinished, Kept(report))
 
 
 def _output(report: _Owner, number: int, item: Item) -> Output:

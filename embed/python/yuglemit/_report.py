@@ -10,7 +10,7 @@ from typing import TYPE_CHECKING, Dict, List, NamedTuple, Optional, Tuple
 
 from ._errors import Refused
 from ._inputs import read_scalar
-from ._native import Kept, Layout, Output, Ran
+from ._native import Kept, Layout, Meter, Output, Ran
 from ._options import RunOptions, options_of, within
 from ._shown import Shown
 from ._stop import Stop
@@ -126,8 +126,7 @@ class Report(metaclass=Shown):
     unfinished: List[int] = field(default_factory=list)
     error: Optional[Exception] = None
     _made: Optional[Made] = field(default=None, repr=False, compare=False)
-    _events: Optional[int] = field(default=None, repr=False, compare=False)
-    _instructions: Optional[int] = field(default=None, repr=False, compare=False)
+    _meter: Optional[Meter] = field(default=None, repr=False, compare=False)
     _printed: Dict[str, Optional[str]] = field(default_factory=dict, repr=False, compare=False)
     _kept: Optional[Kept] = field(default=None, repr=False, compare=False)
 
@@ -172,17 +171,22 @@ class Report(metaclass=Shown):
     @property
     def events(self) -> int:
         """How many events the run had."""
-        return self._counted(self._events)
+        return self._did().events
+
+    @property
+    def tasks(self) -> int:
+        """How many tasks the run took, main's included."""
+        return self._did().tasks
 
     @property
     def instructions(self) -> int:
         """How many instructions its tasks did."""
-        return self._counted(self._instructions)
+        return self._did().instructions
 
-    def _counted(self, number: Optional[int]) -> int:
-        if number is None:
+    def _did(self) -> Meter:
+        if self._meter is None:
             raise ValueError(_NO_RUN)
-        return number
+        return self._meter
 
     def again(self, *, stop: Optional[Stop] = None, timeout: Optional[float] = None) -> "Report":
         """Makes the run again, with the same events, and returns its report. One that was stopped ends with "limit" then."""
@@ -237,8 +241,8 @@ _ASKED = {"report": "text", "trace": "trace", "json": "line"}
 
 def report_of(ran: Ran, made: Made, options: RunOptions) -> Report:
     """Makes the report of a run, and prints what its options say."""
-    cause = made.until(ran.end, ran.events)
-    report = Report(ran.end, ran.outputs, ran.unfinished, None, cause, ran.events, ran.instructions, {}, ran.kept)
+    cause = made.until(ran.end, ran.meter.events)
+    report = Report(ran.end, ran.outputs, ran.unfinished, None, cause, ran.meter, {}, ran.kept)
     for what, asked in (("trace", options.trace), ("report", options.text), ("json", options.line)):
         if asked:
             report._print(what)

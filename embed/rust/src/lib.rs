@@ -32,7 +32,7 @@ mod value;
 
 pub use error::{Error, Refused, RunError};
 pub use program::{Bound, Bounds, Caps, EventOrder, Format, MOST_BYTES, Mode, Options, Parameter, Procedure, Program};
-pub use report::{End, Report};
+pub use report::{End, Meter, Report};
 pub use session::{Reply, explain, session, verify};
 pub use stop::Stop;
 pub use value::{Container, IntoScalar, Scalar, Type, Value};

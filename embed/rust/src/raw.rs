@@ -73,6 +73,7 @@ unsafe extern "C" {
     pub fn yuglemit_raw_report_text(report: *mut Handle, output: usize, room: *mut u8, length: usize) -> u8;
     pub fn yuglemit_raw_report_member_text(report: *mut Handle, output: usize, place: usize, room: *mut u8, length: usize) -> u8;
     pub fn yuglemit_raw_report_subscript_text(report: *mut Handle, output: usize, place: usize, room: *mut u8, length: usize) -> u8;
+    pub fn yuglemit_raw_report_meter(report: *mut Handle, meter: *mut u64, count: usize) -> u8;
     pub fn yuglemit_raw_report_instructions(report: *mut Handle, count: *mut u64) -> u8;
     pub fn yuglemit_raw_print_report(report: *mut Handle, text: *mut Handle) -> u8;
     pub fn yuglemit_raw_print_trace(report: *mut Handle, text: *mut Handle) -> u8;

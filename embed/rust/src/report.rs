@@ -16,6 +16,17 @@ pub enum End {
     Stopped,
 }
 
+/// The meter of a run: how much it did. No number is above the bound of its name.
+#[derive(Clone, Copy, Debug, PartialEq, Eq)]
+#[non_exhaustive]
+pub struct Meter {
+    pub events: u64,
+    /// Tasks that were taken, main's included.
+    pub tasks: u64,
+    /// Instructions that were executed; the greatest number if they were more.
+    pub instructions: u64,
+}
+
 /// The report of a run. Any number of threads may read it at once.
 pub struct Report {
     owner: Owner<OfReport>,
@@ -49,6 +60,14 @@ impl Report {
     /// Returns how many events the run had.
     pub fn events(&self) -> usize {
         self.events
+    }
+
+    /// Returns how much the run did, also if it was stopped.
+    pub fn meter(&self) -> Result<Meter, Error> {
+        let mut found = [0; 3];
+        done(unsafe { raw::yuglemit_raw_report_meter(&mut self.owner.seen(), found.as_mut_ptr(), found.len()) })?;
+        let [events, tasks, instructions] = found;
+        Ok(Meter { events, tasks, instructions })
     }
 
     /// Returns how many instructions the run executed; the greatest number if they were more.

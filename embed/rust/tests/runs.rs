@@ -290,6 +290,8 @@ fn reports_are_printed() -> Result<(), Error> {
     let program = same("int");
     let report = program.run(&[7.into()])?;
     assert_eq!((report.text()?.as_str(), report.instructions()?), ("out 0 int 7\nquiet\n", 4));
+    let meter = report.meter()?;
+    assert_eq!((meter.events, meter.tasks, meter.instructions), (report.events() as u64, 1, 4));
     assert!(report.trace()?.starts_with("events\n") && report.json()?.contains("\"outputs\":[7]"));
     let stop = Stop::new()?;
     stop.raise();
@@ -297,6 +299,7 @@ fn reports_are_printed() -> Result<(), Error> {
     options.stop = Some(&stop);
     let report = program.run_with(&[7.into()], &options)?;
     assert_eq!((report.json(), report.instructions()?), (Err(Error::NoEnd), 0));
+    assert_eq!((report.meter()?.events, report.meter()?.tasks, report.meter()?.instructions), (0, 0, 0));
     Ok(())
 }
 
