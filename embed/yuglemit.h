@@ -6,10 +6,11 @@
  * several cores. No call keeps anything from one to the next but what the caller's handles hold. Memory comes from malloc; all of it is
  * freed before a call returns, or when its handle is freed.
  *
- * How long a call takes. Reading, checking and verifying take time by the input's length. A run takes as long as its program: at most
- * `--limit` events (10,000 if nothing is said), each of at most as many instructions as the greatest budget, which may be 1,000,000,000.
- * Only the calls that run a loaded program can be stopped from outside, between two events. So run a stranger's program by
- * yuglemit_run_within, whose caps reject it before it runs, or with --most-instructions and --most-budget in a session.
+ * How long a call takes. Reading, checking and verifying take time by the input's length, at most some 0.1 seconds a MiB, and can't be stopped: give
+ * yuglemit_load_with the greatest length that you can wait for. A run takes as long as its program: at most `--limit` events (10,000 if nothing
+ * is said), each of at most as many instructions as the greatest budget, which may be 1,000,000,000. Only the calls that run a loaded program
+ * can be stopped from outside, between two events. So run a stranger's program by yuglemit_run_within, whose caps reject it before it runs, or
+ * with --most-instructions and --most-budget in a session.
  *
  * The caller's duties, which no proof can check:
  *   - each pointer is no null pointer, and points to as many bytes as its length says, also if that is 0;
