@@ -5,3 +5,4 @@ pub mod Written
 pub mod Chunks
 pub mod Slices
 pub mod Room
+pub mod WholeReplies

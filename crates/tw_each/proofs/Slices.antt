@@ -1,5 +1,5 @@
 -- Some of the lines that are answered, after others.
-use Rattle.std.proofs.Common.{◌≡◌, ◌+◌, ◌≤◌, ◌++◌, ◌||◌, ◌∙◌, ℕ, Bool, Bor, List, Option, arith, ap, drop, length, map, subst, sym, take}
+use Rattle.std.proofs.Common.{◌≡◌, ◌+◌, ◌≤◌, ◌++◌, ◌||◌, ◌∙◌, ℕ, Bool, Bor, List, Option, ap, drop, length, map, subst, sym, take}
 use Rattle.std.proofs.Math.Seq.{take-add}
 use Rattle.std.proofs.lemmas.List.{length-map, length-take-le, map-append, take-append-drop}
 use Rattle.tw_each.specs.Answers.{Way}

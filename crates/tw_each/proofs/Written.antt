@@ -1,13 +1,13 @@
 -- Bytes that are read, and answers that are written.
-use Rattle.std.proofs.Common.{◌≡◌, ◌+◌, ◌==◌, ◌++◌, ◌||◌, ◌∙◌, ℕ, Bool, true, false, List, [], ◌∷◌, Option, None, Some, IfSome, Result, Ok, Err, arith, ap, append_assoc, drop, get_or, inl, inr, length, refl, subst, sym, take}
+use Rattle.std.proofs.Common.{◌≡◌, ◌+◌, ◌++◌, ◌||◌, ◌∙◌, ℕ, Bool, true, false, List, [], ◌∷◌, Option, None, Some, IfSome, Result, Ok, Err, arith, ap, append_assoc, drop, get_or, inl, inr, length, refl, subst, sym}
 use Rattle.std.specs.Prelude.{MatchBool, nat_lt}
 use Rattle.std.proofs.lemmas.Bool.Decides.{when_true}
 use Rattle.std.proofs.lemmas.Bool.{cases_lt, lt-ltb}
 use Rattle.std.proofs.lemmas.List.{append-nil, length-take-le, take_all}
 use Rattle.std.specs.Io.KnownBytes.{Appends, Consumes, IsAtEnd, Keeps}
 use Rattle.tw_program_output.specs.Input.{most_bytes}
-use Rattle.tw_each.specs.Answers.{AreAnswers, IsLine, IsShortLine, Way, numbered, too_long, unread_line}
-use Rattle.tw_each.specs.Stream.{Adds, AnswersAll, AnswersLast, AreSomeWritten, AreWritten, IsAt, Stops, begun_line, ended_lines, kept, lines_in}
+use Rattle.tw_each.specs.Answers.{IsLine, IsShortLine, Way, numbered, too_long, unread_line}
+use Rattle.tw_each.specs.Stream.{Adds, AreSomeWritten, AreWritten, Stops, kept}
 use Rattle.tw_each.specs.declared.stream.AnsweredLines.{AnsweredLines}
 use Rattle.tw_each.specs.declared.stream.StreamError.{StreamError}
 use Rattle.tw_each.specs.declared.stream.StreamError.TheVariants.{NoMemory, Read, Write}

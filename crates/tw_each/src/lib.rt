@@ -13,10 +13,12 @@ mod runs_line;
 mod stream;
 mod streamed;
 mod threads;
+mod together;
 
 pub use input_lines::{LineParts, line_parts};
 pub use line_count::LineCount;
-pub use reply::{close_of, each_reply, too_long_reply};
+pub use reply::{close_of, too_long_reply};
 pub use stream::StreamError;
-pub use streamed::{LineThreads, Streamed, stream_each};
-pub use threads::{Answering, InOneThread, InThreads};
+pub use streamed::{Streamed, stream_each};
+pub use threads::LineThreads;
+pub use together::{each_reply, each_reply_in_turn};

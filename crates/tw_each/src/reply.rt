@@ -1,33 +1,28 @@
-//! The reply to a program and the lines of inputs after it.
+//! How a program becomes ready to run on lines, or the reply that rejects it.
 
-ghost use Rattle.std.specs.Prelude.{◌≡◌, ◌≢◌, ◌<◌, ◌^◌, Bool, IfOk, List, ℕ, Option, length, map, true};
-ghost use Rattle.std.specs.Str.Lines.{lines};
+ghost use Rattle.std.specs.Prelude.{◌≡◌, ◌≢◌, IfOk, List, ℕ, Option};
 ghost use Rattle.tw_order.specs.declared.order.Source.{Source as ReadAs};
 ghost use Rattle.tw_code.specs.accepting.WellTyped.{IsAccepted};
-ghost use Rattle.tw_program_output.specs.Inputs.{after_inputs, before_inputs};
 ghost use Rattle.tw_program_output.specs.Program.{SpellsNone};
 ghost use Rattle.tw_program_output.specs.Reply.{reply};
 ghost use Rattle.tw_program_output.specs.Source.{MayBeSource, text_of};
-ghost use Rattle.tw_each.specs.Answers.{AreAnswers, way};
-ghost use Rattle.tw_each.specs.Ready.{IsReady};
-ghost use Rattle.tw_each.specs.Reply.{IsNoProgram, RepliesByEach, RepliesByLines, RepliesByParts, RepliesInUtf8, close_of, json_reply, way_of, too_long_reply as too_long_reply_is};
+ghost use Rattle.tw_each.specs.Answers.{way};
+ghost use Rattle.tw_each.specs.Ready.{IsReady, IsReadyText};
+ghost use Rattle.tw_each.specs.Reply.{IsNoProgram, close_of, json_reply, way_of, too_long_reply as too_long_reply_is};
 
 use crate::answer::EachRun;
-use crate::input_lines::{LineParts, bytes_of, line_parts};
 use crate::lines::too_long;
-use crate::threads::Answering;
 use std::alloc::{AllocError, Global};
 use tw_code::Program;
 use tw_order::{EachOrder, Places, Source};
 use tw_program_output::{
     Close, Failure, NoProgram, Position, ReadProgram, Reply, SourceText, error_line, excess_reply,
-    excess_text, failed_reply, fixed_reply, not_utf8_reply, parse_error_reply, read_program,
-    rejection_reply,
+    excess_text, failed_reply, parse_error_reply, read_program, rejection_reply,
 };
 use tw_verify::{Verified, VerifyError, verify};
 
 /// Returns an error's reply as a JSON object.
-fn json_reply(alloc: Global, error: Reply) -> Result<Reply, AllocError>
+pub(crate) fn json_reply(alloc: Global, error: Reply) -> Result<Reply, AllocError>
     ensures { IfOk result (λ r. reply r.text.items r.close ≡ json_reply (reply error.text.items error.close)) }
 {
     let line = error_line(alloc, &error)?;
@@ -119,106 +114,37 @@ pub(crate) fn each_run<'a>(
     }
 }
 
-/// Runs a program on each line.
-fn answered_reply<A: Answering>(
-    alloc: Global,
-    answering: &A,
-    run: &EachRun<'_>,
-    jobs: usize,
-    lines: &[&str],
-) -> Result<Reply, AllocError>
-    requires shared { A.shared }
-    ensures { IfOk result (λ r. (refused : Bool) × AreAnswers (way run.now) 0 (map (λ line. line.now) lines.now) r.text.items refused × (r.close ≡ close_of refused)) }
-{
-    let bytes = bytes_of(alloc, lines)?;
-    let answers = answering.answers(alloc, run, jobs, &bytes)?;
-    Ok(Reply {
-        text: answers.text,
-        close: close_of(answers.refused),
-    })
+/// A program's text, if it was read from one, and the program's next step.
+#[derive(Drop)]
+pub(crate) struct ReadyText<'a> {
+    pub(crate) text: Option<SourceText<'a>>,
+    pub(crate) ready: Ready,
 }
 
-/// Verifies a program, and runs it on each line.
-fn program_reply<A: Answering>(
+/// Reads a program, and verifies it.
+pub(crate) fn ready_text<'a>(
     alloc: Global,
-    answering: &A,
-    order: &EachOrder,
-    source: &Option<SourceText<'_>>,
-    program: Program,
-    lines: &[&str],
-) -> Result<Reply, AllocError>
-    requires shared { A.shared }
-    requires source { MayBeSource source.now program.procedures }
-    ensures { IfOk result (λ r. RepliesByLines (text_of source.now) order.now program.procedures (map (λ line. line.now) lines.now) (reply r.text.items r.close)) }
-{
-    let ready = admit(alloc, source, order, program)?;
-    match ready {
-        Ready::Run(verified) => {
-            let run = each_run(source, order, &verified);
-            answered_reply(alloc, answering, &run, order.jobs, lines)
-        }
-        Ready::Rejected(reply) => Ok(reply),
-    }
-}
-
-/// Reads a program, and runs it on each line.
-fn parts_reply<A: Answering>(
-    alloc: Global,
-    answering: &A,
     source: Source,
     order: &EachOrder,
-    parts: LineParts<'_>,
-) -> Result<Reply, AllocError>
-    requires shared { A.shared }
-    ensures { IfOk result (λ r. RepliesByParts source order.now parts.entry.program.items (map (λ line. line.now) parts.entry.lines.items) (reply r.text.items r.close)) }
+    input: &'a [u8],
+) -> Result<ReadyText<'a>, AllocError>
+    ensures { IfOk result (λ r. IsReadyText source order.now input.entry.now (text_of r.text) r.ready) }
 {
-    match read_program(alloc, source, &parts.program) {
+    match read_program(alloc, source, input) {
         Ok(read) => {
             let ReadProgram {
                 program,
                 source: text,
             } = read;
-            program_reply(alloc, answering, order, &text, program, &parts.lines)
+            let ready = admit(alloc, &text, order, program)?;
+            Ok(ReadyText { text, ready })
         }
-        Err(why) => no_program_reply(alloc, &parts.program, why),
-    }
-}
-
-/// Reads a program and the lines after it. Without a line `inputs` the command line is rejected.
-fn text_reply<A: Answering>(
-    alloc: Global,
-    answering: &A,
-    source: Source,
-    order: &EachOrder,
-    text: &str,
-) -> Result<Reply, AllocError>
-    requires shared { A.shared }
-    ensures { IfOk result (λ r. RepliesInUtf8 source order.now text.now (reply r.text.items r.close)) }
-{
-    let parts = line_parts(alloc, text)?;
-    if parts.has_inputs {
-        parts_reply(alloc, answering, source, order, parts)
-    } else {
-        fixed_reply(alloc, "command line refused\n", Close::CommandLine)
-    }
-}
-
-/// Returns the reply to a program, a line `inputs` and lines of inputs: an object for each line that isn't blank, or one for the error of the program.
-pub fn each_reply<A: Answering>(
-    alloc: Global,
-    answering: &A,
-    source: Source,
-    order: &EachOrder,
-    input: &[u8],
-) -> Result<Reply, AllocError>
-    requires shared { A.shared }
-    ensures { IfOk result (λ r. RepliesByEach source order.now input.now (reply r.text.items r.close)) }
-{
-    match str::from_utf8(input) {
-        Ok(text) => text_reply(alloc, answering, source, order, text),
-        Err(_) => {
-            let reply = not_utf8_reply(alloc)?;
-            json_reply(alloc, reply)
+        Err(why) => {
+            let reply = no_program_reply(alloc, input, why)?;
+            Ok(ReadyText {
+                text: None,
+                ready: Ready::Rejected(reply),
+            })
         }
     }
 }

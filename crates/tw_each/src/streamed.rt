@@ -3,10 +3,10 @@
 ghost use Rattle.tw_program_output.specs.Source.{MayBeSource, text_of};
 ghost use Rattle.tw_each.specs.Stream.{Streams, StreamsProgram};
 
-use crate::line_count::LineCount;
 use crate::lines::MOST_BYTES;
 use crate::reply::{Ready, admit, each_run, no_program_reply, too_long_reply};
 use crate::stream::{LineWork, StreamError, answer_stream};
+use crate::threads::LineThreads;
 use std::alloc::Global;
 use std::io::{Read, Write};
 use std::thread::Threads;
@@ -22,14 +22,6 @@ pub enum Streamed {
     Answered(bool),
     /// The program isn't run, and nothing was read or written.
     Rejected(Reply),
-}
-
-/// The threads that answer lines, and who counts these.
-#[derive(Clone, Copy)]
-pub struct LineThreads<'a, H> {
-    pub rt: &'a H,
-    pub alloc: Global,
-    pub count: &'a LineCount,
 }
 
 /// Verifies a program, and runs it on the lines that are read.

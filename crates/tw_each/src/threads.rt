@@ -7,64 +7,17 @@ ghost use Rattle.tw_each.specs.Answers.{AreAnswers, way};
 use crate::answer::EachRun;
 use crate::line_count::LineCount;
 use crate::lines::{Answers, answer_lines};
-use crate::runs_line::{ByClock, WithoutClock};
+use crate::runs_line::ByClock;
 use std::alloc::{AllocError, Global};
 use std::thread::{Threads, join};
 use std::time::Clock;
 
-/// Answers lines. In how many threads it does so doesn't change the answers.
-pub trait Answering {
-    /// Holds if its threads may use what it has.
-    ghost shared: { Type 0 } = { Unit {0} };
-
-    /// Runs the program on each line, in at most `jobs` threads, and returns the answers in the order of the lines.
-    fn answers(
-        &self,
-        alloc: Global,
-        run: &EachRun<'_>,
-        jobs: usize,
-        lines: &[&[u8]],
-    ) -> Result<Answers, AllocError>
-        requires shared { shared }
-        requires count { length lines.now < 2 ^ 63 }
-        ensures { IfOk result (λ answers. AreAnswers (way run.now) 0 (map (λ line. line.now) lines.now) answers.text.items answers.refused) };
-}
-
-/// Answers all lines in the calling thread, which has no clock: no run is stopped.
+/// The threads that answer lines, and who counts these.
 #[derive(Clone, Copy)]
-pub struct InOneThread;
-
-/// Answers parts of the lines in threads of their own, and counts them.
-#[derive(Clone, Copy)]
-pub struct InThreads<'a, H> {
+pub struct LineThreads<'a, H> {
     pub rt: &'a H,
+    pub alloc: Global,
     pub count: &'a LineCount,
-}
-
-impl Answering for InOneThread {
-    fn answers(
-        &self,
-        alloc: Global,
-        run: &EachRun<'_>,
-        _jobs: usize,
-        lines: &[&[u8]],
-    ) -> Result<Answers, AllocError> {
-        answer_lines(alloc, &WithoutClock, run, &LineCount::new(), 0, lines)
-    }
-}
-
-impl<'a, H: Threads + Clock + Sync> Answering for InThreads<'a, H> {
-    ghost shared = { IsSync H.row };
-
-    fn answers(
-        &self,
-        alloc: Global,
-        run: &EachRun<'_>,
-        jobs: usize,
-        lines: &[&[u8]],
-    ) -> Result<Answers, AllocError> {
-        divided(self.rt, alloc, run, self.count, jobs, 0, lines)
-    }
 }
 
 /// Appends the answers to later lines.

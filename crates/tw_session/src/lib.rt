@@ -10,6 +10,7 @@ mod json;
 mod json_run;
 mod line_progress;
 mod line_session;
+mod line_threads;
 mod order;
 mod programs;
 mod run;

@@ -2,7 +2,6 @@
 
 ghost use Rattle.std.specs.Prelude.{◌≡◌, ◌≤◌, IfOk, length, true};
 ghost use Rattle.std.specs.Str.Lines.{lines};
-ghost use Rattle.std.specs.Thread.{IsSync};
 ghost use Rattle.tw_order.specs.Orders.{run_with};
 ghost use Rattle.tw_order.specs.InTurn.{IsInTurn, IsInputsInTurn};
 ghost use Rattle.tw_order.specs.declared.order.InputsOrder.TheVariants.{ToRun};
@@ -20,14 +19,14 @@ use crate::in_turn::{reply_in_time, reply_single_threaded};
 use crate::input::MOST_BYTES;
 use crate::json::{in_form, rendering_of};
 use crate::json_run::{Action, action_reply, run_json_step};
-use crate::line_progress::LineProgress;
+use crate::line_threads::lines_reply;
 use crate::programs::{ProgramAction, RunRequest};
 use crate::run::reply_threaded;
 use std::alloc::{AllocError, Global};
 use std::sync::Wait;
-use std::thread::{Threads, join};
+use std::thread::Threads;
 use std::time::Clock;
-use tw_each::{Answering, InOneThread, InThreads, LineCount, each_reply, too_long_reply};
+use tw_each::{each_reply_in_turn, too_long_reply};
 use tw_inputs::inputs_of;
 use tw_order::{InputsOrder, Order, ProgramOrder, RunOptions, Source, VerifiedOrder};
 use tw_program_output::{
@@ -118,14 +117,8 @@ fn with_inputs_step(
 }
 
 /// Returns the step of an order, if there aren't too many bytes.
-fn ordered_step<A: Answering>(
-    alloc: Global,
-    answering: &A,
-    order: Order,
-    input: Vec<u8>,
-) -> Result<OrderAction, AllocError>
-    requires shared { A.shared }
-    requires count { length input.items ≤ 16777216 }
+fn ordered_step(alloc: Global, order: Order, input: Vec<u8>) -> Result<OrderAction, AllocError>
+    requires { length input.items ≤ 16777216 }
     ensures { IfOk result (Comes (IsInTurn order) (RepliesByInput order input.items)) }
 {
     match order {
@@ -144,7 +137,7 @@ fn ordered_step<A: Answering>(
         }
         Order::Inputs(source, order) => with_inputs_step(alloc, source, order, &input),
         Order::Each(source, order) => {
-            let reply = each_reply(alloc, answering, source, &order, &input)?;
+            let reply = each_reply_in_turn(alloc, source, &order, &input)?;
             Ok(OrderAction::Finished(reply))
         }
     }
@@ -161,24 +154,18 @@ fn excessive_reply(alloc: Global, order: &Order) -> Result<Reply, AllocError>
 }
 
 /// Returns the step of an order and the bytes that were read. The error is that an allocation fails.
-fn step_of<A: Answering>(
-    alloc: Global,
-    answering: &A,
-    order: Order,
-    input: Vec<u8>,
-) -> Result<OrderAction, AllocError>
-    requires shared { A.shared }
+fn step_of(alloc: Global, order: Order, input: Vec<u8>) -> Result<OrderAction, AllocError>
     ensures { IfOk result (Comes (IsInTurn order) (MayReplyText order input.items)) }
 {
     if input.len() > MOST_BYTES {
         let reply = excessive_reply(alloc, &order)?;
         Ok(OrderAction::Finished(reply))
     } else {
-        ordered_step(alloc, answering, order, input)
+        ordered_step(alloc, order, input)
     }
 }
 
-/// Like `step_of`, in threads. While lines are answered the observer monitors them; without a thread for it, it is called after the last one.
+/// Like `step_of`, but answers lines in threads.
 fn threaded_step<H: Threads + Wait + Clock + Sync, G: Gate + Sync>(
     rt: &H,
     alloc: Global,
@@ -188,24 +175,13 @@ fn threaded_step<H: Threads + Wait + Clock + Sync, G: Gate + Sync>(
 ) -> Result<OrderAction, AllocError>
     ensures { IfOk result (Comes (IsInTurn order) (MayReplyText order input.items)) }
 {
-    let line_count = LineCount::new();
-    let count = &line_count;
-    if !matches!(&order, Order::Each(..)) {
-        return step_of(alloc, &InThreads { rt, count }, order, input);
+    match order {
+        Order::Each(source, order) => {
+            let reply = lines_reply(rt, alloc, gate, source, &order, &input)?;
+            Ok(OrderAction::Finished(reply))
+        }
+        other => step_of(alloc, other, input),
     }
-    let monitor = move ||
-        requires { IsSync H.row × IsSync G.row }
-    { gate.monitor(rt, &LineProgress { count }) };
-    let work = move || -> Result<OrderAction, AllocError>
-        requires { IsSync H.row }
-        ensures { IfOk result (Comes (IsInTurn order) (MayReplyText order input.items)) }
-    {
-        let step = step_of(alloc, &InThreads { rt, count }, order, input);
-        count.end();
-        step
-    };
-    let ((), step) = join(rt, monitor, work);
-    step
 }
 
 /// Runs an accepted program with threads, or single-threaded if that is ordered.
@@ -310,7 +286,7 @@ fn text_reply_in_turn(alloc: Global, order: Order, input: Vec<u8>) -> Result<Rep
     requires { IsInTurn order }
     ensures { IfOk result (λ r. MayReplyText order input.items (reply r.text.items r.close)) }
 {
-    match step_of(alloc, &InOneThread, order, input)? {
+    match step_of(alloc, order, input)? {
         OrderAction::Finished(reply) => Ok(reply),
         OrderAction::Request(asking) => {
             let ProgramRequest {

@@ -1,4 +1,4 @@
-use Rattle.std.proofs.Common.{◌==◌, ◌∙◌, ℕ, List, Some, ap, inl, refl, subst}
+use Rattle.std.proofs.Common.{◌==◌, ◌∙◌, ℕ, Some, ap, inl, refl, subst}
 use Rattle.tw_program_output.specs.Admission.{AreExcessLines, has_cap}
 use Rattle.tw_program_output.specs.Failure.{coded, failed_with}
 use Rattle.tw_program_output.specs.declared.failure.Position.TheVariants as position

@@ -6,7 +6,7 @@ use Rattle.tw_session.proofs.Replies.{within}
 use Rattle.tw_session.proofs.order.step_of.Goals as goal
 
 pub returns-else-len-gt-MOST_BYTES : goal.returns-else-len-gt-MOST_BYTES
-returns-else-len-gt-MOST_BYTES g c =
+returns-else-len-gt-MOST_BYTES c =
     let input = c.args.input.items in
     let order = c.args.order in
     let short : length input ≤ most_bytes = search rules in

@@ -1,0 +1,65 @@
+-- Replies to a program and the lines that are read with it.
+use Rattle.std.proofs.Common.{◌≡◌, ◌∙◌, Bool, Bor, ℕ, List, Option, ap, codes, inl, inr, map, subst, sym}
+use Rattle.std.specs.Prelude.{MatchBool}
+use Rattle.std.specs.Str.Lines.{lines}
+use Rattle.tw_code.specs.format.Program.{Versioned}
+use Rattle.tw_order.specs.declared.order.Source.{Source}
+use Rattle.tw_order.specs.declared.runs.EachOrder.{EachOrder}
+use Rattle.tw_program_output.specs.Inputs.{after_inputs, before_inputs}
+use Rattle.tw_program_output.specs.Program.{Spells, source_text}
+use Rattle.tw_program_output.specs.Reply.{Reply, reply}
+use Rattle.tw_program_output.specs.declared.close.Close.TheVariants.{CommandLine}
+use Rattle.tw_program_output.specs.declared.reply.Reply.{Reply as MadeReply}
+use Rattle.tw_verify.specs.Typed.{TypedProgram}
+use Rattle.tw_each.specs.Answers.{AreAnswers, Way}
+use Rattle.tw_each.specs.Ready.{IsEachInput, IsReady, IsReadyText, IsRejectedText}
+use Rattle.tw_each.specs.Reply.{IsRejected, RepliesByEach, RepliesByParts, close_of, way_of}
+use Rattle.tw_each.specs.declared.input_lines.LineParts.{LineParts}
+use Rattle.tw_each.specs.declared.reply.Ready.{Ready}
+use Rattle.tw_each.specs.declared.reply.Ready.TheVariants as ready
+use Rattle.tw_each.specs.declared.together.EachInput.TheVariants.{Parts, Rejected}
+
+-- ---- a program
+
+-- a program that was read is ready if it is verified, or it is rejected
+pub read_ready : (source : Source) (order : EachOrder) (input : List ℕ) (program : Versioned) (text : Option (List ℕ)) (next : Ready) → Spells source input program
+    → text ≡ source_text source input → IsReady text order program.procedures next → IsReadyText source order input text next
+read_ready source order input program text (ready.Run verified) spells is h = (program, spells, is, h.0, h.1)
+read_ready source order input program text (ready.Rejected r) spells is h =
+    inl (program, spells, subst (λ (t : Option (List ℕ)). IsRejected t order program.procedures (reply r.text.items r.close)) is h)
+
+-- the reply to an admitted program is the answers to its lines
+pub answered : (source : Source) (order : EachOrder) (input : List ℕ) (given : List (List ℕ)) (text : Option (List ℕ)) (verified : TypedProgram) (w : Way) (answers : List ℕ)
+    (refused : Bool) (r : Reply) → IsReadyText source order input text (ready.Run verified) → w ≡ way_of text order verified → AreAnswers w 0 given answers refused → r.text ≡ answers
+    → r.close ≡ close_of refused → RepliesByParts source order input given r
+answered source order input given text verified w answers refused r (program, spells, is, kept, admitted) way_is made text_is closes =
+    let way : w ≡ way_of (source_text source input) order verified = way_is ∙ ap (λ (t : Option (List ℕ)). way_of t order verified) is in
+    let whole = subst (λ (way : Way). AreAnswers way 0 given answers refused) way made in
+    let printed = subst (λ (t : List ℕ). AreAnswers (way_of (source_text source input) order verified) 0 given t refused) (sym text_is) whole in
+    inl (program, spells, inl (admitted, (verified, refused, kept, printed, closes)))
+
+-- or its rejection
+pub rejected : (source : Source) (order : EachOrder) (input : List ℕ) (given : List (List ℕ)) (r : Reply) → IsRejectedText source order input r → RepliesByParts source order input given r
+rejected source order input given r (inl (program, spells, h)) = inl (program, spells, inr h)
+rejected source order input given r (inr h) = inr h
+
+-- ---- a program and lines
+
+-- the reply to the parts is that to what is read
+pub replied : (source : Source) (order : EachOrder) (input : List ℕ) (parts : LineParts) (r : Reply) → IsEachInput input (Parts parts)
+    → RepliesByParts source order parts.program.items (map (λ (line : Bor (List ℕ)). line.now) parts.lines.items) r → RepliesByEach source order input r
+replied source order input parts r (inl (utf8, (has, before, after))) by =
+    let all = lines input in
+    let refused = r ≡ reply (codes "command line refused\n") CommandLine in
+    let first = subst (λ (given : List (List ℕ)). RepliesByParts source order parts.program.items given r) after by in
+    let whole = subst (λ (program : List ℕ). RepliesByParts source order program (after_inputs all) r) before first in
+    inl (utf8, subst (λ (b : Bool). MatchBool b (RepliesByParts source order (before_inputs all) (after_inputs all) r) refused) (sym has) whole)
+replied source order input parts r (inr (other, never)) by = absurd never
+
+-- so is the reply to what isn't a program with lines
+pub no_parts : (source : Source) (order : EachOrder) (input : List ℕ) (r : MadeReply) → IsEachInput input (Rejected r) → RepliesByEach source order input (reply r.text.items r.close)
+no_parts source order input r (inl (utf8, (has, is))) =
+    let all = lines input in
+    let here = reply r.text.items r.close in
+    inl (utf8, subst (λ (b : Bool). MatchBool b (RepliesByParts source order (before_inputs all) (after_inputs all) here) (here ≡ reply (codes "command line refused\n") CommandLine)) (sym has) is)
+no_parts source order input r (inr h) = inr h

@@ -1,0 +1,69 @@
+//! The reply to a program and the lines after it, which threads answer.
+
+ghost use Rattle.std.specs.Prelude.{IfOk};
+ghost use Rattle.std.specs.Thread.{IsSync};
+ghost use Rattle.tw_each.specs.Reply.{RepliesByEach};
+ghost use Rattle.tw_order.specs.declared.order.Order.TheVariants.{Each};
+ghost use Rattle.tw_program_output.specs.Reply.{reply};
+ghost use Rattle.tw_session.specs.Session.{MayReplyText};
+
+use crate::input::MOST_BYTES;
+use crate::line_progress::LineProgress;
+use std::alloc::{AllocError, Global};
+use std::sync::Wait;
+use std::thread::{Threads, join};
+use std::time::Clock;
+use tw_each::{LineCount, LineThreads, each_reply, too_long_reply};
+use tw_order::{EachOrder, Source};
+use tw_program_output::Reply;
+use tw_workers::Gate;
+
+/// Answers the lines while the observer monitors them. Without a thread for it, it is called after the last one.
+fn monitored_reply<H: Threads + Wait + Clock + Sync, G: Gate + Sync>(
+    threads: &LineThreads<'_, H>,
+    gate: &G,
+    source: Source,
+    order: &EachOrder,
+    input: &[u8],
+) -> Result<Reply, AllocError>
+    ensures { IfOk result (λ r. RepliesByEach source order.now input.now (reply r.text.items r.close)) }
+{
+    let rt = threads.rt;
+    let count = threads.count;
+    let monitor = move ||
+        requires { IsSync H.row × IsSync G.row }
+    { gate.monitor(rt, &LineProgress { count }) };
+    let work = move || -> Result<Reply, AllocError>
+        requires { IsSync H.row }
+        ensures { IfOk result (λ r. RepliesByEach source order.entry.now input.entry.now (reply r.text.items r.close)) }
+    {
+        let made = each_reply(threads, source, order, input);
+        count.end();
+        made
+    };
+    let ((), made) = join(rt, monitor, work);
+    made
+}
+
+/// Returns the reply to a program and the lines after it, unless they have too many bytes.
+pub fn lines_reply<H: Threads + Wait + Clock + Sync, G: Gate + Sync>(
+    rt: &H,
+    alloc: Global,
+    gate: &G,
+    source: Source,
+    order: &EachOrder,
+    input: &[u8],
+) -> Result<Reply, AllocError>
+    ensures { IfOk result (λ r. MayReplyText (Each source order.now) input.now (reply r.text.items r.close)) }
+{
+    if input.len() > MOST_BYTES {
+        return too_long_reply(alloc);
+    }
+    let count = LineCount::new();
+    let threads = LineThreads {
+        rt,
+        alloc,
+        count: &count,
+    };
+    monitored_reply(&threads, gate, source, order, input)
+}
