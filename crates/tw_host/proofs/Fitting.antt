@@ -67,7 +67,7 @@ module _ (p : PoolView) (answer : Turn) (events : List Event) where
   -- ---- all lines
 
   turned : (s : State) (actor : Actor) (job : Option JobView) (given : Option DoneView) → length p.history < p.limit → Turns p s actor job given answer events → Fits p events
-  turned s actor None None room (inl l) = made actor None [] l.0 (omega (arith, room)) l.2
+  turned s actor None None room (inl l) = made actor None [] l.0 (omega (arith, room)) l.3
   turned s actor None None room (inr l) = none (omega (arith, room)) l.1.1
   turned s actor None (Some done) room l = none (omega (arith, room)) l.1
   turned s actor (Some job) None room l = none (omega (arith, room)) l.1

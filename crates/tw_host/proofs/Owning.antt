@@ -56,7 +56,7 @@ module _ (p : PoolView) (answer : Turn) (events : List Event) where
   taken_back actor false false done d l = made actor (Some done) (steps_of actor done) (event_of actor (instr_after p.program.program done)) d l
 
   turned : (s : State) (actor : Actor) (job : Option JobView) (given : Option DoneView) → IsDoneOf p.program given → Turns p s actor job given answer events → Owns
-  turned s actor None None d (inl l) = made actor None [] l.0 tt l.2
+  turned s actor None None d (inl l) = made actor None [] l.0 tt l.3
   turned s actor None None d (inr l) = other turn.Idle l.1.0 tt
   turned s actor None (Some done) d l = other (turn.Foreign done) l.0 d
   turned s actor (Some job) None d l = other turn.Owed l.0 tt
