@@ -92,9 +92,9 @@ The report has a line for each output, then one for each member if it is a conta
 With --trace the trace precedes the report: a line `events`, a line for each event, in order, and a line `end`. The program's
 hex text, a line end and this output can be piped into `tw replay`, with the same inputs, engines, servers and workers.
 Each engine, server and worker is a thread. With --in-turn there is one thread, in which the engines, then the servers, then
-the workers take turns, again and again. The same command makes the same trace each time; that is proved as long as no
-server has two notices to choose from. With --in-turn --seed N the number N decides who takes the next turn; the same N gives
-the same trace, another N may give another. What depends on the order of events shows so. --each is excluded then.
+the workers take turns, again and again. The same command makes the same trace each time. With --in-turn --seed N the
+number N decides who takes the next turn; the same N gives the same trace, another N may give another. What depends on
+the order of events shows so. --each is excluded then.
 With --seconds N a run is stopped once N seconds have passed, and its report ends with `stopped`; with --each the run of
 each line. A task that works then is cut off, without an event.
 A run in threads of more than two seconds prints once a second on standard error, if that is a terminal, how many events
