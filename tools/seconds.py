@@ -28,6 +28,7 @@ from dataclasses import dataclass
 from pathlib import Path
 from typing import Any
 
+from json_cases import TIMED, faults, validators
 from stream import Wrong, expect
 
 ROOT = Path(__file__).resolve().parent.parent
@@ -140,13 +141,23 @@ def reported(*words: str) -> Callable[[Given], None]:
     return check
 
 
+def stopped_answer(text: str) -> dict[str, object]:
+    """Returns the object of a stopped run, with its own events and instructions. Checks that it fits the schema, if the module jsonschema is there."""
+    found = json.loads(text)
+    schemas = validators()
+    expect("faults by the schema", faults(schemas, "run", found) if schemas else [], [])
+    events = int(found["events"])
+    if events >= 1_000_000:
+        raise Wrong(f"{events} events")
+    return {"events": events, "instructions": int(found["instructions"]), "kinds": ["unset"], "outputs": [None], "status": TIMED}
+
+
 def in_json(given: Given) -> None:
-    """The object has the status, and the events and instructions of whole turns."""
+    """The object of a stopped run has all members, and no order, since another run may end."""
     ran = in_time(A_SECOND, lambda: run(command(given, "--in-turn", "--json", "--seconds", "1")))
-    found = json.loads(ran.output)
-    expect("status", (ran.status, found["status"], found["outputs"]), (4, "stopped", [None]))
-    if not 13 <= found["events"] < 1_000_000:
-        raise Wrong(f"{found['events']} events")
+    expect("status and object", (ran.status, json.loads(ran.output)), (4, stopped_answer(ran.output)))
+    ordered = run(command(given, "--in-turn", "--json", "--seconds", "1", "--order"))
+    expect("status and object", (ordered.status, json.loads(ordered.output)), (4, stopped_answer(ordered.output) | {"order": None}))
 
 
 def on_terminal(given: Given) -> None:
@@ -168,21 +179,16 @@ def quick_answer(line: int) -> dict[str, object]:
     return {"line": line, "events": 9, "instructions": 7, "kinds": ["int"], "outputs": [0], "status": "quiet"}
 
 
-def slow_answer(line: int, found: dict[str, object]) -> dict[str, object]:
-    """Returns the object of a line that is stopped, with the events and instructions that it has."""
-    return {"line": line, "events": found.get("events"), "instructions": found.get("instructions"), "kinds": ["unset"], "outputs": [None], "status": "stopped"}
-
-
 def each(jobs: int, least: float) -> Callable[[Given], None]:
     """Two of five lines are stopped, each after its own second; the others have their ends. Without other jobs that takes two seconds."""
     def check(given: Given) -> None:
         words = [given.tw, "run", given.turns, "--each", "-", "--jobs", str(jobs), MOST_EVENTS, "--seconds", "1"]
         lines = b"[0]\n[%d]\n[0]\n[%d]\n[0]\n" % (MANY, MANY)
         ran = in_time(Window(least, 6.0, 4.0), lambda: run(words, lines))
-        answers = list(map(json.loads, ran.output.splitlines()))
+        answers = ran.output.splitlines()
         expect("lines", len(answers), 5)
-        wanted = [slow_answer(line, answers[line - 1]) if line in (2, 4) else quick_answer(line) for line in range(1, 6)]
-        expect("status and answers", (ran.status, answers), (0, wanted))
+        wanted = [stopped_answer(answers[line - 1]) | {"line": line} if line in (2, 4) else quick_answer(line) for line in range(1, 6)]
+        expect("status and answers", (ran.status, list(map(json.loads, answers))), (0, wanted))
     return check
 
 

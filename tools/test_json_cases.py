@@ -74,6 +74,11 @@ class Unseen(unittest.TestCase):
         self.assertEqual(found, ["`more` with the status b", "`status` with the status c"])
 
 
+    def test_stopped_runs(self) -> None:
+        schema = {"oneOf": [{"properties": {"status": {"enum": ["quiet", "stopped"]}}}]}
+        found = [line.split("has ")[1] for line in json_cases.unseen("run", schema, [])]
+        self.assertEqual(found, ["`status` with the status quiet"])
+
     def test_members_of_errors(self) -> None:
         schema = {"$defs": {"error": {"properties": {"code": {}, "line": {}}}}}
         seen = [json_cases.Expected("one", "run", {"status": "refused", "error": {"code": "H01"}}), json_cases.Expected("two", "run", {"status": "quiet"})]
