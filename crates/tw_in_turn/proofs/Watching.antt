@@ -65,7 +65,7 @@ module _ (p : PoolView) (actor : Actor) (answer : Turn) (events : List Event) wh
       omega (arith, few, low)
 
   turned : (s : State) (job : Option JobView) (given : Option DoneView) → Turns p s actor job given answer events → looks_within events ≤ owed given
-  turned s None None (inl l) = made None [] l.0 l.2
+  turned s None None (inl l) = made None [] l.0 l.3
   turned s None None (inr l) = no_more events 0 l.1.1
   turned s None (Some done) l = no_more events (owed (Some done)) l.1
   turned s (Some job) None l = no_more events 0 l.1
