@@ -329,7 +329,8 @@ PATHS = re.compile(r"`(tw_\w+)::(\w+(?:::\w+)*)`")
 @functools.cache
 def code_of(crate: str) -> str:
     """Returns all sources, definitions and theorems of a crate as one text."""
-    files = sorted(path for ending in ("rt", "antt") for path in (ROOT / "crates" / crate).rglob(f"*.{ending}"))
+    parts = [ROOT / "crates" / crate / part for part in ("src", "specs", "proofs")]
+    files = sorted(path for ending in ("rt", "antt") for part in parts for path in part.rglob(f"*.{ending}"))
     return "\n".join(path.read_text(encoding="utf-8") for path in files)
 
 
