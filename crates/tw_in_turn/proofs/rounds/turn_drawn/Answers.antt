@@ -1,4 +1,4 @@
-use Rattle.std.proofs.Common.{◌≡◌, ◌≢◌, ◌<◌, ◌+◌, ◌%◌, ◌∙◌, Option, Some, true, false, ap, arith, length, refl, subst, sym}
+use Rattle.std.proofs.Common.{◌≡◌, ◌≢◌, ◌<◌, ◌+◌, ◌%◌, ◌∙◌, Option, Some, true, false, ap, arith, get_or, length, refl, subst, sym}
 use Rattle.tw_types.specs.declared.actor.Actor.{Actor}
 use Rattle.tw_types.specs.Actor.{actor_count}
 use Rattle.tw_frame.specs.Jobs.{DoneView}
@@ -86,8 +86,9 @@ returns-then-events-len-clause-round g c =
     let Says = g.S.StopSignal.says in
     let denied : Says c.loop-skipped.stop false c.is_raised.new.self = subst (λ b. Says c.loop-skipped.stop b c.is_raised.new.self) c.if-is_raised.false c.is_raised.ensures in
     let seen = inv.looked in
-    let watched = subst (λ (o : Option End). IsWatched (Looked Says c.is_raised.new.self c.turn_one.new.stop) now _ new c.turn_one.new.kept o) c.in_default.is c.turn_one.ensures.watched in
-    let again = watching.looks_again now new c.loop-skipped.kept ((c.place_for-first.result + c.loop-skipped.skipped) % c.actor_count-count.result) c.turn_one.new.kept _ watched.0 (omega (arith, low, inv.kept_is.long)) watched.2 in (
+    let given = get_or c.loop-skipped.kept ((c.place_for-first.result + c.loop-skipped.skipped) % c.actor_count-count.result) c.index-kept-index.result in
+    let watched = subst (λ (o : Option End). IsWatched (Looked Says c.is_raised.new.self c.turn_one.new.stop) now given new c.turn_one.new.kept o) c.in_default.is c.turn_one.ensures.watched in
+    let again = watching.looks_again now new c.loop-skipped.kept ((c.place_for-first.result + c.loop-skipped.skipped) % c.actor_count-count.result) c.turn_one.new.kept c.index-kept-index.result watched.0 (omega (arith, low, inv.kept_is.long)) watched.2 in (
       record {
         more = more;
         kept_is = rounding.kept_again now new c.loop-skipped.kept _ c.turn_one.new.kept (rounding.layout_same now new t.grown) low inv.kept_is (subst (λ (a : Actor). Keeps new a c.turn_one.new.kept) actor_now t.comes.1)
@@ -120,8 +121,9 @@ loop-skipped-preserved g c =
     let Says = g.S.StopSignal.says in
     let denied : Says c.loop-skipped.stop false c.is_raised.new.self = subst (λ b. Says c.loop-skipped.stop b c.is_raised.new.self) c.if-is_raised.false c.is_raised.ensures in
     let seen = inv.looked in
-    let watched = subst (λ (o : Option End). IsWatched (Looked Says c.is_raised.new.self c.turn_one.new.stop) now _ new c.turn_one.new.kept o) c.in_default.is c.turn_one.ensures.watched in
-    let again = watching.looks_again now new c.loop-skipped.kept ((c.place_for-first.result + c.loop-skipped.skipped) % c.actor_count-count.result) c.turn_one.new.kept _ watched.0 (omega (arith, low, inv.kept_is.long)) watched.2 in
+    let given = get_or c.loop-skipped.kept ((c.place_for-first.result + c.loop-skipped.skipped) % c.actor_count-count.result) c.index-kept-index.result in
+    let watched = subst (λ (o : Option End). IsWatched (Looked Says c.is_raised.new.self c.turn_one.new.stop) now given new c.turn_one.new.kept o) c.in_default.is c.turn_one.ensures.watched in
+    let again = watching.looks_again now new c.loop-skipped.kept ((c.place_for-first.result + c.loop-skipped.skipped) % c.actor_count-count.result) c.turn_one.new.kept c.index-kept-index.result watched.0 (omega (arith, low, inv.kept_is.long)) watched.2 in
     record {
       same = still.0 ∙ inv.same;
       kept_is = rounding.kept_again now new c.loop-skipped.kept _ c.turn_one.new.kept (rounding.layout_same now new t.grown) low inv.kept_is (subst (λ (a : Actor). Keeps new a c.turn_one.new.kept) actor_now t.comes.1)
