@@ -279,7 +279,7 @@ def wrong(checks: dict[str, Check], where: str, given: Given) -> int:
         try:
             check(given)
         except Wrong as why:
-            print(f"seconds.py: {what}{where}: {why}")
+            print(f"seconds.py: {what}{where}: {why}", flush=True)
             count += 1
     return count
 
