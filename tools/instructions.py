@@ -57,7 +57,7 @@ WHOLES: tuple[Whole, ...] = (
             "tw_soundness/proofs/Long.antt", "tw_soundness/proofs/Moving.antt", "tw_soundness/proofs/Whole.antt",
             "tw_verify/src/instructions.rt", "tw_verify/src/typing.rt", "tw_bounds/proofs/Moved.antt",
             "tw_instr/src/on_data.rt", "tw_instr/specs/Memory.antt",
-            "tw_pool_state/src/data.rt", "tw_pool_state/specs/Memory.antt",
+            "tw_pool_state/src/data.rt", "tw_pool_state/specs/Memory.antt", "tw_pool_state/specs/Queued.antt",
             "tw_stats/src/pre_state.rt", "tw_stats/specs/Waits.antt",
             "tw_diagnostics/src/data_checks.rt", "tw_diagnostics/specs/RegisterCheck.antt", "tw_diagnostics/proofs/Asking.antt",
             "tw_determinism/proofs/Contesting.antt", "tw_determinism/proofs/CoreEffects.antt", "tw_determinism/proofs/DataShown.antt",
