@@ -118,7 +118,7 @@ MUTANTS = (
     Mutant("limits_read_as_quiet", "python", PYTHON + "_report.py", '_ENDS = ("quiet", "stuck", "limit"', '_ENDS = ("quiet", "stuck"'),
     Mutant("open_outputs_are_finished", "python", PYTHON + "_report.py", 'if not found and " closed " not in line:', "if not found and line == '':"),
     Mutant("unset_members_are_left_out", "python", PYTHON + "_report.py", "read_scalar(found[2]) if found[2] else None", "read_scalar(found[2]) if found[2] else 0"),
-    Mutant("instructions_are_events", "python", PYTHON + "_report.py", "self._counted(self._instructions)", "self._counted(self._events)"),
+    Mutant("instructions_are_events", "python", PYTHON + "_report.py", "self._did().instructions", "self._did().events"),
     Mutant("errors_by_quoted_lines", "python", PYTHON + "_errors.py", 'r"at line (?P<line>\\d+)(?: in [^\\s:]+)?: ", rest[:1]', 'r".*at line (?P<line>\\d+)", rest'),
     Mutant("lines_without_procedures", "python", PYTHON + "_errors.py", "(?: in [^\\s:]+)?: ", ": "),
     Mutant("traps_are_refusals", "python", PYTHON + "_commands.py", "raise (Trap if status == 6 else Refused)(text)", "raise Refused(text)"),
