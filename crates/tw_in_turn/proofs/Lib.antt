@@ -8,4 +8,3 @@ mod Opening
 mod Rounding
 mod Same
 mod Stops
-mod Watching

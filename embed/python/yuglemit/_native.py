@@ -220,7 +220,7 @@ class Flag:
         _done(short().yuglemit_stop_new(self.of_run.at))
 
     def set(self) -> None:
-        """Ends the run before its next turn, or within a task."""
+        """Ends the run before its next event."""
         _done(short().yuglemit_raw_stop_raise(self.of_run.seen()))
 
 
