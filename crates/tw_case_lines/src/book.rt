@@ -3,6 +3,16 @@
 use crate::complaint::Complaint;
 use std::alloc::{AllocError, Global};
 
+/// How much deeper the stack may be in a case than where the first one is noted, in bytes.
+const DEEPER: usize = 2_097_152;
+
+/// Lets the stack grow, which it can't while all addresses are held, nor later where memory lies below it. Returns true.
+fn grow_stack(place: usize) -> bool {
+    let mut below = [0_u8; DEEPER];
+    below[place % DEEPER] = 1;
+    below[place.wrapping_add(1) % DEEPER] == 0
+}
+
 /// The bytes that earlier lines named, the names of the cases so far, and how many cases passed.
 #[derive(Drop)]
 pub struct Book {
@@ -50,13 +60,15 @@ impl Book {
         Ok(())
     }
 
-    /// Adds the name of a case. Returns whether it isn't empty, and no earlier case has it.
+    /// Adds the name of a case. Returns whether it isn't empty, and no earlier case has it. The first one lets the stack grow, before any case
+    /// holds addresses.
     pub fn note(&mut self, alloc: Global, name: &str) -> Result<bool, AllocError> {
         if name.is_empty() || self.has_case(name) {
             return Ok(false);
         }
+        let is_first = self.cases.is_empty();
         self.cases.push(name.to_string(alloc)?)?;
-        Ok(true)
+        Ok(!is_first || grow_stack(name.len()))
     }
 
     fn has_case(&self, name: &str) -> bool {

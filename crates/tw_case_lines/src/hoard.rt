@@ -12,16 +12,6 @@ const KEPT_SIZES: usize = 1040;
 /// A piece of free addresses that is never held all the time, so that `leave` finds a part of it.
 const SPARE: usize = 1 << 30;
 
-/// How much deeper the stack may be while addresses are held, and later, in bytes.
-const DEEPER: usize = 524_288;
-
-/// Lets the stack grow, which it can't while all addresses are held, nor later where memory lies below it. Returns 0.
-fn grow_stack(place: usize) -> usize {
-    let mut below = [0_u8; DEEPER];
-    below[place % DEEPER] = 1;
-    usize::from(below[place.wrapping_add(1) % DEEPER])
-}
-
 /// Allocated pieces of memory that are never touched, so that they take only addresses. While all are held, an allocation fails, and so does a new
 /// thread, since it needs a stack.
 #[derive(Drop)]
@@ -45,9 +35,8 @@ impl Hoard {
             pieces: Vec::with_capacity(alloc, MOST)?,
             large: 0,
         };
-        let none = grow_stack(hoard.pieces.capacity());
         hoard.take(alloc, 1 << 40, 1 << 30)?;
-        hoard.large = hoard.pieces.len().wrapping_add(none);
+        hoard.large = hoard.pieces.len();
         Ok(hoard)
     }
 
