@@ -6,7 +6,9 @@ use std::alloc::{AllocError, Global};
 /// How much deeper the stack may be in a case than where the first one is noted, in bytes.
 const DEEPER: usize = 2_097_152;
 
-/// Lets the stack grow, which it can't while all addresses are held, nor later where memory lies below it. Returns true.
+/// Lets the stack grow, which it can't while all addresses are held, nor later where memory lies below it. Returns true. It has a frame of its own,
+/// since only a frame that has ended leaves its part of the stack to later ones.
+#[inline(never)]
 fn grow_stack(place: usize) -> bool {
     let mut below = [0_u8; DEEPER];
     below[place % DEEPER] = 1;
