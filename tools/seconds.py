@@ -29,7 +29,7 @@ from pathlib import Path
 from typing import Any
 
 from json_cases import TIMED, faults, validators
-from stream import Wrong, expect
+from stream import Wrong, expect, heed_signals
 
 ROOT = Path(__file__).resolve().parent.parent
 # Each turn joins texts 5,000 times, which takes a millisecond or more, and starts the next one, as many as the input says.
@@ -195,7 +195,7 @@ def each(jobs: int, least: float) -> Callable[[Given], None]:
 def by_signal(number: signal.Signals, *words: str) -> Callable[[Given], None]:
     """A signal ends a run whose time is limited, and nothing is written."""
     def check(given: Given) -> None:
-        process = subprocess.Popen(command(given, "--seconds", "100000", *words), stdout=subprocess.PIPE)
+        process = subprocess.Popen(command(given, "--seconds", "100000", *words), stdout=subprocess.PIPE, preexec_fn=heed_signals)
         time.sleep(0.3)
         process.send_signal(number)
         output, _ = process.communicate(timeout=PATIENCE)

@@ -47,12 +47,19 @@ def error(line: int, code: str) -> dict[str, object]:
     return {"line": line, "error": {"code": code, "lines": [f"refused {code}"]}, "status": "refused"}
 
 
+def heed_signals() -> None:
+    """Lets signals end the process again. A shell starts what runs in the background with them ignored, and a child inherits that."""
+    for number in (signal.SIGINT, signal.SIGTERM, signal.SIGHUP):
+        signal.signal(number, signal.SIG_DFL)
+
+
 class Stream:
     """A process that answers lines."""
 
     def __init__(self, tw: str, program: Path, jobs: int) -> None:
         self.process = subprocess.Popen(
-            [tw, "run", str(program), "--each", "-", "--jobs", str(jobs)], stdin=subprocess.PIPE, stdout=subprocess.PIPE, stderr=subprocess.PIPE)
+            [tw, "run", str(program), "--each", "-", "--jobs", str(jobs)], stdin=subprocess.PIPE, stdout=subprocess.PIPE, stderr=subprocess.PIPE,
+            preexec_fn=heed_signals)
         self.rest = b""
 
     def pipe(self, it: IO[bytes] | None) -> IO[bytes]:
