@@ -250,7 +250,7 @@ typedef struct yuglemit_ending {
 
 #define YUGLEMIT_ENDING {sizeof(yuglemit_ending), 0, 0, 0}
 
-/* The meter of a run: how much it did. No number is above the bound of its name. */
+/* The meter of a run: how much it did, counted as the bounds of these names count. */
 typedef struct yuglemit_meter {
     size_t size;
     uint64_t events;
