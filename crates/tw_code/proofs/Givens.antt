@@ -1,18 +1,18 @@
 -- Inputs of main: containers within their limits, how many data an input makes, and parameters that take inputs in turn.
-use Rattle.std.proofs.Common.{◌≡◌, ◌≤◌, ◌<◌, ◌+◌, ℕ, suc, true, false, ◌&&◌, List, [], ◌∷◌, drop, get_or, length, nat_le, refl, sym, ap, ◌∙◌, drop-cons, arith}
+use Rattle.std.proofs.Common.{◌≡◌, ◌≤◌, ◌<◌, ◌+◌, ℕ, suc, Bool, true, false, ◌&&◌, List, [], ◌∷◌, drop, get_or, length, nat_le, refl, sym, ap, ◌∙◌, drop-cons, arith}
 use Rattle.std.proofs.lemmas.Bool.{and_parts}
 use Rattle.std.proofs.lemmas.Bool.Decides.{nat_tests}
 use Rattle.tw_types.specs.Nesting.{NestedScalar}
 use Rattle.tw_types.specs.declared.data_type.Scalar.{Scalar}
 use Rattle.tw_types.specs.declared.param.Param.{Param}
 use Rattle.tw_types.specs.declared.value.Value.{Value}
-use Rattle.tw_types.specs.DataType.{container_of, is_container_by, same_type, scalar_type}
-use Rattle.tw_types.specs.Given.{Given, Single, Container}
+use Rattle.tw_types.specs.DataType.{container_of, has_sums, is_container_by, is_map, map_with, same_type, scalar_type}
+use Rattle.tw_types.specs.Given.{Given, Single, Container, Entries, given_as}
 use Rattle.tw_types.specs.Mode.{is_write}
 use Rattle.tw_types.specs.Store.{Store, added}
 use Rattle.tw_types.specs.ValueOrder.{Subscript}
 use Rattle.tw_types.proofs.SameTypes.{same_types, scalar_itself}
-use Rattle.tw_code.specs.machine.Inputs.{are_inputs_of, are_members, input_params, is_given_for, rises}
+use Rattle.tw_code.specs.machine.Inputs.{are_entries, are_inputs_of, are_members, input_params, is_given_for, rises}
 use Rattle.tw_code.specs.machine.Members.{are_short, closed_container, with_members}
 use Rattle.tw_code.specs.machine.Opening.{added_given, closed_scalar, numbered}
 
@@ -40,6 +40,27 @@ module _ (ty : NestedScalar) (by inside : Scalar) (es : List (Subscript × Value
   pub given_short : are_short es ≡ true
   given_short = (and_parts (rises es) (are_short es) members.1).1
 
+-- ---- the checks of a map
+
+module _ (ty : NestedScalar) (sums : Bool) (by inside : Scalar) (es : List (Subscript × Value)) (fits : is_given_for ty (Entries sums by inside es) ≡ true) where
+  map_parts : (same_type ty (map_with sums by inside) ≡ true) × (are_entries es ≡ true)
+  map_parts = and_parts (same_type ty (map_with sums by inside)) (are_entries es) fits
+
+  pub entries_type : ty ≡ map_with sums by inside
+  entries_type = same_types ty (map_with sums by inside) map_parts.0
+
+  pub entries_short : are_short es ≡ true
+  entries_short = (and_parts (rises es) (are_short es) (and_parts (nat_le (length es) 100000) (rises es && are_short es) map_parts.1).1).1
+
+-- ---- what members are for a parameter's type
+
+module _ (ty : NestedScalar) (by inside : Scalar) (es : List (Subscript × Value)) where
+  pub as_map : is_map ty ≡ true → given_as ty (Container by inside es) ≡ Entries (has_sums ty.map) by inside es
+  as_map e = rw e refl
+
+  pub as_container : is_map ty ≡ false → given_as ty (Container by inside es) ≡ Container by inside es
+  as_container e = rw e refl
+
 -- ---- how many data an input makes
 
 pub members_next : (es : List (Subscript × Value)) (s : Store) → (with_members s es).next ≡ s.next + length es
@@ -53,6 +74,7 @@ input_next ty (Container by inside es) s h =
     let count : length es ≤ 1000 = given_few ty by inside es h in
     let all = members_next es (added s (closed_container (container_of by (scalar_type inside)) (numbered (s.next + 1) es))) in
     (omega (arith, count, all), omega (arith, count, all))
+input_next ty (Entries sums by inside es) s h = (omega arith, omega arith)
 
 -- ---- parameters
 

@@ -17,9 +17,10 @@ use Rattle.tw_types.specs.declared.event.Event.TheVariants.{Take, Local, Call, E
 use Rattle.tw_types.specs.declared.input.Input.{Input}
 use Rattle.tw_types.specs.declared.param.Param.{Param}
 use Rattle.tw_types.specs.declared.value.Value.{Value}
+use Rattle.tw_types.specs.Value.{scalar_of}
 use Rattle.tw_types.specs.Actor.{actor_cmp, number_in_kind}
-use Rattle.tw_types.specs.DataType.{container_of, is_scalar, same_type, scalar_type}
-use Rattle.tw_types.specs.Given.{Given, Single, Container, given_by}
+use Rattle.tw_types.specs.DataType.{container_of, is_map, is_scalar, map_with, same_type, scalar_type}
+use Rattle.tw_types.specs.Given.{Given, Single, Container, Entries, entered, given_for}
 use Rattle.tw_types.specs.Layout.{ActorCounts}
 use Rattle.tw_types.specs.Mode.{is_write}
 use Rattle.tw_types.specs.ValueOrder.{Subscript, value_cmp}
@@ -27,10 +28,10 @@ use Rattle.tw_types.proofs.ValueOrder.{value_cmp_total}
 use Rattle.tw_types.specs.Nesting.{NestedScalar}
 use Rattle.tw_types.specs.Outcome.{Went}
 use Rattle.tw_types.specs.Result.{must}
-use Rattle.tw_types.specs.Store.{Members, Unset, Contains, Datum, Data, Store, added, drop_read_within, is_closed, is_unheld, members_of, new_datum, read_taken_by, settled_by, subscribers_cleared}
+use Rattle.tw_types.specs.Store.{Members, Values, Content, Unset, Set, Contains, Maps, empty_content, Datum, Data, Store, added, drop_read_within, is_closed, is_unheld, members_of, new_datum, read_taken_by, settled_by, subscribers_cleared}
 use Rattle.tw_types.specs.StoreCalls as store
-use Rattle.tw_types.specs.StoreCalls.{changed, created, inserted, member_at, members_in, one_read_more, one_write_less, one_write_more, read_copied, read_dropped, set_to, store_after, stored, with_member, write_copied, write_dropped, subscribed, with_subscriber}
-use Rattle.tw_types.specs.StoreChecks.{may_be_read, may_copy_write, may_drop_read, may_drop_write, may_insert, may_look, may_read_members, may_read_members_by, may_retrieve, may_store}
+use Rattle.tw_types.specs.StoreCalls.{changed, count_in, created, entry_at, inserted, member_at, members_in, value_put, entries_in, with_entry, one_read_more, one_write_less, one_write_more, read_copied, read_dropped, set_to, store_after, stored, with_member, write_copied, write_dropped, subscribed, with_subscriber}
+use Rattle.tw_types.specs.StoreChecks.{may_be_read, may_copy_write, may_drop_read, may_drop_write, may_insert, may_add, may_look, may_put, may_read_entry, may_read_members, may_read_subscripts_by, may_retrieve, may_store}
 use Rattle.tw_types.specs.Task.{Task}
 use Rattle.tw_types.specs.declared.notice.Subscriber.{Subscriber}
 use Rattle.tw_types.proofs.ActorOrder.{actor_cmp_total}
@@ -43,11 +44,11 @@ use Rattle.tw_code.specs.declared.procedure.Procedure.{Procedure}
 use Rattle.tw_code.specs.format.Program.{IsProgram}
 use Rattle.tw_code.specs.machine.Arguments.{procedure_of}
 use Rattle.tw_code.specs.machine.Bounds.{AreBelow, AreNumbersBelow, OpeningIsSmall, StepGrows, opening_bound, size_of}
-use Rattle.tw_code.specs.machine.Data.{Context, after_insert, after_look, data_instr, datum_at, datum_of, suits}
+use Rattle.tw_code.specs.machine.Data.{Context, after_insert, after_look, after_put, data_instr, datum_at, datum_of, if_absent, suits, suits_entry, suits_subscript, sum_with}
 use Rattle.tw_code.proofs.Givens.{none_fit}
-use Rattle.tw_code.specs.machine.Inputs.{are_inputs_of, are_members, input_params, is_given_for, is_input_of}
+use Rattle.tw_code.specs.machine.Inputs.{are_entries, are_inputs_of, are_members, input_params, is_given_for, is_input_of}
 use Rattle.tw_code.specs.machine.Machine.{RunningInstr, step}
-use Rattle.tw_code.specs.machine.Opening.{Opened, closed_scalar, main_params, nothing_opened, numbered, opened, opening, with_container, with_given, added_given, with_output}
+use Rattle.tw_code.specs.machine.Opening.{Opened, closed_map, closed_scalar, main_params, nothing_opened, numbered, opened, opening, with_container, with_given, added_given, with_output}
 use Rattle.tw_code.specs.machine.Position.{int_at, must_have_type, of_type_at, value_at}
 use Rattle.tw_code.specs.machine.Rights.{Rights, held, must_be_empty}
 use Rattle.tw_code.specs.machine.State.{Frame, Frames, State, context_of, filled, frame_of, values_in, gone_after, with_frame, with_rule, with_task, new_rule}
@@ -57,7 +58,7 @@ use Rattle.tw_code.proofs.Leaving.{take_leaves, local_leaves, call_leaves, end_l
 
 -- counts and the number of members
 abbrev HasCounts : ℕ → Datum → Type 0
-HasCounts bound x = (x.reads < bound) × (x.writes < bound) × (len (members_in x.content) < bound)
+HasCounts bound x = (x.reads < bound) × (x.writes < bound) × (count_in x.content < bound)
 
 one_more_member : (members : Members) (subscript : Subscript) (member : ℕ) → len (insert members subscript member) ≤ len members + 1
 one_more_member members subscript member = let l = len-insert value_cmp_total members subscript member in omega (arith, l, either (contains_key members subscript) (len members))
@@ -66,9 +67,32 @@ one_more_member members subscript member = let l = len-insert value_cmp_total me
     either true n = omega arith
     either false n = omega arith
 
-no_members : (b : Bool) → len (members_in (if b then Unset else Contains fin.empty)) ≡ 0
-no_members true = len-empty value_cmp ℕ
-no_members false = len-empty value_cmp ℕ
+one_more_value : (values : Values) (subscript : Subscript) (x : Value) → len (insert values subscript x) ≤ len values + 1
+one_more_value values subscript x = let l = len-insert value_cmp_total values subscript x in omega (arith, l, either (contains_key values subscript) (len values))
+  where
+    either : (b : Bool) (n : ℕ) → cond b n (n + 1) ≤ n + 1
+    either true n = omega arith
+    either false n = omega arith
+
+members_within : (content : Content) → len (members_in content) ≤ count_in content
+members_within Unset = omega (arith, len-empty value_cmp ℕ)
+members_within (Set x) = omega (arith, len-empty value_cmp ℕ)
+members_within (Contains members) = omega arith
+members_within (Maps values) = omega (arith, len-empty value_cmp ℕ)
+
+values_within : (content : Content) → len (entries_in content) ≤ count_in content
+values_within Unset = omega (arith, len-empty value_cmp Value)
+values_within (Set x) = omega (arith, len-empty value_cmp Value)
+values_within (Contains members) = omega (arith, len-empty value_cmp Value)
+values_within (Maps values) = omega arith
+
+no_members : (ty : NestedScalar) → count_in (empty_content ty) ≡ 0
+no_members ty = by (is_scalar ty) (is_map ty)
+  where
+    by : (b c : Bool) → count_in (if b then Unset else if c then Maps fin.empty else Contains fin.empty) ≡ 0
+    by true c = refl
+    by false true = len-empty value_cmp Value
+    by false false = len-empty value_cmp ℕ
 
 -- a store that one call makes of another
 record StoreGrown (s t : Store) : Type 0 where
@@ -152,14 +176,17 @@ after_grown s id f adds = by (get s.live id) refl
 created_grown : (s : Store) (ty : NestedScalar) → StoreGrown s (created s ty)
 created_grown s ty = record {
   next = omega arith;
-  counts = λ bound some all. each_insert nat_cmp_total (HasCounts (bound + 1)) s.live (more_counts bound s.live all) s.next (new_datum ty) (omega arith, omega arith, omega (arith, no_members (is_scalar ty)));
+  counts = λ bound some all. each_insert nat_cmp_total (HasCounts (bound + 1)) s.live (more_counts bound s.live all) s.next (new_datum ty) (omega arith, omega arith, omega (arith, no_members ty));
 }
 
 stored_grown : (s : Store) (id : ℕ) (x : Value) → StoreGrown s (stored s id x)
-stored_grown s id x = after_grown s id (set_to x) (λ bound d few. (omega (arith, few.0), omega (arith, few.1), omega (arith, len-empty value_cmp ℕ)))
+stored_grown s id x = after_grown s id (set_to x) (λ bound d few. (omega (arith, few.0), omega (arith, few.1), omega arith))
 
 inserted_grown : (s : Store) (id : ℕ) (subscript : Subscript) (member : ℕ) → StoreGrown s (inserted s id subscript member)
-inserted_grown s id subscript member = changed_grown s id (with_member subscript member) (λ bound d few. (omega (arith, few.0), omega (arith, few.1), omega (arith, one_more_member (members_in d.content) subscript member, few.2)))
+inserted_grown s id subscript member = changed_grown s id (with_member subscript member) (λ bound d few. (omega (arith, few.0), omega (arith, few.1), omega (arith, one_more_member (members_in d.content) subscript member, members_within d.content, few.2)))
+
+put_grown : (s : Store) (id : ℕ) (subscript : Subscript) (x : Value) → StoreGrown s (value_put s id subscript x)
+put_grown s id subscript x = changed_grown s id (with_entry subscript x) (λ bound d few. (omega (arith, few.0), omega (arith, few.1), omega (arith, one_more_value (entries_in d.content) subscript x, values_within d.content, few.2)))
 
 read_copied_grown : (s : Store) (id : ℕ) → StoreGrown s (read_copied s id)
 read_copied_grown s id = changed_grown s id one_read_more (λ bound d few. (omega (arith, few.0), omega (arith, few.1), omega (arith, few.2)))
@@ -183,6 +210,10 @@ look_grown : (c : Context) (register skip : ℕ) (found : Option ℕ) → StoreG
 look_grown c register skip None = same_store c.store
 look_grown c register skip (Some member) = read_copied_grown c.store member
 
+entry_grown : (c : Context) (id : ℕ) (at : Subscript) (skip : ℕ) (x : Option Value) → StoreGrown c.store (after_put c id at skip x).store
+entry_grown c id at skip None = same_store c.store
+entry_grown c id at skip (Some x) = put_grown c.store id at x
+
 -- one line for each instruction
 data_grown : (i : DataInstr) (c : Context) → WhereOk (data_instr i c) (λ e. StoreGrown c.store e.store)
 data_grown (on_data.New write read ty) c =
@@ -198,7 +229,13 @@ data_grown (on_data.Look by member container subscript skip) c =
 data_grown (on_data.Size to container) c =
     ok_then (must_have_type c.position to scalar.Int) (λ _. ok_both (held c.rights container) (λ id _. ok_then (may_read_members (datum_of c id)) (λ _. record { is = same_store c.store })))
 data_grown (on_data.SubscriptAt by to container index skip) c =
-    ok_then (must_have_type c.position to by) (λ _. ok_both (int_at c.position index) (λ count _. ok_both (held c.rights container) (λ id _. ok_then (may_read_members_by by (datum_of c id)) (λ _. record { is = same_store c.store }))))
+    ok_then (must_have_type c.position to by) (λ _. ok_both (int_at c.position index) (λ count _. ok_both (held c.rights container) (λ id _. ok_then (may_read_subscripts_by by (datum_of c id)) (λ _. record { is = same_store c.store }))))
+data_grown (on_data.InsertValue register subscript from skip) c =
+    ok_both (value_at c.position subscript) (λ at _. ok_both (value_at c.position from) (λ x _. ok_then (must (suits_entry at x (datum_at c register)) WrongRegister) (λ _. ok_both (held c.rights register) (λ id _. ok_then (may_put at x (datum_of c id)) (λ _. record { is = entry_grown c id at skip (if_absent (entry_at c.store id at) x) })))))
+data_grown (on_data.AddValue register subscript from) c =
+    ok_both (value_at c.position subscript) (λ at _. ok_both (int_at c.position from) (λ n _. ok_then (must (suits_subscript at (datum_at c register)) WrongRegister) (λ _. ok_both (held c.rights register) (λ id _. ok_then (may_add at (datum_of c id)) (λ _. record { is = put_grown c.store id at (sum_with (entry_at c.store id at) n) })))))
+data_grown (on_data.GetValue to register subscript skip) c =
+    ok_both (value_at c.position to) (λ old _. ok_both (value_at c.position subscript) (λ at _. ok_then (must (suits_entry at old (datum_at c register)) WrongRegister) (λ _. ok_both (held c.rights register) (λ id _. ok_then (may_read_entry at (scalar_of old) (datum_of c id)) (λ _. record { is = same_store c.store })))))
 data_grown (on_data.CopyRead to from) c =
     ok_then (must_be_empty c.rights to) (λ _. ok_both (held c.rights from) (λ id _. ok_then (may_be_read (datum_of c id)) (λ _. record { is = read_copied_grown c.store id })))
 data_grown (on_data.CopyWrite to from) c =
@@ -339,7 +376,7 @@ step_grows program layout event = record {
 -- ---- the opening
 
 abbrev IsFew : Datum → Type 0
-IsFew x = (x.reads ≤ 1) × (x.writes ≤ 1) × (len (members_in x.content) ≤ 1000)
+IsFew x = (x.reads ≤ 1) × (x.writes ≤ 1) × (count_in x.content ≤ 100000)
 
 -- a store in which at most so many data have been made
 record IsFresh (made : ℕ) (s : Store) : Type 0 where
@@ -353,7 +390,7 @@ fresh_added : (made : ℕ) (s : Store) (x : Datum) → IsFew x → IsFresh made 
 fresh_added made s x few fresh = record { next = omega (arith, fresh.next); few = each_insert nat_cmp_total IsFew s.live fresh.few s.next x few }
 
 scalar_few : (x : Value) → IsFew (closed_scalar x)
-scalar_few x = (omega arith, omega arith, omega (arith, len-empty value_cmp ℕ))
+scalar_few x = (omega arith, omega arith, omega arith)
 
 fresh_scalars : (es : List (Subscript × Value)) (made : ℕ) (s : Store) → IsFresh made s → IsFresh (made + length es) (fold (λ (t : Store) (e : Subscript × Value). added t (closed_scalar e.1)) s es)
 fresh_scalars [] made s fresh = fresh_wider made (made + 0) s (omega arith) fresh
@@ -367,14 +404,21 @@ fresh_container : (made : ℕ) (s : Store) (by ty : Scalar) (es : List (Subscrip
 fresh_container made s by ty es short fresh =
     fresh_wider (made + 1 + length es) (made + 1001) _ (omega arith) (fresh_scalars es (made + 1) _ (fresh_added made s _ (omega arith, omega arith, omega (arith, numbered_few es (s.next + 1))) fresh))
 
+entered_few : (es : List (Subscript × Value)) → len (entered es) ≤ length es
+entered_few [] = omega (arith, len-empty value_cmp Value)
+entered_few (e ∷ es) = omega (arith, one_more_value (entered es) e.0 e.1, entered_few es)
+
 fresh_given : (made : ℕ) (s : Store) (ty : NestedScalar) (given : Given) → is_given_for ty given ≡ true → IsFresh made s → IsFresh (made + 1001) (added_given s given)
 fresh_given made s ty (Single x) h fresh = fresh_wider (made + 1) (made + 1001) _ (omega arith) (fresh_added made s _ (scalar_few x) fresh)
 fresh_given made s ty (Container by scalar es) h fresh =
     let few = (and_parts (nat_le (length es) 1000) _ (and_parts (same_type ty (container_of by (scalar_type scalar))) (are_members es) h).1).0 in
     fresh_container made s by scalar es (grind (arith, nat_tests, few)) fresh
+fresh_given made s ty (Entries sums by scalar es) h fresh =
+    let few : length es ≤ 100000 = grind (arith, nat_tests, (and_parts (nat_le (length es) 100000) _ (and_parts (same_type ty (map_with sums by scalar)) (are_entries es) h).1).0) in
+    fresh_wider (made + 1) (made + 1001) _ (omega arith) (fresh_added made s (closed_map sums by scalar es) (omega arith, omega arith, omega (arith, entered_few es, few)) fresh)
 
 fresh_output : (made : ℕ) (o : Opened) (ty : NestedScalar) → IsFresh made o.store → IsFresh (made + 1001) (with_output o ty).store
-fresh_output made o ty fresh = fresh_wider (made + 1) (made + 1001) _ (omega arith) (fresh_added made o.store (new_datum ty) (omega arith, omega arith, omega (arith, no_members (is_scalar ty))) fresh)
+fresh_output made o ty fresh = fresh_wider (made + 1) (made + 1001) _ (omega arith) (fresh_added made o.store (new_datum ty) (omega arith, omega arith, omega (arith, no_members ty)) fresh)
 
 -- the greatest number of data that the parameters make
 abbrev room_of : List Param → ℕ
@@ -389,14 +433,14 @@ module _ (p : Param) (params : List Param) (rest : AreFresh params) (made : ℕ)
   more : (n : ℕ) (t : Store) → n ≤ made + 1001 → IsFresh (n + room_of params) t → IsFresh (made + room_of (p ∷ params)) t
   more n t h fresh = fresh_wider (n + room_of params) (made + room_of (p ∷ params)) t (omega arith) fresh
 
-  given : (inputs : List Input) → are_inputs_of (p ∷ input_params params) inputs ≡ true → IsFresh (made + room_of (p ∷ params)) (opened (with_given o (slice_get inputs 0)) params (drop 1 inputs)).store
+  given : (inputs : List Input) → are_inputs_of (p ∷ input_params params) inputs ≡ true → IsFresh (made + room_of (p ∷ params)) (opened (with_given o p.ty (slice_get inputs 0)) params (drop 1 inputs)).store
   given [] fit = more made _ (omega arith) (rest [] made o (none_fit (input_params params)) fresh)
   given (i ∷ inputs) fit =
       let parts = and_parts (is_input_of p.ty i) (are_inputs_of (input_params params) inputs) fit in
-      more (made + 1001) _ (omega arith) (rest inputs (made + 1001) (with_given o (Some i)) parts.1 (fresh_given made o.store p.ty (given_by i) parts.0 fresh))
+      more (made + 1001) _ (omega arith) (rest inputs (made + 1001) (with_given o p.ty (Some i)) parts.1 (fresh_given made o.store p.ty (given_for p.ty i) parts.0 fresh))
 
   by_mode : (inputs : List Input) (b : Bool) → are_inputs_of (cond (not b) (p ∷ input_params params) (input_params params)) inputs ≡ true
-      → IsFresh (made + room_of (p ∷ params)) (cond b (opened (with_output o p.ty) params inputs) (opened (with_given o (slice_get inputs 0)) params (drop 1 inputs))).store
+      → IsFresh (made + room_of (p ∷ params)) (cond b (opened (with_output o p.ty) params inputs) (opened (with_given o p.ty (slice_get inputs 0)) params (drop 1 inputs))).store
   by_mode inputs true fit = more (made + 1001) _ (omega arith) (rest inputs (made + 1001) (with_output o p.ty) fit (fresh_output made o p.ty fresh))
   by_mode inputs false fit = given inputs fit
 

@@ -18,6 +18,7 @@ use Rattle.tw_code.specs.declared.opcode.Opcode.{Opcode}
 use Rattle.tw_code.specs.declared.opcode.Opcode.TheVariants as opcode
 use Rattle.tw_code.specs.declared.opcode.TheConstants.{OPCODES}
 use Rattle.tw_code.specs.format.Table.{Content, Contents, Operand, Row, a_row, code_of, forms_in, forms_of, holds, row, row_of}
+use Rattle.tw_types.specs.declared.data_type.MapKind.TheVariants.{NoMap}
 use Rattle.tw_types.specs.declared.data_type.Scalar.TheVariants.{Int, Text}
 
 abbrev pub operands_of : (forms : List Form) → Contents forms → List Operand
@@ -55,7 +56,7 @@ content_in Iterations o = 0
 content_in Literal (holds Literal text) = text
 content_in Literal o = []
 content_in TypeOf (holds TypeOf ty) = ty
-content_in TypeOf o = record { containers = []; scalar = Int }
+content_in TypeOf o = record { containers = []; scalar = Int; map = NoMap }
 content_in Skip (holds Skip skip) = skip
 content_in Skip o = 0
 content_in Callee (holds Callee procedure) = procedure

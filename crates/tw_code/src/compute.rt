@@ -1,12 +1,15 @@
-//! Results of the local instructions.
+//! Results of instructions.
 
 ghost use Rattle.std.specs.Prelude.{◌≡◌, IfOk};
+ghost use Rattle.std.specs.Option.{option_copied};
 ghost use Rattle.std.specs.Fmt.{signed_decimal};
+ghost use Rattle.tw_types.specs.ValueOrder.{int_of};
+ghost use Rattle.tw_code.specs.machine.Data.{sum_with};
 ghost use Rattle.tw_code.specs.machine.Local.{result_of, joined, int_shown_as};
 
 use crate::instr::Arithmetic;
 use std::alloc::{AllocError, Global};
-use tw_types::Text;
+use tw_types::{Text, Value};
 
 /// Returns the result, or `None` if it doesn't fit 64 bits or there is no division by `right`.
 #[tactic(auto, using(crate::proofs::Computing::is_in_64, crate::proofs::Computing::is_quotient, crate::proofs::Computing::is_remainder))]
@@ -19,6 +22,27 @@ pub fn result_of(operation: Arithmetic, left: i64, right: i64) -> Option<i64>
         Arithmetic::Multiply => left.checked_mul(right),
         Arithmetic::Divide => left.checked_div(right),
         Arithmetic::Remainder => left.checked_rem(right),
+    }
+}
+
+/// Returns the integer in a value; a text has none, and counts as 0.
+fn int_of(value: &Value) -> i64
+    ensures { result ≡ int_of value.now }
+{
+    match value {
+        Value::Int(number) => *number,
+        Value::Text(_) => 0,
+    }
+}
+
+/// Returns the sum of an integer and the value that a map of sums has, if it has one, modulo 2^64.
+#[tactic(auto, using(std::proofs::lemmas::Int::wraps))]
+pub fn sum_with(old: Option<&Value>, number: i64) -> Value
+    ensures { result ≡ sum_with (option_copied old.entry) number }
+{
+    match old {
+        Some(old) => Value::Int(int_of(old).wrapping_add(number)),
+        None => Value::Int(number),
     }
 }
 

@@ -59,7 +59,9 @@ impl DataInstr {
         match self {
             DataInstr::Insert { skip, .. }
             | DataInstr::Look { skip, .. }
-            | DataInstr::SubscriptAt { skip, .. } => Flow::Branch(skip),
+            | DataInstr::SubscriptAt { skip, .. }
+            | DataInstr::InsertValue { skip, .. }
+            | DataInstr::GetValue { skip, .. } => Flow::Branch(skip),
             _ => Flow::Straight,
         }
     }

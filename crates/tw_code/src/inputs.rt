@@ -1,10 +1,10 @@
 //! Checks of a program's inputs.
 
-ghost use Rattle.std.specs.Prelude.{◌≡◌, ◌&&◌, length};
-ghost use Rattle.tw_code.specs.machine.Inputs.{are_inputs_of, are_members, has_fitting_inputs, has_input_count, input_params, is_input_of, rises, rises_from};
+ghost use Rattle.std.specs.Prelude.{◌≡◌, ◌&&◌, if◌then◌else◌, length};
+ghost use Rattle.tw_code.specs.machine.Inputs.{are_entries, are_inputs_of, are_members, has_fitting_inputs, has_input_count, input_params, is_given_for, is_input_of, rises, rises_from};
 ghost use Rattle.std.specs.List.{list_all};
-ghost use Rattle.tw_types.specs.DataType.{container_of, same_type, scalar_type};
-ghost use Rattle.tw_types.specs.Given.{members_by};
+ghost use Rattle.tw_types.specs.DataType.{container_of, has_sums, is_map, same_type, scalar_type};
+ghost use Rattle.tw_types.specs.Given.{Container, Entries, members_by};
 ghost use Rattle.tw_types.specs.Value.{is_short};
 ghost use Rattle.tw_types.specs.ValueOrder.{named};
 
@@ -14,6 +14,8 @@ use tw_types::{AsValue, DataType, Input, Param, Scalar, Text, ValueRef};
 
 /// The greatest number of members of an input.
 pub const MAX_MEMBERS: usize = 1000;
+/// The greatest number of values of an input that is a map.
+pub const MAX_ENTRIES: usize = 100_000;
 
 /// Returns whether there are as many inputs as main takes.
 pub fn has_input_count(program: &[Procedure], inputs: &[Input]) -> bool
@@ -62,18 +64,26 @@ fn is_input_of(ty: DataType, input: &Input) -> bool
     match input {
         Input::Int(_) => is_scalar_of(ty, Scalar::Int),
         Input::Text(text) => is_scalar_of(ty, Scalar::Text) && is_short(text.as_value()),
-        Input::Ints(members) => {
-            is_container_of(ty, Scalar::Int, Scalar::Int) && are_members(members.as_slice())
-        }
-        Input::Texts(members) => {
-            is_container_of(ty, Scalar::Int, Scalar::Text) && are_members(members.as_slice())
-        }
-        Input::IntsByText(members) => {
-            is_container_of(ty, Scalar::Text, Scalar::Int) && are_members(members.as_slice())
-        }
-        Input::TextsByText(members) => {
-            is_container_of(ty, Scalar::Text, Scalar::Text) && are_members(members.as_slice())
-        }
+        Input::Ints(members) => fits(ty, Scalar::Int, Scalar::Int, members.as_slice()),
+        Input::Texts(members) => fits(ty, Scalar::Int, Scalar::Text, members.as_slice()),
+        Input::IntsByText(members) => fits(ty, Scalar::Text, Scalar::Int, members.as_slice()),
+        Input::TextsByText(members) => fits(ty, Scalar::Text, Scalar::Text, members.as_slice()),
+    }
+}
+
+/// Returns whether members are those of a container or a map of the type.
+fn fits<K: AsValue, V: AsValue>(
+    ty: DataType,
+    by: Scalar,
+    scalar: Scalar,
+    members: &[(K, V)],
+) -> bool
+    ensures { result ≡ is_given_for ty (if is_map ty then Entries (has_sums ty.map) by scalar (members_by K.value V.value members.now) else Container by scalar (members_by K.value V.value members.now)) }
+{
+    if ty.is_map() {
+        ty == ty.map_like(by, scalar) && are_entries(members)
+    } else {
+        is_container_of(ty, by, scalar) && are_members(members)
     }
 }
 
@@ -88,6 +98,13 @@ fn is_container_of(ty: DataType, by: Scalar, scalar: Scalar) -> bool
     ensures { result ≡ same_type ty (container_of by (scalar_type scalar)) }
 {
     ty.is_flat() && ty.is_container_by(by) && ty.scalar() == scalar
+}
+
+/// Returns whether there are at most `MAX_ENTRIES` values, their subscripts rise, and no text is too long.
+fn are_entries<K: AsValue, V: AsValue>(members: &[(K, V)]) -> bool
+    ensures { result ≡ are_entries (members_by K.value V.value members.now) }
+{
+    members.len() <= MAX_ENTRIES && rises(members) && are_short(members)
 }
 
 /// Returns whether there are at most `MAX_MEMBERS` members, their subscripts rise, and no text is too long.

@@ -154,7 +154,7 @@ pub enum DataInstr {
         subscript: u8,
         skip: u16,
     },
-    /// SIZE: sets `to` to the number of members.
+    /// SIZE: sets `to` to the number of members, or of values.
     Size {
         to: u8,
         container: u8,
@@ -165,6 +165,28 @@ pub enum DataInstr {
         to: u8,
         container: u8,
         index: u8,
+        skip: u16,
+    },
+    /// MINS: puts the value in `from` into the map whose write right is in `map`, at the subscript in `subscript`. Refused if that is
+    /// taken.
+    InsertValue {
+        map: u8,
+        subscript: u8,
+        from: u8,
+        skip: u16,
+    },
+    /// MADD: adds the integer in `from` to the one at the subscript in `subscript` of the map of sums whose write right is in `map`,
+    /// modulo 2^64. Where nothing is, it puts the integer there.
+    AddValue {
+        map: u8,
+        subscript: u8,
+        from: u8,
+    },
+    /// MGET: sets `to` to the value of a closed map at the subscript in `subscript`. Refused if there is none.
+    GetValue {
+        to: u8,
+        map: u8,
+        subscript: u8,
         skip: u16,
     },
     /// DUPR: puts a second read right on the datum of `from` into `to`.

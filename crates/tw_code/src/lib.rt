@@ -17,7 +17,9 @@ mod version;
 
 pub use flow::{Flow, Way, flow_at};
 pub use form::Form;
-pub use inputs::{MAX_MEMBERS, has_fitting_inputs, has_input_count, input_count, rises};
+pub use inputs::{
+    MAX_ENTRIES, MAX_MEMBERS, has_fitting_inputs, has_input_count, input_count, rises,
+};
 pub use instr::{Action, Arithmetic, DataInstr, Instr, LocalInstr, Priority};
 pub use main_shape::{has_main_shape, main_params};
 pub use memory::NoMemory;

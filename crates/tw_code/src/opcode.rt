@@ -48,17 +48,21 @@ pub enum Opcode {
     SubscriptAtByText = 0x52,
     RuleComputed = 0x53,
     PutComputed = 0x54,
+    InsertValue = 0x60,
+    GetValue = 0x61,
+    AddValue = 0x62,
 }
 
 /// All opcodes.
 #[rattlefmt::skip]
-pub const OPCODES: [Opcode; 36] = [
+pub const OPCODES: [Opcode; 39] = [
     Opcode::Int, Opcode::Text, Opcode::Copy, Opcode::Add, Opcode::Subtract, Opcode::Multiply, Opcode::Divide,
     Opcode::Remainder, Opcode::Concatenate, Opcode::Length, Opcode::Show, Opcode::ReadInt, Opcode::Jump,
     Opcode::JumpEqual, Opcode::JumpLess, Opcode::Repeat, Opcode::End, Opcode::New, Opcode::Store, Opcode::Get,
     Opcode::Insert, Opcode::Look, Opcode::Size, Opcode::SubscriptAt, Opcode::CopyRead, Opcode::CopyWrite,
     Opcode::DropRead, Opcode::DropWrite, Opcode::Rule, Opcode::Put, Opcode::Ret, Opcode::InsertByText,
     Opcode::LookByText, Opcode::SubscriptAtByText, Opcode::RuleComputed, Opcode::PutComputed,
+    Opcode::InsertValue, Opcode::GetValue, Opcode::AddValue,
 ];
 
 impl Opcode {
@@ -75,8 +79,9 @@ impl Opcode {
         ensures { result ≡ has_opcode version self }
     {
         match version {
-            Version::One => !matches!(self, Opcode::InsertByText | Opcode::LookByText | Opcode::SubscriptAtByText | Opcode::RuleComputed | Opcode::PutComputed),
-            Version::Two => true,
+            Version::One => !matches!(self, Opcode::InsertByText | Opcode::LookByText | Opcode::SubscriptAtByText | Opcode::RuleComputed | Opcode::PutComputed | Opcode::InsertValue | Opcode::GetValue | Opcode::AddValue),
+            Version::Two => !matches!(self, Opcode::InsertValue | Opcode::GetValue | Opcode::AddValue),
+            Version::Four => true,
         }
     }
 
@@ -99,11 +104,13 @@ impl Opcode {
             Opcode::Get | Opcode::Size => &[Value, Right],
             Opcode::Insert | Opcode::InsertByText => &[Right, Value, Right, Skip],
             Opcode::Look | Opcode::LookByText => &[Right, Right, Value, Skip],
-            Opcode::SubscriptAt | Opcode::SubscriptAtByText => &[Value, Right, Value, Skip],
+            Opcode::SubscriptAt | Opcode::SubscriptAtByText | Opcode::GetValue => &[Value, Right, Value, Skip],
             Opcode::CopyRead | Opcode::CopyWrite => &[Right, Right],
             Opcode::DropRead | Opcode::DropWrite => &[Right],
             Opcode::Rule | Opcode::Put => &[Callee, Number, Target, Args],
             Opcode::RuleComputed | Opcode::PutComputed => &[Callee, Value, Target, Args],
+            Opcode::InsertValue => &[Right, Value, Value, Skip],
+            Opcode::AddValue => &[Right, Value, Value],
         }
     }
 }
@@ -166,6 +173,9 @@ pub fn word_of(opcode: Opcode) -> &'static str
         Opcode::SubscriptAtByText => "TSUBAT",
         Opcode::RuleComputed => "RULEV",
         Opcode::PutComputed => "PUTV",
+        Opcode::InsertValue => "MINS",
+        Opcode::GetValue => "MGET",
+        Opcode::AddValue => "MADD",
     }
 }
 

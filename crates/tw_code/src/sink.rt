@@ -104,6 +104,9 @@ fn put_data<S: Sink>(sink: &mut S, instr: DataInstr) -> Result<(), AllocError>
         DataInstr::CopyWrite { to, from } => sink.put(Opcode::CopyWrite, &[Right(to), Right(from)]),
         DataInstr::DropRead { right } => sink.put(Opcode::DropRead, &[Right(right)]),
         DataInstr::DropWrite { right } => sink.put(Opcode::DropWrite, &[Right(right)]),
+        DataInstr::InsertValue { map, subscript, from, skip } => sink.put(Opcode::InsertValue, &[Right(map), Value(subscript), Value(from), Skip(skip)]),
+        DataInstr::GetValue { to, map, subscript, skip } => sink.put(Opcode::GetValue, &[Value(to), Right(map), Value(subscript), Skip(skip)]),
+        DataInstr::AddValue { map, subscript, from } => sink.put(Opcode::AddValue, &[Right(map), Value(subscript), Value(from)]),
     }
 }
 

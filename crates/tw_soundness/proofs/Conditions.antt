@@ -1,6 +1,6 @@
 -- The checks of the store's calls hold, if an instruction on data succeeds.
 use Rattle.std.proofs.Common.{◌≡◌, ℕ, ℤ, true, not, ◌==◌, slice_get, Some, is_none, refl}
-use Rattle.tw_soundness.proofs.MachineNames.{Cause, Context, EmptyRegister, Err, NestedScalar, Ok, Result, Scalar, Subscript, Value, WrongRegister, data_instr, datum_at, datum_of, int_at, may_be_read, may_copy_write, may_drop_read, may_drop_write, may_insert, may_look, may_read_members, may_read_members_by, may_retrieve, may_store, must_be_empty, must_have_type, must_ok, must_then, of_type_at, ok_after, ok_first, right_at, suits, there_then}
+use Rattle.tw_soundness.proofs.MachineNames.{Cause, Context, EmptyRegister, Err, NestedScalar, Ok, Result, Scalar, Subscript, Value, WrongRegister, data_instr, datum_at, datum_of, int_at, may_add, may_be_read, may_copy_write, may_drop_read, may_drop_write, may_insert, may_look, may_put, may_read_entry, may_read_members, may_read_subscripts_by, may_retrieve, may_store, must_be_empty, must_have_type, must_ok, must_then, of_type_at, ok_after, ok_first, right_at, scalar_of, suits, suits_entry, suits_subscript, there_then}
 use Rattle.tw_code.specs.declared.instr.DataInstr.TheVariants as on_data
 use Rattle.tw_types.specs.declared.data_type.Scalar.TheVariants as scalar
 use Rattle.tw_soundness.proofs.Steps.{Goes}
@@ -61,13 +61,44 @@ module _ (c k : Context) where
       (h.0, h.1, m.0)
 
   pub subscript_asks : (by : Scalar) (to container index skip : ℕ) → data_instr (on_data.SubscriptAt by to container index skip) c ≡ Ok k
-      → (count : ℤ) × (id : ℕ) × (int_at c.position index ≡ Ok count) × (right_at c.rights container ≡ Some id) × (may_read_members_by by (datum_of c id) ≡ Ok tt)
+      → (count : ℤ) × (id : ℕ) × (int_at c.position index ≡ Ok count) × (right_at c.rights container ≡ Some id) × (may_read_subscripts_by by (datum_of c id) ≡ Ok tt)
   subscript_asks by to container index skip e =
       let v = ok_after (must_have_type c.position to by) _ k e in
       let n = ok_first (int_at c.position index) _ k v.1 in
       let h = there_then (right_at c.rights container) EmptyRegister _ k n.2 in
-      let m = ok_after (may_read_members_by by (datum_of c h.0)) _ k h.2 in
+      let m = ok_after (may_read_subscripts_by by (datum_of c h.0)) _ k h.2 in
       (n.0, h.0, n.1, h.1, m.0)
+
+  pub insert_value_asks : (d subscript from skip : ℕ) → data_instr (on_data.InsertValue d subscript from skip) c ≡ Ok k
+      → (at : Subscript) × (x : Value) × (id : ℕ) × (slice_get c.position.values subscript ≡ Some at) × (slice_get c.position.values from ≡ Some x) × (right_at c.rights d ≡ Some id) × (may_put at x (datum_of c id) ≡ Ok tt)
+  insert_value_asks d subscript from skip e =
+      let v = there_then (slice_get c.position.values subscript) WrongRegister _ k e in
+      let x = there_then (slice_get c.position.values from) WrongRegister _ k v.2 in
+      let s = must_then (suits_entry v.0 x.0 (datum_at c d)) WrongRegister _ k x.2 in
+      let h = there_then (right_at c.rights d) EmptyRegister _ k s.1 in
+      let m = ok_after (may_put v.0 x.0 (datum_of c h.0)) _ k h.2 in
+      (v.0, x.0, h.0, v.1, x.1, h.1, m.0)
+
+  pub add_value_asks : (d subscript from : ℕ) → data_instr (on_data.AddValue d subscript from) c ≡ Ok k
+      → (at : Subscript) × (n : ℤ) × (id : ℕ) × (slice_get c.position.values subscript ≡ Some at) × (int_at c.position from ≡ Ok n) × (right_at c.rights d ≡ Some id) × (may_add at (datum_of c id) ≡ Ok tt)
+  add_value_asks d subscript from e =
+      let v = there_then (slice_get c.position.values subscript) WrongRegister _ k e in
+      let n = ok_first (int_at c.position from) _ k v.2 in
+      let s = must_then (suits_subscript v.0 (datum_at c d)) WrongRegister _ k n.2 in
+      let h = there_then (right_at c.rights d) EmptyRegister _ k s.1 in
+      let m = ok_after (may_add v.0 (datum_of c h.0)) _ k h.2 in
+      (v.0, n.0, h.0, v.1, n.1, h.1, m.0)
+
+  pub get_value_asks : (to d subscript skip : ℕ) → data_instr (on_data.GetValue to d subscript skip) c ≡ Ok k
+      → (old : Value) × (at : Subscript) × (id : ℕ) × (slice_get c.position.values to ≡ Some old) × (slice_get c.position.values subscript ≡ Some at) × (right_at c.rights d ≡ Some id)
+      × (may_read_entry at (scalar_of old) (datum_of c id) ≡ Ok tt)
+  get_value_asks to d subscript skip e =
+      let o = there_then (slice_get c.position.values to) WrongRegister _ k e in
+      let v = there_then (slice_get c.position.values subscript) WrongRegister _ k o.2 in
+      let s = must_then (suits_entry v.0 o.0 (datum_at c d)) WrongRegister _ k v.2 in
+      let h = there_then (right_at c.rights d) EmptyRegister _ k s.1 in
+      let m = ok_after (may_read_entry v.0 (scalar_of o.0) (datum_of c h.0)) _ k h.2 in
+      (o.0, v.0, h.0, o.1, v.1, h.1, m.0)
 
   pub copy_read_asks : (to from : ℕ) → data_instr (on_data.CopyRead to from) c ≡ Ok k
       → (id : ℕ) × (is_none (right_at c.rights to) ≡ true) × (right_at c.rights from ≡ Some id) × (may_be_read (datum_of c id) ≡ Ok tt)

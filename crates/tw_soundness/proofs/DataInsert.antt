@@ -1,6 +1,6 @@
 -- A member is inserted into a container, with its read: the result of INS fits.
 use Rattle.std.proofs.Common.{◌≡◌, ℕ, ◌+◌, ◌<◌, ◌≤◌, true, false, List, [], ◌∷◌, map, slice_set, Option, Some, None, refl, sym, ap, subst, ◌∙◌, arith, inl, inr, nat_cmp}
-use Rattle.tw_soundness.proofs.MachineNames.{AreSubscriptsFor, Contains, Content, Context, Datum, HasWriters, IsDataType, IsOfType, IsTypedStore, Members, RightType, Set, Store, Subscript, Typing, Unset, balanced_none, cases_eq, count_of, element_is, element_of, entries, eqb-true, get, get-empty, hits, hits_other, hits_same, insert, inside, is_closed, is_container_by, is_element_of, is_scalar, is_write, members_in, members_of, nat_cmp-IsAntisymmetric, nat_cmp_total, over, part, part-le-total, put_balanced, put_or_before, read_by, same_Some, scalar_of, subscripts_in, value_cmp, with_member, write_by}
+use Rattle.tw_soundness.proofs.MachineNames.{AreSubscriptsFor, Contains, Maps, by_container, container_only, is_container, Content, Context, Datum, HasWriters, IsDataType, IsOfType, IsTypedStore, Members, RightType, Set, Store, Subscript, Typing, Unset, balanced_none, cases_eq, count_of, element_is, element_of, entries, eqb-true, get, get-empty, hits, hits_other, hits_same, insert, inside, is_closed, is_container_by, is_element_of, is_scalar, is_write, members_in, members_of, nat_cmp-IsAntisymmetric, nat_cmp_total, over, part, part-le-total, put_balanced, put_or_before, read_by, same_Some, scalar_of, subscripts_in, value_cmp, with_member, write_by}
 use Rattle.std.specs.FinMap as fin
 use Rattle.tw_types.proofs.ValueOrder.{value_cmp_total, value_cmp-IsAntisymmetric}
 use Rattle.tw_types.specs.Totals.{sum_of, total}
@@ -29,13 +29,14 @@ values_insert ms k v d none =
 -- ---- the container and its member
 
 -- a container's content has its members
-has_members : (x : Datum) → is_scalar x.ty ≡ false → IsOfType x.ty x.content → x.content ≡ Contains (members_in x.content)
+has_members : (x : Datum) → is_container x.ty ≡ true → IsOfType x.ty x.content → x.content ≡ Contains (members_in x.content)
 has_members x deep of = at x.content of
   where
     at : (content : Content) → IsOfType x.ty content → content ≡ Contains (members_in content)
-    at Unset h = let z : true ≡ false = sym h ∙ deep in cc
-    at (Set v) h = let z : true ≡ false = sym h.0 ∙ deep in cc
+    at Unset h = let z : true ≡ false = sym h ∙ (container_only x.ty deep).0 in cc
+    at (Set v) h = let z : true ≡ false = sym h.0 ∙ (container_only x.ty deep).0 in cc
     at (Contains members) h = refl
+    at (Maps values) h = let z : true ≡ false = sym h.0 ∙ (container_only x.ty deep).1 in cc
 
 module _ (typing : Typing) (c : Context) (r w : ℕ → ℕ) (fits : Fits typing c r w) (container member : ℕ) (q p : RightType) (h : At typing c r w container q) (g : At typing c r w member p)
     (mode : is_write q.mode ≡ true) (deep : is_scalar q.ty ≡ false) (reads : is_write p.mode ≡ false) (element : is_element_of p.ty q.ty ≡ true) (subscript : Subscript) (kind : is_container_by (scalar_of subscript) q.ty ≡ true) (free : get (members_in h.x.content) subscript ≡ None) where
@@ -46,7 +47,7 @@ module _ (typing : Typing) (c : Context) (r w : ℕ → ℕ) (fits : Fits typing
   of_member = ap element_of h.ty ∙ element_is p.ty q.ty element ∙ ap Some (sym g.ty)
 
   content_is : h.x.content ≡ Contains (members_in h.x.content)
-  content_is = has_members h.x (ap is_scalar h.ty ∙ deep) (fits.store.contents h.id h.x h.live)
+  content_is = has_members h.x (ap is_container h.ty ∙ by_container (scalar_of subscript) q.ty kind) (fits.store.contents h.id h.x h.live)
 
   one_more : (d : ℕ) → subscripts_in d fuller ≡ subscripts_in d h.x + hits d g.id
   one_more d =
@@ -64,6 +65,7 @@ module _ (typing : Typing) (c : Context) (r w : ℕ → ℕ) (fits : Fits typing
       at Unset e t = cc
       at (Set v) e t = cc
       at (Contains members) e t = let z = eqb-true h.x.writes 0 t in let s = some_writes in absurd (omega arith)
+      at (Maps values) e t = cc
 
   abbrev after : Store
   after = record c.store { live = insert c.store.live h.id fuller }
@@ -91,7 +93,7 @@ module _ (typing : Typing) (c : Context) (r w : ℕ → ℕ) (fits : Fits typing
   insert_typed : IsTypedStore after
   insert_typed = record {
     contents = λ d z at. elim (put_or_before nat_cmp_total nat_cmp-IsAntisymmetric c.store.live h.id fuller d z at) [
-      | inl e ↦ subst (λ (x : Datum). IsOfType x.ty x.content) e.1 (ap is_scalar h.ty ∙ deep, kinds)
+      | inl e ↦ subst (λ (x : Datum). IsOfType x.ty x.content) e.1 (ap is_container h.ty ∙ by_container (scalar_of subscript) q.ty kind, kinds)
       | inr old ↦ fits.store.contents d z old
     ];
     nested = record {
@@ -153,6 +155,7 @@ found_inside x k m at = by x.content at
     by : (content : Content) → get (members_in content) k ≡ Some m → 0 < count_of m (members_of content)
     by Unset e = let z : None ≡ Some m = sym (get-empty value_cmp k) ∙ e in cc
     by (Set v) e = let z : None ≡ Some m = sym (get-empty value_cmp k) ∙ e in cc
+    by (Maps values) e = let z : None ≡ Some m = sym (get-empty value_cmp k) ∙ e in cc
     by (Contains ms) e =
         let l : hits m m ≤ total (hits m) ms = subst (λ o. part (hits m) o ≤ total (hits m) ms) e (part-le-total value_cmp value_cmp_total value_cmp-IsAntisymmetric (hits m) ms k) in
         let one = hits_same m in

@@ -4,6 +4,7 @@ use Rattle.tw_soundness.proofs.MachineNames.{Context, DataInstr, IsDataInstr, Pr
 use Rattle.tw_code.specs.declared.instr.DataInstr.TheVariants as on_data
 use Rattle.tw_soundness.proofs.DataLeft.{Leaves, drop_read_leaves, drop_write_leaves, store_leaves}
 use Rattle.tw_soundness.proofs.DataMade.{copy_read_leaves, copy_write_leaves}
+use Rattle.tw_soundness.proofs.DataMaps.{add_value_leaves, get_value_leaves, insert_value_leaves}
 use Rattle.tw_soundness.proofs.DataNew.{new_leaves}
 use Rattle.tw_soundness.proofs.DataReads.{get_leaves, insert_leaves, look_leaves, size_leaves, subscript_leaves}
 use Rattle.tw_soundness.proofs.Registers.{Fits}
@@ -19,6 +20,9 @@ module _ (p : Procedure) (typing : Typing) (c : Context) (r w : ℕ → ℕ) (fi
   data_leaves (on_data.Look by member container subscript skip) is met = look_leaves p typing c r w fits values long by member container subscript skip (omega (arith, is.1.0.1)) met
   data_leaves (on_data.Size to container) is met = size_leaves p typing c r w fits values to container met
   data_leaves (on_data.SubscriptAt by to container index skip) is met = subscript_leaves p typing c r w fits values by to container index skip met
+  data_leaves (on_data.InsertValue map subscript from skip) is met = insert_value_leaves p typing c r w fits values map subscript from skip met
+  data_leaves (on_data.AddValue map subscript from) is met = add_value_leaves p typing c r w fits values map subscript from met
+  data_leaves (on_data.GetValue to map subscript skip) is met = get_value_leaves p typing c r w fits values to map subscript skip met
   data_leaves (on_data.CopyRead to from) is met = copy_read_leaves p typing c r w fits values long to from (omega (arith, is.1.0.1)) met
   data_leaves (on_data.CopyWrite to from) is met = copy_write_leaves p typing c r w fits values long to from (omega (arith, is.1.0.1)) met
   data_leaves (on_data.DropRead right) is met = drop_read_leaves p typing c r w fits values right met

@@ -1,6 +1,6 @@
 -- STORE, DROPR and DROPW succeed if their checks hold, and their results fit the typing after them.
 use Rattle.std.proofs.Common.{◌≡◌, ℕ, ◌+◌, ◌-◌, ◌<◌, ◌==◌, Bool, true, false, not, ◌&&◌, ◌||◌, List, slice_get, slice_set, Option, Some, None, refl, sym, ap, ◌∙◌, arith}
-use Rattle.tw_soundness.proofs.MachineNames.{Closed, Completed, Contains, Content, Context, DataInstr, Datum, EmptyRegister, HasWriters, IsOfType, Mode, NestedScalar, Procedure, Ref, RightType, Scalar, Set, Typing, Unset, Val, Value, ValuesFit, Write, WrongRegister, after_data, and_parts, asks_data, data_flow, data_instr, datum_at, datum_of, eq-eqb, eqb-true, get, held, hits, hits_other, hits_same, is_closed, is_read, is_scalar, is_unset, is_write, may_drop_read, may_drop_write, may_store, members_of, ne_eqb, not-true, ok_or, one_write_less, option_and_then, option_flatten, over, passes, read_by, read_dropped, reads, right_at, same_scalar, scalar_itself, scalar_of, set_to, settled, store_after, subscribers_cleared, suits, write_by, writes, writes_scalar}
+use Rattle.tw_soundness.proofs.MachineNames.{Closed, Completed, Contains, Maps, container_only, map_only, Content, Context, DataInstr, Datum, EmptyRegister, HasWriters, IsOfType, Mode, NestedScalar, Procedure, Ref, RightType, Scalar, Set, Typing, Unset, Val, Value, ValuesFit, Write, WrongRegister, after_data, and_parts, asks_data, data_flow, data_instr, datum_at, datum_of, eq-eqb, eqb-true, get, held, hits, hits_other, hits_same, is_closed, is_read, is_scalar, is_unset, is_write, may_drop_read, may_drop_write, may_store, members_of, ne_eqb, not-true, ok_or, one_write_less, option_and_then, option_flatten, over, passes, read_by, read_dropped, reads, right_at, same_scalar, scalar_itself, scalar_of, set_to, settled, store_after, subscribers_cleared, suits, write_by, writes, writes_scalar}
 use Rattle.tw_code.specs.declared.instr.DataInstr.TheVariants as on_data
 use Rattle.tw_soundness.proofs.Aging.{Aged}
 use Rattle.tw_soundness.proofs.Values.{AllYes, passed, Moves, declared_as, value_found}
@@ -70,6 +70,7 @@ module _ (p : Procedure) (typing : Typing) (c : Context) (r w : ℕ → ℕ) (fi
       at Unset h = let z : true ≡ false = sym h ∙ deep in cc
       at (Set v) h = let z : true ≡ false = sym h.0 ∙ deep in cc
       at (Contains members) h = record { ty = refl; members = refl; closed = λ t. let z = eqb-true x.writes 0 t in eq-eqb (x.writes - 1) 0 (omega arith); content = λ t. t; writers = λ t. t }
+      at (Maps values) h = record { ty = refl; members = refl; closed = λ t. let z = eqb-true x.writes 0 t in eq-eqb (x.writes - 1) 0 (omega arith); content = λ t. t; writers = λ t. t }
 
   drop_write_at : (d : ℕ) (q : RightType) → is_write q.mode ≡ true → is_scalar q.ty ≡ false → At typing c r w d q → Goes (data_instr (on_data.DropWrite d) c) (Leaves p.registers (on_data.DropWrite d) typing c r w)
   drop_write_at d q mode deep h =
@@ -108,7 +109,8 @@ module _ (p : Procedure) (typing : Typing) (c : Context) (r w : ℕ → ℕ) (fi
   still_unset : (ty : NestedScalar) (content : Content) (writes : ℕ) → IsOfType ty content → HasWriters content writes → is_scalar ty ≡ true → 0 < writes → (content ≡ Unset) × (writes ≡ 1)
   still_unset ty Unset writes s w scalar some = (refl, w)
   still_unset ty (Set x) writes s w scalar some = absurd (omega arith)
-  still_unset ty (Contains members) writes s w scalar some = cc (s.0, scalar)
+  still_unset ty (Contains members) writes s w scalar some = let z : true ≡ false = sym scalar ∙ (container_only ty s.0).0 in cc
+  still_unset ty (Maps values) writes s w scalar some = let z : true ≡ false = sym scalar ∙ (map_only ty s.0).0 in cc
 
   store_at : (d from : ℕ) (q : RightType) (x : Value) → is_write q.mode ≡ true → is_scalar q.ty ≡ true → slice_get c.position.values from ≡ Some x → scalar_of x ≡ q.ty.scalar → At typing c r w d q
       → Goes (data_instr (on_data.Store d from) c) (Leaves p.registers (on_data.Store d from) typing c r w)

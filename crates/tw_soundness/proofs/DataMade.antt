@@ -1,6 +1,6 @@
 -- DUPR and DUPW succeed if their checks hold, and their results fit the typing after them.
 use Rattle.std.proofs.Common.{◌≡◌, ℕ, ◌+◌, ◌<◌, true, false, not, ◌&&◌, length, is_none, slice_get, slice_set, Option, Some, None, refl, sym, ap, subst, ◌∙◌, arith}
-use Rattle.tw_soundness.proofs.MachineNames.{Completed, Contains, Content, Context, Datum, EmptyRegister, Holds, IsOfType, Ok, Procedure, RightType, RightsFit, Set, Store, Typing, Unset, ValuesFit, WrongRegister, asks_data, changed, count_of, data_instr, datum_of, eqb-true, get, held, hits, hits_other, hits_same, insert, inside, is_closed, is_free, is_scalar, is_write, may_be_read, may_copy_write, must, must_be_empty, not-true, ok_or, one_read_more, one_write_more, option_flatten, over, passes, put_balanced, read_by, reads, right_at, same_Some, subscripts_in, write_by, writes, writes_scalar}
+use Rattle.tw_soundness.proofs.MachineNames.{Completed, Contains, Maps, Content, Context, Datum, EmptyRegister, Holds, IsOfType, Ok, Procedure, RightType, RightsFit, Set, Store, Typing, Unset, ValuesFit, WrongRegister, asks_data, changed, count_of, data_instr, datum_of, eqb-true, get, held, hits, hits_other, hits_same, insert, inside, is_closed, is_free, is_scalar, is_write, may_be_read, may_copy_write, must, must_be_empty, not-true, ok_or, one_read_more, one_write_more, option_flatten, over, passes, put_balanced, read_by, reads, right_at, same_Some, subscripts_in, write_by, writes, writes_scalar}
 use Rattle.tw_code.specs.declared.instr.DataInstr.TheVariants as on_data
 use Rattle.tw_soundness.proofs.DataLeft.{Leaves, read_no_write}
 use Rattle.tw_soundness.proofs.Aging.{Aged, later_put}
@@ -81,6 +81,7 @@ module _ (p : Procedure) (typing : Typing) (c : Context) (r w : ℕ → ℕ) (fi
       at Unset h = let z : true ≡ false = sym h ∙ deep in cc
       at (Set v) h = let z : true ≡ false = sym h.0 ∙ deep in cc
       at (Contains members) h = record { ty = refl; members = refl; closed = λ t. let z = eqb-true x.writes 0 t in absurd (omega arith); content = λ t. t; writers = λ t. t }
+      at (Maps values) h = record { ty = refl; members = refl; closed = λ t. let z = eqb-true x.writes 0 t in absurd (omega arith); content = λ t. t; writers = λ t. t }
 
   copy_write_at : (to from : ℕ) (q : RightType) → right_at typing from ≡ Some q → is_write q.mode ≡ true → is_scalar q.ty ≡ false → slice_get typing to ≡ Some None → slice_get c.rights to ≡ Some None → At typing c r w from q
       → Goes (data_instr (on_data.CopyWrite to from) c) (Leaves p.registers (on_data.CopyWrite to from) typing c r w)

@@ -1,6 +1,6 @@
 -- After an instruction on data exactly the waiting parameters are named.
 use Rattle.std.proofs.Common.{◌≡◌, ℕ, ◌+◌, ◌<◌, ◌==◌, true, false, not, ◌&&◌, [], Option, Some, None, refl, sym, ap, subst, ◌∙◌, arith, inl, inr}
-use Rattle.tw_soundness.proofs.MachineNames.{AlreadySet, Cause, Contains, Content, Context, Data, DataInstr, Datum, EmptyRegister, FreedDatum, IsOfType, IsTypedStore, Members, NoWriteCount, Ok, Rules, Scalar, Set, Store, Subscript, Unset, UnsetDatum, Value, WhereOk, WrongRegister, WrongType, after_insert, after_look, and_parts, by_deep, cases_eq, changed, data_insert_other, data_insert_same, data_instr, datum_at, datum_of, get, held, insert, int_at, is_closed, is_container_by, is_element_of, is_of, is_scalar, is_unset, may_be_read, may_copy_write, may_drop_read, may_drop_write, may_insert, may_look, may_read_members, may_read_members_by, may_retrieve, may_store, member_at, must, must_be_empty, must_have_type, must_ok, must_then, ne_eqb, new_datum, not-true, notices_after, notices_of, of_type_at, ok_both, ok_or, ok_then, ok_there, one_read_more, one_write_less, one_write_more, read_dropped, right_at, same_Some, set_to, settled, store_after, subscribers_cleared, suits, there_then, value_at, with_member, with_notices}
+use Rattle.tw_soundness.proofs.MachineNames.{AlreadySet, Cause, Contains, Maps, Values, after_put, entry_at, if_absent, is_map, is_map_of, is_plain_map, is_sums, map_only, may_add, may_put, suits_subscript, sum_with, value_put, gone_on, with_store, may_read_entry, may_read_subscripts_by, scalar_of, suits_entry, with_entry, Content, Context, Data, DataInstr, Datum, EmptyRegister, FreedDatum, IsOfType, IsTypedStore, Members, NoWriteCount, Ok, Rules, Scalar, Set, Store, Subscript, Unset, UnsetDatum, Value, WhereOk, WrongRegister, WrongType, after_insert, after_look, and_parts, by_deep, cases_eq, changed, data_insert_other, data_insert_same, data_instr, datum_at, datum_of, get, held, insert, int_at, is_closed, is_container_by, is_element_of, is_of, is_scalar, is_unset, may_be_read, may_copy_write, may_drop_read, may_drop_write, may_insert, may_look, may_read_members, may_retrieve, may_store, member_at, must, must_be_empty, must_have_type, must_ok, must_then, ne_eqb, new_datum, not-true, notices_after, notices_of, of_type_at, ok_both, ok_or, ok_then, ok_there, one_read_more, one_write_less, one_write_more, read_dropped, right_at, same_Some, set_to, settled, store_after, subscribers_cleared, suits, there_then, value_at, with_member, with_notices}
 use Rattle.tw_types.specs.StoreCalls as store
 use Rattle.tw_types.specs.declared.data_type.Scalar.TheVariants as scalar
 use Rattle.tw_code.specs.declared.instr.DataInstr.TheVariants as on_data
@@ -21,15 +21,17 @@ unset_is_open x e = at x.content e
     at Unset e = refl
     at (Set v) e = cc
     at (Contains members) e = cc
+    at (Maps values) e = cc
 
--- a container by its type is one by its content
-container_content : (x : Datum) → is_scalar x.ty ≡ false → IsOfType x.ty x.content → (P : Datum → Type 0) → ((members : Members) → P (record x { content = Contains members })) → P x
-container_content x deep of P f = at x.content of
+-- a container or a map by its type is one by its content
+container_content : (x : Datum) → is_scalar x.ty ≡ false → IsOfType x.ty x.content → (P : Datum → Type 0) → ((members : Members) → P (record x { content = Contains members })) → ((values : Values) → P (record x { content = Maps values })) → P x
+container_content x deep of P f g = at x.content of
   where
     at : (content : Content) → IsOfType x.ty content → P (record x { content = content })
     at Unset h = let z : true ≡ false = sym h ∙ deep in cc
     at (Set v) h = let z : true ≡ false = sym h.0 ∙ deep in cc
     at (Contains members) h = f members
+    at (Maps values) h = g values
 
 -- ---- the contexts that instructions leave
 
@@ -122,18 +124,51 @@ module _ (rules : Rules) where
     drop_open d of e =
         let container = must_then (not (is_scalar d.ty)) WrongType _ tt e in
         let some = must_ok (not (d.writes == 0)) NoWriteCount container.1 in
-        container_content d (not-true _ container.0) of (λ w. not (w.writes == 0) ≡ true → is_closed w ≡ false) (λ members n. not-true _ n) some
+        container_content d (not-true _ container.0) of (λ w. not (w.writes == 0) ≡ true → is_closed w ≡ false) (λ members n. not-true _ n) (λ values n. not-true _ n) some
 
     copied_alike : (d : Datum) → 0 < d.writes → IsOfType d.ty d.content → may_copy_write (Some d) ≡ Ok tt → is_closed (one_write_more d) ≡ is_closed d
     copied_alike d some of e =
         let container = must_ok (not (is_scalar d.ty)) WrongType e in
-        container_content d (not-true _ container) of (λ w. 0 < w.writes → is_closed (one_write_more w) ≡ is_closed w) (λ members n. ne_eqb (d.writes + 1) 0 (λ z. omega arith) ∙ sym (ne_eqb d.writes 0 (λ z. omega arith))) some
+        container_content d (not-true _ container) of (λ w. 0 < w.writes → is_closed (one_write_more w) ≡ is_closed w) (λ members n. ne_eqb (d.writes + 1) 0 (λ z. omega arith) ∙ sym (ne_eqb d.writes 0 (λ z. omega arith))) (λ values n. ne_eqb (d.writes + 1) 0 (λ z. omega arith) ∙ sym (ne_eqb d.writes 0 (λ z. omega arith))) some
 
     member_alike : (by : Scalar) (d e : Datum) (subscript : Subscript) (member : ℕ) → IsOfType d.ty d.content → may_insert by (Some d) (Some e) ≡ Ok tt → is_closed (with_member subscript member d) ≡ is_closed d
     member_alike by d e subscript member of m =
         let fits = must_then (is_container_by by d.ty && is_element_of e.ty d.ty) WrongType _ tt m in
         let deep = by_deep by d.ty (and_parts (is_container_by by d.ty) (is_element_of e.ty d.ty) fits.0).0 in
-        container_content d deep of (λ w. is_closed (with_member subscript member w) ≡ is_closed w) (λ members. refl)
+        container_content d deep of (λ w. is_closed (with_member subscript member w) ≡ is_closed w) (λ members. refl) (λ values. refl)
+
+    map_alike : (at x : Value) (d : Datum) → IsOfType d.ty d.content → is_map d.ty ≡ true → is_closed (with_entry at x d) ≡ is_closed d
+    map_alike at x d of mapped = container_content d (map_only d.ty mapped).0 of (λ w. is_closed (with_entry at x w) ≡ is_closed w) (λ members. refl) (λ values. refl)
+
+    entry_alike : (at x y : Value) (d : Datum) → IsOfType d.ty d.content → may_put at y (Some d) ≡ Ok tt → is_closed (with_entry at x d) ≡ is_closed d
+    entry_alike at x y d of m =
+        let fits = must_then (is_plain_map d.ty && is_map_of (scalar_of at) (scalar_of y) d.ty) WrongType _ tt m in
+        map_alike at x d of (and_parts (is_map d.ty) _ (and_parts (is_plain_map d.ty) _ fits.0).0).0
+
+    sum_alike : (at x : Value) (d : Datum) → IsOfType d.ty d.content → may_add at (Some d) ≡ Ok tt → is_closed (with_entry at x d) ≡ is_closed d
+    sum_alike at x d of m =
+        let fits = must_then (is_sums d.ty && is_map_of (scalar_of at) scalar.Int d.ty) WrongType _ tt m in
+        map_alike at x d of (and_parts (is_map d.ty) _ (and_parts (is_sums d.ty) _ fits.0).0).0
+
+    put_stays : (id : ℕ) (at : Subscript) (skip : ℕ) (y : Value) (o : Option Value) → may_put at y (datum_of c id) ≡ Ok tt → StaysNamed (after_put c id at skip o)
+    put_stays id at skip y None m = stays_same (after_put c id at skip None) refl refl
+    put_stays id at skip y (Some x) m =
+        let d = there_then (datum_of c id) FreedDatum _ tt m in
+        stays_from (after_put c id at skip (Some x)) refl (changed_from id (with_entry at x) (λ z is.
+        let z_is : d.0 ≡ z = same_Some d.0 z (sym d.1 ∙ is) in
+        (refl, subst (λ (v : Datum). is_closed (with_entry at x v) ≡ is_closed v) z_is (entry_alike at x y d.0 (typed.contents id d.0 d.1) d.2))))
+
+    went_put : (id : ℕ) (at : Subscript) (skip : ℕ) (y : Value) (o : Option Value) → may_put at y (datum_of c id) ≡ Ok tt → WhereOk {E = Cause} (Ok (after_put c id at skip o)) StaysNamed
+    went_put id at skip y o m = record { is = put_stays id at skip y o m }
+
+    went_added : (id : ℕ) (at : Subscript) (x : Value) → may_add at (datum_of c id) ≡ Ok tt → WhereOk {E = Cause} (Ok (gone_on (with_store c (value_put c.store id at x)))) StaysNamed
+    went_added id at x m =
+        let d = there_then (datum_of c id) FreedDatum _ tt m in
+        record {
+          is = stays_from (gone_on (with_store c (value_put c.store id at x))) refl (changed_from id (with_entry at x) (λ z is.
+              let z_is : d.0 ≡ z = same_Some d.0 z (sym d.1 ∙ is) in
+              (refl, subst (λ (v : Datum). is_closed (with_entry at x v) ≡ is_closed v) z_is (sum_alike at x d.0 (typed.contents id d.0 d.1) d.2))));
+        }
 
     went_same : (k : Context) → k.notices ≡ c.notices → k.store ≡ c.store → WhereOk {E = Cause} (Ok k) StaysNamed
     went_same k a b = record { is = stays_same k a b }
@@ -176,6 +211,24 @@ module _ (rules : Rules) where
         went_inserted id at inner member skip (member_at c.store id at) (λ x is.
         let x_is : d.0 ≡ x = same_Some d.0 x (sym d.1 ∙ is) in
         subst (λ y. is_closed (with_member at inner y) ≡ is_closed y) x_is (member_alike by d.0 e.0 at inner (typed.contents id d.0 d.1) e.2))))))
+    data_named (on_data.InsertValue register subscript from skip) w =
+        ok_both (value_at c.position subscript) (λ at _.
+        ok_both (value_at c.position from) (λ x _.
+        ok_then (must (suits_entry at x (datum_at c register)) WrongRegister) (λ _.
+        ok_both (held c.rights register) (λ id _.
+        ok_then (may_put at x (datum_of c id)) (λ m. went_put id at skip x (if_absent (entry_at c.store id at) x) m)))))
+    data_named (on_data.AddValue register subscript from) w =
+        ok_both (value_at c.position subscript) (λ at _.
+        ok_both (int_at c.position from) (λ n _.
+        ok_then (must (suits_subscript at (datum_at c register)) WrongRegister) (λ _.
+        ok_both (held c.rights register) (λ id _.
+        ok_then (may_add at (datum_of c id)) (λ m. went_added id at (sum_with (entry_at c.store id at) n) m)))))
+    data_named (on_data.GetValue to register subscript skip) w =
+        ok_both (value_at c.position to) (λ old _.
+        ok_both (value_at c.position subscript) (λ at _.
+        ok_then (must (suits_entry at old (datum_at c register)) WrongRegister) (λ _.
+        ok_both (held c.rights register) (λ id _.
+        ok_then (may_read_entry at (scalar_of old) (datum_of c id)) (λ m. went_same _ refl refl)))))
     data_named (on_data.Look by member container subscript skip) w =
         ok_both (of_type_at c.position subscript by) (λ at _.
         ok_then (must_be_empty c.rights member) (λ _.
@@ -184,7 +237,7 @@ module _ (rules : Rules) where
     data_named (on_data.Size to container) w =
         ok_then (must_have_type c.position to scalar.Int) (λ _. ok_both (held c.rights container) (λ id _. ok_then (may_read_members (datum_of c id)) (λ m. went_same _ refl refl)))
     data_named (on_data.SubscriptAt by to container index skip) w =
-        ok_then (must_have_type c.position to by) (λ _. ok_both (int_at c.position index) (λ count _. ok_both (held c.rights container) (λ id _. ok_then (may_read_members_by by (datum_of c id)) (λ m. went_same _ refl refl))))
+        ok_then (must_have_type c.position to by) (λ _. ok_both (int_at c.position index) (λ count _. ok_both (held c.rights container) (λ id _. ok_then (may_read_subscripts_by by (datum_of c id)) (λ m. went_same _ refl refl))))
     data_named (on_data.CopyRead to from) w =
         ok_then (must_be_empty c.rights to) (λ _. ok_both (held c.rights from) (λ id _. ok_then (may_be_read (datum_of c id)) (λ m. went_from _ refl (changed_from id one_read_more (λ x e. (refl, refl))))))
     data_named (on_data.CopyWrite to from) w =

@@ -1,7 +1,8 @@
 -- NEW succeeds if its checks hold: a new datum, with one write and one read.
 use Rattle.std.proofs.Common.{◌≡◌, ◌≢◌, ℕ, ◌+◌, ◌<◌, ◌≤◌, ◌==◌, Bool, true, false, not, if◌then◌else◌, [], map, length, is_none, slice_get, slice_set, Option, Some, None, refl, sym, ap, subst, ◌∙◌, arith, inl, inr, nat_cmp}
-use Rattle.tw_soundness.proofs.MachineNames.{Completed, Contains, Context, Datum, HasWriters, Holds, IsDataType, IsOfType, IsTypedStore, NestedScalar, Procedure, Ref, RightType, Store, Typing, Unset, ValuesFit, Write, WrongRegister, a_read, a_write, asks_data, balanced_none, cases_Bool, count_of, created, data_insert_other, data_insert_same, data_instr, empty_content, entries, eqb-false, get, get-empty, hits, hits_other, hits_same, inside, is_closed_mode, is_scalar, len-empty, len-entries, members_of, must, must_be_empty, nat_cmp-IsAntisymmetric, nat_cmp_total, new_balanced, new_datum, not-true, option_flatten, over, part, part-le-total, put_or_before, read_by, same_Some, subscripts_in, value_cmp, write_by}
+use Rattle.tw_soundness.proofs.MachineNames.{Completed, Contains, Maps, is_map, else_container, Context, Datum, HasWriters, Holds, IsDataType, IsOfType, IsTypedStore, NestedScalar, Procedure, Ref, RightType, Store, Typing, Unset, ValuesFit, Write, WrongRegister, a_read, a_write, asks_data, balanced_none, count_of, created, data_insert_other, data_insert_same, data_instr, empty_content, entries, eqb-false, get, hits, hits_other, hits_same, inside, is_closed_mode, is_scalar, len-empty, len-entries, members_of, must, must_be_empty, nat_cmp-IsAntisymmetric, nat_cmp_total, new_balanced, new_datum, not-true, option_flatten, over, part, part-le-total, put_or_before, read_by, same_Some, subscripts_in, value_cmp, write_by}
 use Rattle.std.specs.FinMap as fin
+use Rattle.tw_types.proofs.Subscripts.{no_entries, no_kinds}
 use Rattle.tw_code.specs.declared.instr.DataInstr.TheVariants as on_data
 use Rattle.tw_soundness.proofs.DataLeft.{Leaves}
 use Rattle.tw_soundness.proofs.Values.{AllYes}
@@ -11,24 +12,28 @@ use Rattle.tw_soundness.proofs.Registers.{Fits, Undisturbed, holds_undisturbed, 
 use Rattle.tw_soundness.proofs.Steps.{Goes, goes_then}
 
 pub no_members : (ty : NestedScalar) → members_of (empty_content ty) ≡ []
-no_members ty = by (is_scalar ty)
+no_members ty = by (is_scalar ty) (is_map ty)
   where
-    by : (b : Bool) → members_of (if b then Unset else Contains fin.empty) ≡ []
-    by true = refl
-    by false = ap (map (λ e. e.1)) (no_items (entries (fin.empty {X = ℕ} {R = value_cmp})) (sym (len-entries (fin.empty {X = ℕ} {R = value_cmp})) ∙ len-empty value_cmp ℕ))
+    by : (b c : Bool) → members_of (if b then Unset else if c then Maps fin.empty else Contains fin.empty) ≡ []
+    by true c = refl
+    by false true = refl
+    by false false = ap (map (λ e. e.1)) (no_items (entries (fin.empty {X = ℕ} {R = value_cmp})) (sym (len-entries (fin.empty {X = ℕ} {R = value_cmp})) ∙ len-empty value_cmp ℕ))
 
 pub new_content : (ty : NestedScalar) → IsOfType ty (empty_content ty)
-new_content ty = elim (cases_Bool (is_scalar ty)) [
-  | inl t ↦ subst (λ b. IsOfType ty (if b then Unset else Contains fin.empty)) (sym t) t
-  | inr u ↦ subst (λ b. IsOfType ty (if b then Unset else Contains fin.empty)) (sym u) (u, λ subscript id at. let none : None ≡ Some id = sym (get-empty value_cmp subscript) ∙ at in cc)
-]
+new_content ty = by (is_scalar ty) (is_map ty) refl refl
+  where
+    by : (b c : Bool) → is_scalar ty ≡ b → is_map ty ≡ c → IsOfType ty (if b then Unset else if c then Maps fin.empty else Contains fin.empty)
+    by true c s m = s
+    by false true s m = (m, no_entries ty)
+    by false false s m = (else_container ty s m, no_kinds ty)
 
 pub new_writers : (ty : NestedScalar) → HasWriters (empty_content ty) 1
-new_writers ty = by (is_scalar ty)
+new_writers ty = by (is_scalar ty) (is_map ty)
   where
-    by : (b : Bool) → HasWriters (if b then Unset else Contains fin.empty) 1
-    by true = refl
-    by false = tt
+    by : (b c : Bool) → HasWriters (if b then Unset else if c then Maps fin.empty else Contains fin.empty) 1
+    by true c = refl
+    by false true = tt
+    by false false = tt
 
 fresh_none : (s : Store) → IsTypedStore s → get s.live s.next ≡ None
 fresh_none s typed = by (get s.live s.next) refl

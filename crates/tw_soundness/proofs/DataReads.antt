@@ -1,7 +1,6 @@
 -- Instructions that read data, or insert a member, succeed if their checks hold, and their results fit.
-use Rattle.std.proofs.Common.{◌≡◌, ℕ, ◌+◌, ◌<◌, ◌==◌, pos, true, false, not, ◌||◌, length, is_none, slice_get, slice_set, Option, Some, None, refl, sym, ap, subst, ◌∙◌, arith}
-use Rattle.tw_soundness.proofs.MachineNames.{Completed, Contains, Content, Context, Datum, EmptyRegister, FreedDatum, Holds, IsOfType, NestedScalar, Ok, Procedure, Ref, RightType, Scalar, Set, Skipped, Store, Subscript, Typing, Unset, UnsetDatum, Value, ValuesFit, WrongRegister, a_member_read, a_read, after_insert, after_look, and_parts, asks_data, balanced_some, by_deep, changed, data_instr, datum_at, datum_of, element_of, get, given, held, hits, hits_other, hits_same, insert, inserted, int_at, is_closed, is_closed_mode, is_container_by, is_element_of, is_kept, is_read, is_scalar, is_write, may_insert, may_look, may_read_members, may_read_members_by, may_retrieve, member_at, members_at, members_in, must, must_be_empty, must_have_type, ne_eqb, not-true, of_type_at, ok_or, one_read_more, option_and_then, option_flatten, over, passes, read_by, reads_closed_container, reads_closed_container_by, reads_closed_scalar, reads_member_of, right_at, same_Some, same_scalar, scalar_itself, scalar_of, subscript_after, suits, value_at, value_in, with_member, with_result, write_by, writes_container_by}
-use Rattle.std.specs.FinMap as map
+use Rattle.std.proofs.Common.{◌≡◌, ℕ, ◌+◌, ◌<◌, pos, true, false, not, ◌||◌, length, is_none, slice_get, slice_set, Option, Some, None, refl, sym, ap, subst, ◌∙◌, arith}
+use Rattle.tw_soundness.proofs.MachineNames.{Completed, Contains, Maps, container_only, map_only, has_subscripts_by, may_read_subscripts_by, reads_closed_by, subscripts_at, subscripts_of, Content, Context, Datum, EmptyRegister, FreedDatum, Holds, IsOfType, NestedScalar, Ok, Procedure, Ref, RightType, Scalar, Set, Skipped, Store, Subscript, Typing, Unset, UnsetDatum, Value, ValuesFit, WrongRegister, a_member_read, a_read, after_insert, after_look, and_parts, asks_data, balanced_some, by_deep, changed, data_instr, datum_at, datum_of, element_of, get, given, held, hits, hits_other, hits_same, insert, inserted, int_at, is_closed, is_closed_mode, is_container_by, is_element_of, is_kept, is_read, is_scalar, is_write, may_insert, may_look, may_read_members, may_read_members_by, may_retrieve, member_at, members_in, must, must_be_empty, must_have_type, ne_eqb, not-true, of_type_at, ok_or, one_read_more, option_and_then, option_flatten, over, passes, read_by, reads_closed_container, reads_closed_container_by, reads_closed_scalar, reads_member_of, right_at, same_Some, same_scalar, scalar_itself, scalar_of, subscript_after, suits, value_at, value_in, with_member, with_result, write_by, writes_container_by}
 use Rattle.tw_types.specs.declared.data_type.Scalar.TheVariants as scalar
 use Rattle.tw_types.specs.declared.value.Value.TheVariants as value
 use Rattle.tw_types.specs.StoreCalls as store
@@ -11,7 +10,7 @@ use Rattle.tw_soundness.proofs.DataLeft.{Leaves, read_no_write}
 use Rattle.tw_soundness.proofs.DataMade.{put_context}
 use Rattle.tw_soundness.proofs.Long.{empty_there, free_there}
 use Rattle.tw_soundness.proofs.Registers.{At, Fits, Settles, Undisturbed, at_right, over-set, rights_set}
-use Rattle.tw_types.proofs.Subscripts.{members_kinds, subscript_kind}
+use Rattle.tw_types.proofs.Subscripts.{content_kind}
 use Rattle.tw_soundness.proofs.Steps.{Goes, at_some, goes, goes_must, goes_then}
 use Rattle.tw_soundness.proofs.Values.{AllYes, declared_as, found_moves, has_type, int_there, value_found, value_there, values_set, passed}
 
@@ -22,14 +21,15 @@ closed_value x scalar of closed = at x.content of closed
     at : (content : Content) → IsOfType x.ty content → is_closed (record x { content = content }) ≡ true → (v : Value) × (value_in content ≡ Some v) × (scalar_of v ≡ x.ty.scalar)
     at Unset h c = cc
     at (Set v) h c = (v, refl, h.1)
-    at (Contains members) h c = let z : true ≡ false = sym scalar ∙ h.0 in cc
+    at (Contains members) h c = let z : true ≡ false = sym scalar ∙ (container_only x.ty h.0).0 in cc
+    at (Maps values) h c = let z : true ≡ false = sym scalar ∙ (map_only x.ty h.0).0 in cc
 
 -- LOOK gives a read right of the container's element type
 member_read : (ty element : NestedScalar) → element_of ty ≡ Some element → option_and_then a_read (element_of ty) ≡ a_read element
 member_read ty element e = ap (option_and_then a_read) e
 
 module _ (p : Procedure) (typing : Typing) (c : Context) (r w : ℕ → ℕ) (fits : Fits typing c r w) (values : ValuesFit p.registers c.position.values) where
-  held_goes : (d : ℕ) (q : RightType) (h : At typing c r w d q) → held c.rights d ≡ Ok h.id
+  pub held_goes : (d : ℕ) (q : RightType) (h : At typing c r w d q) → held c.rights d ≡ Ok h.id
   held_goes d q h = ap (λ o. ok_or (option_flatten o) EmptyRegister) h.register
 
   members_read : (d : ℕ) (q : RightType) → is_closed_mode q.mode ≡ true → is_scalar q.ty ≡ false → (h : At typing c r w d q) → may_read_members (datum_of c h.id) ≡ Ok tt
@@ -41,6 +41,12 @@ module _ (p : Procedure) (typing : Typing) (c : Context) (r w : ℕ → ℕ) (fi
   members_read_by : (by : Scalar) (d : ℕ) (q : RightType) → is_closed_mode q.mode ≡ true → is_container_by by q.ty ≡ true → (h : At typing c r w d q) → may_read_members_by by (datum_of c h.id) ≡ Ok tt
   members_read_by by d q mode kind h =
       let kind_x : is_container_by by h.x.ty ≡ true = ap (is_container_by by) h.ty ∙ kind in
+      let shut = h.closed mode in
+      rw (h.live, kind_x, shut) refl
+
+  subscripts_read_by : (by : Scalar) (d : ℕ) (q : RightType) → is_closed_mode q.mode ≡ true → has_subscripts_by by q.ty ≡ true → (h : At typing c r w d q) → may_read_subscripts_by by (datum_of c h.id) ≡ Ok tt
+  subscripts_read_by by d q mode kind h =
+      let kind_x : has_subscripts_by by h.x.ty ≡ true = ap (has_subscripts_by by) h.ty ∙ kind in
       let shut = h.closed mode in
       rw (h.live, kind_x, shut) refl
 
@@ -89,7 +95,7 @@ module _ (p : Procedure) (typing : Typing) (c : Context) (r w : ℕ → ℕ) (fi
   size_at : (to d : ℕ) (q : RightType) → is_closed_mode q.mode ≡ true → is_scalar q.ty ≡ false → slice_get p.registers to ≡ Some scalar.Int → At typing c r w d q
       → Goes (data_instr (on_data.Size to d) c) (Leaves p.registers (on_data.Size to d) typing c r w)
   size_at to d q mode deep declared h =
-      let left = given_leaves to scalar.Int (value.Int (pos (map.len (members_at c.store h.id)))) declared refl in
+      let left = given_leaves to scalar.Int (value.Int (pos (store.size_at c.store h.id))) declared refl in
       goes_then (must_have_type c.position to scalar.Int) _ _ (has_type p.registers c.position values to scalar.Int declared)
       (goes (held c.rights d) _ _ h.id (held_goes d q h)
       (goes_then (may_read_members (datum_of c h.id)) _ _ (members_read d q mode deep h)
@@ -101,42 +107,40 @@ module _ (p : Procedure) (typing : Typing) (c : Context) (r w : ℕ → ℕ) (fi
       let both = and_parts (is_closed_mode q.0.mode) (not (is_scalar q.0.ty)) q.2 in
       size_at to d q.0 both.0 (not-true _ both.1) (declared_as (slice_get p.registers to) scalar.Int met.1.1.0) (at_right d typing c r w q.0 fits q.1)
 
-  subscript_at : (by : Scalar) (to d index skip : ℕ) (q : RightType) → is_closed_mode q.mode ≡ true → is_container_by by q.ty ≡ true → slice_get p.registers to ≡ Some by → slice_get p.registers index ≡ Some scalar.Int → At typing c r w d q
+  subscript_at : (by : Scalar) (to d index skip : ℕ) (q : RightType) → is_closed_mode q.mode ≡ true → has_subscripts_by by q.ty ≡ true → slice_get p.registers to ≡ Some by → slice_get p.registers index ≡ Some scalar.Int → At typing c r w d q
       → Goes (data_instr (on_data.SubscriptAt by to d index skip) c) (Leaves p.registers (on_data.SubscriptAt by to d index skip) typing c r w)
   subscript_at by to d index skip q mode kind declared indexed h =
       let count = int_there p.registers c.position values index indexed in
-      let found : Option Subscript = subscript_after count.0 (map.keys (members_at c.store h.id)) in
-      let kind_x : is_container_by by h.x.ty ≡ true = ap (is_container_by by) h.ty ∙ kind in
-      let members_are : members_at c.store h.id ≡ members_in h.x.content = rw h.live refl in
+      let found : Option Subscript = subscript_after count.0 (subscripts_at c.store h.id) in
+      let kind_x : has_subscripts_by by h.x.ty ≡ true = ap (has_subscripts_by by) h.ty ∙ kind in
+      let subscripts_are : subscripts_at c.store h.id ≡ subscripts_of h.x.content = rw h.live refl in
       goes_then (must_have_type c.position to by) _ _ (has_type p.registers c.position values to by declared)
       (goes (int_at c.position index) _ _ count.0 count.1
       (goes (held c.rights d) _ _ h.id (held_goes d q h)
-      (goes_then (may_read_members_by by (datum_of c h.id)) _ _ (members_read_by by d q mode kind h)
+      (goes_then (may_read_subscripts_by by (datum_of c h.id)) _ _ (subscripts_read_by by d q mode kind h)
       (record {
         moves = found_moves p.registers c.position values found to skip by declared (λ k is.
-            subscript_kind h.x.ty (members_in h.x.content) by (members_kinds h.x (fits.store.contents h.id h.x h.live)) kind_x count.0 k (sym (ap (λ ms. subscript_after count.0 (map.keys ms)) members_are) ∙ is));
+            content_kind h.x by (fits.store.contents h.id h.x h.live) kind_x count.0 k (sym (ap (subscript_after count.0) subscripts_are) ∙ is));
         settles = same_settles typing c (record c { position = with_result c.position to skip found }) r w fits refl refl;
       }))))
 
   pub subscript_leaves : (by : Scalar) (to d index skip : ℕ) → AllYes (asks_data p.registers (on_data.SubscriptAt by to d index skip) typing)
       → Goes (data_instr (on_data.SubscriptAt by to d index skip) c) (Leaves p.registers (on_data.SubscriptAt by to d index skip) typing c r w)
   subscript_leaves by to d index skip met =
-      let q = passed (reads_closed_container_by by) (right_at typing d) met.0 in
-      let both = and_parts (is_closed_mode q.0.mode) (is_container_by by q.0.ty) q.2 in
+      let q = passed (reads_closed_by by) (right_at typing d) met.0 in
+      let both = and_parts (is_closed_mode q.0.mode) (has_subscripts_by by q.0.ty) q.2 in
       subscript_at by to d index skip q.0 both.0 both.1 (declared_as (slice_get p.registers to) by met.1.1.0) (declared_as (slice_get p.registers index) scalar.Int met.1.1.1.1.0) (at_right d typing c r w q.0 fits q.1)
 
   -- ---- INSERT
 
-  open_container : (x : Datum) → is_scalar x.ty ≡ false → IsOfType x.ty x.content → 0 < x.writes → is_closed x ≡ false
+  pub open_container : (x : Datum) → is_scalar x.ty ≡ false → IsOfType x.ty x.content → 0 < x.writes → is_closed x ≡ false
   open_container x deep of some = at x.content of
     where
       at : (content : Content) → IsOfType x.ty content → is_closed (record x { content = content }) ≡ false
       at Unset h = refl
       at (Set v) h = let z : true ≡ false = sym h.0 ∙ deep in cc
-      at (Contains members) h = ne_zero x.writes some
-        where
-          ne_zero : (n : ℕ) → 0 < n → (n == 0) ≡ false
-          ne_zero n l = ne_eqb n 0 (λ e. omega arith)
+      at (Contains members) h = ne_eqb x.writes 0 (λ e. omega arith)
+      at (Maps values) h = ne_eqb x.writes 0 (λ e. omega arith)
 
   insert_at : (by : Scalar) (container subscript member skip : ℕ) (q m : RightType) → is_write q.mode ≡ true → is_container_by by q.ty ≡ true → is_write m.mode ≡ false → is_element_of m.ty q.ty ≡ true → slice_get p.registers subscript ≡ Some by
       → At typing c r w container q → At typing c r w member m

@@ -1,6 +1,6 @@
 -- A quiet end leaves only the outputs and their members; in a stuck state each rule waits for a datum that a rule may write.
 use Rattle.std.proofs.Common.{◌≡◌, ◌⊎◌, inl, inr, ℕ, zero, suc, ◌+◌, ◌<◌, ◌≤◌, ◌==◌, Bool, true, false, not, ◌&&◌, if◌then◌else◌, T, List, [], ◌∷◌, map, slice_get, length, Option, Some, None, refl, sym, ap, subst, ◌∙◌, arith, nat_cmp}
-use Rattle.tw_soundness.proofs.MachineNames.{Arg, Contains, Content, Datum, HasWriters, IsEntry, IsHeld, Notice, Procedure, RightArg, Rule, Set, State, Typings, Unset, ValueArg, Waiting, actor_cmp, and_parts, arg_at, balanced_none, balanced_some, cases_eq, count_of, depth_of, element_of, entries, entries_sorted, eq-eqb, eqb-false, eqb-true, frame_reads, frame_writes, get, get_entry, has_unasked, held_is_there, inside, is_closed, is_releasable, is_sorted, len, len-entries, list_any, nat_cmp-IsAntisymmetric, nat_cmp_total, not-true, notice_cmp, params_of, part, part-le-total, reads_of, rule_reads, rule_writes, same_Some, stage_at, subscripts_in, task_reads, task_writes, times_at, times_noticed, times_noticed_by, times_subscribed, times_waiting, total, values, writes_of}
+use Rattle.tw_soundness.proofs.MachineNames.{Arg, Contains, Maps, Content, Datum, HasWriters, IsEntry, IsHeld, Notice, Procedure, RightArg, Rule, Set, State, Typings, Unset, ValueArg, Waiting, actor_cmp, and_parts, arg_at, balanced_none, balanced_some, cases_eq, count_of, depth_of, element_of, entries, entries_sorted, eq-eqb, eqb-false, eqb-true, frame_reads, frame_writes, get, get_entry, has_unasked, held_is_there, inside, is_closed, is_releasable, is_sorted, len, len-entries, list_any, nat_cmp-IsAntisymmetric, nat_cmp_total, not-true, notice_cmp, params_of, part, part-le-total, reads_of, rule_reads, rule_writes, same_Some, stage_at, subscripts_in, task_reads, task_writes, times_at, times_noticed, times_noticed_by, times_subscribed, times_waiting, total, values, writes_of}
 use Rattle.std.specs.FinMap.Entries.{below_all}
 use Rattle.std.specs.FinSet as set
 use Rattle.tw_types.specs.declared.ending.Ending.TheVariants.{Quiet, Stuck}
@@ -43,6 +43,7 @@ closed_unless x writers none = by x.content writers
     by Unset one = absurd (omega arith)
     by (Set v) zero_is = refl
     by (Contains members) h = eq-eqb x.writes 0 none
+    by (Maps values) h = eq-eqb x.writes 0 none
 
 open_writes : (x : Datum) → HasWriters x.content x.writes → is_closed x ≡ false → 0 < x.writes
 open_writes x writers unfinished = by x.content writers unfinished
@@ -51,6 +52,7 @@ open_writes x writers unfinished = by x.content writers unfinished
     by Unset one h = omega arith
     by (Set v) zero_is h = cc
     by (Contains members) w h = let some = eqb-false x.writes 0 h in omega arith
+    by (Maps values) w h = let some = eqb-false x.writes 0 h in omega arith
 
 -- ---- rules by their numbers, as they are reported
 

@@ -1,16 +1,18 @@
 -- Each input of main makes a right store: its data are closed, with one read, which main holds.
-use Rattle.std.proofs.Common.{◌≡◌, ℕ, ◌+◌, ◌<◌, ◌≤◌, ◌⊎◌, inl, inr, Bool, true, false, List, [], ◌∷◌, fold, length, Some, None, refl, sym, ap, subst, ◌∙◌, arith}
-use Rattle.tw_soundness.proofs.MachineNames.{Balanced, Contains, Datum, HaveWriters, Holds, Input, IsTypedStore, Mode, NestedScalar, Scalar, Store, Subscript, Value, added, added_given, and_parts, cases_eq, closed_scalar, container_of, count_of, data_insert_same, get, get-empty, hits, hits_other, hits_same, insert, insert_other, is_closed, is_short, nat_le, numbered, put_or_before, same_Some, same_scalar, same_type, same_types, scalar_itself, scalar_of, scalar_type, subscripts_in, tied_itself, total-empty, value_cmp, with_container, with_input}
+use Rattle.std.proofs.Common.{◌≡◌, ℕ, ◌+◌, ◌<◌, ◌≤◌, ◌⊎◌, inl, inr, Bool, true, false, if◌then◌else◌, List, [], ◌∷◌, fold, length, Some, None, refl, sym, ap, subst, ◌∙◌, arith}
+use Rattle.tw_soundness.proofs.MachineNames.{AreEntriesFor, closed_map, entered, is_map, is_map_of, map_with, Balanced, Contains, Datum, HaveWriters, Holds, Input, IsTypedStore, Mode, NestedScalar, Scalar, Store, Subscript, Value, added, added_given, and_parts, cases_eq, closed_scalar, container_of, count_of, data_insert_same, get, get-empty, hits, hits_other, hits_same, insert, insert_other, is_closed, is_short, nat_le, numbered, put_or_before, same_Some, same_scalar, same_type, same_types, scalar_itself, scalar_of, scalar_type, subscripts_in, tied_itself, total-empty, value_cmp, with_container, with_input}
 use Rattle.std.specs.declared.cmp.Ordering.TheVariants.{Less}
 use Rattle.std.specs.FinMap as fin
 use Rattle.std.specs.Ordering.{is_lt}
 use Rattle.tw_types.specs.declared.data_type.Scalar.TheVariants as scalar
 use Rattle.tw_types.specs.declared.input.Input.TheVariants as input
 use Rattle.tw_types.specs.declared.value.Value.TheVariants as value
-use Rattle.tw_types.specs.Given.{Given, Single, Container, given_by, members_by}
+use Rattle.tw_types.proofs.Subscripts.{no_entries, one_more_entry}
+use Rattle.tw_types.specs.DataType.{has_sums}
+use Rattle.tw_types.specs.Given.{Given, Single, Container, Entries, given_by, given_for, members_by}
 use Rattle.tw_types.proofs.ValueOrder.{value_cmp_total, value_cmp-IsAntisymmetric}
 use Rattle.tw_types.proofs.Orders.{below}
-use Rattle.tw_code.specs.machine.Inputs.{are_members, is_given_for, is_input_of, rises, rises_from}
+use Rattle.tw_code.specs.machine.Inputs.{are_entries, are_members, is_given_for, is_input_of, rises, rises_from}
 use Rattle.tw_soundness.proofs.DataInsert.{count_total, values_insert}
 use Rattle.tw_soundness.proofs.Filling.{IsFilling, IsNext, added_filling, filled, filled_balanced, filled_typed, inside-le, not_yet, plain_next, undisturbed_added}
 use Rattle.tw_soundness.proofs.Registers.{Undisturbed, holds_undisturbed, undisturbed_after, undisturbed_itself}
@@ -157,6 +159,7 @@ numbered_by (e ∷ es) id by ty k m of at = elim (put_or_before value_cmp_total 
 abbrev IsTyped : Given → Type 0
 IsTyped (Single x) = Unit {0}
 IsTyped (Container by scalar es) = AreTyped by scalar es
+IsTyped (Entries sums by scalar es) = AreTyped by scalar es
 
 each_typed : {K V : Type 0} (subscript : K → Subscript) (value : V → Value) (by ty : Scalar) → ((k : K) → scalar_of (subscript k) ≡ by) → ((v : V) → scalar_of (value v) ≡ ty)
     → (es : List (K × V)) → AreTyped by ty (members_by subscript value es)
@@ -170,6 +173,32 @@ all_typed (input.Ints es) = each_typed value.Int value.Int scalar.Int scalar.Int
 all_typed (input.Texts es) = each_typed value.Int value.Text scalar.Int scalar.Text (λ n. refl) (λ text. refl) es
 all_typed (input.IntsByText es) = each_typed value.Text value.Int scalar.Text scalar.Int (λ text. refl) (λ n. refl) es
 all_typed (input.TextsByText es) = each_typed value.Text value.Text scalar.Text scalar.Text (λ text. refl) (λ text. refl) es
+
+typed_either : (b sums : Bool) (by scalar : Scalar) (es : List (Subscript × Value)) → AreTyped by scalar es → IsTyped (if b then Entries sums by scalar es else Container by scalar es)
+typed_either true sums by scalar es h = h
+typed_either false sums by scalar es h = h
+
+typed_for : (ty : NestedScalar) (i : Input) → IsTyped (given_for ty i)
+typed_for ty (input.Int n) = tt
+typed_for ty (input.Text text) = tt
+typed_for ty (input.Ints es) = typed_either (is_map ty) (has_sums ty.map) scalar.Int scalar.Int _ (all_typed (input.Ints es))
+typed_for ty (input.Texts es) = typed_either (is_map ty) (has_sums ty.map) scalar.Int scalar.Text _ (all_typed (input.Texts es))
+typed_for ty (input.IntsByText es) = typed_either (is_map ty) (has_sums ty.map) scalar.Text scalar.Int _ (all_typed (input.IntsByText es))
+typed_for ty (input.TextsByText es) = typed_either (is_map ty) (has_sums ty.map) scalar.Text scalar.Text _ (all_typed (input.TextsByText es))
+
+-- the values of a map are of its types
+entered_by : (sums : Bool) (es : List (Subscript × Value)) (by ty : Scalar) → AreTyped by ty es → AreEntriesFor (map_with sums by ty) (entered es)
+entered_by sums [] by ty of = no_entries (map_with sums by ty)
+entered_by sums (e ∷ es) by ty of = one_more_entry (map_with sums by ty) (entered es) e.0 e.1 (entered_by sums es by ty of.2)
+    (ap (λ (u : Scalar). is_map_of u (scalar_of e.1) (map_with sums by ty)) of.0 ∙ (ap (λ (u : Scalar). is_map_of by u (map_with sums by ty)) of.1 ∙ own sums))
+  where
+    own : (sums : Bool) → is_map_of by ty (map_with sums by ty) ≡ true
+    own true = rw (scalar_itself by) (scalar_itself ty)
+    own false = rw (scalar_itself by) (scalar_itself ty)
+
+made_map : (sums : Bool) (by ty : Scalar) → is_map (map_with sums by ty) ≡ true
+made_map true by ty = refl
+made_map false by ty = refl
 
 module _ (s : Store) (r w : ℕ → ℕ) (h : IsRight s r w) where
   abbrev container : Scalar → Scalar → List (Subscript × Value) → Datum
@@ -224,6 +253,19 @@ module _ (s : Store) (r w : ℕ → ℕ) (h : IsRight s r w) where
         holds = λ mode. closed_holds s (closed_scalar v) mode refl;
       }
 
+  map_given : (sums : Bool) (by ty : Scalar) (es : List (Subscript × Value)) → AreTyped by ty es → IsGiven s (added s (closed_map sums by ty es)) (map_with sums by ty) r w
+  map_given sums by ty es of =
+      let f = right_filled s ty r w h in
+      let none = f.unheld s.next (not_yet s ty 0 r w f) in
+      let one = hits_same s.next in
+      let next = plain_next s ty ty r w (λ d. r d + hits d s.next) w (closed_map sums by ty es) f (made_map sums by ty, entered_by sums es by ty of) (omega arith) tt refl
+      (λ d other. (let no_hit = hits_other d s.next (λ z. other (sym z)) in omega arith, refl)) (omega (arith, none.0)) (sym none.1) (omega arith) in
+      record {
+        right = filled_right (added s (closed_map sums by ty es)) ty (λ d. r d + hits d s.next) w (added_filling s ty 0 r w f (closed_map sums by ty es) ty 0 (λ d. r d + hits d s.next) w next);
+        others = undisturbed_added s ty 0 r w f (closed_map sums by ty es);
+        holds = λ mode. closed_holds s (closed_map sums by ty es) mode refl;
+      }
+
   -- ---- the data of an input
 
   given_right : (given : Given) (ty : NestedScalar) → IsTyped given → is_given_for ty given ≡ true → IsGiven s (added_given s given) ty r w
@@ -234,6 +276,9 @@ module _ (s : Store) (r w : ℕ → ℕ) (h : IsRight s r w) where
       let both = and_parts (same_type ty (container_of by (scalar_type scalar))) (are_members es) fit in
       let up = (and_parts (rises es) _ (and_parts (nat_le (length es) 1000) _ both.1).1).0 in
       subst (λ t. IsGiven s (added_given s (Container by scalar es)) t r w) (sym (same_types ty (container_of by (scalar_type scalar)) both.0)) (container_given by scalar es up of)
+  given_right (Entries sums by scalar es) ty of fit =
+      let both = and_parts (same_type ty (map_with sums by scalar)) (are_entries es) fit in
+      subst (λ t. IsGiven s (added_given s (Entries sums by scalar es)) t r w) (sym (same_types ty (map_with sums by scalar) both.0)) (map_given sums by scalar es of)
 
-  pub input_given : (i : Input) (ty : NestedScalar) → is_input_of ty i ≡ true → IsGiven s (with_input s i) ty r w
-  input_given i ty fit = given_right (given_by i) ty (all_typed i) fit
+  pub input_given : (i : Input) (ty : NestedScalar) → is_input_of ty i ≡ true → IsGiven s (with_input s ty i) ty r w
+  input_given i ty fit = given_right (given_for ty i) ty (typed_for ty i) fit

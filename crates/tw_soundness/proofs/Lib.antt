@@ -20,6 +20,7 @@ pub mod AllEvents
 pub mod Long
 pub mod DataLeft
 pub mod DataMade
+pub mod DataMaps
 pub mod DataNew
 pub mod DataInsert
 pub mod DataReads

@@ -153,18 +153,18 @@ module _ (params : List Param) (o : Opened) (p : Param) (h : IsOpened params o) 
       }
 
   -- an input
-  input_more : (i : Input) → is_write p.mode ≡ false → is_input_of p.ty i ≡ true → IsOpened (params ++ p ∷ []) (with_given o (Some i))
+  input_more : (i : Input) → is_write p.mode ≡ false → is_input_of p.ty i ≡ true → IsOpened (params ++ p ∷ []) (with_given o p.ty (Some i))
   input_more i reads fit =
       let g = input_given o.store (given_reads params o) (given_writes params o) h.right i p.ty fit in
       record {
-        outputs = subst (λ (rights : List RightType). OutputsFit (with_input o.store i) rights o.outputs) (sym (outputs_same params p reads)) (outputs_kept o.store (with_input o.store i) g.others (outputs_of params) o.outputs h.outputs);
-        right = right_same (with_input o.store i) _ _ (given_reads (params ++ p ∷ []) (with_given o (Some i))) (given_writes (params ++ p ∷ []) (with_given o (Some i))) g.right (λ d.
+        outputs = subst (λ (rights : List RightType). OutputsFit (with_input o.store p.ty i) rights o.outputs) (sym (outputs_same params p reads)) (outputs_kept o.store (with_input o.store p.ty i) g.others (outputs_of params) o.outputs h.outputs);
+        right = right_same (with_input o.store p.ty i) _ _ (given_reads (params ++ p ∷ []) (with_given o p.ty (Some i))) (given_writes (params ++ p ∷ []) (with_given o p.ty (Some i))) g.right (λ d.
             let a = over_more (read_by d) in
             let b = over_more (write_by d) in
             let a_read : read_by d (Some (record { mode = p.mode; ty = p.ty })) (Some id) ≡ hits d id = ap (λ b. if b then 0 else hits d id) reads in
             let no_write : write_by d (Some (record { mode = p.mode; ty = p.ty })) (Some id) ≡ 0 = ap (λ b. if b then hits d id else 0) reads in
             (omega arith, omega arith));
-        args = args_more (with_input o.store i) g.others (g.holds p.mode);
+        args = args_more (with_input o.store p.ty i) g.others (g.holds p.mode);
       }
 
 -- each parameter in order
@@ -197,11 +197,11 @@ opened_all before (p ∷ params) inputs o h main each count fit =
         absurd (omega arith)
     by false reads (i ∷ given) count fit all =
         let same : input_params (p ∷ params) ≡ p ∷ input_params params = rw reads refl in
-        let next : opened o (p ∷ params) (i ∷ given) ≡ opened (with_given o (Some i)) params given = rw reads refl in
+        let next : opened o (p ∷ params) (i ∷ given) ≡ opened (with_given o p.ty (Some i)) params given = rw reads refl in
         let fits = and_parts (is_input_of p.ty i) (are_inputs_of (input_params params) given) (sym (ap (λ ps. are_inputs_of ps (i ∷ given)) same) ∙ fit) in
         let long : length (i ∷ given) ≡ length (p ∷ input_params params) = count ∙ ap length same in
-        subst (IsOpened (before ++ (p ∷ params))) (sym next) (rest_of (with_given o (Some i)) given
-        (all (with_given o (Some i)) given (input_more before o p h no_value each.0 i reads fits.0) (omega arith) fits.1))
+        subst (IsOpened (before ++ (p ∷ params))) (sym next) (rest_of (with_given o p.ty (Some i)) given
+        (all (with_given o p.ty (Some i)) given (input_more before o p h no_value each.0 i reads fits.0) (omega arith) fits.1))
 
 nothing_live : (d : ℕ) (x : Datum) → get (empty {X = Datum} {R = nat_cmp}) d ≡ Some x → ⊥
 nothing_live d x e = let none : None ≡ Some x = sym (get-empty nat_cmp d) ∙ e in cc

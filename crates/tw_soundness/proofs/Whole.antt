@@ -36,6 +36,9 @@ has_writer registers c typing r w fits (on_data.Insert by container subscript me
 has_writer registers c typing r w fits (on_data.Look by member container subscript skip) met = tt
 has_writer registers c typing r w fits (on_data.Size to container) met = tt
 has_writer registers c typing r w fits (on_data.SubscriptAt by to container index skip) met = tt
+has_writer registers c typing r w fits (on_data.InsertValue map subscript from skip) met = tt
+has_writer registers c typing r w fits (on_data.AddValue map subscript from) met = tt
+has_writer registers c typing r w fits (on_data.GetValue to map subscript skip) met = tt
 has_writer registers c typing r w fits (on_data.CopyRead to from) met = tt
 has_writer registers c typing r w fits (on_data.DropRead right) met = tt
 has_writer registers c typing r w fits (on_data.DropWrite right) met = tt

@@ -10,4 +10,4 @@ element_depth ty element h = by ty.containers h
   where
     by : (containers : List Scalar) → element_of (record ty { containers = containers }) ≡ Some element → length containers ≡ suc (depth_of element)
     by [] h = cc
-    by (own ∷ inner) h = let same = ap depth_of (same_Some (record { containers = inner; scalar = ty.scalar }) element h) in omega arith
+    by (own ∷ inner) h = let same = ap depth_of (same_Some (record ty { containers = inner }) element h) in omega arith

@@ -11,8 +11,9 @@ ghost use Rattle.tw_verify.specs.Rejection.{verify_error_code};
 use crate::arguments::action_rejection;
 use crate::questions::{
     alike_rejection, beside, both_rejection, container_write_rejection, empty_pair_rejection,
-    is_member_read, lowest, members_by_rejection, members_rejection, read_rejection,
-    value_of_rejection, value_rejection, values_rejection, writes_container_by,
+    entry_rejection, is_member_read, lowest, members_by_rejection, members_rejection,
+    read_rejection, subscripts_by_rejection, value_of_rejection, value_rejection, values_rejection,
+    writes_container_by,
 };
 use crate::rejection::VerifyError;
 use crate::typing::{RightType, Typing};
@@ -146,10 +147,61 @@ fn subscript_rejection(
         ≡ rejection_in (asks_data registers.now (DataInstr.SubscriptAt by to container index 0) typing.now) }
 {
     let others = both_rejection(registers, to, by, index, Scalar::Int);
-    members_by_rejection(typing, container, by, others)
+    subscripts_by_rejection(typing, container, by, others)
 }
 
-/// Checks SIZE: an integer register, and a `closed` right on a container.
+/// Checks MINS: a write right on a map, but none of sums, and registers of the types of its subscripts and values.
+fn insert_value_rejection(
+    registers: &[Scalar],
+    typing: &Typing,
+    map: u8,
+    subscript: u8,
+    from: u8,
+) -> Option<VerifyError>
+    requires { map < 16 }
+    ensures { option_map verify_error_code result
+        ≡ rejection_in (asks_data registers.now (DataInstr.InsertValue map subscript from 0) typing.now) }
+{
+    let right = typing.right_at(map);
+    let fits = right.is_some_and(RightType::writes_map);
+    entry_rejection(registers, subscript, from, &right, fits)
+}
+
+/// Checks MADD: a write right on a map of sums, an integer, and a register of the type of its subscripts.
+fn add_value_rejection(
+    registers: &[Scalar],
+    typing: &Typing,
+    map: u8,
+    subscript: u8,
+    from: u8,
+) -> Option<VerifyError>
+    requires { map < 16 }
+    ensures { option_map verify_error_code result
+        ≡ rejection_in (asks_data registers.now (DataInstr.AddValue map subscript from) typing.now) }
+{
+    let right = typing.right_at(map);
+    let fits = right.is_some_and(RightType::writes_sums);
+    entry_rejection(registers, subscript, from, &right, fits)
+}
+
+/// Checks MGET: a `closed` right on a map, and registers of the types of its subscripts and values.
+fn get_value_rejection(
+    registers: &[Scalar],
+    typing: &Typing,
+    to: u8,
+    map: u8,
+    subscript: u8,
+) -> Option<VerifyError>
+    requires { map < 16 }
+    ensures { option_map verify_error_code result
+        ≡ rejection_in (asks_data registers.now (DataInstr.GetValue to map subscript 0) typing.now) }
+{
+    let right = typing.right_at(map);
+    let fits = right.is_some_and(RightType::reads_closed_map);
+    entry_rejection(registers, subscript, to, &right, fits)
+}
+
+/// Checks SIZE: an integer register, and a `closed` right on a container or a map.
 fn size_rejection(
     registers: &[Scalar],
     typing: &Typing,
@@ -217,6 +269,23 @@ fn data_rejection(registers: &[Scalar], instr: DataInstr, typing: &Typing) -> Op
             index,
             ..
         } => subscript_rejection(registers, typing, by, to, container, index),
+        DataInstr::InsertValue {
+            map,
+            subscript,
+            from,
+            ..
+        } => insert_value_rejection(registers, typing, map, subscript, from),
+        DataInstr::AddValue {
+            map,
+            subscript,
+            from,
+        } => add_value_rejection(registers, typing, map, subscript, from),
+        DataInstr::GetValue {
+            to,
+            map,
+            subscript,
+            ..
+        } => get_value_rejection(registers, typing, to, map, subscript),
         DataInstr::CopyRead { to, from } => copy_read_rejection(typing, to, from),
         DataInstr::CopyWrite { to, from } => copy_write_rejection(typing, to, from),
         DataInstr::DropRead { right } => read_rejection(typing, right),

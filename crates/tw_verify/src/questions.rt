@@ -5,7 +5,7 @@ ghost use Rattle.std.specs.Prelude.{◌≡◌, ◌<◌, ◌∷◌, [], ◌++◌,
 ghost use Rattle.std.specs.Option.{option_map};
 ghost use Rattle.tw_code.specs.accepting.Question.{passes, rejection_in};
 ghost use Rattle.tw_code.specs.machine.Rights.{RightType, right_at};
-ghost use Rattle.tw_code.specs.accepting.Typing.{asks_value, asks_alike, asks_values, asks_value_of, asks_empty_pair, asks_container_write, writes_container_by, reads, reads_closed_container, reads_closed_container_by, reads_member_of};
+ghost use Rattle.tw_code.specs.accepting.Typing.{asks_value, asks_alike, asks_values, asks_entry_of, reads_closed_by, asks_value_of, asks_empty_pair, asks_container_write, suits_subscripts, writes_container_by, reads, reads_closed_container, reads_closed_container_by, reads_member_of};
 ghost use Rattle.tw_verify.specs.Rejection.{lowest_of, rejection_with, verify_error_code};
 
 use crate::rejection::VerifyError;
@@ -117,6 +117,45 @@ pub(crate) fn value_of_rejection(
     }
 }
 
+/// Returns whether a value register of this type suits the subscripts of the right's map.
+#[tactic(auto, unfolding(tw_code::specs::accepting::Typing::suits_subscripts))]
+fn suits_subscripts(right: RightType, declared: Scalar) -> bool
+    ensures { result ≡ suits_subscripts declared right.ty }
+{
+    match right.ty().map_by() {
+        Some(by) => declared == by,
+        None => false,
+    }
+}
+
+/// Checks that a right register has a right of the required kind, and that two value registers are of the types of its map's
+/// subscripts and values. `fits` is whether the right is of that kind.
+pub(crate) fn entry_rejection(
+    registers: &[Scalar],
+    subscript: u8,
+    register: u8,
+    right: &Option<RightType>,
+    fits: bool,
+) -> Option<VerifyError>
+    ensures { (test : RightType → Bool) → fits ≡ passes test right.now
+        → option_map verify_error_code result
+        ≡ rejection_in (asks_entry_of registers.now subscript register test right.now) }
+{
+    let Some(named) = registers.get(subscript as usize) else {
+        return Some(VerifyError::UndeclaredValue);
+    };
+    let Some(declared) = registers.get(register as usize) else {
+        return Some(VerifyError::UndeclaredValue);
+    };
+    match right {
+        Some(right) if fits => {
+            let suits = suits_subscripts(*right, *named) && *declared == right.ty().scalar();
+            (!suits).then_some(VerifyError::WrongValueType)
+        }
+        _ => Some(VerifyError::WrongRight),
+    }
+}
+
 /// Checks that two right registers are empty, and different.
 pub(crate) fn empty_pair_rejection(typing: &Typing, first: u8, second: u8) -> Option<VerifyError>
     requires first { first < 16 }
@@ -180,6 +219,25 @@ pub(crate) fn members_by_rejection(
 {
     let fits = match typing.right_at(register) {
         Some(right) => right.reads_closed_container_by(by),
+        None => false,
+    };
+    beside(fits, VerifyError::WrongRight, others)
+}
+
+/// Checks that a right register has a `closed` right on a container or a map with such subscripts, beside other checks.
+pub(crate) fn subscripts_by_rejection(
+    typing: &Typing,
+    register: u8,
+    by: Scalar,
+    others: Option<VerifyError>,
+) -> Option<VerifyError>
+    requires { register < 16 }
+    ensures { option_map verify_error_code result
+        ≡ rejection_with (4, passes (reads_closed_by by) (right_at typing.now register))
+        (option_map verify_error_code others) }
+{
+    let fits = match typing.right_at(register) {
+        Some(right) => right.reads_closed_by(by),
         None => false,
     };
     beside(fits, VerifyError::WrongRight, others)

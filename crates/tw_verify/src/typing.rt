@@ -3,13 +3,13 @@
 ghost use Rattle.std.specs.Prelude.{◌≡◌, ◌≤◌, ◌<◌, ◌∷◌, [], ℕ, length, Some, is_none, slice_set};
 ghost use Rattle.std.specs.List.{list_all, AllByRecursion};
 ghost use Rattle.std.specs.Option.{option_and_then};
-ghost use Rattle.tw_types.specs.DataType.{element_of};
+ghost use Rattle.tw_types.specs.DataType.{element_of, is_element_of};
 ghost use Rattle.tw_types.specs.declared.data_type.Scalar.{Scalar as ByScalar};
 ghost use Rattle.tw_code.specs.format.Program.{IsAction, IsDataInstr, IsInstr, IsRegister};
 ghost use Rattle.tw_code.specs.declared.instr.DataInstr.TheVariants as on_data;
 ghost use Rattle.tw_code.specs.machine.Arguments.{params_of};
 ghost use Rattle.tw_code.specs.machine.Rights.{right_at};
-ghost use Rattle.tw_code.specs.accepting.Typing.{start_typing, is_free, writes, writes_scalar, writes_container_by, reads, reads_closed_scalar, reads_closed_container, reads_closed_container_by, reads_member_of, a_write, a_read, right_fits_param, after_data, without_args, after};
+ghost use Rattle.tw_code.specs.accepting.Typing.{start_typing, is_free, writes, writes_scalar, writes_container_by, reads, reads_closed_by, reads_closed_map, reads_closed_scalar, reads_closed_container, reads_closed_container_by, reads_member_of, writes_map, writes_sums, a_write, a_read, right_fits_param, after_data, without_args, after};
 ghost use Rattle.tw_verify.specs.Same.{same_typing};
 
 use std::marker::Model;
@@ -117,6 +117,31 @@ impl RightType {
         self.mode == Mode::Closed && self.ty.is_container_by(by)
     }
 
+    /// Returns whether it is a closed read right on a container or a map with such subscripts.
+    pub(crate) fn reads_closed_by(self, by: Scalar) -> bool
+        ensures { result ≡ reads_closed_by by self }
+    {
+        self.mode == Mode::Closed && self.ty.has_subscripts_by(by)
+    }
+
+    pub(crate) fn reads_closed_map(self) -> bool
+        ensures { result ≡ reads_closed_map self }
+    {
+        self.mode == Mode::Closed && self.ty.is_map()
+    }
+
+    pub(crate) fn writes_map(self) -> bool
+        ensures { result ≡ writes_map self }
+    {
+        self.mode.is_write() && self.ty.is_plain_map()
+    }
+
+    pub(crate) fn writes_sums(self) -> bool
+        ensures { result ≡ writes_sums self }
+    {
+        self.mode.is_write() && (self.ty.is_sums() && Scalar::Int == self.ty.scalar())
+    }
+
     /// Returns whether it suits a parameter. For a `closed` one any read does, if the task waits for its data.
     pub(crate) fn right_fits_param(self, waits: bool, param: Param) -> bool
         ensures { result ≡ right_fits_param waits param self }
@@ -131,11 +156,20 @@ impl RightType {
         suits && self.ty == param.ty
     }
 
+    fn is_element_of(self, container: DataType) -> bool
+        ensures { result ≡ is_element_of self.ty container }
+    {
+        match container.element() {
+            Some(element) => self.ty == element,
+            None => false,
+        }
+    }
+
     /// Returns whether it is a read right on a datum of that container's element type.
     pub(crate) fn reads_member_of(self, container: RightType) -> bool
         ensures { result ≡ reads_member_of container self }
     {
-        self.reads() && container.ty.element() == Some(self.ty)
+        self.reads() && self.is_element_of(container.ty)
     }
 }
 
@@ -251,7 +285,12 @@ impl Typing {
             DataInstr::DropRead { right } | DataInstr::DropWrite { right } => self.with(
                 right, None,
             ),
-            DataInstr::Get { .. } | DataInstr::Size { .. } | DataInstr::SubscriptAt { .. } => self,
+            DataInstr::Get { .. }
+            | DataInstr::Size { .. }
+            | DataInstr::SubscriptAt { .. }
+            | DataInstr::InsertValue { .. }
+            | DataInstr::AddValue { .. }
+            | DataInstr::GetValue { .. } => self,
         }
     }
 

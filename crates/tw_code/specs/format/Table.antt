@@ -21,7 +21,7 @@ use Rattle.tw_code.specs.declared.opcode.Opcode.{Opcode}
 use Rattle.tw_code.specs.declared.opcode.Opcode.TheVariants as opcode
 use Rattle.tw_code.specs.declared.opcode.TheConstants.{OPCODES}
 use Rattle.tw_code.specs.declared.version.Version.{Version}
-use Rattle.tw_code.specs.declared.version.Version.TheVariants.{One, Two}
+use Rattle.tw_code.specs.declared.version.Version.TheVariants.{One, Two, Four}
 use Rattle.tw_types.specs.Nesting.{NestedScalar}
 use Rattle.tw_types.specs.declared.data_type.Scalar.{Scalar}
 use Rattle.tw_types.specs.declared.data_type.Scalar.TheVariants.{Int, Text}
@@ -95,6 +95,9 @@ row_of opcode.LookByText = a_row 0x51 (Right ∷ Right ∷ Value ∷ Skip ∷ []
 row_of opcode.SubscriptAtByText = a_row 0x52 (Value ∷ Right ∷ Value ∷ Skip ∷ []) (λ x. instr.Data (on_data.SubscriptAt Text x.0 x.1.0 x.1.1.0 x.1.1.1.0))
 row_of opcode.RuleComputed = a_row 0x53 (Callee ∷ Value ∷ Target ∷ Args ∷ []) (λ x. instr.Rule (action_of Computed x))
 row_of opcode.PutComputed = a_row 0x54 (Callee ∷ Value ∷ Target ∷ Args ∷ []) (λ x. instr.Put (action_of Computed x))
+row_of opcode.InsertValue = a_row 0x60 (Right ∷ Value ∷ Value ∷ Skip ∷ []) (λ x. instr.Data (on_data.InsertValue x.0 x.1.0 x.1.1.0 x.1.1.1.0))
+row_of opcode.GetValue = a_row 0x61 (Value ∷ Right ∷ Value ∷ Skip ∷ []) (λ x. instr.Data (on_data.GetValue x.0 x.1.0 x.1.1.0 x.1.1.1.0))
+row_of opcode.AddValue = a_row 0x62 (Right ∷ Value ∷ Value ∷ []) (λ x. instr.Data (on_data.AddValue x.0 x.1.0 x.1.1.0))
 
 abbrev pub code_in : Row → ℕ
 code_in (a_row code forms make) = code
@@ -115,13 +118,20 @@ since opcode.LookByText = Two
 since opcode.SubscriptAtByText = Two
 since opcode.RuleComputed = Two
 since opcode.PutComputed = Two
+since opcode.InsertValue = Four
+since opcode.GetValue = Four
+since opcode.AddValue = Four
 since o = One
 
 -- returns whether a version has the features of another: of itself or an earlier one
 abbrev pub has_since : Version → Version → Bool
 has_since One One = true
 has_since One Two = false
-has_since Two brought = true
+has_since One Four = false
+has_since Two One = true
+has_since Two Two = true
+has_since Two Four = false
+has_since Four brought = true
 
 abbrev pub has_opcode : Version → Opcode → Bool
 has_opcode version o = has_since version (since o)
@@ -174,6 +184,9 @@ word_of opcode.LookByText = codes "TLOOK"
 word_of opcode.SubscriptAtByText = codes "TSUBAT"
 word_of opcode.RuleComputed = codes "RULEV"
 word_of opcode.PutComputed = codes "PUTV"
+word_of opcode.InsertValue = codes "MINS"
+word_of opcode.GetValue = codes "MGET"
+word_of opcode.AddValue = codes "MADD"
 
 unfoldable pub opcode_of : List ℕ → Option Opcode
 opcode_of name = find (λ o. bytes_eq (word_of o) name) OPCODES
@@ -223,6 +236,9 @@ data_row (on_data.CopyRead to from) = (opcode.CopyRead, holds Right to ∷ holds
 data_row (on_data.CopyWrite to from) = (opcode.CopyWrite, holds Right to ∷ holds Right from ∷ [])
 data_row (on_data.DropRead right) = (opcode.DropRead, holds Right right ∷ [])
 data_row (on_data.DropWrite right) = (opcode.DropWrite, holds Right right ∷ [])
+data_row (on_data.InsertValue map subscript from skip) = (opcode.InsertValue, holds Right map ∷ holds Value subscript ∷ holds Value from ∷ holds Skip skip ∷ [])
+data_row (on_data.GetValue to map subscript skip) = (opcode.GetValue, holds Value to ∷ holds Right map ∷ holds Value subscript ∷ holds Skip skip ∷ [])
+data_row (on_data.AddValue map subscript from) = (opcode.AddValue, holds Right map ∷ holds Value subscript ∷ holds Value from ∷ [])
 
 -- returns one opcode for a constant priority, and another for a computed one
 abbrev pub opcode_of_priority : Opcode → Opcode → Priority → Opcode
