@@ -4,3 +4,5 @@ pub mod Turns
 pub mod Entries
 pub mod Subscripts
 pub mod Members
+pub mod EnteredValues
+pub mod Puts

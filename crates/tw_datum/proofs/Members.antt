@@ -9,13 +9,18 @@ use Rattle.std.specs.FinMap as map
 use Rattle.std.specs.FinMap.{entries, len-entries, len-empty}
 use Rattle.std.specs.Map.{keys_of}
 use Rattle.std.proofs.lemmas.List.{length-map, drop_all}
-use Rattle.tw_types.specs.DataType.{is_container_by, is_scalar}
+use Rattle.tw_types.specs.DataType.{is_container, is_container_by, is_map, is_map_of, is_scalar}
 use Rattle.tw_types.specs.Nesting.{NestedScalar}
-use Rattle.tw_types.specs.Store.{Contains, Members, empty_content}
+use Rattle.tw_types.specs.Store.{Contains, Maps, Members, Values, empty_content}
 use Rattle.tw_types.specs.StoreCalls.{members_in, subscript_after}
-use Rattle.tw_types.specs.TypedStore.{AreSubscriptsFor}
+use Rattle.tw_types.specs.TypedStore.{AreEntriesFor, AreSubscriptsFor}
+use Rattle.tw_types.specs.declared.value.Value.{Value}
 use Rattle.tw_types.specs.Value.{scalar_of}
-use Rattle.tw_types.proofs.Subscripts.{no_kinds, one_more_kind}
+use Rattle.tw_types.proofs.SameTypes.{else_container}
+use Rattle.tw_types.proofs.Subscripts.{no_entries as no_values, no_kinds, one_more_entry, one_more_kind}
+use Rattle.tw_types.specs.declared.data_type.MapKind.{MapKind}
+use Rattle.tw_types.specs.declared.data_type.MapKind.TheVariants as kinds
+use Rattle.tw_types.specs.declared.data_type.Scalar.{Scalar}
 use Rattle.tw_types.proofs.Totals.{IsEntry, get_entry}
 use Rattle.tw_datum.specs.Kept.{FitsType, KeptMembers, KeptDatum, ids_of, IsAddition, IsMemberAdded, with_kept_member}
 use Rattle.tw_types.proofs.Elements.{no_items}
@@ -25,22 +30,50 @@ pub insert_ids : {M : Type 0} (id : M → ℕ) (m : KeptMembers M) (k : Subscrip
 insert_ids id = insert_mapped id value_cmp_total value_cmp-IsAntisymmetric
 
 -- the content of a new container
-pub container_empty : (ty : NestedScalar) → is_scalar ty ≡ false → empty_content ty ≡ Contains map.empty
-container_empty ty h = rw h refl
+pub container_empty : (ty : NestedScalar) → is_scalar ty ≡ false → is_map ty ≡ false → empty_content ty ≡ Contains map.empty
+container_empty ty h g = rw (h, g) refl
+
+pub map_empty : (ty : NestedScalar) → is_scalar ty ≡ false → is_map ty ≡ true → empty_content ty ≡ Maps map.empty
+map_empty ty h g = rw (h, g) refl
+
+-- a scalar is neither a container nor a map
+pub scalar_only : (ty : NestedScalar) → is_scalar ty ≡ true → (is_container ty ≡ false) × (is_map ty ≡ false)
+scalar_only ty h = at ty.containers ty.map h
+  where
+    at : (containers : List Scalar) (kind : MapKind) → is_scalar (record ty { containers = containers; map = kind }) ≡ true → (is_container (record ty { containers = containers; map = kind }) ≡ false) × (is_map (record ty { containers = containers; map = kind }) ≡ false)
+    at [] kinds.NoMap h = (refl, refl)
+    at [] (kinds.Values by) h = cc
+    at [] (kinds.Sums by) h = cc
+    at (own ∷ inner) kind h = cc
+
+-- a container and a map are of one kind
+pub not_container : (ty : NestedScalar) → is_map ty ≡ true → is_container ty ≡ false
+not_container ty h = at ty.containers h
+  where
+    at : (containers : List Scalar) → is_map (record ty { containers = containers }) ≡ true → is_container (record ty { containers = containers }) ≡ false
+    at [] h = refl
+    at (own ∷ inner) h = cc
 
 -- the content of a new datum is of its type
 pub empty_fits : (ty : NestedScalar) → FitsType ty (empty_content ty)
-empty_fits ty = by (is_scalar ty) refl
+empty_fits ty = by (is_scalar ty) (is_map ty) refl refl
   where
-    by : (b : Bool) → is_scalar ty ≡ b → FitsType ty (empty_content ty)
-    by true e = rw e (refl, no_kinds ty)
-    by false e = rw e (refl, no_kinds ty)
+    by : (b c : Bool) → is_scalar ty ≡ b → is_map ty ≡ c → FitsType ty (empty_content ty)
+    by true c e g = let only = scalar_only ty e in rw e ((sym only.0, sym only.1), (no_kinds ty, no_values ty))
+    by false true e g = subst (FitsType ty) (sym (map_empty ty e g)) ((sym (not_container ty g), sym g), (no_kinds ty, no_values ty))
+    by false false e g = subst (FitsType ty) (sym (container_empty ty e g)) ((sym (else_container ty e g), sym g), (no_kinds ty, no_values ty))
 
 -- subscripts are still of the container's type, whether a member was added or the allocation failed
 pub still_kinds : {M A E : Type 0} (id : M → ℕ) (r : Result A E) (ty : NestedScalar) (before after : KeptMembers M) (subscript : Subscript) (member : M) → AreSubscriptsFor ty (ids_of id before) → is_container_by (scalar_of subscript) ty ≡ true
     → OnOk r (after ≡ map.insert before subscript member) → OnErr r (after ≡ before) → AreSubscriptsFor ty (ids_of id after)
 still_kinds id (Ok x) ty before after subscript member kinds kind added refused = subst (AreSubscriptsFor ty) (sym (ap (ids_of id) added ∙ insert_ids id before subscript member)) (one_more_kind ty (ids_of id before) subscript (id member) kinds kind)
 still_kinds {M} id (Err why) ty before after subscript member kinds kind added refused = subst (λ (m : KeptMembers M). AreSubscriptsFor ty (ids_of id m)) (sym refused) kinds
+
+-- like that, of a map's values
+pub still_values : {A E : Type 0} (r : Result A E) (ty : NestedScalar) (before after : Values) (subscript : Subscript) (value : Value) → AreEntriesFor ty before → is_map_of (scalar_of subscript) (scalar_of value) ty ≡ true
+    → OnOk r (after ≡ map.insert before subscript value) → OnErr r (after ≡ before) → AreEntriesFor ty after
+still_values (Ok x) ty before after subscript value kinds kind added refused = subst (AreEntriesFor ty) (sym added) (one_more_entry ty before subscript value kinds kind)
+still_values (Err why) ty before after subscript value kinds kind added refused = subst (AreEntriesFor ty) (sym refused) kinds
 
 -- ---- where there are none
 
@@ -49,6 +82,9 @@ no_members = len-empty value_cmp ℕ
 
 pub no_entries : entries (map.empty {X = ℕ} {R = value_cmp}) ≡ []
 no_entries = no_items _ (sym (len-entries (map.empty {X = ℕ} {R = value_cmp})) ∙ no_members)
+
+pub no_values_there : entries (map.empty {X = Value} {R = value_cmp}) ≡ []
+no_values_there = no_items _ (sym (len-entries (map.empty {X = Value} {R = value_cmp})) ∙ len-empty value_cmp Value)
 
 pub none_after : (k : ℤ) → None ≡ subscript_after k (map.keys (map.empty {X = ℕ} {R = value_cmp}))
 none_after k = at k ∙ ap (λ es. subscript_after k (keys_of es)) (sym no_entries)

@@ -1,14 +1,14 @@
 -- A datum as it is stored: a member may have more than its id, such as the place of its datum.
-use Rattle.std.specs.Prelude.{[], ◌≡◌, ℕ, ℤ, Bool, true, false, not, List, map as each, Option, Some, None, option_map, Result, Ok, Err, IsSome}
+use Rattle.std.specs.Prelude.{[], ◌≡◌, ℕ, ℤ, Bool, true, false, List, map as each, Option, Some, None, option_map, Result, Ok, Err, IsSome}
 use Rattle.std.specs.Borrow.{Bor}
 use Rattle.std.specs.FinMap as map
 use Rattle.std.specs.FinMap.{FinMap}
 use Rattle.tw_types.specs.Mapped.{mapped}
 use Rattle.tw_types.specs.Nesting.{NestedScalar}
-use Rattle.tw_types.specs.DataType.{is_scalar}
-use Rattle.tw_types.specs.Store.{Content as Meaning, Unset, Set, Contains, Members, Datum, new_datum}
-use Rattle.tw_types.specs.StoreCalls.{members_in, with_member}
-use Rattle.tw_types.specs.TypedStore.{AreSubscriptsFor}
+use Rattle.tw_types.specs.DataType.{is_container, is_map}
+use Rattle.tw_types.specs.Store.{Content as Meaning, Unset, Set, Contains, Maps, Members, Values, Datum, new_datum}
+use Rattle.tw_types.specs.StoreCalls.{entries_in, members_in, with_member}
+use Rattle.tw_types.specs.TypedStore.{AreEntriesFor, AreSubscriptsFor}
 use Rattle.tw_types.specs.ValueOrder.{Subscript, value_cmp}
 use Rattle.tw_types.specs.declared.value.Value.TheVariants as value
 use Rattle.tw_datum.specs.declared.datum.Content.{Content}
@@ -76,25 +76,41 @@ abbrev pub content_of : {M : Type 0} → (M → ℕ) → Content M → Meaning
 content_of id content.Unset = Unset
 content_of id (content.Set value) = Set value
 content_of id (content.Contains members) = Contains (ids_of id members)
+content_of id (content.Maps values) = Maps values
 
 abbrev pub members_kept : {M : Type 0} → Content M → KeptMembers M
 members_kept content.Unset = map.empty
 members_kept (content.Set value) = map.empty
 members_kept (content.Contains members) = members
+members_kept (content.Maps values) = map.empty
 
-abbrev pub is_container : Meaning → Bool
-is_container Unset = false
-is_container (Set _) = false
-is_container (Contains _) = true
+abbrev pub has_members : Meaning → Bool
+has_members Unset = false
+has_members (Set _) = false
+has_members (Contains _) = true
+has_members (Maps _) = false
 
--- holds if only a container has members, and their subscripts are of its type
+abbrev pub has_entries : Meaning → Bool
+has_entries Unset = false
+has_entries (Set _) = false
+has_entries (Contains _) = false
+has_entries (Maps _) = true
+
+-- holds if only a container has members and only a map has values, and these and the subscripts are of its type
 abbrev pub FitsType : NestedScalar → Meaning → Type 0
-FitsType ty content = (is_container content ≡ not (is_scalar ty)) × AreSubscriptsFor ty (members_in content)
+FitsType ty content =
+    ((has_members content ≡ is_container ty) × (has_entries content ≡ is_map ty))
+    × (AreSubscriptsFor ty (members_in content) × AreEntriesFor ty (entries_in content))
 
--- holds for the members of a datum; a scalar has none
+-- holds for the members of a datum; a scalar and a map have none
 abbrev pub AreMembers : {M : Type 0} → (M → ℕ) → KeptDatum M → Option (KeptMembers M) → Type 0
 AreMembers id d None = (members_in d.datum.content ≡ map.empty) × (d.members ≡ map.empty)
 AreMembers id d (Some members) = (members_in d.datum.content ≡ ids_of id members) × (d.members ≡ members)
+
+-- holds for the values of a datum; a scalar and a container have none
+abbrev pub AreValues : {M : Type 0} → KeptDatum M → Option Values → Type 0
+AreValues d None = entries_in d.datum.content ≡ map.empty
+AreValues d (Some values) = entries_in d.datum.content ≡ values
 
 -- returns the ids of members, if there are any
 abbrev pub ids_if : {M : Type 0} → (M → ℕ) → Option (KeptMembers M) → List ℕ

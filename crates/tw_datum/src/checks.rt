@@ -6,7 +6,7 @@ ghost use Rattle.tw_types.specs.Result.{must};
 ghost use Rattle.tw_types.specs.Value.{is_of};
 ghost use Rattle.tw_types.specs.DataType.{is_element_of};
 ghost use Rattle.tw_datum.specs.Kept.{datum_if};
-ghost use Rattle.tw_types.specs.StoreChecks.{may_store, may_retrieve, may_insert, may_read_members, may_read_members_by, may_be_read, may_copy_write, may_drop_read, may_drop_write};
+ghost use Rattle.tw_types.specs.StoreChecks.{may_store, may_retrieve, may_insert, may_add, may_put, may_read_entry, may_read_members, may_read_members_by, may_read_subscripts_by, may_be_read, may_copy_write, may_drop_read, may_drop_write};
 
 use crate::datum::Datum;
 use crate::member::Member;
@@ -29,7 +29,10 @@ fn is_of(value: &Value, ty: DataType) -> bool
 fn is_element_of(element: DataType, ty: DataType) -> bool
     ensures { result ≡ is_element_of element ty }
 {
-    ty.element() == Some(element)
+    match ty.element() {
+        Some(inner) => element == inner,
+        None => false,
+    }
 }
 
 /// Checks that a value can be stored in a datum. Returns the first cause against it.
@@ -83,6 +86,61 @@ pub fn may_read_members_by<M: Member>(by: Scalar, datum: Option<&Datum<M>>) -> R
 {
     let datum = datum.ok_or(Cause::FreedDatum)?;
     must(datum.ty().is_container_by(by), Cause::WrongType)?;
+    must(datum.closed(), Cause::OpenContainer)
+}
+
+/// Checks that a value may be put into a map, at this subscript.
+pub fn may_put<M: Member>(
+    subscript: &Value,
+    value: &Value,
+    datum: Option<&Datum<M>>,
+) -> Result<(), Cause>
+    ensures { result ≡ may_put subscript.now value.now (datum_if (option_copied datum.entry)) }
+{
+    let datum = datum.ok_or(Cause::FreedDatum)?;
+    let ty = datum.ty();
+    must(
+        ty.is_plain_map() && ty.is_map_of(subscript.scalar(), value.scalar()),
+        Cause::WrongType,
+    )?;
+    must(!datum.closed(), Cause::ClosedContainer)
+}
+
+/// Checks that an integer may be added to a map of sums, at this subscript.
+pub fn may_add<M: Member>(subscript: &Value, datum: Option<&Datum<M>>) -> Result<(), Cause>
+    ensures { result ≡ may_add subscript.now (datum_if (option_copied datum.entry)) }
+{
+    let datum = datum.ok_or(Cause::FreedDatum)?;
+    let ty = datum.ty();
+    must(
+        ty.is_sums() && ty.is_map_of(subscript.scalar(), Scalar::Int),
+        Cause::WrongType,
+    )?;
+    must(!datum.closed(), Cause::ClosedContainer)
+}
+
+/// Checks that a value of this type may be read from a map, at this subscript.
+pub fn may_read_entry<M: Member>(
+    subscript: &Value,
+    scalar: Scalar,
+    datum: Option<&Datum<M>>,
+) -> Result<(), Cause>
+    ensures { result ≡ may_read_entry subscript.now scalar (datum_if (option_copied datum.entry)) }
+{
+    let datum = datum.ok_or(Cause::FreedDatum)?;
+    must(
+        datum.ty().is_map_of(subscript.scalar(), scalar),
+        Cause::WrongType,
+    )?;
+    must(datum.closed(), Cause::OpenContainer)
+}
+
+/// Checks that the subscripts of a container or a map may be read, if they are of this type.
+pub fn may_read_subscripts_by<M: Member>(by: Scalar, datum: Option<&Datum<M>>) -> Result<(), Cause>
+    ensures { result ≡ may_read_subscripts_by by (datum_if (option_copied datum.entry)) }
+{
+    let datum = datum.ok_or(Cause::FreedDatum)?;
+    must(datum.ty().has_subscripts_by(by), Cause::WrongType)?;
     must(datum.closed(), Cause::OpenContainer)
 }
 

@@ -4,8 +4,7 @@ ghost use Rattle.std.specs.Prelude.{◌≡◌, IfSome, OnOk, OnErr, Some, slice_
 ghost use Rattle.std.specs.FinMap as map;
 ghost use Rattle.std.specs.Option.{option_and_then, option_copied};
 ghost use Rattle.tw_types.specs.DataType.{is_container_by};
-ghost use Rattle.tw_types.specs.StoreCalls.{members_in, subscript_after};
-ghost use Rattle.tw_types.specs.TypedStore.{AreSubscriptsFor};
+ghost use Rattle.tw_types.specs.StoreCalls.{members_in};
 ghost use Rattle.tw_types.specs.Value.{IsProper, scalar_of};
 ghost use Rattle.tw_types.specs.ValueOrder.{named};
 ghost use Rattle.tw_datum.specs.Kept.{AreMembers, IsMemberAdded, bare, by_int, borrowed_entry, with_kept_member};
@@ -27,13 +26,13 @@ fn borrowed_entry<M: Member>(entry: Option<&(Value, M)>) -> Option<(&Value, Datu
 }
 
 impl<M: Member> Datum<M> {
-    /// Returns the members, or `None` for a scalar.
+    /// Returns the members, or `None` for a scalar or a map.
     fn members(&self) -> Option<&RankedMap<M>>
         ensures { AreMembers M.id self.now (option_copied result) }
     {
         match &self.content {
             Content::Contains(members) => Some(members),
-            Content::Unset | Content::Set(_) => None,
+            Content::Unset | Content::Set(_) | Content::Maps(_) => None,
         }
     }
 
@@ -78,32 +77,13 @@ impl<M: Member> Datum<M> {
         }
     }
 
-    /// Returns the subscript with exactly `index` smaller ones, if there is one.
-    pub fn subscript(&self, index: i64) -> Option<&Value>
-        ensures found { option_copied result ≡ subscript_after index (map.keys (members_in self.now.datum.content)) }
-        ensures kinds { AreSubscriptsFor self.now.datum.ty (members_in self.now.datum.content) }
-    {
-        let _ty = &self.ty;
-        self.nth_subscript(index)
-    }
-
-    fn nth_subscript(&self, index: i64) -> Option<&Value>
-        ensures { option_copied result ≡ subscript_after index (map.keys (members_in self.now.datum.content)) }
-    {
-        let Ok(index) = usize::try_from(index) else {
-            return None;
-        };
-        let (subscript, _) = self.nth_kept(index)?;
-        Some(subscript)
-    }
-
     /// Returns the member at a subscript, as the container stores it.
     pub fn kept_member(&self, subscript: ValueRef<'_>) -> Option<M>
         ensures member { option_map M.id result ≡ map.get (members_in self.now.datum.content) (named subscript.entry) }
         ensures kept { result ≡ map.get self.now.members (named subscript.entry) }
     {
         match self.members() {
-            Some(members) => members.get(subscript),
+            Some(members) => members.get(subscript).copied(),
             None => None,
         }
     }
@@ -126,7 +106,7 @@ impl<M: Member> Datum<M> {
     {
         match &mut self.content {
             Content::Contains(members) => members.add(subscript, member),
-            Content::Unset | Content::Set(_) => unreachable!(),
+            Content::Unset | Content::Set(_) | Content::Maps(_) => unreachable!(),
         }
     }
 
@@ -138,7 +118,7 @@ impl<M: Member> Datum<M> {
     {
         match &mut self.content {
             Content::Contains(members) => members.insert(subscript, member),
-            Content::Unset | Content::Set(_) => unreachable!(),
+            Content::Unset | Content::Set(_) | Content::Maps(_) => unreachable!(),
         }
     }
 }

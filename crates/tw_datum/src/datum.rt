@@ -25,6 +25,8 @@ pub enum Content<M> {
     Set(Value),
     /// A container.
     Contains(RankedMap<M>),
+    /// A map.
+    Maps(RankedMap<Value>),
 }
 
 /// A datum, with how many rights are held on it, and its subscribers.
@@ -41,11 +43,12 @@ impl<M: Member> Model for Datum<M> {
     ghost use Rattle.tw_datum.specs.Kept.{KeptDatum, content_of, members_kept, FitsType};
     ghost use Rattle.std.specs.FinMap.{code};
     ghost use Rattle.std.specs.Coded.{codes, coded_ℕ};
+    ghost use Rattle.tw_types.specs.declared.value.Value.{Value as Held};
     ghost use Rattle.tw_types.specs.ValueOrder.{value_cmp};
 
     ghost Value = { KeptDatum M };
 
-    ghost coded = { Prim.hlevel (codes, code {X = M} {R = value_cmp} (Prim.hlevel codes) M.code, code {R = value_cmp} (Prim.hlevel codes) coded_ℕ) };
+    ghost coded = { Prim.hlevel (codes, code {X = M} {R = value_cmp} (Prim.hlevel codes) M.code, code {R = value_cmp} (Prim.hlevel codes) coded_ℕ, code {X = Held} {R = value_cmp} (Prim.hlevel codes) (Prim.hlevel codes)) };
 
     ghost view = { λ d. record {
       datum = record { ty = d.ty; content = content_of M.id d.content; reads = d.reads; writes = d.writes; subscribers = d.subscribers.items };
@@ -55,20 +58,22 @@ impl<M: Member> Model for Datum<M> {
     ghost invariant = { λ d. FitsType d.ty (content_of M.id d.content) };
 }
 
-/// Returns an unset scalar, or a container without members.
+/// Returns an unset scalar, a container without members, or a map without values.
 fn empty_content<M: Member>(alloc: Global, ty: DataType) -> Content<M>
     ensures content { content_of M.id result ≡ empty_content ty }
     ensures members { members_kept result ≡ map.empty }
 {
     if ty.is_scalar() {
         Content::Unset
+    } else if ty.is_map() {
+        Content::Maps(RankedMap::new(alloc))
     } else {
         Content::Contains(RankedMap::new(alloc))
     }
 }
 
 impl<M: Member> Datum<M> {
-    /// Makes a datum with one read and one write: an unset scalar, or a container without members.
+    /// Makes a datum with one read and one write: an unset scalar, a container without members, or a map without values.
     pub fn new(alloc: Global, ty: DataType) -> Datum<M>
         ensures { result ≡ new_kept ty }
     {
@@ -81,7 +86,7 @@ impl<M: Member> Datum<M> {
         }
     }
 
-    /// Makes a closed datum with one read: a set scalar, or a container with its members.
+    /// Makes a closed datum with one read: a set scalar, a container with its members, or a map with its values.
     pub fn new_closed(alloc: Global, ty: DataType, content: Content<M>) -> Datum<M>
         requires { FitsType ty (content_of M.id content) }
         ensures datum { result.datum ≡ closed_datum ty (content_of M.id content) }
@@ -109,18 +114,18 @@ impl<M: Member> Datum<M> {
     {
         match &self.content {
             Content::Set(value) => Some(value),
-            Content::Unset | Content::Contains(_) => None,
+            Content::Unset | Content::Contains(_) | Content::Maps(_) => None,
         }
     }
 
-    /// Returns whether it will never change again: it is a set scalar, or a container without write rights.
+    /// Returns whether it will never change again: it is a set scalar, or a container or map without write rights.
     pub fn closed(&self) -> bool
         ensures { result ≡ is_closed self.now.datum }
     {
         match &self.content {
             Content::Unset => false,
             Content::Set(_) => true,
-            Content::Contains(_) => self.writes == 0,
+            Content::Contains(_) | Content::Maps(_) => self.writes == 0,
         }
     }
 
@@ -166,7 +171,7 @@ impl<M: Member> Datum<M> {
         let closes = match &self.content {
             Content::Unset => false,
             Content::Set(_) => true,
-            Content::Contains(_) => self.writes <= 1,
+            Content::Contains(_) | Content::Maps(_) => self.writes <= 1,
         };
         if closes {
             self.subscribers.as_slice()
@@ -244,7 +249,7 @@ impl<M: Member> Datum<M> {
         } = self;
         match content {
             Content::Contains(members) => Some(members),
-            Content::Unset | Content::Set(_) => None,
+            Content::Unset | Content::Set(_) | Content::Maps(_) => None,
         }
     }
 }

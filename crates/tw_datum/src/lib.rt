@@ -8,10 +8,14 @@
 pub mod checks;
 mod container;
 mod datum;
+mod entering;
+mod map;
 mod member;
 mod ranked_map;
+mod subscript;
 mod tree;
 
 pub use datum::{Content, Datum};
+pub use entering::entered;
 pub use member::Member;
 pub use ranked_map::RankedMap;

@@ -51,7 +51,7 @@ impl<V> Model for Tree<V> {
     ghost size_decreases = { λ t h. Prim.grind (arith, length-append) };
 }
 
-impl<V: Copy> Tree<V> {
+impl<V: Drop> Tree<V> {
     /// Makes an empty tree.
     pub fn new() -> Tree<V>
         ensures { result ≡ [] }
@@ -70,8 +70,8 @@ impl<V: Copy> Tree<V> {
     }
 
     /// Returns the value at a key.
-    pub fn get(&self, key: ValueRef<'_>) -> Option<V>
-        ensures { T (is_sorted value_cmp self.now) → result ≡ find value_cmp (named key.entry) self.now }
+    pub fn get(&self, key: ValueRef<'_>) -> Option<&V>
+        ensures { T (is_sorted value_cmp self.now) → option_copied result ≡ find value_cmp (named key.entry) self.now }
     {
         match &self.root {
             None => None,
@@ -79,7 +79,7 @@ impl<V: Copy> Tree<V> {
                 let fork = &**fork;
                 match key.compare(&fork.own.0) {
                     Ordering::Less => fork.before.get(key),
-                    Ordering::Equal => Some(fork.own.1),
+                    Ordering::Equal => Some(&fork.own.1),
                     Ordering::Greater => fork.after.get(key),
                 }
             }
@@ -193,7 +193,7 @@ impl<V: Copy> Tree<V> {
     }
 }
 
-impl<V: Copy> Tree<V> {
+impl<V: Drop> Tree<V> {
     fn of(fork: Box<Fork<V>>) -> Tree<V>
         requires { IsRight fork.value }
         ensures { result ≡ in_fork fork.value }
@@ -215,7 +215,7 @@ impl<V: Copy> Tree<V> {
     }
 }
 
-impl<V: Copy> Fork<V> {
+impl<V: Drop> Fork<V> {
     /// Corrects the number and balances the sides, one of which may have one entry too many.
     fn even_out(&mut self)
         requires room { length self.old.before + length self.old.after < 2 ^ 64 - 1 }
@@ -279,7 +279,7 @@ impl<V: Copy> Fork<V> {
 }
 
 /// Makes the left entry the root's own. The root's old entry moves to the left node, with the entries after it.
-fn single_right<V: Copy>(whole: &mut Fork<V>, left: &mut Fork<V>)
+fn single_right<V: Drop>(whole: &mut Fork<V>, left: &mut Fork<V>)
     requires room { length left.old.after + length whole.old.after < 2 ^ 64 - 1 }
     ensures before { whole.new.before ≡ left.old.before }
     ensures own { whole.new.own ≡ left.old.own }
@@ -297,7 +297,7 @@ fn single_right<V: Copy>(whole: &mut Fork<V>, left: &mut Fork<V>)
 }
 
 /// Makes the right entry the root's own. The root's old entry moves to the right node, with the entries before it.
-fn single_left<V: Copy>(whole: &mut Fork<V>, right: &mut Fork<V>)
+fn single_left<V: Drop>(whole: &mut Fork<V>, right: &mut Fork<V>)
     requires room { length whole.old.before + length right.old.before < 2 ^ 64 - 1 }
     ensures after { whole.new.after ≡ right.old.after }
     ensures own { whole.new.own ≡ right.old.own }
@@ -315,7 +315,7 @@ fn single_left<V: Copy>(whole: &mut Fork<V>, right: &mut Fork<V>)
 }
 
 /// Makes the inner entry the root's own. Its sides move to the left node and to that of the root's old entry.
-fn double_right<V: Copy>(whole: &mut Fork<V>, left: &mut Fork<V>, inner: &mut Fork<V>)
+fn double_right<V: Drop>(whole: &mut Fork<V>, left: &mut Fork<V>, inner: &mut Fork<V>)
     requires room { length inner.old.after + length whole.old.after < 2 ^ 64 - 1 }
     requires left_room { length left.old.before + length inner.old.before < 2 ^ 64 - 1 }
     ensures own { whole.new.own ≡ inner.old.own }
@@ -338,7 +338,7 @@ fn double_right<V: Copy>(whole: &mut Fork<V>, left: &mut Fork<V>, inner: &mut Fo
 }
 
 /// Makes the inner entry the root's own. Its sides move to the node of the root's old entry and to the right node.
-fn double_left<V: Copy>(whole: &mut Fork<V>, right: &mut Fork<V>, inner: &mut Fork<V>)
+fn double_left<V: Drop>(whole: &mut Fork<V>, right: &mut Fork<V>, inner: &mut Fork<V>)
     requires room { length whole.old.before + length inner.old.before < 2 ^ 64 - 1 }
     requires right_room { length inner.old.after + length right.old.after < 2 ^ 64 - 1 }
     ensures own { whole.new.own ≡ inner.old.own }

@@ -60,4 +60,5 @@ same_kept x y r e f = same_of x y (e ∙ f)
 pub content_kept : (c : Content ℕ) → kept_content (λ id. id) c ≡ content_of c
 content_kept content.Unset = refl
 content_kept (content.Set value) = refl
+content_kept (content.Maps values) = refl
 content_kept (content.Contains members) = ap Contains (mapped_same members)

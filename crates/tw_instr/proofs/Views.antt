@@ -1,13 +1,13 @@
 -- The store after a step, and look-ups in it.
-use Rattle.std.proofs.Common.{[], ◌≡◌, ◌<◌, ℕ, ℤ, Bool, true, false, cond, List, Some, None, refl, sym, subst, map as each}
+use Rattle.std.proofs.Common.{[], ◌≡◌, ◌<◌, ℕ, ℤ, Bool, true, false, cond, List, Some, None, refl, subst, map as each}
 use Rattle.std.specs.declared.option.Option.{Option}
-use Rattle.std.specs.FinMap as map
 use Rattle.std.specs.FinMap.{get}
 use Rattle.tw_types.specs.Store.{Datum, Store, notice_to, is_closed}
-use Rattle.tw_types.specs.StoreCalls.{members_at, subscript_after, one_write_less, notices_of_stored, notices_of_write_dropped}
+use Rattle.tw_types.specs.StoreCalls.{entry_at, size_at, subscript_after, subscripts_at, one_write_less, notices_of_stored, notices_of_write_dropped}
 use Rattle.tw_types.specs.declared.notice.Subscriber.{Subscriber}
 use Rattle.tw_types.specs.declared.value.Value.{Value}
-use Rattle.tw_datum.proofs.Members.{no_members, none_after}
+use Rattle.tw_types.specs.ValueOrder.{Subscript}
+use Rattle.tw_datum.proofs.Subscripts.{nothing_after}
 use Rattle.tw_types.specs.Room.{HasReadRoom, HasWriteRoom}
 
 pub read_room : (r : Option Datum) (x : Datum) → r ≡ Some x → HasReadRoom r → x.reads < 9223372036854775808
@@ -35,11 +35,14 @@ module _ (s : Store) (id : ℕ) where
   pub drop_unheard : get s.live id ≡ None → [] ≡ notices_of_write_dropped s id
   drop_unheard e = rw e refl
 
--- ---- no members where the datum isn't live
+-- ---- nothing is found where the datum isn't live
 
 module _ (s : Store) (id : ℕ) where
-  pub no_size : get s.live id ≡ None → 0 ≡ map.len (members_at s id)
-  no_size e = rw e (sym no_members)
+  pub no_size : get s.live id ≡ None → 0 ≡ size_at s id
+  no_size e = rw e refl
 
-  pub no_subscript : (index : ℤ) → get s.live id ≡ None → None ≡ subscript_after index (map.keys (members_at s id))
-  no_subscript index e = rw e (none_after index)
+  pub no_subscript : (index : ℤ) → get s.live id ≡ None → None ≡ subscript_after index (subscripts_at s id)
+  no_subscript index e = rw e (nothing_after index)
+
+  pub no_entry : (at : Subscript) → get s.live id ≡ None → None ≡ entry_at s id at
+  no_entry at e = rw e refl

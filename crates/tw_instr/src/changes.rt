@@ -4,9 +4,10 @@ ghost use Rattle.std.specs.Prelude.{◌≡◌, OnOk, OnErr};
 ghost use Rattle.std.specs.FinMap.{get};
 ghost use Rattle.std.specs.declared.result.Result.TheVariants.{Ok};
 ghost use Rattle.tw_types.specs.Store.{Store};
-ghost use Rattle.tw_types.specs.StoreCalls.{changed, store_after, set_to, one_read_more, one_write_more, one_write_less, with_member, with_subscriber};
+ghost use Rattle.tw_types.specs.StoreCalls.{changed, store_after, set_to, one_read_more, one_write_more, one_write_less, with_entry, with_member, with_subscriber};
 ghost use Rattle.tw_types.specs.StoreChecks.{may_store, may_insert, may_drop_write};
 ghost use Rattle.tw_types.specs.Value.{scalar_of};
+ghost use Rattle.tw_datum.specs.Puts.{TakesValue};
 ghost use Rattle.tw_instr.specs.Parts.{data_of};
 ghost use Rattle.tw_types.specs.Room.{HasReadRoom, HasWriteRoom};
 
@@ -55,6 +56,23 @@ pub fn insert_in(
         unreachable!();
     };
     datum.add_member(subscript, member)
+}
+
+/// Puts a value into a map.
+pub fn put_in(
+    live: &mut BTreeMap<u64, Datum>,
+    id: u64,
+    subscript: Value,
+    value: Value,
+) -> Result<(), AllocError>
+    requires { TakesValue subscript value (get (data_of live.old.entries) id) }
+    ensures put { OnOk result ((s : Store) → s.live ≡ data_of live.old.entries → record s { live = data_of live.new.entries } ≡ changed s id (with_entry subscript value)) }
+    ensures refused { OnErr result (data_of live.new.entries ≡ data_of live.old.entries) }
+{
+    let Some(datum) = live.get_mut(&id) else {
+        unreachable!();
+    };
+    datum.put_value(subscript, value)
 }
 
 /// Adds a read.

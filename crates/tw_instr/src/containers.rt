@@ -1,4 +1,4 @@
-//! The instructions on containers: INS, LOOK, SIZE and SUBAT.
+//! The instructions on containers: INS, LOOK, SIZE and SUBAT. SIZE and SUBAT also read maps.
 
 ghost use Rattle.std.specs.Prelude.{◌≡◌, ◌<◌, ◌^◌, Err};
 ghost use Rattle.tw_types.specs.declared.data_type.Scalar.TheVariants as scalar;
@@ -105,7 +105,7 @@ pub fn subscript_at(
     must_have_type(frame.position(), to, by)?;
     let count = int_at(frame.position(), index)?;
     let id = held(frame, container)?;
-    store.may_read_members_by(by, id)?;
+    store.may_read_subscripts_by(by, id)?;
     match store.subscript_at(id, count) {
         Some(subscript) => {
             let own = subscript.try_clone(alloc)?;

@@ -1,13 +1,12 @@
 //! The live data of the reference machine.
 
 ghost use Rattle.std.specs.Prelude.{◌≡◌, ◌<◌, ◌^◌, IfOk, IfSome, OnOk, OnErr, map as each};
-ghost use Rattle.std.specs.FinMap as map;
 ghost use Rattle.std.specs.FinMap.{get};
 ghost use Rattle.std.specs.Option.{option_copied};
 ghost use Rattle.std.specs.declared.result.Result.TheVariants.{Ok};
 ghost use Rattle.tw_types.specs.Store.{empty_store, added, notice_to};
-ghost use Rattle.tw_types.specs.StoreCalls.{created, stored, inserted, read_copied, write_copied, read_dropped, write_dropped, subscribed, value_at, member_at, members_at, subscript_after, notices_of_stored, notices_of_write_dropped};
-ghost use Rattle.tw_types.specs.StoreChecks.{may_store, may_retrieve, may_insert, may_look, may_read_members, may_read_members_by, may_be_read, may_copy_write, may_drop_read, may_drop_write};
+ghost use Rattle.tw_types.specs.StoreCalls.{created, stored, inserted, read_copied, write_copied, read_dropped, write_dropped, subscribed, value_at, member_at, size_at, subscript_after, subscripts_at, notices_of_stored, notices_of_write_dropped};
+ghost use Rattle.tw_types.specs.StoreChecks.{may_store, may_retrieve, may_insert, may_look, may_read_members, may_read_subscripts_by, may_be_read, may_copy_write, may_drop_read, may_drop_write};
 ghost use Rattle.tw_types.specs.declared.data_type.Scalar.{Scalar as ScalarMeaning};
 ghost use Rattle.tw_types.specs.declared.value.Value.{Value as ValueMeaning};
 ghost use Rattle.tw_types.specs.Value.{scalar_of};
@@ -28,7 +27,7 @@ use tw_types::{Cause, DataType, DatumId, Scalar, Subscriber, Value, ValueRef};
 /// The live data by their ids. No id is reused.
 #[derive(Drop)]
 pub struct Data {
-    live: BTreeMap<u64, Datum>,
+    pub(crate) live: BTreeMap<u64, Datum>,
     next: u64,
 }
 
@@ -37,12 +36,13 @@ impl Model for Data {
     ghost use Rattle.tw_instr.specs.Parts.{store_of};
     ghost use Rattle.std.specs.FinMap.{code};
     ghost use Rattle.std.specs.Ordering.{nat_cmp};
+    ghost use Rattle.tw_types.specs.declared.value.Value.{Value as Held};
     ghost use Rattle.tw_types.specs.ValueOrder.{value_cmp};
     ghost use Rattle.std.specs.Coded.{codes, coded_ℕ};
 
     ghost Value = { Store };
 
-    ghost coded = { Prim.hlevel (codes, code {X = DatumMeaning} {R = nat_cmp} coded_ℕ (Prim.hlevel (codes, code {R = value_cmp} (Prim.hlevel codes) coded_ℕ))) };
+    ghost coded = { Prim.hlevel (codes, code {X = DatumMeaning} {R = nat_cmp} coded_ℕ (Prim.hlevel (codes, code {R = value_cmp} (Prim.hlevel codes) coded_ℕ, code {X = Held} {R = value_cmp} (Prim.hlevel codes) (Prim.hlevel codes)))) };
 
     ghost view = { λ s. store_of s.live.entries s.next };
 }
@@ -82,7 +82,7 @@ impl Data {
         self.add(Datum::new(alloc, ty))
     }
 
-    /// Makes a closed datum with the next id and one read: a set scalar, or a container with its members.
+    /// Makes a closed datum with the next id and one read: a set scalar, a container with its members, or a map with its values.
     pub fn add_closed(
         &mut self,
         alloc: Global,
@@ -205,20 +205,20 @@ impl Data {
         self.datum(id)?.member_at(subscript)
     }
 
-    /// Returns the number of members.
+    /// Returns the number of members, or of a map's values.
     pub fn size(&self, id: DatumId) -> usize
-        ensures { result ≡ map.len (members_at self.now id) }
+        ensures { result ≡ size_at self.now id }
     {
         match self.datum(id) {
-            Some(datum) => datum.len(),
+            Some(datum) => datum.count(),
             None => 0,
         }
     }
 
     /// Returns the subscript with exactly `index` smaller ones, if there is one.
     pub fn subscript_at(&self, id: DatumId, index: i64) -> Option<&Value>
-        ensures found { option_copied result ≡ subscript_after index (map.keys (members_at self.now id)) }
-        ensures kind { (by : ScalarMeaning) → may_read_members_by by (get self.now.live id) ≡ Ok tt → IfSome (option_copied result) (λ subscript. scalar_of subscript ≡ by) }
+        ensures found { option_copied result ≡ subscript_after index (subscripts_at self.now id) }
+        ensures kind { (by : ScalarMeaning) → may_read_subscripts_by by (get self.now.live id) ≡ Ok tt → IfSome (option_copied result) (λ subscript. scalar_of subscript ≡ by) }
     {
         match self.datum(id) {
             Some(datum) => datum.subscript(index),
@@ -268,11 +268,11 @@ impl Data {
         checks::may_read_members(self.datum(id))
     }
 
-    /// Like `may_read_members`, for a container with subscripts of this type.
-    pub fn may_read_members_by(&self, by: Scalar, id: DatumId) -> Result<(), Cause>
-        ensures { result ≡ may_read_members_by by (get self.now.live id) }
+    /// Like `may_read_members`, for the subscripts of a container or a map, if they are of this type.
+    pub fn may_read_subscripts_by(&self, by: Scalar, id: DatumId) -> Result<(), Cause>
+        ensures { result ≡ may_read_subscripts_by by (get self.now.live id) }
     {
-        checks::may_read_members_by(by, self.datum(id))
+        checks::may_read_subscripts_by(by, self.datum(id))
     }
 
     /// Checks that a datum is live, so that it can have one more read.

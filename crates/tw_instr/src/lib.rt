@@ -19,6 +19,8 @@ mod failure;
 mod frame;
 mod freeing;
 mod local;
+mod map_calls;
+mod maps;
 mod notice_key;
 mod notices;
 mod on_data;

@@ -9,7 +9,7 @@ use crate::data::Data;
 use crate::failure::Failure;
 use crate::frame::Frame;
 use crate::notices::Notices;
-use crate::{containers, rights, scalars};
+use crate::{containers, maps, rights, scalars};
 use std::alloc::Global;
 use tw_code::DataInstr;
 
@@ -56,6 +56,23 @@ pub fn data_instr(
             index,
             skip,
         } => containers::subscript_at(alloc, store, frame, by, to, container, index, skip),
+        DataInstr::InsertValue {
+            map,
+            subscript,
+            from,
+            skip,
+        } => maps::insert_value(alloc, store, frame, map, subscript, from, skip),
+        DataInstr::AddValue {
+            map,
+            subscript,
+            from,
+        } => maps::add_value(alloc, store, frame, map, subscript, from),
+        DataInstr::GetValue {
+            to,
+            map,
+            subscript,
+            skip,
+        } => maps::get_value(alloc, store, frame, to, map, subscript, skip),
         DataInstr::CopyRead { to, from } => Ok(rights::copy_read(store, frame, to, from)?),
         DataInstr::CopyWrite { to, from } => Ok(rights::copy_write(store, frame, to, from)?),
         DataInstr::DropRead { right } => Ok(rights::drop_read(store, frame, right)?),

@@ -35,7 +35,7 @@ fn suits(value: &Value, datum: Option<&Datum>) -> bool
 }
 
 /// Returns the datum of a right register, if it is live.
-fn datum_at<'a>(store: &'a Data, frame: &Frame, register: u8) -> Option<&'a Datum>
+pub(crate) fn datum_at<'a>(store: &'a Data, frame: &Frame, register: u8) -> Option<&'a Datum>
     ensures { datum_if (option_copied result) ≡ option_and_then (get store.now.live) (right_at frame.now.rights register) }
 {
     store.datum(frame.right(register)?)

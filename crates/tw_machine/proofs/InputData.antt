@@ -1,6 +1,5 @@
 -- The members of an input container.
 use Rattle.std.proofs.Common.{[], ◌≡◌, ◌<◌, ◌+◌, ℕ, zero, suc, true, ◌&&◌, List, ◌∷◌, get_or, length, sym, ap, ◌∙◌, arith}
-use Rattle.std.specs.Prelude.{not}
 use Rattle.std.proofs.lemmas.Bool.{and_parts}
 use Rattle.tw_types.specs.Nesting.{NestedScalar}
 use Rattle.tw_types.specs.declared.data_type.Scalar.{Scalar}
@@ -10,8 +9,8 @@ use Rattle.tw_types.specs.Given.{members_by}
 use Rattle.tw_types.specs.TypedStore.{AreSubscriptsFor}
 use Rattle.tw_types.specs.Value.{is_short, scalar_of}
 use Rattle.tw_types.specs.ValueOrder.{Subscript}
-use Rattle.tw_types.proofs.SameTypes.{by_deep}
-use Rattle.tw_types.proofs.Subscripts.{no_kinds, one_more_kind}
+use Rattle.tw_types.proofs.SameTypes.{by_container, container_only}
+use Rattle.tw_types.proofs.Subscripts.{no_entries, no_kinds, one_more_kind}
 use Rattle.tw_datum.specs.Kept.{FitsType}
 use Rattle.tw_types.specs.Store.{Contains}
 use Rattle.tw_code.specs.machine.Members.{are_short}
@@ -25,7 +24,9 @@ module _ {K V : Type 0} (subscript : K → Subscript) (value : V → Value) wher
       one_more_kind ty (numbered (id + 1) (members_by subscript value es)) (subscript e.0) id (numbered_kinds by of ty fits (id + 1) es) (ap (λ (s : Scalar). is_container_by s ty) (of e.0) ∙ fits)
 
   pub numbered_fit : (by : Scalar) → ((x : K) → scalar_of (subscript x) ≡ by) → (ty : NestedScalar) → is_container_by by ty ≡ true → (id : ℕ) (members : List (K × V)) → FitsType ty (Contains (numbered id (members_by subscript value members)))
-  numbered_fit by of ty fits id members = (sym (ap not (by_deep by ty fits)), numbered_kinds by of ty fits id members)
+  numbered_fit by of ty fits id members =
+      let container = by_container by ty fits in
+      ((sym container, sym (container_only ty container).1), (numbered_kinds by of ty fits id members, no_entries ty))
 
   -- their texts aren't too long
   short_at : (members : List (K × V)) (index : ℕ) (d : K × V) → index < length members → are_short (members_by subscript value members) ≡ true → is_short (subscript (get_or members index d).0) ≡ true

@@ -4,7 +4,7 @@ use Rattle.std.proofs.lemmas.Bool.{and_parts}
 use Rattle.std.specs.declared.option.Option.TheVariants.{None, Some}
 use Rattle.tw_types.specs.declared.input.Input.{Input}
 use Rattle.tw_types.specs.declared.param.Param.{Param}
-use Rattle.tw_types.specs.Given.{given_by}
+use Rattle.tw_types.specs.Given.{given_for}
 use Rattle.tw_types.specs.Mode.{is_write}
 use Rattle.tw_code.specs.declared.procedure.Procedure.{Procedure}
 use Rattle.tw_code.specs.accepting.MainShape.{has_main_shape}
@@ -50,13 +50,13 @@ module _ (params : List Param) (inputs : List Input) (index : ℕ) (o left : Ope
     fit_next : (given : List Input) → rest ≡ given → are_inputs_of (p ∷ input_params others) given ≡ true
     fit_next given e = ap (are_inputs_of (p ∷ input_params others)) (sym e) ∙ ap (λ ps. are_inputs_of ps rest) (sym (takes p others read)) ∙ fit_here
 
-    pub input_begun : (i : Input) → rest ≡ i ∷ after → left ≡ with_given o (Some i) → IsBegun params inputs (index + 1) left after
+    pub input_begun : (i : Input) → rest ≡ i ∷ after → left ≡ with_given o p.ty (Some i) → IsBegun params inputs (index + 1) left after
     input_begun i given is =
         let both = and_parts (is_input_of p.ty i) (are_inputs_of (input_params others) after) (fit_next (i ∷ after) given) in
         rw is (record {
           opened = opened_here ∙ ap (opened o (p ∷ others)) given ∙ rw read refl;
           fit = both.1;
-          next = omega (arith, begun.next, (input_next p.ty (given_by i) o.store both.0).1);
+          next = omega (arith, begun.next, (input_next p.ty (given_for p.ty i) o.store both.0).1);
           few = omega (arith, begun.few, length-append o.rights (o.store.next ∷ []));
         })
 

@@ -1,15 +1,17 @@
 //! The data of main's parameters.
 
 ghost use Rattle.std.specs.Prelude.{◌≡◌, ◌+◌, ◌<◌, ◌≤◌, ◌^◌, length, IfOk, OnOk, true, Some};
-ghost use Rattle.tw_types.specs.Given.{Container, members_by};
+ghost use Rattle.tw_types.specs.DataType.{has_sums};
+ghost use Rattle.tw_types.specs.Given.{Container, Entries, given_as, members_by};
 ghost use Rattle.tw_types.specs.Store.{added};
 ghost use Rattle.tw_types.specs.Value.{is_short};
 ghost use Rattle.tw_code.specs.machine.Inputs.{are_inputs_of, input_params, is_given_for, is_input_of};
 ghost use Rattle.tw_code.specs.machine.Members.{are_short, with_members};
-ghost use Rattle.tw_code.specs.machine.Opening.{closed_scalar, nothing_opened, numbered, opened, with_container, with_given, with_input, with_output};
+ghost use Rattle.tw_code.specs.machine.Opening.{added_given, closed_map, closed_scalar, nothing_opened, numbered, opened, with_container, with_given, with_input, with_output};
 
 use std::alloc::{AllocError, Global};
 use std::marker::Model;
+use tw_datum::entered;
 use tw_instr::{Content, Data, RankedMap};
 use tw_types::{AsValue, DataType, DatumId, Input, Param};
 
@@ -26,12 +28,13 @@ impl Model for Opened {
     ghost use Rattle.tw_code.specs.machine.Opening.{Opened as Meaning};
     ghost use Rattle.std.specs.FinMap.{code};
     ghost use Rattle.std.specs.Ordering.{nat_cmp};
+    ghost use Rattle.tw_types.specs.declared.value.Value.{Value as ValueMeaning};
     ghost use Rattle.tw_types.specs.ValueOrder.{value_cmp};
     ghost use Rattle.std.specs.Coded.{codes, coded_ℕ, coded_ℤ};
 
     ghost Value = { Meaning };
 
-    ghost coded = { Prim.hlevel (codes, code {X = DatumMeaning} {R = nat_cmp} coded_ℕ (Prim.hlevel (codes, code {R = value_cmp} (Prim.hlevel codes) coded_ℕ))) };
+    ghost coded = { Prim.hlevel (codes, code {X = DatumMeaning} {R = nat_cmp} coded_ℕ (Prim.hlevel (codes, code {R = value_cmp} (Prim.hlevel codes) coded_ℕ, code {X = ValueMeaning} {R = value_cmp} (Prim.hlevel codes) (Prim.hlevel codes)))) };
 
     ghost view = { λ o. record { store = o.store; rights = o.rights.items; outputs = o.outputs.items } };
 }
@@ -88,26 +91,26 @@ impl Opened {
     ) -> Result<(), AllocError>
         requires fits { is_input_of ty input.now ≡ true }
         requires room { self.old.store.next + 1001 < 2 ^ 63 }
-        ensures { OnOk result (self.new ≡ with_given self.old (Some input.now)) }
+        ensures { OnOk result (self.new ≡ with_given self.old ty (Some input.now)) }
     {
         self.rights.push(self.store.next())?;
         add_input(alloc, &mut self.store, ty, input)
     }
 }
 
-/// Adds the datum of an input of the type, and then those of its members.
+/// Adds the datum of an input of the type, and then those of its members, if it is a container.
 fn add_input(alloc: Global, store: &mut Data, ty: DataType, input: &Input) -> Result<(), AllocError>
     requires fits { is_input_of ty input.now ≡ true }
     requires room { store.old.next + 1001 < 2 ^ 63 }
-    ensures { OnOk result (store.new ≡ with_input store.old input.now) }
+    ensures { OnOk result (store.new ≡ with_input store.old ty input.now) }
 {
     match input {
         Input::Int(number) => add_scalar(alloc, store, number),
         Input::Text(text) => add_scalar(alloc, store, text),
-        Input::Ints(members) => add_container(alloc, store, ty, members.as_slice()),
-        Input::Texts(members) => add_container(alloc, store, ty, members.as_slice()),
-        Input::IntsByText(members) => add_container(alloc, store, ty, members.as_slice()),
-        Input::TextsByText(members) => add_container(alloc, store, ty, members.as_slice()),
+        Input::Ints(members) => add_members(alloc, store, ty, members.as_slice()),
+        Input::Texts(members) => add_members(alloc, store, ty, members.as_slice()),
+        Input::IntsByText(members) => add_members(alloc, store, ty, members.as_slice()),
+        Input::TextsByText(members) => add_members(alloc, store, ty, members.as_slice()),
     }
 }
 
@@ -120,6 +123,40 @@ fn add_scalar<V: AsValue>(alloc: Global, store: &mut Data, value: &V) -> Result<
     let value = value.as_value().try_to_value(alloc)?;
     let ty = DataType::from(value.scalar());
     store.add_closed(alloc, ty, Content::Set(value))?;
+    Ok(())
+}
+
+/// Adds a closed map, or a closed container and then its members, as the type says.
+fn add_members<K: AsValue, V: AsValue>(
+    alloc: Global,
+    store: &mut Data,
+    ty: DataType,
+    members: &[(K, V)],
+) -> Result<(), AllocError>
+    requires fits { is_given_for ty (given_as ty (Container K.scalar V.scalar (members_by K.value V.value members.now))) ≡ true }
+    requires room { store.old.next + 1001 < 2 ^ 63 }
+    ensures { OnOk result (store.new ≡ added_given store.old (given_as ty (Container K.scalar V.scalar (members_by K.value V.value members.now)))) }
+{
+    if ty.is_map() {
+        add_map(alloc, store, ty, members)
+    } else {
+        add_container(alloc, store, ty, members)
+    }
+}
+
+/// Adds a closed map.
+fn add_map<K: AsValue, V: AsValue>(
+    alloc: Global,
+    store: &mut Data,
+    ty: DataType,
+    members: &[(K, V)],
+) -> Result<(), AllocError>
+    requires fits { is_given_for ty (Entries (has_sums ty.map) K.scalar V.scalar (members_by K.value V.value members.now)) ≡ true }
+    requires room { store.old.next < 2 ^ 63 }
+    ensures { OnOk result (store.new ≡ added store.old (closed_map (has_sums ty.map) K.scalar V.scalar (members_by K.value V.value members.now))) }
+{
+    let values = entered(alloc, members)?;
+    store.add_closed(alloc, ty, Content::Maps(values))?;
     Ok(())
 }
 

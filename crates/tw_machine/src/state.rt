@@ -45,6 +45,7 @@ impl Model for State {
     ghost use Rattle.std.specs.FinMap.{code};
     ghost use Rattle.std.specs.FinSet.{code as set_code};
     ghost use Rattle.std.specs.Ordering.{nat_cmp};
+    ghost use Rattle.tw_types.specs.declared.value.Value.{Value as ValueMeaning};
     ghost use Rattle.tw_types.specs.ValueOrder.{value_cmp};
     ghost use Rattle.std.specs.Coded.{codes, coded_ℕ};
 
@@ -52,7 +53,7 @@ impl Model for State {
 
     ghost coded = { Prim.hlevel (
       codes,
-      code {X = DatumMeaning} {R = nat_cmp} coded_ℕ (Prim.hlevel (codes, code {R = value_cmp} (Prim.hlevel codes) coded_ℕ)),
+      code {X = DatumMeaning} {R = nat_cmp} coded_ℕ (Prim.hlevel (codes, code {R = value_cmp} (Prim.hlevel codes) coded_ℕ, code {X = ValueMeaning} {R = value_cmp} (Prim.hlevel codes) (Prim.hlevel codes))),
       code {X = RuleMeaning} {R = nat_cmp} coded_ℕ (Prim.hlevel codes),
       code {X = TaskMeaning} {R = nat_cmp} coded_ℕ (Prim.hlevel codes),
       code {X = FrameMeaning} {R = actor_cmp} (Prim.hlevel codes) (Prim.hlevel codes),

@@ -3,6 +3,7 @@
 ghost use Rattle.std.specs.Prelude.{◌≡◌, IfOk, IfSome, option_map};
 ghost use Rattle.std.specs.FinMap.{get};
 ghost use Rattle.std.specs.Option.{option_copied};
+ghost use Rattle.tw_store.specs.Amounts.{amounts_in};
 ghost use Rattle.tw_store.specs.Calls.{IsShown};
 ghost use Rattle.tw_store.specs.Served.{KnowsPlaces};
 ghost use Rattle.tw_code.specs.machine.State.{State};
@@ -17,7 +18,7 @@ use crate::pool::Pool;
 use std::alloc::{AllocError, Global};
 use std::marker::Model;
 use tw_pool_state::Remains;
-use tw_store::{Datum, ShownMember};
+use tw_store::{Amounts, Datum, ShownMember};
 use tw_types::{DatumId, Pending};
 use tw_verify::ends_well;
 
@@ -34,6 +35,7 @@ impl Model for Final {
     ghost use Rattle.std.specs.FinMap.{code};
     ghost use Rattle.std.specs.Ordering.{nat_cmp};
     ghost use Rattle.std.specs.Coded.{codes, coded_ℕ};
+    ghost use Rattle.tw_types.specs.declared.value.Value.{Value as ValueMeaning};
     ghost use Rattle.tw_types.specs.ValueOrder.{value_cmp};
 
     ghost Value = { FinalView };
@@ -41,7 +43,7 @@ impl Model for Final {
     ghost use Rattle.std.specs.Prelude.{map};
     ghost use Rattle.tw_pool.specs.Pendings.{pending_with_data};
 
-    ghost coded = { Prim.hlevel (codes, code {X = DatumMeaning} {R = nat_cmp} coded_ℕ (Prim.hlevel (codes, code {R = value_cmp} (Prim.hlevel codes) coded_ℕ)), code {R = nat_cmp} coded_ℕ coded_ℕ) };
+    ghost coded = { Prim.hlevel (codes, code {X = DatumMeaning} {R = nat_cmp} coded_ℕ (Prim.hlevel (codes, code {R = value_cmp} (Prim.hlevel codes) coded_ℕ, code {X = ValueMeaning} {R = value_cmp} (Prim.hlevel codes) (Prim.hlevel codes))), code {R = nat_cmp} coded_ℕ coded_ℕ) };
 
     ghost view = { λ f. record {
       store = f.remains.store;
@@ -74,6 +76,20 @@ impl Final {
         ensures { IsShown self.now.store container.now index result }
     {
         self.remains.store.member(container, index)
+    }
+
+    /// Returns the id that a further datum would get. The first one has 1.
+    pub fn next(&self) -> DatumId
+        ensures { result ≡ self.now.store.store.next }
+    {
+        self.remains.store.next()
+    }
+
+    /// Returns how much the live data are. Looks at each of them, and at each member and value.
+    pub fn amounts(&self) -> Amounts
+        ensures { result ≡ amounts_in self.now.store.store.live }
+    {
+        self.remains.store.amounts()
     }
 
     /// Returns the rules that were pending, by rising number, each with the data for which it waits and those of its write rights.

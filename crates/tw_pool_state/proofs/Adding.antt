@@ -1,7 +1,9 @@
 -- Adding data, and replacing one by another with its id: the effects of the store's calls, if nothing is freed and there is no notice.
-use Rattle.std.proofs.Common.{◌≡◌, ◌<◌, ◌+◌, ℕ, Bool, true, false, cond, List, [], Option, Some, None, refl, sym, ap, subst, ◌∙◌, arith, inl, inr, slice_set}
+use Rattle.std.proofs.Common.{◌≡◌, ◌<◌, ◌+◌, ℕ, Bool, true, false, cond, IfOk, OnOk, List, [], Option, Some, None, refl, sym, ap, subst, ◌∙◌, arith, inl, inr, slice_set}
 use Rattle.tw_pool_state.proofs.PartNames.{Datum, FinMap, FreedDatum, HasNoticeRoom, IsAntisymmetric, IsHere, IsLeft, IsNow, IsSome, IsTotalOrder, NestedScalar, Notice, Ok, Right, Scalar, Served, Store, Subscript, Value, added, append-nil, cases_eq, changed, closed_scalar, created, empty, eq_by_cmp, get, get-empty, get-insert, insert, inserted, is_unheld, may_insert, may_store, member_at, members_in, nat_cmp, nat_cmp-IsAntisymmetric, nat_cmp_total, new_datum, notices_after, notices_of, option_and_then, queued, same_map, scalar_of, scalar_type, set-get_or, set_to, store_after, subscribers_cleared, there_then, with_datum, with_member}
 use Rattle.std.specs.declared.cmp.Ordering.{Ordering}
+use Rattle.std.specs.declared.result.Result.{Result}
+use Rattle.std.specs.declared.result.Result.TheVariants.{Err}
 use Rattle.tw_types.specs.declared.value.Value.TheVariants as value
 use Rattle.tw_types.proofs.Freeing.{data_insert_other, data_insert_same}
 use Rattle.tw_types.proofs.Orders.{tied}
@@ -176,6 +178,28 @@ module _ (s a : Served) (v : Value) (w r : Right) (h : IsMade s a (scalar_type (
     where
       on_read : IsAdded (added s.store (closed_scalar v)) s b w → IsAdded (added s.store (closed_scalar v)) s b r
       on_read = subst (IsAdded (added s.store (closed_scalar v)) s b) (sym h.read)
+
+-- ---- a closed datum is made
+
+module _ (s a : Served) (x : Datum) (r : Right) (made : a.store ≡ added s.store x) (placed : a.places ≡ insert s.places s.store.next r.place) where
+  kept_place : (k : ℕ) → (k ≡ s.store.next → ⊥) → get a.places k ≡ get s.places k
+  kept_place k apart = ap (λ ps. get ps k) placed ∙ insert_other nat_cmp nat_cmp_total nat_cmp-IsAntisymmetric s.places s.store.next r.place k apart
+
+  all_live : AreAllLive s → AreAllLive a
+  all_live all k none = elim (cases_eq k s.store.next) [
+    | inl same ↦ absurd (let t : None ≡ Some x = sym none ∙ ap (get a.store.live) same ∙ ap (λ (u : Store). get u.live s.store.next) made ∙ added_here s.store x in cc)
+    | inr apart ↦ kept_place k apart ∙ all k (sym (data_insert_other s.store.live s.store.next x k apart) ∙ ap (λ (u : Store). get u.live k) (sym made) ∙ none)
+  ]
+
+-- the effect of `create_map`
+pub closed_added : {E : Type 0} (o : Result Right E) (s a : Served) (x : Datum) → OnOk o (a.store ≡ added s.store x) → IfOk o (λ r. r.id ≡ s.store.next) → IfOk o (λ r. a.places ≡ insert s.places s.store.next r.place) → IfOk o (IsHere a) → a.queues ≡ s.queues
+    → IfOk o (IsAdded (added s.store x) s a)
+closed_added (Ok r) s a x made first placed here quiet = record { store = made; first = first; here = here; stays = λ k low. kept_place s a x r made placed k (λ e. omega (arith, low, e)); queues = quiet }
+closed_added (Err e) s a x made first placed here quiet = here
+
+pub closed_live : {E : Type 0} (o : Result Right E) (s a : Served) (x : Datum) → OnOk o (a.store ≡ added s.store x) → IfOk o (λ r. a.places ≡ insert s.places s.store.next r.place) → AreAllLive s → OnOk o (AreAllLive a)
+closed_live (Ok r) s a x made placed all = all_live s a x r made placed all
+closed_live (Err e) s a x made placed all = made
 
 -- ---- a scalar that was added becomes a member
 

@@ -19,6 +19,7 @@ mod AfterJob
 mod Puts
 mod NewRules
 mod Quieting
+pub mod Maps
 pub mod Registers
 pub mod ValueRegisters
 pub mod Left

@@ -14,7 +14,7 @@ element_some by ty e = within ty.containers e
   where
     within : (containers : List Scalar) → is_container_by by (record ty { containers = containers }) ≡ true → (x : NestedScalar) × (element_of (record ty { containers = containers }) ≡ Some x)
     within [] e = cc
-    within (own ∷ inner) e = (record { containers = inner; scalar = ty.scalar }, refl)
+    within (own ∷ inner) e = (record ty { containers = inner }, refl)
 
 reads_member : (by : Scalar) (o : Option RightType) → passes (reads_closed_container_by by) o ≡ true → option_map typed_writes (a_member_read o) ≡ Some false
 reads_member by o e =

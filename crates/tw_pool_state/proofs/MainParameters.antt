@@ -4,7 +4,7 @@ use Rattle.tw_pool_state.proofs.PartNames.{Adds, AreAt, AreBefore, AreForAll, Ar
 use Rattle.std.specs.List.{list_all}
 use Rattle.tw_types.specs.declared.input.Input.{Input}
 use Rattle.tw_types.specs.declared.param.Mode.TheVariants as mode
-use Rattle.tw_types.specs.Given.{given_by}
+use Rattle.tw_types.specs.Given.{given_for}
 use Rattle.tw_code.specs.accepting.MainShape.{is_main_param}
 use Rattle.tw_code.specs.machine.Inputs.{are_inputs_of, input_params, is_input_of}
 use Rattle.tw_code.proofs.Givens.{input_next, skips, takes}
@@ -124,13 +124,13 @@ module _ (servers : ℕ) (params : List Param) (o : OpenedParts) (made : Opened)
       }
 
   -- an input
-  pub given_made : (i : Input) (new : Served) (right : Right) → is_write p.mode ≡ false → is_val p.mode ≡ false → is_input_of p.ty i ≡ true → IsAdded (with_input o.store.store i) o.store new right → AreAllLive new
-      → IsMade servers (params ++ p ∷ []) (record { store = new; args = o.args ++ Read right ∷ []; outputs = o.outputs }) (with_given made (Some i))
+  pub given_made : (i : Input) (new : Served) (right : Right) → is_write p.mode ≡ false → is_val p.mode ≡ false → is_input_of p.ty i ≡ true → IsAdded (with_input o.store.store p.ty i) o.store new right → AreAllLive new
+      → IsMade servers (params ++ p ∷ []) (record { store = new; args = o.args ++ Read right ∷ []; outputs = o.outputs }) (with_given made p.ty (Some i))
   given_made i new right read right_due fits added live =
-      let more = input_next p.ty (given_by i) made.store fits in
-      let after = (with_input made.store i).next in
+      let more = input_next p.ty (given_for p.ty i) made.store fits in
+      let after = (with_input made.store p.ty i).next in
       record {
-        store = added.store ∙ ap (λ s. with_input s i) h.store;
+        store = added.store ∙ ap (λ s. with_input s p.ty i) h.store;
         queues = added.queues ∙ h.queues;
         live = live;
         args = bare_more o.args made.rights (Read right) made.store.next h.args (ap RightArg (added.first ∙ next_is));
@@ -230,11 +230,11 @@ module _ (first : OpenedParts) (params : List Param) (inputs : List Input) (inde
       both : (is_input_of p.ty i ≡ true) × (are_inputs_of (input_params others) after ≡ true)
       both = and_parts (is_input_of p.ty i) (are_inputs_of (input_params others) after) fit_here
 
-      pub given_begun : (new : OpenedParts) → Adds p (λ m. with_given m (Some i)) o new → IsBegun first params inputs (index + 1) new after
+      pub given_begun : (new : OpenedParts) → Adds p (λ m. with_given m p.ty (Some i)) o new → IsBegun first params inputs (index + 1) new after
       given_begun new adds = record {
         done = begun.done ++ p ∷ [];
         all = all_here;
-        made = with_given begun.made (Some i);
+        made = with_given begun.made p.ty (Some i);
         opened = opened_here ∙ ap (opened begun.made (p ∷ others)) given ∙ rw read refl;
         left = record {
           few = omega (arith, left_here.few);

@@ -11,6 +11,8 @@ pub use Rattle.std.specs.Prelude.{IfErr, IfOk, IsSome, MatchBool, Ok, OnErr, OnO
 pub use Rattle.tw_types.specs.declared.actor.Actor.{Actor}
 pub use Rattle.tw_types.specs.declared.cause.Cause.{Cause}
 pub use Rattle.tw_types.specs.declared.cause.Cause.TheVariants.{ArgumentNotClosed, EmptyRegister, FreedDatum, UnsetDatum, WrongCall, WrongRegister, WrongType}
+pub use Rattle.tw_types.specs.declared.data_type.MapKind.{MapKind}
+pub use Rattle.tw_types.specs.declared.data_type.MapKind.TheVariants.{NoMap, Sums, Values}
 pub use Rattle.tw_types.specs.declared.data_type.Scalar.{Scalar}
 pub use Rattle.tw_types.specs.declared.event.Event.TheVariants.{Ask, Call, Deliver, End, Local, Release, Take}
 pub use Rattle.tw_types.specs.declared.notice.Notice.{Notice}
@@ -21,7 +23,7 @@ pub use Rattle.tw_types.proofs.ActorOrder.{actor_cmp-IsAntisymmetric, actor_cmp_
 pub use Rattle.tw_types.proofs.Mapped.{empty_mapped, get_mapped, insert_mapped, len_mapped, remove_mapped}
 pub use Rattle.tw_types.proofs.Results.{must_ok, must_then, ok_after, ok_first, there_then}
 pub use Rattle.tw_types.specs.Actor.{actor_cmp, is_control, is_in, number_in_kind}
-pub use Rattle.tw_types.specs.DataType.{container_of, element_of, is_container_by, is_element_of, is_scalar, same_scalar, same_type, scalar_type}
+pub use Rattle.tw_types.specs.DataType.{container_of, element_of, has_subscripts_by, is_container_by, is_element_of, is_map, is_map_by, is_map_of, is_plain_map, is_scalar, is_sums, map_by, same_scalar, same_type, scalar_type}
 pub use Rattle.tw_types.specs.Layout.{ActorCounts, IsLayout}
 pub use Rattle.tw_types.specs.Mapped.{entry_by, mapped}
 pub use Rattle.tw_types.specs.Mode.{is_closed_mode, is_read, is_val, is_write}
@@ -29,9 +31,9 @@ pub use Rattle.tw_types.specs.Nesting.{NestedScalar}
 pub use Rattle.tw_types.specs.Notices.{Notices, notice_cmp, with_notices}
 pub use Rattle.tw_types.specs.Outcome.{Trap, Went}
 pub use Rattle.tw_types.specs.Rule.{Rule, RuleOf, Rules, RulesOf, at_stage, has_unasked, is_releasable, is_settled, is_unasked, next_ask, next_release, task_from}
-pub use Rattle.tw_types.specs.Store.{Contains, Content, Data, Datum, Members, Set, Store, Unset, added, empty_store, is_closed, is_unheld, new_datum, notice_to, notices_of, server_of, subscribers_cleared, with_datum}
-pub use Rattle.tw_types.specs.StoreCalls.{changed, created, inserted, member_at, members_at, members_in, notices_after, notices_of_stored, notices_of_write_dropped, one_write_less, read_copied, read_dropped, set_to, store_after, stored, subscribed, subscript_after, value_at, value_in, with_member, write_copied, write_dropped}
-pub use Rattle.tw_types.specs.StoreChecks.{may_be_read, may_copy_write, may_drop_read, may_drop_write, may_insert, may_look, may_read_members, may_read_members_by, may_retrieve, may_store}
+pub use Rattle.tw_types.specs.Store.{Contains, Content, Data, Datum, Maps, Members, Set, Store, Unset, added, empty_store, is_closed, is_unheld, new_datum, notice_to, notices_of, server_of, subscribers_cleared, with_datum}
+pub use Rattle.tw_types.specs.StoreCalls.{changed, count_in, created, entries_in, entry_at, inserted, member_at, members_at, members_in, notices_after, notices_of_stored, notices_of_write_dropped, one_write_less, read_copied, read_dropped, set_to, size_at, store_after, stored, subscribed, subscript_after, subscripts_at, subscripts_of, value_at, value_in, value_put, with_entry, with_member, write_copied, write_dropped}
+pub use Rattle.tw_types.specs.StoreChecks.{may_add, may_be_read, may_copy_write, may_drop_read, may_drop_write, may_insert, may_look, may_put, may_read_entry, may_read_members, may_read_subscripts_by, may_retrieve, may_store}
 pub use Rattle.tw_types.specs.Task.{RightArg, TaskOf, Tasks, TasksOf, ValueArg, best}
 pub use Rattle.tw_types.specs.Value.{IsProper, is_of, is_short, scalar_of}
 pub use Rattle.tw_types.specs.ValueOrder.{Subscript, named, value_cmp}
@@ -39,10 +41,10 @@ pub use Rattle.tw_code.specs.declared.flow.Way.TheVariants.{Completed, Skipped}
 pub use Rattle.tw_code.specs.declared.instr.Action.{Action}
 pub use Rattle.tw_code.specs.declared.procedure.Procedure.{Procedure}
 pub use Rattle.tw_code.specs.accepting.Question.{passes}
-pub use Rattle.tw_code.specs.accepting.Typing.{a_member_read, a_read, a_write, after_data, asks_args, asks_callee, asks_data, asks_priority, asks_value, right_fits_param, reads, reads_closed_container, reads_closed_container_by, reads_closed_scalar, reads_member_of, rights_given, suits_mode, without_args, writes, writes_container_by, writes_scalar}
+pub use Rattle.tw_code.specs.accepting.Typing.{a_member_read, a_read, a_write, after_data, asks_args, asks_callee, asks_data, asks_entry_of, asks_priority, asks_value, reads, reads_closed_by, reads_closed_container, reads_closed_container_by, reads_closed_map, reads_closed_scalar, reads_member_of, right_fits_param, rights_given, suits_mode, without_args, writes, writes_container_by, writes_map, writes_scalar, writes_sums}
 pub use Rattle.tw_code.specs.format.Program.{IsInstr, IsProcedure, IsProgram}
 pub use Rattle.tw_code.specs.machine.Arguments.{Called, HandedOver, all_pass, called, handed_over, has_type, is_closed_if_asked, is_live, is_of_type, params_in, params_of, priority_at, put_called, values_suit}
-pub use Rattle.tw_code.specs.machine.Data.{Context, after_insert, after_look, data_instr, datum_at, suits}
+pub use Rattle.tw_code.specs.machine.Data.{Context, after_insert, after_look, after_put, data_instr, datum_at, if_absent, suits, suits_entry, suits_subscript, sum_with}
 pub use Rattle.tw_code.specs.machine.Machine.{step}
 pub use Rattle.tw_code.specs.machine.Opening.{Opened, closed_scalar, main_params, nothing_opened, numbered, opened, opening, with_container, with_given, with_input, with_output}
 pub use Rattle.tw_code.specs.machine.Position.{Position, at_goal, at_next_place, int_at, int_in, must_have_type, of_type_at, with_result, with_value}
@@ -54,7 +56,7 @@ pub use Rattle.tw_rights.specs.declared.arg.Arg.TheVariants.{Read, Val, Write}
 pub use Rattle.tw_rights.specs.declared.held.Held.{Held}
 pub use Rattle.tw_frame.specs.Drafts.{MaySet, MayStart, StartsAsMachine, started}
 pub use Rattle.tw_frame.specs.Jobs.{DoneView, DraftView, FrameView, JobView, MayBeAt, bare_frame, draft_of, job_of}
-pub use Rattle.tw_soundness.proofs.Conditions.{copy_read_asks, copy_write_asks, drop_read_asks, drop_write_asks, get_asks, insert_asks, look_asks, new_asks, size_asks, store_asks, subscript_asks}
+pub use Rattle.tw_soundness.proofs.Conditions.{add_value_asks, copy_read_asks, copy_write_asks, drop_read_asks, drop_write_asks, get_asks, get_value_asks, insert_asks, insert_value_asks, look_asks, new_asks, size_asks, store_asks, subscript_asks}
 pub use Rattle.tw_soundness.proofs.Running.{asked_at, position_there, steps_leave, typed_after, typed_at_start}
 pub use Rattle.tw_soundness.proofs.Values.{AllYes, passed, yes_after}
 pub use Rattle.tw_pool_state.specs.Coming.{Begins, BeginsOrNone, begun, come, gone_on, lent_as}
@@ -62,7 +64,7 @@ pub use Rattle.tw_pool_state.specs.Copies.{named_values}
 pub use Rattle.tw_pool_state.specs.Data.{HasRoom, IsAnswer, IsDone, IsLentAnswer, IsLentAfter, IsLive, IsRefused, AreNotified, MayDo, sees}
 pub use Rattle.tw_pool_state.specs.Events.{Goes, IsLent, IsOwed, IsSmall, Makes, MakesAfter, IsAtInstr, Untouched, with_done}
 pub use Rattle.tw_pool_state.specs.Fits.{AreAt, AreParts, ArePlaced, ArgMatches, ArgsMatch, FrameFits, IsAt, IsPlaced, IsReached, RightsFit, kinds_in, right_in}
-pub use Rattle.tw_pool_state.specs.Memory.{AsksOpen, HasThatMany, IsAbsent, IsTextAt, TakesMemory}
+pub use Rattle.tw_pool_state.specs.Memory.{AsksOpen, HasThatMany, IsAbsent, IsTextAt, IsValueAbsent, TakesMemory}
 pub use Rattle.tw_pool_state.specs.Notes.{AreApart, AreQueued, is_among, is_queued, queue_at}
 pub use Rattle.tw_pool_state.specs.OpenedParts.{Adds, AreBefore, AreForAll, IsMade, MainWaits, MayAdd, OpenedParts}
 pub use Rattle.tw_pool_state.specs.Parts.{state_of}

@@ -1,5 +1,5 @@
 -- One value register: its integer, and the values to which it may be set.
-use Rattle.tw_pool_state.proofs.PartNames.{◌||◌, Cause, Contains, Content, Datum, FreedDatum, IsTextAt, MaySet, NestedScalar, Ok, Position, Result, Scalar, Set, Store as Data, Unset, Value, WrongRegister, ℤ, get, int_at, int_in, is_of, is_scalar, may_retrieve, must_have_type, must_ok, must_then, not, of_type_at, option_and_then, same_Some, same_scalar, scalar_of, second_so, slice_get_within, suits, there_then, value_at, value_in}
+use Rattle.tw_pool_state.proofs.PartNames.{◌||◌, Cause, Contains, Content, Datum, FreedDatum, IsTextAt, Maps, MaySet, NestedScalar, Ok, Position, Result, Scalar, Set, Store as Data, Unset, Value, WrongRegister, ℤ, get, int_at, int_in, is_of, is_scalar, may_retrieve, must_have_type, must_ok, must_then, not, of_type_at, option_and_then, same_Some, same_scalar, scalar_of, second_so, slice_get_within, suits, there_then, value_at, value_in}
 use Rattle.tw_types.specs.declared.data_type.Scalar.TheVariants as scalar
 use Rattle.tw_types.specs.declared.value.Value.TheVariants as value
 use Rattle.tw_types.specs.TypedStore.{IsOfType, IsTypedStore}
@@ -64,6 +64,7 @@ content_of_type : (ty : NestedScalar) (c : Content) (x : Value) → IsOfType ty 
 content_of_type ty Unset x fits e = cc
 content_of_type ty (Set y) x fits e = ap scalar_of (sym (same_Some y x e)) ∙ fits.1
 content_of_type ty (Contains members) x fits e = cc
+content_of_type ty (Maps values) x fits e = cc
 
 not_scalar : (a b : Bool) → a ≡ true → (not a || b) ≡ true → b ≡ true
 not_scalar true b e h = h

@@ -3,12 +3,12 @@
 use Rattle.std.specs.Prelude.{◌≡◌, ◌⊎◌, ◌<◌, ◌^◌, ◌+◌, ℕ, List, [], Some, None, map as each, slice_index_or}
 use Rattle.std.specs.declared.result.Result.{Result}
 use Rattle.std.specs.declared.result.Result.TheVariants.{Ok, Err}
-use Rattle.std.specs.FinMap.{get, len}
+use Rattle.std.specs.FinMap.{get}
 use Rattle.tw_types.specs.declared.data_type.Scalar.{Scalar}
 use Rattle.tw_types.specs.declared.notice.Notice.{Notice}
 use Rattle.tw_types.specs.Notices.{Notices, with_notices}
 use Rattle.tw_types.specs.Store.{Datum, notice_to}
-use Rattle.tw_types.specs.StoreCalls.{members_in}
+use Rattle.tw_types.specs.StoreCalls.{count_in}
 use Rattle.tw_types.specs.TypedStore.{IsTypedStore}
 use Rattle.tw_rights.specs.declared.held.Held.{Held}
 use Rattle.tw_rights.specs.Bare.{bare_file}
@@ -42,7 +42,7 @@ pub record HasRoom (s : Served) (f : FrameView) : Type 0 where
   pub next : s.store.next < 2 ^ 62
   pub reads : (id : ℕ) (x : Datum) → get s.store.live id ≡ Some x → x.reads < 2 ^ 62
   pub writes : (id : ℕ) (x : Datum) → get s.store.live id ≡ Some x → x.writes < 2 ^ 62
-  pub members : (id : ℕ) (x : Datum) → get s.store.live id ≡ Some x → len (members_in x.content) < 2 ^ 62
+  pub members : (id : ℕ) (x : Datum) → get s.store.live id ≡ Some x → count_in x.content < 2 ^ 62
   pub place : f.position.place < 2 ^ 62
   pub spent : f.spent < 2 ^ 62
 

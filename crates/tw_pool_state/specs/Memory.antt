@@ -1,6 +1,6 @@
 -- Events and instructions that may allocate. An allocation fails in no other event.
 use Rattle.std.specs.Prelude.{◌≡◌, ◌⊎◌, ◌<◌, ℕ, ℤ, false, List, Option, Some, None, slice_get}
-use Rattle.std.specs.FinMap.{get, keys}
+use Rattle.std.specs.FinMap.{get}
 use Rattle.tw_types.specs.declared.actor.Actor.{Actor}
 use Rattle.tw_types.specs.declared.data_type.Scalar.TheVariants as scalar
 use Rattle.tw_types.specs.declared.event.Event.{Event}
@@ -9,7 +9,7 @@ use Rattle.tw_types.specs.declared.value.Value.{Value}
 use Rattle.tw_types.specs.declared.value.Value.TheVariants as value
 use Rattle.tw_types.specs.Rule.{Rule}
 use Rattle.tw_types.specs.Store.{Datum, Store, is_closed}
-use Rattle.tw_types.specs.StoreCalls.{member_at, members_at, subscript_after}
+use Rattle.tw_types.specs.StoreCalls.{entry_at, member_at, subscript_after, subscripts_at}
 use Rattle.tw_types.specs.Task.{RightArg, TaskOf, best}
 use Rattle.tw_types.specs.ValueOrder.{Subscript}
 use Rattle.tw_store.specs.Served.{Served, waiting_for}
@@ -38,15 +38,19 @@ IsAwaited s f register = (id : ℕ) × (right_at f.rights register ≡ Some id) 
 abbrev pub IsAbsent : Store → Frame → ℕ → ℕ → Type 0
 IsAbsent s f container subscript = (id : ℕ) × (k : Subscript) × (right_at f.rights container ≡ Some id) × (slice_get f.position.values subscript ≡ Some k) × (member_at s id k ≡ None)
 
--- holds if the container has a member with so many smaller subscripts
+-- holds if the map has no value at the subscript
+abbrev pub IsValueAbsent : Store → Frame → ℕ → ℕ → Type 0
+IsValueAbsent s f map subscript = (id : ℕ) × (k : Subscript) × (right_at f.rights map ≡ Some id) × (slice_get f.position.values subscript ≡ Some k) × (entry_at s id k ≡ None)
+
+-- holds if the container or the map has a subscript with so many smaller ones
 abbrev pub HasThatMany : Store → Frame → ℕ → ℕ → Type 0
 HasThatMany s f container index = (id : ℕ) × (count : ℤ) × (k : Subscript) × (right_at f.rights container ≡ Some id) × (slice_get f.position.values index ≡ Some (value.Int count))
-    × (subscript_after count (keys (members_at s id)) ≡ Some k)
+    × (subscript_after count (subscripts_at s id) ≡ Some k)
 
 -- ---- an instruction
 
 -- Holds if an instruction on data may allocate, when `room` more data fit: for a datum beyond those, for copies of a text, for
--- notices, or for one more member.
+-- notices, or for one more member or value. A sum may need memory for its subscript, too.
 abbrev pub DataTakes : DataInstr → ℕ → Store → Frame → Type 0
 DataTakes (on_data.New write read ty) room s f = room ≡ 0
 DataTakes (on_data.Store datum from) room s f = IsTextAt f.position.values from ⊎ IsAwaited s f datum
@@ -55,6 +59,9 @@ DataTakes (on_data.Insert by container subscript member skip) room s f = IsAbsen
 DataTakes (on_data.Look by member container subscript skip) room s f = ⊥
 DataTakes (on_data.Size to container) room s f = ⊥
 DataTakes (on_data.SubscriptAt by to container index skip) room s f = (by ≡ scalar.Text) × HasThatMany s f container index
+DataTakes (on_data.InsertValue map subscript from skip) room s f = IsValueAbsent s f map subscript
+DataTakes (on_data.AddValue map subscript from) room s f = Unit {0}
+DataTakes (on_data.GetValue to map subscript skip) room s f = IsTextAt f.position.values to
 DataTakes (on_data.CopyRead to from) room s f = ⊥
 DataTakes (on_data.CopyWrite to from) room s f = ⊥
 DataTakes (on_data.DropRead right) room s f = ⊥

@@ -6,11 +6,13 @@ ghost use Rattle.tw_pool_state.specs.Coming.{come};
 ghost use Rattle.tw_pool_state.specs.Data.{IsAnswer, MayDo};
 
 mod containers;
+mod maps;
 pub(crate) mod results;
 mod rights;
 mod scalars;
 
 use crate::data::containers::{exec_insert, exec_look, exec_size, exec_subscript_at};
+use crate::data::maps::{exec_add_value, exec_get_value, exec_insert_value};
 use crate::data::rights::{
     exec_copy_read, exec_copy_write, exec_drop_read, exec_drop_write, exec_new,
 };
@@ -36,6 +38,9 @@ pub(crate) fn run_data<'a>(store: &mut Store, frame: &mut Frame<'a>, alloc: Glob
         DataInstr::Look { by, member, container, subscript, skip } => Ok(exec_look(store, frame, done, *by, *member, *container, *subscript, *skip)),
         DataInstr::Size { to, container } => Ok(exec_size(store, frame, done, *to, *container)),
         DataInstr::SubscriptAt { by, to, container, index, skip } => exec_subscript_at(store, frame, alloc, done, *by, *to, *container, *index, *skip),
+        DataInstr::InsertValue { map, subscript, from, skip } => exec_insert_value(store, frame, alloc, done, *map, *subscript, *from, *skip),
+        DataInstr::AddValue { map, subscript, from } => exec_add_value(store, frame, alloc, done, *map, *subscript, *from),
+        DataInstr::GetValue { to, map, subscript, skip } => exec_get_value(store, frame, alloc, done, *to, *map, *subscript, *skip),
         DataInstr::CopyRead { to, from } => Ok(exec_copy_read(store, frame, done, *to, *from)),
         DataInstr::CopyWrite { to, from } => Ok(exec_copy_write(store, frame, done, *to, *from)),
         DataInstr::DropRead { right } => Ok(exec_drop_read(store, frame, done, *right)),

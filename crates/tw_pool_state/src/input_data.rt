@@ -3,23 +3,25 @@
 ghost use Rattle.std.specs.Prelude.{◌≡◌, ◌<◌, ◌+◌, ◌^◌, IfOk, IsErr, None, OnOk, Some, true};
 ghost use Rattle.std.specs.FinMap.{get};
 ghost use Rattle.std.specs.declared.result.Result.TheVariants.{Ok};
-ghost use Rattle.tw_types.specs.Given.{Container, members_by};
+ghost use Rattle.tw_types.specs.DataType.{has_sums};
+ghost use Rattle.tw_types.specs.Given.{Container, Entries, given_as, members_by};
 ghost use Rattle.tw_types.specs.Store.{added};
 ghost use Rattle.tw_types.specs.StoreCalls.{member_at};
 ghost use Rattle.tw_types.specs.StoreChecks.{may_insert};
 ghost use Rattle.tw_types.specs.Value.{is_short, scalar_of};
 ghost use Rattle.tw_store.specs.Served.{IsHere};
 ghost use Rattle.tw_code.specs.machine.Inputs.{is_given_for, is_input_of};
-ghost use Rattle.tw_code.specs.machine.Opening.{closed_scalar, with_container, with_input};
+ghost use Rattle.tw_code.specs.machine.Opening.{added_given, closed_map, closed_scalar, with_container, with_input};
 ghost use Rattle.tw_pool_state.specs.Givens.{AreAllLive, HasMember};
 ghost use Rattle.tw_pool_state.specs.Opening.{IsAdded};
 
 use std::alloc::{AllocError, Global};
+use tw_datum::entered;
 use tw_rights::{ReadRight, WriteRight};
 use tw_store::{Inserted, Store};
 use tw_types::{AsValue, DataType, Input, Value};
 
-/// Adds the data of an input: a closed datum, and then those of its members. Returns a right on the first.
+/// Adds the data of an input of the type: a closed datum, and then those of its members, if it is a container. Returns a right on the first.
 pub(crate) fn add_input(
     alloc: Global,
     store: &mut Store,
@@ -29,16 +31,16 @@ pub(crate) fn add_input(
     requires fits { is_input_of ty input.now ≡ true }
     requires room { store.old.store.next + 1001 < 2 ^ 63 }
     requires live { AreAllLive store.old }
-    ensures added { IfOk result (λ right. IsAdded (with_input store.old.store input.now) store.old store.new right) }
+    ensures added { IfOk result (λ right. IsAdded (with_input store.old.store ty input.now) store.old store.new right) }
     ensures live { OnOk result (AreAllLive store.new) }
 {
     match input {
         Input::Int(number) => add_value(alloc, store, number),
         Input::Text(text) => add_value(alloc, store, text),
-        Input::Ints(members) => add_container(alloc, store, ty, members.as_slice()),
-        Input::Texts(members) => add_container(alloc, store, ty, members.as_slice()),
-        Input::IntsByText(members) => add_container(alloc, store, ty, members.as_slice()),
-        Input::TextsByText(members) => add_container(alloc, store, ty, members.as_slice()),
+        Input::Ints(members) => add_members(alloc, store, ty, members.as_slice()),
+        Input::Texts(members) => add_members(alloc, store, ty, members.as_slice()),
+        Input::IntsByText(members) => add_members(alloc, store, ty, members.as_slice()),
+        Input::TextsByText(members) => add_members(alloc, store, ty, members.as_slice()),
     }
 }
 
@@ -99,6 +101,43 @@ fn add_member<K: AsValue, V: AsValue>(
             Err(AllocError)
         }
     }
+}
+
+/// Adds a map, or a container with its members, as the type says; it is closed.
+fn add_members<K: AsValue, V: AsValue>(
+    alloc: Global,
+    store: &mut Store,
+    ty: DataType,
+    members: &[(K, V)],
+) -> Result<ReadRight, AllocError>
+    requires fits { is_given_for ty (given_as ty (Container K.scalar V.scalar (members_by K.value V.value members.now))) ≡ true }
+    requires room { store.old.store.next + 1001 < 2 ^ 63 }
+    requires live { AreAllLive store.old }
+    ensures added { IfOk result (λ right. IsAdded (added_given store.old.store (given_as ty (Container K.scalar V.scalar (members_by K.value V.value members.now)))) store.old store.new right) }
+    ensures live { OnOk result (AreAllLive store.new) }
+{
+    if ty.is_map() {
+        add_map(alloc, store, ty, members)
+    } else {
+        add_container(alloc, store, ty, members)
+    }
+}
+
+/// Adds a closed map.
+fn add_map<K: AsValue, V: AsValue>(
+    alloc: Global,
+    store: &mut Store,
+    ty: DataType,
+    members: &[(K, V)],
+) -> Result<ReadRight, AllocError>
+    requires fits { is_given_for ty (Entries (has_sums ty.map) K.scalar V.scalar (members_by K.value V.value members.now)) ≡ true }
+    requires room { store.old.store.next + 1001 < 2 ^ 63 }
+    requires live { AreAllLive store.old }
+    ensures added { IfOk result (λ right. IsAdded (added store.old.store (closed_map (has_sums ty.map) K.scalar V.scalar (members_by K.value V.value members.now))) store.old store.new right) }
+    ensures live { OnOk result (AreAllLive store.new) }
+{
+    let values = entered(alloc, members)?;
+    store.create_map(alloc, ty, values)
 }
 
 /// Adds a container and its members, and closes it.

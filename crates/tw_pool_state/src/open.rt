@@ -37,6 +37,7 @@ impl Model for Opened {
     ghost use Rattle.std.specs.Coded.{codes, coded_ℕ};
     ghost use Rattle.std.specs.FinMap.{code};
     ghost use Rattle.std.specs.Ordering.{nat_cmp};
+    ghost use Rattle.tw_types.specs.declared.value.Value.{Value as ValueMeaning};
     ghost use Rattle.tw_types.specs.ValueOrder.{value_cmp};
     ghost use Rattle.tw_types.specs.Store.{Datum as DatumMeaning};
     ghost use Rattle.tw_pool_state.specs.OpenedParts.{OpenedParts};
@@ -45,7 +46,7 @@ impl Model for Opened {
 
     ghost coded = { Prim.hlevel (
       codes,
-      code {X = DatumMeaning} {R = nat_cmp} coded_ℕ (Prim.hlevel (codes, code {R = value_cmp} (Prim.hlevel codes) coded_ℕ)),
+      code {X = DatumMeaning} {R = nat_cmp} coded_ℕ (Prim.hlevel (codes, code {R = value_cmp} (Prim.hlevel codes) coded_ℕ, code {X = ValueMeaning} {R = value_cmp} (Prim.hlevel codes) (Prim.hlevel codes))),
       code {R = nat_cmp} coded_ℕ coded_ℕ,
     ) };
 
@@ -147,7 +148,7 @@ impl Opened {
         requires right { is_val param.mode ≡ false }
         requires fits { is_input_of param.ty input.now ≡ true }
         requires room { MayAdd self.old }
-        ensures { OnOk result (Adds param (λ o. with_given o (Some input.now)) self.old self.new) }
+        ensures { OnOk result (Adds param (λ o. with_given o param.ty (Some input.now)) self.old self.new) }
     {
         let Ok(right) = add_input(alloc, &mut self.store, param.ty, input) else {
             return Err(AllocError);

@@ -1,4 +1,4 @@
-use Rattle.std.proofs.Common.{[], ◌≡◌, ◌≢◌, ◌≤◌, ◌%◌, ℕ, Bool, true, false, cond, List, length, map, refl, sym, ap, subst, ◌∙◌, get_or, IfSome, IfNone, IsSome, Some, None, IfOk, is_some, option_map, arith, inl, inr, ◌⊎◌}
+use Rattle.std.proofs.Common.{[], ◌≡◌, ◌≢◌, ◌≤◌, ◌%◌, ℕ, Bool, true, false, cond, List, length, map, refl, sym, ap, subst, ◌∙◌, get_or, IfSome, IfNone, IsSome, Some, None, IfOk, OnErr, OnOk, is_some, option_map, arith, inl, inr, ◌⊎◌}
 use Rattle.std.proofs.lemmas.List.{length-map}
 use Rattle.std.specs.declared.option.Option.{Option}
 use Rattle.std.specs.declared.result.Result.{Result}
@@ -6,7 +6,7 @@ use Rattle.std.specs.declared.result.Result.TheVariants.{Ok, Err}
 use Rattle.std.specs.FinMap.{get}
 use Rattle.slab.specs.Slab.{Slab}
 use Rattle.tw_types.specs.Store.{Datum, Store, is_closed, notice_to}
-use Rattle.tw_types.specs.StoreCalls.{changed, store_after, notices_after, set_to, one_write_less, members_at, members_in, member_at, value_at, value_in}
+use Rattle.tw_types.specs.StoreCalls.{changed, store_after, notices_after, set_to, one_write_less, count_in, entries_in, entry_at, members_in, member_at, size_at, subscripts_at, subscripts_of, value_at, value_in}
 use Rattle.tw_types.specs.declared.notice.Notice.{Notice}
 use Rattle.tw_types.specs.declared.notice.Subscriber.{Subscriber}
 use Rattle.tw_types.specs.declared.value.Value.{Value}
@@ -49,8 +49,14 @@ module _ (slots : Slots) (s : Served) (right : Right) (place : ℕ) (x : Seat sl
   pub read_is : (d : PlacedDatum) → IfSome (get_or slots place None) (λ e. d ≡ e.datum) → get s.store.live right.id ≡ Some d.datum
   read_is d h = x.live ∙ ap (λ (y : PlacedDatum). Some y.datum) (sym (of_some (λ (e : Slot). d ≡ e.datum) _ x.slot x.there h))
 
-pub members_is : (s : Served) (id : ℕ) (x : Datum) → get s.store.live id ≡ Some x → members_in x.content ≡ members_at s.store id
-members_is s id x e = rw e refl
+pub size_is : (s : Served) (id : ℕ) (x : Datum) → get s.store.live id ≡ Some x → count_in x.content ≡ size_at s.store id
+size_is s id x e = rw e refl
+
+pub subscripts_is : (s : Served) (id : ℕ) (x : Datum) → get s.store.live id ≡ Some x → subscripts_of x.content ≡ subscripts_at s.store id
+subscripts_is s id x e = rw e refl
+
+pub entry_is : (s : Served) (id : ℕ) (k : Subscript) (x : Datum) → get s.store.live id ≡ Some x → get (entries_in x.content) k ≡ entry_at s.store id k
+entry_is s id k x e = rw e refl
 
 pub value_is : (s : Served) (id : ℕ) (x : Datum) → get s.store.live id ≡ Some x → value_in x.content ≡ value_at s.store id
 value_is s id x e = rw e refl
@@ -80,6 +86,11 @@ module _ (slab : Slab Slot) (next : ℕ) (queues : Queues) (s : Served) (view : 
 
     pub now_seated : (slab2 : Slab Slot) → IsChangedAt place f slab.slots slab2.slots → AreSeated slab2.slots next
     now_seated slab2 h = (h next x.slot seated x.there).seated
+
+    -- it has changed, or nothing has
+    pub then_seated : {A E : Type 0} (r : Result A E) (slab2 : Slab Slot) → OnOk r (IsChangedAt place f slab.slots slab2.slots) → OnErr r (slab2.slots ≡ slab.slots) → AreSeated slab2.slots next
+    then_seated (Ok v) slab2 changed kept = now_seated slab2 changed
+    then_seated (Err why) slab2 changed kept = subst (λ (slots : Slots). AreSeated slots next) (sym kept) seated
 
     -- the datum may be freed, and its subscribers hear of it
     pub left_is : (slab2 : Slab Slot) (queues2 : Queues) (notices : List Notice) → IfSome (get_or slab.slots place None) (λ e. IsSettled e.id f slab.slots slab2.slots)

@@ -36,7 +36,7 @@ find_shown g (Some a ∷ slots) k (suc p) e h u =
     ∙ find_shown g slots (suc k) p e h (λ j f l q. u (suc j) f (omega (arith, l)) q) ∙ ap (λ n. Some (g n e)) next
 
 -- an id that is in no slot isn't in the map
-find_none : {Y : Type 0} (g : ℕ → Slot → Y) (slots : List (Option Slot)) (k q : ℕ) → ((p : ℕ) (e : Slot) → get_or slots p None ≡ Some e → e.id ≢ q) → find nat_cmp q (shown g k slots) ≡ None
+pub find_none : {Y : Type 0} (g : ℕ → Slot → Y) (slots : List (Option Slot)) (k q : ℕ) → ((p : ℕ) (e : Slot) → get_or slots p None ≡ Some e → e.id ≢ q) → find nat_cmp q (shown g k slots) ≡ None
 find_none g [] k q h = refl
 find_none g (None ∷ slots) k q h = find_none g slots (suc k) q (λ p e i. h (suc p) e i)
 find_none g (Some a ∷ slots) k q h = ap (λ b. cond b (Some (g k a)) (find nat_cmp q (shown g (suc k) slots))) (other_key nat_cmp-IsAntisymmetric q a.id (λ i. h zero a refl (sym i)))

@@ -2,8 +2,8 @@
 
 ghost use Rattle.std.specs.Prelude.{◌≡◌, ◌<◌, ◌≤◌, ◌^◌, ℕ, OnOk, OnErr, IfSome, IsSome, true};
 ghost use Rattle.std.specs.FinMap.{get, insert};
-ghost use Rattle.tw_types.specs.DataType.{is_container_by, is_scalar};
-ghost use Rattle.tw_types.specs.StoreCalls.{set_to, one_read_more, one_write_more, one_write_less, with_member, with_subscriber};
+ghost use Rattle.tw_types.specs.DataType.{is_container_by, is_map_of, is_scalar};
+ghost use Rattle.tw_types.specs.StoreCalls.{set_to, one_read_more, one_write_more, one_write_less, with_entry, with_member, with_subscriber};
 ghost use Rattle.tw_types.specs.Value.{IsProper, scalar_of};
 ghost use Rattle.tw_types.specs.ValueOrder.{named};
 ghost use Rattle.tw_store.specs.Parts.{data_room_of};
@@ -66,6 +66,25 @@ pub fn insert_at(
         unreachable!();
     };
     slot.datum.add_absent(subscript, member)
+}
+
+/// Puts a value into the map at a place.
+pub fn put_at(
+    slab: &mut Slab<Slot>,
+    place: usize,
+    subscript: Value,
+    value: Value,
+) -> Result<(), AllocError>
+    requires there { IsSome (slot_at slab.old.slots place) }
+    requires takes { IfSome (slot_at slab.old.slots place) (λ e. is_map_of (scalar_of subscript) (scalar_of value) e.datum.datum.ty ≡ true) }
+    ensures put { OnOk result (IsChangedAt place (with_entry subscript value) slab.old.slots slab.new.slots) }
+    ensures refused { OnErr result (slab.new.slots ≡ slab.old.slots) }
+    ensures room { data_room_of slab.old ≤ data_room_of slab.new }
+{
+    let Some(slot) = slab.get_mut(place) else {
+        unreachable!();
+    };
+    slot.datum.put_value(subscript, value)
 }
 
 /// Adds a read.

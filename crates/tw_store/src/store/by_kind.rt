@@ -1,13 +1,12 @@
 //! Members with integers as subscripts.
 
 ghost use Rattle.std.specs.Prelude.{◌≡◌, option_map};
-ghost use Rattle.std.specs.FinMap as map;
 ghost use Rattle.std.specs.FinMap.{get};
 ghost use Rattle.std.specs.declared.result.Result.TheVariants.{Ok};
 ghost use Rattle.tw_types.specs.declared.data_type.Scalar.TheVariants as scalar;
 ghost use Rattle.tw_types.specs.declared.value.Value.TheVariants.{Int as INT};
-ghost use Rattle.tw_types.specs.StoreCalls.{members_at, subscript_after};
-ghost use Rattle.tw_types.specs.StoreChecks.{may_insert, may_look, may_read_members_by};
+ghost use Rattle.tw_types.specs.StoreCalls.{subscript_after, subscripts_at};
+ghost use Rattle.tw_types.specs.StoreChecks.{may_insert, may_look, may_read_subscripts_by};
 ghost use Rattle.tw_store.specs.Served.{IsHere};
 ghost use Rattle.tw_store.specs.Calls.{IsInsertion, IsLook, HasMemberRoom};
 
@@ -44,11 +43,11 @@ impl Store {
         self.look_under(right, ValueRef::Int(subscript))
     }
 
-    /// Like `nth_subscript`, for a container with integers as subscripts.
+    /// Like `nth_subscript`, for a container or a map with integers as subscripts.
     pub fn subscript_at(&self, right: &ReadRight, index: i64) -> Option<i64>
         requires here { IsHere self.now right.now }
-        requires allowed { may_read_members_by scalar.Int (get self.now.store.live right.now.id) ≡ Ok tt }
-        ensures { option_map INT result ≡ subscript_after index (map.keys (members_at self.now.store right.now.id)) }
+        requires allowed { may_read_subscripts_by scalar.Int (get self.now.store.live right.now.id) ≡ Ok tt }
+        ensures { option_map INT result ≡ subscript_after index (subscripts_at self.now.store right.now.id) }
     {
         match self.nth_subscript(right, index) {
             Some(Value::Int(subscript)) => Some(*subscript),

@@ -4,9 +4,11 @@ ghost use Rattle.std.specs.Prelude.{◌≡◌, ◌<◌, IfSome, Some, length, sl
 ghost use Rattle.std.specs.FinMap.{get};
 ghost use Rattle.std.specs.Option.{option_copied};
 ghost use Rattle.tw_datum.specs.Kept.{datum_if};
+ghost use Rattle.tw_store.specs.Amounts.{amounts_in};
 ghost use Rattle.tw_store.specs.Served.{AreOwn, IsHere, KnowsPlaces};
 ghost use Rattle.tw_store.specs.Calls.{IsShown};
 
+use crate::amounts::{Amounts, amounts_in};
 use crate::member::{Datum, ShownMember};
 use crate::slot::{datum_at, member_at, place_of};
 use crate::store::Store;
@@ -21,6 +23,13 @@ impl Store {
         ensures own { AreOwn self.now.queues }
     {
         self.queues.len()
+    }
+
+    /// Returns how much the live data are. Looks at each of them, and at each member and value.
+    pub fn amounts(&self) -> Amounts
+        ensures { result ≡ amounts_in self.now.store.live }
+    {
+        amounts_in(&self.slab)
     }
 
     /// Returns the id of the datum that is made next.

@@ -1,12 +1,12 @@
-use Rattle.std.proofs.Common.{◌≡◌, sym, ap, subst, ◌∙◌, not, refl}
-use Rattle.std.specs.FinMap as map
+use Rattle.std.proofs.Common.{◌≡◌, sym, ap, subst, ◌∙◌, refl}
 use Rattle.tw_types.specs.DataType.{is_container_by}
 use Rattle.tw_types.specs.Store.{Members, Contains}
 use Rattle.tw_types.specs.StoreCalls.{members_in}
 use Rattle.tw_types.specs.TypedStore.{AreSubscriptsFor}
 use Rattle.tw_types.specs.Value.{scalar_of}
 use Rattle.tw_types.specs.ValueOrder.{named}
-use Rattle.tw_types.proofs.SameTypes.{by_deep}
+use Rattle.tw_types.proofs.SameTypes.{by_container, container_only}
+use Rattle.tw_types.proofs.Subscripts.{no_entries}
 use Rattle.tw_datum.specs.declared.datum.Content.{Content}
 use Rattle.tw_datum.specs.Kept.{KeptDatum, KeptMembers, with_kept_member, content_of, members_kept, ids_of}
 use Rattle.tw_datum.proofs.Members.{kinds_after, member_added}
@@ -35,5 +35,6 @@ invariant_of-self g c =
     let ty = c.self.inside.ty in
     let k = named c.args.subscript in
     let kind = ap (λ (d : KeptDatum g.row.M.Denot). is_container_by (scalar_of k) d.datum.ty) c.self.view_is ∙ c.requires.container in
-    let kinds = subst (λ (x : Content g.row.M.Denot). AreSubscriptsFor ty (members_in (content_of id x))) c.in-Contains.is c.self.invariant.1 in
-    (sym (ap not (by_deep (scalar_of k) ty kind)), kinds_after id c.add.result ty c.in-Contains.members c.add.new.self k c.args.member kinds kind c.add.ensures)
+    let kinds = subst (λ (x : Content g.row.M.Denot). AreSubscriptsFor ty (members_in (content_of id x))) c.in-Contains.is c.self.invariant.1.0 in
+    let container = by_container (scalar_of k) ty kind in
+    ((sym container, sym (container_only ty container).1), (kinds_after id c.add.result ty c.in-Contains.members c.add.new.self k c.args.member kinds kind c.add.ensures, no_entries ty))

@@ -1,5 +1,6 @@
 use Rattle.std.proofs.Common.{◌≡◌, subst, sym, ap, ◌∙◌, refl, IsSome}
 use Rattle.std.specs.FinMap as map
+use Rattle.std.specs.Option.{option_copied}
 use Rattle.std.specs.FinMap.{get-from_sorted}
 use Rattle.tw_types.specs.ValueOrder.{named, value_cmp}
 use Rattle.tw_datum.specs.Kept.{IsAddition, KeptMembers}
@@ -17,8 +18,8 @@ returns g c =
 
 pub returns-then-len : goal.returns-then-len
 returns-then-len g c =
-    let is : c.get.result ≡ map.get c.args.self.now (named c.args.key) = c.get.ensures c.self.invariant ∙ sym (get-from_sorted value_cmp c.self.inside.tree (named c.args.key) c.self.invariant) ∙ ap (λ m. map.get m (named c.args.key)) c.self.view_is in
+    let is : option_copied c.get.result ≡ map.get c.args.self.now (named c.args.key) = c.get.ensures c.self.invariant ∙ sym (get-from_sorted value_cmp c.self.inside.tree (named c.args.key) c.self.invariant) ∙ ap (λ m. map.get m (named c.args.key)) c.self.view_is in
     elim c.match-get.branch [
-      | in-Some w ↦ rw w.result-is (subst IsSome (sym w.in-Some.is ∙ is) refl, refl)
-      | in-None w ↦ rw w.result-is (sym is ∙ w.in-None.is, refl)
+      | in-Some w ↦ rw w.result-is (subst IsSome (sym (ap option_copied w.in-Some.is) ∙ is) refl, refl)
+      | in-None w ↦ rw w.result-is (sym is ∙ ap option_copied w.in-None.is, refl)
     ]

@@ -1,7 +1,6 @@
-use Rattle.std.proofs.Common.{◌≡◌, ◌+◌, ◌++◌, ◌∷◌, length, arith, sym, ap, ◌∙◌, refl, subst, IsSome, Bool, true, false, not}
+use Rattle.std.proofs.Common.{◌≡◌, ◌+◌, ◌++◌, ◌∷◌, length, arith, sym, ap, ◌∙◌, refl, subst, IsSome, true, false}
 use Rattle.std.proofs.lemmas.Result.{err_from_is_err_and}
-use Rattle.std.specs.FinMap.{find}
-use Rattle.tw_types.specs.ValueOrder.{named, value_cmp}
+use Rattle.tw_types.specs.ValueOrder.{named}
 use Rattle.tw_datum.specs.Tree.{seen, in_fork}
 use Rattle.tw_datum.proofs.Sides.{left, right, found_left, found_right, found_here, put_on_left, put_on_right}
 use Rattle.tw_datum.proofs.Turns.{joined_length}

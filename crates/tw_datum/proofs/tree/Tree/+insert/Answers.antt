@@ -1,5 +1,4 @@
-use Rattle.std.proofs.Common.{◌≡◌, T, ◌++◌, ◌∷◌, sym, ap, ◌∙◌, refl}
-use Rattle.std.specs.FinMap.{is_sorted, put}
+use Rattle.std.proofs.Common.{◌≡◌, ◌++◌, ◌∷◌, sym, ap, ◌∙◌, refl}
 use Rattle.tw_types.specs.ValueOrder.{value_cmp}
 use Rattle.tw_datum.specs.Tree.{seen, in_fork}
 use Rattle.tw_datum.proofs.Sides.{put_on_left, put_on_right, put_on_own}

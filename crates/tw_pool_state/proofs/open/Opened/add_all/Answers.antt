@@ -36,5 +36,5 @@ loop-param-preserved c =
           (sym c.is_write.ensures ∙ w.if-is_write.false) w.in-Some.input.now c.if-is_write.rest.now
           (w.in-Some.ensures.cases.0 ∙ ap (λ (r : Bor (List Input)). w.in-Some.input.now ∷ r.now) (sym w.rest-is))
           c.if-is_write.self
-          (subst (λ (o : OpenedParts). Adds p (λ m. with_given m (Some w.in-Some.input.now)) c.loop-param.self o) (sym w.self-is) w.in_ok-add_given.ensures)
+          (subst (λ (o : OpenedParts). Adds p (λ m. with_given m p.ty (Some w.in-Some.input.now)) c.loop-param.self o) (sym w.self-is) w.in_ok-add_given.ensures)
     ]

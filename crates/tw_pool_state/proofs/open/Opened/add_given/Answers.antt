@@ -27,5 +27,5 @@ returns c = λ servers params made h.
     let was : IsMade servers params inside made = subst (λ (o : OpenedParts). IsMade servers params o made) (sym c.self.view_is) h in
     let is = given_made servers params inside made was p c.args.input.now c.add_input.new.store c.in-Ok.right c.requires.read c.requires.right c.requires.fits c.in-Ok.ensures.added c.in-Ok.ensures.live in
     let args = c.push_reserved.ensures.items in
-    subst (λ (o : OpenedParts). IsMade servers (params ++ p ∷ []) o (with_given made (Some c.args.input.now)))
+    subst (λ (o : OpenedParts). IsMade servers (params ++ p ∷ []) o (with_given made c.args.param.ty (Some c.args.input.now)))
     (λ i. record { store = c.add_input.new.store; args = sym args i; outputs = c.self.inside.rights.items }) is

@@ -1,6 +1,5 @@
-use Rattle.std.proofs.Common.{ap, ◌∙◌}
-use Rattle.std.specs.FinMap as map
-use Rattle.tw_store.proofs.Here.{seat, is_there, read_is, members_is}
+use Rattle.std.proofs.Common.{◌∙◌}
+use Rattle.tw_store.proofs.Here.{seat, is_there, read_is, size_is}
 use Rattle.tw_store.proofs.store.Store.size.Goals as goal
 
 pub datum_at-requires : goal.datum_at-requires
@@ -11,4 +10,4 @@ datum_at-requires c =
 pub returns : goal.returns
 returns c =
     let x = seat c.self.inside.slab c.self.inside.next c.self.inside.queues.items c.args.self.now c.args.right.now c.place.result c.self.view_is c.self.invariant.0 c.requires.here c.place.ensures in
-    c.len.ensures ∙ ap map.len (members_is c.args.self.now c.args.right.now.id c.datum_at.result.now.datum (read_is _ _ _ _ x c.datum_at.result.now c.datum_at.ensures))
+    c.count.ensures ∙ size_is c.args.self.now c.args.right.now.id c.datum_at.result.now.datum (read_is _ _ _ _ x c.datum_at.result.now c.datum_at.ensures)

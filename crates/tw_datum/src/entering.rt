@@ -1,0 +1,41 @@
+//! The values of an input that is a map.
+
+ghost use Rattle.std.specs.Prelude.{◌≡◌, ◌&&◌, IfOk, true};
+ghost use Rattle.std.specs.List.{list_all};
+ghost use Rattle.tw_types.specs.Given.{entered, members_by};
+ghost use Rattle.tw_types.specs.Value.{is_short};
+
+use crate::ranked_map::RankedMap;
+use std::alloc::{AllocError, Global};
+use tw_types::{AsValue, Value};
+
+/// Copies an entry. Its texts have to be short.
+fn entry_copy<K: AsValue, V: AsValue>(
+    alloc: Global,
+    entry: &(K, V),
+) -> Result<(Value, Value), AllocError>
+    requires { (is_short (K.value entry.now.0) && is_short (V.value entry.now.1)) ≡ true }
+    ensures subscript { IfOk result (λ copy. copy.0 ≡ K.value entry.now.0) }
+    ensures value { IfOk result (λ copy. copy.1 ≡ V.value entry.now.1) }
+{
+    let (subscript, value) = entry;
+    let subscript = subscript.as_value().try_to_value(alloc)?;
+    let value = value.as_value().try_to_value(alloc)?;
+    Ok((subscript, value))
+}
+
+/// Returns the values at their subscripts. All texts have to be short.
+pub fn entered<K: AsValue, V: AsValue>(
+    alloc: Global,
+    members: &[(K, V)],
+) -> Result<RankedMap<Value>, AllocError>
+    requires { list_all (λ e. is_short e.0 && is_short e.1) (members_by K.value V.value members.now) ≡ true }
+    ensures { IfOk result (λ values. values ≡ entered (members_by K.value V.value members.now)) }
+{
+    let mut values = RankedMap::new(alloc);
+    for index in (0..members.len()).rev() {
+        let (subscript, value) = entry_copy(alloc, &members[index])?;
+        values.insert(subscript, value)?;
+    }
+    Ok(values)
+}

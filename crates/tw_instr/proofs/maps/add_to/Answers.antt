@@ -1,0 +1,28 @@
+use Rattle.std.proofs.Common.{◌≡◌, ◌∙◌, ap, arith, of_z, subst, sym, to_z, w64}
+use Rattle.std.proofs.lemmas.Int.{to_z-of_z}
+use Rattle.std.specs.FinMap.{get}
+use Rattle.tw_types.specs.StoreCalls.{entry_at, value_put}
+use Rattle.tw_types.specs.Value.{scalar_of}
+use Rattle.tw_types.specs.ValueOrder.{Subscript}
+use Rattle.tw_types.proofs.Came.{on_ok}
+use Rattle.tw_code.specs.machine.Data.{sum_with}
+use Rattle.tw_code.proofs.Computing.{sum_int}
+use Rattle.tw_datum.specs.Puts.{TakesValue}
+use Rattle.tw_datum.proofs.Puts.{add_takes}
+use Rattle.tw_instr.proofs.maps.add_to.Goals as goal
+
+pub put-requires : goal.put-requires
+put-requires c =
+    let live = get c.args.store.now.live c.args.id in
+    subst (λ (k : Subscript). TakesValue k c.sum_with-sum.result live) (sym c.in_ok-own.ensures.copy)
+    (add_takes c.args.subscript.now c.sum_with-sum.result live (ap scalar_of c.sum_with-sum.ensures ∙ sum_int _ _) c.requires)
+
+pub returns-clause-added : goal.returns-clause-added
+returns-clause-added c =
+    let s = c.args.store.now in
+    let key : to_z w64 (of_z w64 c.args.number) ≡ c.args.number = grind (arith, to_z-of_z) in
+    let found = c.entry.ensures ∙ ap (entry_at s c.args.id) c.borrowed.ensures.is in
+    let sum = c.sum_with-sum.ensures ∙ ap (λ o. sum_with o (to_z w64 (of_z w64 c.args.number))) found ∙ ap (sum_with (entry_at s c.args.id c.args.subscript.now)) key in
+    on_ok c.put.result c.put.ensures.put (λ e. e
+    ∙ ap (λ (k : Subscript). value_put s c.args.id k c.sum_with-sum.result) c.in_ok-own.ensures.copy
+    ∙ ap (value_put s c.args.id c.args.subscript.now) sum)

@@ -1,0 +1,7 @@
+use Rattle.std.proofs.Common.{◌≡◌}
+use Rattle.tw_store.specs.Amounts.{capped}
+use Rattle.tw_store.proofs.Texts.{bytes_before}
+use Rattle.tw_store.proofs.amounts.datum_bytes.Given as goal
+
+abbrev pub invariant-loop-index : goal.invariant-loop-index
+invariant-loop-index l = l.bytes ≡ capped (bytes_before l.datum.datum.content l.index)
