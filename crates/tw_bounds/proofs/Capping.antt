@@ -5,6 +5,7 @@ use Rattle.std.specs.Option.{option_flatten, option_map}
 use Rattle.std.proofs.lemmas.Option.{same_Some, slice_get-map}
 use Rattle.tw_code.specs.declared.flow.Flow.{Flow}
 use Rattle.tw_code.specs.declared.flow.Flow.TheVariants.{Straight, Branch, Jump, Begin, Close, Stop}
+use Rattle.tw_types.specs.declared.data_type.Scalar.{Scalar}
 use Rattle.tw_code.specs.declared.instr.Instr.{Instr}
 use Rattle.tw_code.specs.declared.instr.Instr.TheVariants as instr
 use Rattle.tw_code.specs.declared.procedure.Procedure.{Procedure}
@@ -77,40 +78,40 @@ sum_alike known exact q w c is e = by (bound_at exact q) refl
         let sum : w + min n cap ≡ c = same_Some (w + min n cap) c (sym (ap (option_map (λ b. w + b)) (capped_at known exact q is ∙ ap (option_map (λ b. min b cap)) at)) ∙ e) in
         (w + n, ap (option_map (λ b. w + b)) at, omega (arith, sum))
 
-module _ (program : List Procedure) (weights : Weights) (known exact : List (Option ℕ)) (is : AreCapped known exact) where
-  weight_alike : (i : Instr) (c : ℕ) → weight_of program weights known i ≡ Some c → (d : ℕ) × (weight_of program weights exact i ≡ Some d) × AreAlike c d
+module _ (program : List Procedure) (weights : Weights) (known exact : List (Option ℕ)) (is : AreCapped known exact) (registers : List Scalar) where
+  weight_alike : (i : Instr) (c : ℕ) → weight_of program weights known registers i ≡ Some c → (d : ℕ) × (weight_of program weights exact registers i ≡ Some d) × AreAlike c d
   weight_alike (instr.Local i) c e = (c, e, refl)
   weight_alike (instr.Data i) c e = (c, e, refl)
   weight_alike (instr.Rule action) c e = sum_alike known exact action.procedure _ c is e
   weight_alike (instr.Put action) c e = sum_alike known exact action.procedure weights.instr c is e
   weight_alike instr.Ret c e = (c, e, refl)
 
-  pub costs_alike : (code : List Instr) (costs : List ℕ) → AreCosts program weights known code costs → (others : List ℕ) × AreCosts program weights exact code others × ((place : ℕ) → AreAlike (cost_in costs place) (cost_in others place))
+  pub costs_alike : (code : List Instr) (costs : List ℕ) → AreCosts program weights known registers code costs → (others : List ℕ) × AreCosts program weights exact registers code others × ((place : ℕ) → AreAlike (cost_in costs place) (cost_in others place))
   costs_alike [] [] e = ([], refl, λ place. refl)
   costs_alike [] (c ∷ costs) e = cc
   costs_alike (i ∷ code) [] e = cc
   costs_alike (i ∷ code) (c ∷ costs) e =
-      let parts = same_parts (weight_of program weights known i) (Some c) (map (weight_of program weights known) code) (map Some costs) e in
+      let parts = same_parts (weight_of program weights known registers i) (Some c) (map (weight_of program weights known registers) code) (map Some costs) e in
       let first = weight_alike i c parts.0 in
       let rest = costs_alike code costs parts.1 in
-      (first.0 ∷ rest.0, ap (λ (o : Option ℕ). o ∷ map (weight_of program weights exact) code) first.1 ∙ ap (λ (os : List (Option ℕ)). Some first.0 ∷ os) rest.1, place_alike first.0 rest.0 first.2 rest.2)
+      (first.0 ∷ rest.0, ap (λ (o : Option ℕ). o ∷ map (weight_of program weights exact registers) code) first.1 ∙ ap (λ (os : List (Option ℕ)). Some first.0 ∷ os) rest.1, place_alike first.0 rest.0 first.2 rest.2)
     where
       place_alike : (d : ℕ) (others : List ℕ) → AreAlike c d → ((place : ℕ) → AreAlike (cost_in costs place) (cost_in others place)) → (place : ℕ) → AreAlike (cost_in (c ∷ costs) place) (cost_in (d ∷ others) place)
       place_alike d others first rest zero = first
       place_alike d others first rest (suc place) = rest place
 
   -- an unknown bound is unknown among the exact ones, too
-  pub none_alike : (i : Instr) → weight_of program weights known i ≡ None → weight_of program weights exact i ≡ None
+  pub none_alike : (i : Instr) → weight_of program weights known registers i ≡ None → weight_of program weights exact registers i ≡ None
   none_alike (instr.Local i) e = e
   none_alike (instr.Data i) e = e
   none_alike (instr.Rule action) e = by (bound_at exact action.procedure) refl
     where
-      by : (o : Option ℕ) → bound_at exact action.procedure ≡ o → weight_of program weights exact (instr.Rule action) ≡ None
+      by : (o : Option ℕ) → bound_at exact action.procedure ≡ o → weight_of program weights exact registers (instr.Rule action) ≡ None
       by None at = ap (option_map _) at
       by (Some n) at = let no = sym (ap (option_map _) (capped_at known exact action.procedure is ∙ ap (option_map (λ b. min b cap)) at)) ∙ e in cc
   none_alike (instr.Put action) e = by (bound_at exact action.procedure) refl
     where
-      by : (o : Option ℕ) → bound_at exact action.procedure ≡ o → weight_of program weights exact (instr.Put action) ≡ None
+      by : (o : Option ℕ) → bound_at exact action.procedure ≡ o → weight_of program weights exact registers (instr.Put action) ≡ None
       by None at = ap (option_map _) at
       by (Some n) at = let no = sym (ap (option_map _) (capped_at known exact action.procedure is ∙ ap (option_map (λ b. min b cap)) at)) ∙ e in cc
   none_alike instr.Ret e = e

@@ -1,5 +1,5 @@
 -- Bounds on the members and texts that a change of a store adds.
-use Rattle.std.proofs.Common.{◌≡◌, ℕ, zero, suc, ◌+◌, ◌-◌, ◌≤◌, ◌==◌, Bool, true, false, ◌&&◌, cond, if◌then◌else◌, List, [], ◌∷◌, fold, Option, Some, None, refl, subst, arith}
+use Rattle.std.proofs.Common.{◌≡◌, ℕ, zero, suc, ◌+◌, ◌-◌, ◌≤◌, ◌==◌, Bool, true, false, ◌&&◌, cond, if◌then◌else◌, List, [], ◌∷◌, fold, Option, Some, None, refl, sym, ap, subst, arith}
 use Rattle.std.proofs.lemmas.Bool.{and_parts}
 use Rattle.std.proofs.lemmas.Option.{same_Some}
 use Rattle.std.specs.Cmp.{nat_cmp_total}
@@ -11,18 +11,22 @@ use Rattle.tw_types.specs.declared.cause.Cause.TheVariants.{WrongType}
 use Rattle.tw_types.specs.declared.data_type.Scalar.{Scalar}
 use Rattle.tw_types.specs.declared.data_type.Scalar.TheVariants as scalar
 use Rattle.tw_types.specs.declared.value.Value.{Value}
-use Rattle.tw_types.specs.DataType.{is_container_by, is_element_of, is_scalar}
+use Rattle.tw_types.specs.DataType.{has_subscripts_by, is_container_by, is_element_of, is_map, is_map_by, is_map_of, is_plain_map, is_scalar, is_sums, same_scalar}
 use Rattle.tw_types.specs.Nesting.{NestedScalar}
-use Rattle.tw_types.specs.Store.{Members, Unset, Contains, Datum, Data, Store, added, drop_read_within, is_closed, is_unheld, members_of, new_datum, read_taken_by, settled_by, subscribers_cleared}
-use Rattle.tw_types.specs.StoreCalls.{changed, created, inserted, members_in, one_write_less, read_dropped, set_to, store_after, with_member}
-use Rattle.tw_types.specs.StoreChecks.{may_insert}
+use Rattle.tw_types.specs.Store.{Members, Values, Content, Unset, Set, Contains, Maps, Datum, Data, Store, added, drop_read_within, is_closed, is_unheld, members_of, new_datum, read_taken_by, settled_by, subscribers_cleared}
+use Rattle.tw_types.specs.StoreCalls.{changed, count_in, created, entries_in, inserted, members_in, one_write_less, read_dropped, set_to, store_after, value_put, with_entry, with_member}
+use Rattle.tw_types.specs.StoreChecks.{may_add, may_insert, may_put}
 use Rattle.tw_types.specs.Totals.{total}
 use Rattle.tw_types.specs.ValueOrder.{Subscript, value_cmp}
+use Rattle.tw_types.specs.Value.{scalar_of}
+use Rattle.tw_types.specs.declared.data_type.MapKind.{MapKind}
+use Rattle.tw_types.specs.declared.data_type.MapKind.TheVariants as kinds
 use Rattle.tw_types.proofs.Results.{must_then}
+use Rattle.tw_types.proofs.SameTypes.{by_container, container_only, same_scalars}
 use Rattle.tw_types.proofs.Totals.{total-insert}
 use Rattle.tw_types.proofs.ValueOrder.{value_cmp_total}
 use Rattle.tw_soundness.proofs.Sums.{sum_apart, sum_replaced}
-use Rattle.tw_bounds.specs.Contents.{is_text, is_text_scalar, member_count, members_held, text_count, texts_held}
+use Rattle.tw_bounds.specs.Contents.{is_map_to_texts, is_text, is_text_scalar, member_count, members_held, text_count, texts_held}
 
 -- ---- a sum over the live data, by types and contents
 
@@ -117,6 +121,9 @@ pub record Gains (members texts : ℕ) (s t : Store) : Type 0 where
 pub no_gain : (members texts : ℕ) (s : Store) → Gains members texts s s
 no_gain members texts s = record { new_members = omega arith; new_texts = omega arith }
 
+pub more_gains : (members texts others : ℕ) (s t : Store) → others ≡ texts → Gains members others s t → Gains members texts s t
+more_gains members texts others s t e gains = record { new_members = gains.new_members; new_texts = omega (arith, gains.new_texts, e) }
+
 pub changed_gains : (s : Store) (id : ℕ) (f : Datum → Datum) → ((x : Datum) → (f x).ty ≡ x.ty) → ((x : Datum) → (f x).content ≡ x.content) → Gains 0 0 s (changed s id f)
 changed_gains s id f ty content = record {
   new_members = changed_total member_count by_member_count s id f 0 (λ x at. let e = by_member_count x (f x) (ty x) (content x) in omega (arith, e));
@@ -132,18 +139,15 @@ write_dropped_gains s id = record {
 pub stored_gains : (s : Store) (id : ℕ) (x : Value) → Gains 0 0 s (store_after s id (set_to x))
 stored_gains s id x = record {
   new_members = let h = after_total member_count by_member_count s id (set_to x) few in omega (arith, h);
-  new_texts = let h = after_total text_count by_text_count s id (set_to x) (λ d. by d (is_container_by scalar.Text d.ty)) in omega (arith, h);
+  new_texts = let h = after_total text_count by_text_count s id (set_to x) (λ d. omega (arith, no_more (has_subscripts_by scalar.Text d.ty) (member_count d), no_more (is_map_to_texts d.ty) (member_count d))) in omega (arith, h);
 }
   where
-    none : len {X = ℕ} {R = value_cmp} fin.empty ≡ 0
-    none = len-empty value_cmp ℕ
-
     few : (d : Datum) → member_count (set_to x d) ≤ member_count d
-    few d = omega (arith, none)
+    few d = omega arith
 
-    by : (d : Datum) (b : Bool) → one_if (is_text_scalar d.ty) + (if b then member_count (set_to x d) else 0) ≤ one_if (is_text_scalar d.ty) + (if b then member_count d else 0)
-    by d true = let h = few d in omega (arith, h)
-    by d false = omega arith
+    no_more : (b : Bool) (n : ℕ) → (if b then 0 else 0) ≤ (if b then n else 0)
+    no_more true n = omega arith
+    no_more false n = omega arith
 
 pub read_dropped_gains : (s : Store) (id : ℕ) → Gains 0 0 s (read_dropped s id)
 read_dropped_gains s id = record {
@@ -151,18 +155,22 @@ read_dropped_gains s id = record {
   new_texts = let h = drops_lose text_count by_text_count 3 s.live id in omega (arith, h);
 }
 
-no_members : (b : Bool) → len (members_in (if b then Unset else Contains fin.empty)) ≡ 0
-no_members true = len-empty value_cmp ℕ
-no_members false = len-empty value_cmp ℕ
+no_members : (ty : NestedScalar) → member_count (new_datum ty) ≡ 0
+no_members ty = by (is_scalar ty) (is_map ty)
+  where
+    by : (b c : Bool) → count_in (if b then Unset else if c then Maps fin.empty else Contains fin.empty) ≡ 0
+    by true c = refl
+    by false true = len-empty value_cmp Value
+    by false false = len-empty value_cmp ℕ
 
 pub created_gains : (s : Store) (ty : NestedScalar) → Gains 0 (one_if (is_text_scalar ty)) s (created s ty)
 created_gains s ty = record {
   new_members = let h = new_total member_count by_member_count s (new_datum ty) in omega (arith, h, none);
-  new_texts = let h = new_total text_count by_text_count s (new_datum ty) in let n = by (is_container_by scalar.Text ty) in omega (arith, h, n);
+  new_texts = let h = new_total text_count by_text_count s (new_datum ty) in omega (arith, h, by (has_subscripts_by scalar.Text ty), by (is_map_to_texts ty));
 }
   where
     none : member_count (new_datum ty) ≡ 0
-    none = no_members (is_scalar ty)
+    none = no_members ty
 
     by : (b : Bool) → (if b then member_count (new_datum ty) else 0) ≡ 0
     by true = none
@@ -174,6 +182,12 @@ one_more_member members subscript member = let l = len-insert value_cmp_total me
     either : (b : Bool) (n : ℕ) → cond b n (n + 1) ≤ n + 1
     either true n = omega arith
     either false n = omega arith
+
+members_within : (content : Content) → len (members_in content) ≤ count_in content
+members_within Unset = omega (arith, len-empty value_cmp ℕ)
+members_within (Set x) = omega (arith, len-empty value_cmp ℕ)
+members_within (Contains members) = omega arith
+members_within (Maps values) = omega (arith, len-empty value_cmp ℕ)
 
 -- the subscripts of a container are of the instruction's type
 subscripts_by : (by : Scalar) (o member : Option Datum) (x : Datum) → o ≡ Some x → may_insert by o member ≡ Ok tt → is_container_by by x.ty ≡ true
@@ -192,15 +206,96 @@ int_not_text ty e = by ty.containers e
     by (scalar.Int ∷ inner) e = refl
     by (scalar.Text ∷ inner) e = cc
 
--- by integers, a container holds no text; by texts, it may hold one more
-subscript_texts : (by : Scalar) (x : Datum) (before after : ℕ) → is_container_by by x.ty ≡ true → after ≤ before + 1 → (if is_container_by scalar.Text x.ty then after else 0) ≤ (if is_container_by scalar.Text x.ty then before else 0) + one_if (is_text by)
-subscript_texts scalar.Int x before after is more = rw (int_not_text x.ty is) (omega arith)
-subscript_texts scalar.Text x before after is more = rw is (omega (arith, more))
+-- where one more adds a text
+one_text : (b : Bool) (before after : ℕ) → after ≤ before + 1 → (if b then after else 0) ≤ (if b then before else 0) + one_if b
+one_text true before after more = omega (arith, more)
+one_text false before after more = omega arith
+
+-- the subscripts of a container are texts if the instruction's are; its members aren't counted
+container_texts : (by : Scalar) (ty : NestedScalar) → is_container_by by ty ≡ true → (has_subscripts_by scalar.Text ty ≡ is_text by) × (is_map_to_texts ty ≡ false)
+container_texts by ty is =
+    let plain = (container_only ty (by_container by ty is)).1 in
+    (at by is plain, rw plain refl)
+  where
+    at : (by : Scalar) → is_container_by by ty ≡ true → is_map ty ≡ false → has_subscripts_by scalar.Text ty ≡ is_text by
+    at scalar.Int is plain = rw (int_not_text ty is, plain) refl
+    at scalar.Text is plain = rw is refl
 
 pub inserted_gains : (s : Store) (id : ℕ) (by : Scalar) (at : Subscript) (inner : ℕ) (member : Option Datum) → may_insert by (get s.live id) member ≡ Ok tt → Gains 1 (one_if (is_text by)) s (inserted s id at inner)
 inserted_gains s id by at inner member may = record {
-  new_members = changed_total member_count by_member_count s id (with_member at inner) 1 (λ x here. one_more_member (members_in x.content) at inner);
+  new_members = changed_total member_count by_member_count s id (with_member at inner) 1 more;
   new_texts = changed_total text_count by_text_count s id (with_member at inner) (one_if (is_text by)) (λ x here.
-      let few = subscript_texts by x (member_count x) (member_count (with_member at inner x)) (subscripts_by by (get s.live id) member x here may) (one_more_member (members_in x.content) at inner) in
-      omega (arith, few));
+      let same = container_texts by x.ty (subscripts_by by (get s.live id) member x here may) in
+      let few = one_text (has_subscripts_by scalar.Text x.ty) (member_count x) (member_count (with_member at inner x)) (more x here) in
+      omega (arith, few, ap one_if same.0, ap (λ (b : Bool). if b then member_count (with_member at inner x) else 0) same.1));
 }
+  where
+    more : (x : Datum) → get s.live id ≡ Some x → member_count (with_member at inner x) ≤ member_count x + 1
+    more x here = omega (arith, one_more_member (members_in x.content) at inner, members_within x.content)
+
+-- ---- values of maps
+
+one_more_value : (values : Values) (subscript : Subscript) (x : Value) → len (insert values subscript x) ≤ len values + 1
+one_more_value values subscript x = let l = len-insert value_cmp_total values subscript x in omega (arith, l, either (contains_key values subscript) (len values))
+  where
+    either : (b : Bool) (n : ℕ) → cond b n (n + 1) ≤ n + 1
+    either true n = omega arith
+    either false n = omega arith
+
+values_within : (content : Content) → len (entries_in content) ≤ count_in content
+values_within Unset = omega (arith, len-empty value_cmp Value)
+values_within (Set x) = omega (arith, len-empty value_cmp Value)
+values_within (Contains members) = omega (arith, len-empty value_cmp Value)
+values_within (Maps values) = omega arith
+
+same_text : (a b : Scalar) → same_scalar a b ≡ true → is_text b ≡ is_text a
+same_text a b e = ap is_text (sym (same_scalars a b e))
+
+-- the subscripts of a map are texts if the instruction's are
+map_subscripts : (by : Scalar) (ty : NestedScalar) → is_map_by by ty ≡ true → has_subscripts_by scalar.Text ty ≡ is_text by
+map_subscripts by ty h = at ty.containers ty.map h
+  where
+    text_is : (a b : Scalar) → same_scalar a b ≡ true → same_scalar scalar.Text b ≡ is_text a
+    text_is scalar.Int scalar.Int e = refl
+    text_is scalar.Int scalar.Text e = cc
+    text_is scalar.Text scalar.Int e = cc
+    text_is scalar.Text scalar.Text e = refl
+
+    at : (containers : List Scalar) (kind : MapKind) → is_map_by by (record ty { containers = containers; map = kind }) ≡ true → has_subscripts_by scalar.Text (record ty { containers = containers; map = kind }) ≡ is_text by
+    at [] kinds.NoMap h = cc
+    at [] (kinds.Values own) h = text_is by own h
+    at [] (kinds.Sums own) h = text_is by own h
+    at (own ∷ inner) kind h = cc
+
+-- so are its values
+map_texts : (by value : Scalar) (ty : NestedScalar) → is_map_of by value ty ≡ true → (has_subscripts_by scalar.Text ty ≡ is_text by) × (is_map_to_texts ty ≡ is_text value)
+map_texts by value ty h =
+    let both = and_parts (is_map_by by ty) (same_scalar value ty.scalar) h in
+    let mapped : is_map ty ≡ true = (and_parts (is_map ty) _ both.0).0 in
+    (map_subscripts by ty both.0, rw mapped (same_text value ty.scalar both.1))
+
+-- the map of a call that puts a value
+pub put_kind : (at x : Value) (o : Option Datum) → may_put at x o ≡ Ok tt → (d : Datum) → o ≡ Some d → is_map_of (scalar_of at) (scalar_of x) d.ty ≡ true
+put_kind at x None may d e = cc
+put_kind at x (Some y) may d e =
+    let checks = must_then (is_plain_map y.ty && is_map_of (scalar_of at) (scalar_of x) y.ty) WrongType _ tt may in
+    subst (λ (z : Datum). is_map_of (scalar_of at) (scalar_of x) z.ty ≡ true) (same_Some y d e) (and_parts (is_plain_map y.ty) _ checks.0).1
+
+pub add_kind : (at : Value) (o : Option Datum) → may_add at o ≡ Ok tt → (d : Datum) → o ≡ Some d → is_map_of (scalar_of at) scalar.Int d.ty ≡ true
+add_kind at None may d e = cc
+add_kind at (Some y) may d e =
+    let checks = must_then (is_sums y.ty && is_map_of (scalar_of at) scalar.Int y.ty) WrongType _ tt may in
+    subst (λ (z : Datum). is_map_of (scalar_of at) scalar.Int z.ty ≡ true) (same_Some y d e) (and_parts (is_sums y.ty) _ checks.0).1
+
+pub put_gains : (s : Store) (id : ℕ) (at x : Value) → ((d : Datum) → get s.live id ≡ Some d → is_map_of (scalar_of at) (scalar_of x) d.ty ≡ true) → Gains 1 (one_if (is_text (scalar_of at)) + one_if (is_text (scalar_of x))) s (value_put s id at x)
+put_gains s id at x kind = record {
+  new_members = changed_total member_count by_member_count s id (with_entry at x) 1 more;
+  new_texts = changed_total text_count by_text_count s id (with_entry at x) (one_if (is_text (scalar_of at)) + one_if (is_text (scalar_of x))) (λ d here.
+      let same = map_texts (scalar_of at) (scalar_of x) d.ty (kind d here) in
+      let named = one_text (has_subscripts_by scalar.Text d.ty) (member_count d) (member_count (with_entry at x d)) (more d here) in
+      let valued = one_text (is_map_to_texts d.ty) (member_count d) (member_count (with_entry at x d)) (more d here) in
+      omega (arith, named, valued, ap one_if same.0, ap one_if same.1));
+}
+  where
+    more : (d : Datum) → get s.live id ≡ Some d → member_count (with_entry at x d) ≤ member_count d + 1
+    more d here = omega (arith, one_more_value (entries_in d.content) at x, values_within d.content)

@@ -1,11 +1,15 @@
 -- Each event does at most what the limit counts for it.
-use Rattle.std.proofs.Common.{◌≡◌, ℕ, zero, suc, ◌+◌, ◌*◌, ◌<◌, ◌≤◌, ◌||◌, Bool, true, false, if◌then◌else◌, is_none, List, [], ◌∷◌, length, slice_get, Some, refl, sym, ap, ◌∙◌, subst, arith}
+use Rattle.std.proofs.Common.{◌≡◌, ℕ, zero, suc, ◌+◌, ◌*◌, ◌<◌, ◌≤◌, ◌||◌, Bool, true, false, if◌then◌else◌, is_none, List, [], ◌∷◌, length, map, slice_get, Some, refl, sym, ap, ◌∙◌, subst, arith}
 use Rattle.std.proofs.lemmas.List.Sums.{sum_by-cons}
 use Rattle.std.proofs.lemmas.Option.{same_Some, slice_get_within}
 use Rattle.std.specs.FinMap.{get}
 use Rattle.std.specs.List.{list_all, list_any}
+use Rattle.std.specs.Option.{option_map_or}
+use Rattle.std.specs.Prelude.{nat_le}
 use Rattle.tw_types.specs.declared.actor.Actor.{Actor}
 use Rattle.tw_types.specs.declared.cause.Cause.TheVariants.{RightLeft}
+use Rattle.tw_types.specs.declared.data_type.Scalar.{Scalar}
+use Rattle.tw_types.specs.Value.{scalar_of}
 use Rattle.tw_types.specs.declared.event.Event.{Event}
 use Rattle.tw_types.specs.declared.event.Event.TheVariants.{Take, Local, Call, End, Ask, Deliver, Release}
 use Rattle.tw_types.specs.Layout.{ActorCounts}
@@ -37,12 +41,13 @@ use Rattle.tw_soundness.proofs.Safe.{accepts, kept_by, opened_held}
 use Rattle.tw_bounds.specs.declared.bound.Bound.{Bound}
 use Rattle.tw_bounds.specs.declared.bound.Bound.TheVariants.{AtMost}
 use Rattle.tw_bounds.specs.declared.limited.LimitedBounds.{LimitedBounds}
-use Rattle.tw_bounds.specs.Limited.{AreLimitedBounds, IsLargestBudget, LimitsRuns, adds_member, adds_text, has_instr, is_on_data, makes_datum, makes_rule, one_each}
-use Rattle.tw_bounds.specs.Contents.{members_held, texts_held}
+use Rattle.tw_bounds.specs.Limited.{AreLimitedBounds, IsLargestBudget, LimitsRuns, adds_member, adds_texts, has_instr, is_on_data, makes_datum, makes_rule, one_each, texts_each}
+use Rattle.tw_bounds.specs.Bounds.{texts_added}
+use Rattle.tw_bounds.specs.Contents.{is_text, is_text_scalar, members_held, texts_held}
 use Rattle.tw_bounds.specs.Reports.{reported}
 use Rattle.tw_bounds.specs.Runs.{instructions_by, instructions_in, tasks_by, tasks_in}
 use Rattle.tw_bounds.proofs.Holding.{Gains, no_gain, one_if}
-use Rattle.tw_bounds.proofs.Moved.{DataGoes, data_goes, for_new, subscribed_gains, subscribed_next}
+use Rattle.tw_bounds.proofs.Moved.{DataGoes, data_goes, for_new, subscribed_gains, subscribed_next, types_fit}
 use Rattle.tw_bounds.proofs.Reporting.{is_exact}
 
 -- ---- instructions of the program
@@ -66,6 +71,10 @@ one_more : (b : Bool) (limit : ℕ) → one_if b + each_if b limit ≡ each_if b
 one_more true limit = omega arith
 one_more false limit = refl
 
+one_at_most : (b : Bool) → one_if b ≤ 1
+one_at_most true = omega arith
+one_at_most false = omega arith
+
 some_one : (b : Bool) → b ≡ true → 1 ≤ one_if b
 some_one true e = omega arith
 some_one false e = cc
@@ -76,9 +85,27 @@ record IsMade (program : List Procedure) (s t : State) : Type 0 where
   new_data : t.store.next ≤ s.store.next + one_if (has_instr makes_datum program)
   rules : t.next_rule ≤ s.next_rule + one_if (has_instr makes_rule program)
   members : members_held t.store ≤ members_held s.store + one_if (has_instr (is_on_data adds_member) program)
-  texts : texts_held t.store ≤ texts_held s.store + one_if (has_instr (is_on_data adds_text) program)
+  texts : texts_held t.store ≤ texts_held s.store + (one_if (list_any (adds_texts 1) program) + one_if (list_any (adds_texts 2) program))
 
-module _ (program : List Procedure) (s : State) where
+-- an instruction adds at most two texts
+two_at_most : (registers : List Scalar) (i : DataInstr) → texts_added registers i ≤ 2
+two_at_most registers (on_data.New write read ty) = omega (arith, one_at_most (is_text_scalar ty))
+two_at_most registers (on_data.Insert by container subscript member skip) = omega (arith, one_at_most (is_text by))
+two_at_most registers (on_data.InsertValue map subscript from skip) = omega (arith, one_at_most (option_map_or is_text (slice_get registers subscript) false), one_at_most (option_map_or is_text (slice_get registers from) false))
+two_at_most registers (on_data.AddValue map subscript from) = omega (arith, one_at_most (option_map_or is_text (slice_get registers subscript) false))
+two_at_most registers i = omega arith
+
+at_most_two : (n : ℕ) → n ≤ 2 → n ≤ one_if (nat_le 1 n) + one_if (nat_le 2 n)
+at_most_two zero h = omega arith
+at_most_two (suc zero) h = omega arith
+at_most_two (suc (suc zero)) h = omega arith
+at_most_two (suc (suc (suc n))) h = absurd (omega (arith, h))
+
+-- each running task has values of its registers' types
+abbrev HasTypes : List Procedure → State → Type 0
+HasTypes program s = (a : Actor) (f : Frame) (p : Procedure) → get s.frames a ≡ Some f → slice_get program f.procedure ≡ Some p → map scalar_of f.position.values ≡ p.registers
+
+module _ (program : List Procedure) (s : State) (fits : HasTypes program s) where
   abbrev Made : State → Type 0
   Made t = IsMade program s t
 
@@ -97,6 +124,20 @@ module _ (program : List Procedure) (s : State) where
     adds_few test i at here e true passes = some_one (has_instr (is_on_data test) program) (has_at (is_on_data test) program at.frame.procedure at.procedure at.frame.position.place (instr.Data i) here.procedure (here.instr ∙ ap Some e) passes)
     adds_few test i at here e false passes = omega arith
 
+    -- a test that the number passes is passed by an instruction of the program
+    so_many : (least : ℕ) (i : DataInstr) (at : RunningInstr) → IsRunningAt program a s at → at.instr ≡ instr.Data i → (b : Bool) → nat_le least (texts_added at.procedure.registers i) ≡ b → one_if b ≤ one_if (list_any (adds_texts least) program)
+    so_many least i at here e true passes =
+        some_one (list_any (adds_texts least) program) (any_at (adds_texts least) program at.frame.procedure at.procedure here.procedure
+        (any_at (is_on_data (λ j. nat_le least (texts_added at.procedure.registers j))) at.procedure.code at.frame.position.place (instr.Data i) (here.instr ∙ ap Some e) passes))
+    so_many least i at here e false passes = omega arith
+
+    texts_few : (i : DataInstr) (at : RunningInstr) → IsRunningAt program a s at → at.instr ≡ instr.Data i → texts_added at.procedure.registers i ≤ one_if (list_any (adds_texts 1) program) + one_if (list_any (adds_texts 2) program)
+    texts_few i at here e =
+        let n = texts_added at.procedure.registers i in
+        let one = so_many 1 i at here e (nat_le 1 n) refl in
+        let two = so_many 2 i at here e (nat_le 2 n) refl in
+        omega (arith, at_most_two n (two_at_most at.procedure.registers i), one, two)
+
     by_instr : (at : RunningInstr) → IsRunningAt program a s at → (i : Instr) → at.instr ≡ i → IfWent (call_by program s a at i) Made
     by_instr at here (instr.Local i) e = record { is = tt }
     by_instr at here (instr.Data i) e =
@@ -105,8 +146,9 @@ module _ (program : List Procedure) (s : State) where
         let n = m.next 1 in
         let few = new_few i at here e in
         let member = adds_few adds_member i at here e (adds_member i) refl in
-        let text = adds_few adds_text i at here e (adds_text i) refl in
-        record { is = record { new_data = omega (arith, n, few); rules = omega arith; members = omega (arith, m.gains.new_members, member); texts = omega (arith, m.gains.new_texts, text) } })
+        let texts = ap (λ registers. texts_added registers i) (fits a at.frame at.procedure here.frame here.procedure) in
+        let few_texts = texts_few i at here e in
+        record { is = record { new_data = omega (arith, n, few); rules = omega arith; members = omega (arith, m.gains.new_members, member); texts = omega (arith, m.gains.new_texts, texts, few_texts) } })
     by_instr at here (instr.Rule action) e =
         if_ok (called program at.procedure.kind (context_of s at.frame) action) (λ call went.
         let one = some_one (has_instr makes_rule program) (has_at makes_rule program at.frame.procedure at.procedure at.frame.position.place (instr.Rule action) here.procedure (here.instr ∙ ap Some e) refl) in
@@ -193,7 +235,7 @@ module _ (program : List Procedure) (typings : Typings) (is : IsProgram program)
     new_data : t.store.next ≤ s.store.next + one_each makes_datum program limit
     rules : t.next_rule ≤ s.next_rule + one_each makes_rule program limit
     members : members_held t.store ≤ members_held s.store + one_each (is_on_data adds_member) program limit
-    texts : texts_held t.store ≤ texts_held s.store + one_each (is_on_data adds_text) program limit
+    texts : texts_held t.store ≤ texts_held s.store + texts_each program limit
 
   run_few : (limit : ℕ) (layout : ActorCounts) (events : List Event) (s t : State) → IsHeld program typings s → length events ≤ limit → run program layout events s ≡ Went t → IsFew limit events s t
   unfolding run
@@ -208,14 +250,14 @@ module _ (program : List Procedure) (typings : Typings) (is : IsProgram program)
       let one = went_first (step program layout event s) (run program layout events) t e in
       let after = kept_by program typings layout event s one.0 is are held one.1 in
       let runs = event_runs s held layout event one.0 after one.1 in
-      let made = went_of (step program layout event s) (IsMade program s) one.0 (event_made program s layout event) one.1 in
+      let made = went_of (step program layout event s) (IsMade program s) one.0 (event_made program s (λ a f p runs here. types_fit p.registers f.position.values (held.types.values a f p runs here)) layout event) one.1 in
       let rest = run_few limit layout events one.0 t after (omega arith) one.2 in
       record {
         instructions = omega (arith, runs, rest.instructions, sum_by-cons instructions_by event events);
         new_data = omega (arith, made.new_data, rest.new_data, one_more (has_instr makes_datum program) limit);
         rules = omega (arith, made.rules, rest.rules, one_more (has_instr makes_rule program) limit);
         members = omega (arith, made.members, rest.members, one_more (has_instr (is_on_data adds_member) program) limit);
-        texts = omega (arith, made.texts, rest.texts, one_more (has_instr (is_on_data adds_text) program) limit);
+        texts = omega (arith, made.texts, rest.texts, one_more (list_any (adds_texts 1) program) limit, one_more (list_any (adds_texts 2) program) limit);
       }
 
 takes_few : (events : List Event) → tasks_in events ≤ length events
@@ -245,7 +287,7 @@ limits_run program typings is are limit bounds b = record {
         new_data = λ n at. let same = number_is bounds.data (one_each makes_datum program limit) n b.new_data at in omega (arith, same, few.new_data);
         rules = λ n at. let same = number_is bounds.rules (one_each makes_rule program limit) n b.rules at in omega (arith, same, few.rules);
         members = λ n at. let same = number_is bounds.members (one_each (is_on_data adds_member) program limit) n b.members at in omega (arith, same, few.members);
-        bytes = λ n at. let same = number_is bounds.bytes (4096 * one_each (is_on_data adds_text) program limit) n b.bytes at in omega (arith, same, few.texts);
+        bytes = λ n at. let same = number_is bounds.bytes (4096 * texts_each program limit) n b.bytes at in omega (arith, same, few.texts);
         few = λ n at. let same = number_is bounds.events limit n b.events at in omega (arith, same, fits);
       };
 }

@@ -6,6 +6,7 @@ use Rattle.std.specs.Option.{option_flatten, option_map}
 use Rattle.std.proofs.lemmas.Bool.{cases_eq}
 use Rattle.std.proofs.lemmas.List.{length-map, length-set, map-set}
 use Rattle.std.proofs.lemmas.Option.{same_Some, slice_get-get_or, slice_get-map}
+use Rattle.tw_types.specs.declared.data_type.Scalar.{Scalar}
 use Rattle.tw_code.specs.declared.instr.Instr.{Instr}
 use Rattle.tw_code.specs.declared.instr.Instr.TheVariants as instr
 use Rattle.tw_code.specs.declared.procedure.Procedure.{Procedure}
@@ -104,35 +105,35 @@ at_kept known k b q c none e = elim (cases_eq q k) [
 kept_sum : (known more : List (Option ℕ)) (q n : ℕ) (f : ℕ → ℕ) → ((c : ℕ) → bound_at known q ≡ Some c → bound_at more q ≡ Some c) → option_map f (bound_at known q) ≡ Some n → option_map f (bound_at more q) ≡ Some n
 kept_sum known more q n f kept e = let m = mapped_some (bound_at known q) n f e in ap (option_map f) (kept m.0 m.1) ∙ ap Some (sym m.2)
 
-weight_kept : (program : List Procedure) (weights : Weights) (known more : List (Option ℕ)) (i : Instr) (n : ℕ) → ((q c : ℕ) → bound_at known q ≡ Some c → bound_at more q ≡ Some c) → weight_of program weights known i ≡ Some n → weight_of program weights more i ≡ Some n
-weight_kept program weights known more (instr.Local i) n kept e = e
-weight_kept program weights known more (instr.Data i) n kept e = e
-weight_kept program weights known more (instr.Rule action) n kept e = kept_sum known more action.procedure n _ (kept action.procedure) e
-weight_kept program weights known more (instr.Put action) n kept e = kept_sum known more action.procedure n _ (kept action.procedure) e
-weight_kept program weights known more instr.Ret n kept e = e
+weight_kept : (program : List Procedure) (weights : Weights) (known more : List (Option ℕ)) (registers : List Scalar) (i : Instr) (n : ℕ) → ((q c : ℕ) → bound_at known q ≡ Some c → bound_at more q ≡ Some c) → weight_of program weights known registers i ≡ Some n → weight_of program weights more registers i ≡ Some n
+weight_kept program weights known more registers (instr.Local i) n kept e = e
+weight_kept program weights known more registers (instr.Data i) n kept e = e
+weight_kept program weights known more registers (instr.Rule action) n kept e = kept_sum known more action.procedure n _ (kept action.procedure) e
+weight_kept program weights known more registers (instr.Put action) n kept e = kept_sum known more action.procedure n _ (kept action.procedure) e
+weight_kept program weights known more registers instr.Ret n kept e = e
 
-costs_kept : (program : List Procedure) (weights : Weights) (known more : List (Option ℕ)) (code : List Instr) (costs : List ℕ) → ((q c : ℕ) → bound_at known q ≡ Some c → bound_at more q ≡ Some c) → AreCosts program weights known code costs → AreCosts program weights more code costs
-costs_kept program weights known more [] [] kept e = refl
-costs_kept program weights known more [] (n ∷ costs) kept e = cc
-costs_kept program weights known more (i ∷ code) [] kept e = cc
-costs_kept program weights known more (i ∷ code) (n ∷ costs) kept e =
-    let parts = same_parts (weight_of program weights known i) (Some n) (map (weight_of program weights known) code) (map Some costs) e in
-    let first = weight_kept program weights known more i n kept parts.0 in
-    let rest = costs_kept program weights known more code costs kept parts.1 in
-    ap (λ (o : Option ℕ). o ∷ map (weight_of program weights more) code) first ∙ ap (λ (os : List (Option ℕ)). Some n ∷ os) rest
+costs_kept : (program : List Procedure) (weights : Weights) (known more : List (Option ℕ)) (registers : List Scalar) (code : List Instr) (costs : List ℕ) → ((q c : ℕ) → bound_at known q ≡ Some c → bound_at more q ≡ Some c) → AreCosts program weights known registers code costs → AreCosts program weights more registers code costs
+costs_kept program weights known more registers [] [] kept e = refl
+costs_kept program weights known more registers [] (n ∷ costs) kept e = cc
+costs_kept program weights known more registers (i ∷ code) [] kept e = cc
+costs_kept program weights known more registers (i ∷ code) (n ∷ costs) kept e =
+    let parts = same_parts (weight_of program weights known registers i) (Some n) (map (weight_of program weights known registers) code) (map Some costs) e in
+    let first = weight_kept program weights known more registers i n kept parts.0 in
+    let rest = costs_kept program weights known more registers code costs kept parts.1 in
+    ap (λ (o : Option ℕ). o ∷ map (weight_of program weights more registers) code) first ∙ ap (λ (os : List (Option ℕ)). Some n ∷ os) rest
 
 bound_kept : (program : List Procedure) (weights : Weights) (known more : List (Option ℕ)) (p : Procedure) (b : ℕ) → ((q c : ℕ) → bound_at known q ≡ Some c → bound_at more q ≡ Some c) → IsBoundOf program weights known p b → IsBoundOf program weights more p b
-bound_kept program weights known more p b kept o = record { costs = o.costs; are = costs_kept program weights known more p.code o.costs kept o.are; walk = o.walk; greatest_cost = o.greatest_cost; sum = o.sum }
+bound_kept program weights known more p b kept o = record { costs = o.costs; are = costs_kept program weights known more p.registers p.code o.costs kept o.are; walk = o.walk; greatest_cost = o.greatest_cost; sum = o.sum }
 
 -- the number that is computed is a bound
-pub bound_made : (program : List Procedure) (weights : Weights) (known : List (Option ℕ)) (p : Procedure) → IsSound (flows p.code) → (costs : List ℕ) → AreCosts program weights known p.code costs → IsBoundOf program weights known p (weights.task + greatest_cost (cost_in costs) (flows p.code) 0)
+pub bound_made : (program : List Procedure) (weights : Weights) (known : List (Option ℕ)) (p : Procedure) → IsSound (flows p.code) → (costs : List ℕ) → AreCosts program weights known p.registers p.code costs → IsBoundOf program weights known p (weights.task + greatest_cost (cost_in costs) (flows p.code) 0)
 bound_made program weights known p sound costs are = record { costs = costs; are = are; walk = greatest_cost (cost_in costs) (flows p.code) 0; greatest_cost = is_greatest_cost (cost_in costs) (flows p.code) sound; sum = refl }
 
 -- the number that is computed from capped bounds is the exact bound, capped
-pub capped_bound_made : (program : List Procedure) (weights : Weights) (known exact : List (Option ℕ)) (p : Procedure) → AreCapped known exact → IsSound (flows p.code) → (costs : List ℕ) → AreCosts program weights known p.code costs
+pub capped_bound_made : (program : List Procedure) (weights : Weights) (known exact : List (Option ℕ)) (p : Procedure) → AreCapped known exact → IsSound (flows p.code) → (costs : List ℕ) → AreCosts program weights known p.registers p.code costs
     → (b : ℕ) → b ≡ min (weights.task + min (greatest_cost (cost_in costs) (flows p.code) 0) cap) cap → IsCappedBound program weights exact p b
 capped_bound_made program weights known exact p is sound costs are b e =
-    let others = costs_alike program weights known exact is p.code costs are in
+    let others = costs_alike program weights known exact is p.registers p.code costs are in
     let same = greatest_alike (cost_in costs) (cost_in others.0) (flows p.code) others.2 in
     (weights.task + greatest_cost (cost_in others.0) (flows p.code) 0, bound_made program weights exact p sound others.0 others.1, omega (arith, e, same))
 
@@ -159,11 +160,11 @@ module _ (program : List Procedure) (weights : Weights) where
 
       by : ((slice_get call.0.code call.1 ≡ Some (instr.Rule call.2)) ⊎ (slice_get call.0.code call.1 ≡ Some (instr.Put call.2))) → (c : ℕ) × (bound_at known q ≡ Some c)
       by (inl at) =
-          let n = weighted program weights known p.code o.costs o.are call.1 (instr.Rule call.2) (subst (λ (r : Procedure). slice_get r.code call.1 ≡ Some (instr.Rule call.2)) own at) in
+          let n = weighted program weights known p.registers p.code o.costs o.are call.1 (instr.Rule call.2) (subst (λ (r : Procedure). slice_get r.code call.1 ≡ Some (instr.Rule call.2)) own at) in
           let m = mapped_some (bound_at known call.2.procedure) n.0 _ n.1 in
           (m.0, subst (λ (r : ℕ). bound_at known r ≡ Some m.0) call.5 m.1)
       by (inr at) =
-          let n = weighted program weights known p.code o.costs o.are call.1 (instr.Put call.2) (subst (λ (r : Procedure). slice_get r.code call.1 ≡ Some (instr.Put call.2)) own at) in
+          let n = weighted program weights known p.registers p.code o.costs o.are call.1 (instr.Put call.2) (subst (λ (r : Procedure). slice_get r.code call.1 ≡ Some (instr.Put call.2)) own at) in
           let m = mapped_some (bound_at known call.2.procedure) n.0 _ n.1 in
           (m.0, subst (λ (r : ℕ). bound_at known r ≡ Some m.0) call.5 m.1)
 
@@ -243,12 +244,12 @@ module _ (program : List Procedure) (weights : Weights) where
   fixpoint_exact : (known exact : List (Option ℕ)) → AreCapped known exact → IsFixpoint program weights known → IsFixpoint program weights exact
   fixpoint_exact known exact is fixpoint k p here unknown =
       let u = fixpoint k p here (unknown_known known exact k is unknown) in
-      (u.0, u.1, u.2, none_alike program weights known exact is u.1 u.3)
+      (u.0, u.1, u.2, none_alike program weights known exact is p.registers u.1 u.3)
 
   -- ---- a circle
 
   -- a procedure that calls an unknown one
-  calls_unknown : (known : List (Option ℕ)) (k place : ℕ) (p : Procedure) (i : Instr) → slice_get program k ≡ Some p → slice_get p.code place ≡ Some i → weight_of program weights known i ≡ None → (q : ℕ) × Calls program k q × (bound_at known q ≡ None)
+  calls_unknown : (known : List (Option ℕ)) (k place : ℕ) (p : Procedure) (i : Instr) → slice_get program k ≡ Some p → slice_get p.code place ≡ Some i → weight_of program weights known p.registers i ≡ None → (q : ℕ) × Calls program k q × (bound_at known q ≡ None)
   calls_unknown known k place p (instr.Local i) here at e = cc
   calls_unknown known k place p (instr.Data i) here at e = cc
   calls_unknown known k place p (instr.Rule action) here at e = (action.procedure, (p, place, action, here, inl at, refl), no_sum (bound_at known action.procedure) _ e)
@@ -299,12 +300,12 @@ module _ (program : List Procedure) (weights : Weights) where
   none_unknown_left known none k p here e = let h = unknown_found known k e in absurd (omega arith)
 
   -- a pass so far
-  pub fixpoint_more : (known : List (Option ℕ)) (number : ℕ) (p : Procedure) → slice_get program number ≡ Some p → (slice_get known number ≡ Some None → CallsUnknown program weights known p.code)
-      → ((k : ℕ) (q : Procedure) → k < number → slice_get program k ≡ Some q → slice_get known k ≡ Some None → CallsUnknown program weights known q.code)
-      → (k : ℕ) (q : Procedure) → k < number + 1 → slice_get program k ≡ Some q → slice_get known k ≡ Some None → CallsUnknown program weights known q.code
+  pub fixpoint_more : (known : List (Option ℕ)) (number : ℕ) (p : Procedure) → slice_get program number ≡ Some p → (slice_get known number ≡ Some None → CallsUnknown program weights known p.registers p.code)
+      → ((k : ℕ) (q : Procedure) → k < number → slice_get program k ≡ Some q → slice_get known k ≡ Some None → CallsUnknown program weights known q.registers q.code)
+      → (k : ℕ) (q : Procedure) → k < number + 1 → slice_get program k ≡ Some q → slice_get known k ≡ Some None → CallsUnknown program weights known q.registers q.code
   fixpoint_more known number p here this before k q low there none = elim (cases_eq k number) [
     | inl same ↦
         let own : p ≡ q = same_Some p q (sym here ∙ subst (λ (n : ℕ). slice_get program n ≡ Some q) same there) in
-        subst (λ (r : Procedure). CallsUnknown program weights known r.code) own (this (subst (λ (n : ℕ). slice_get known n ≡ Some None) same none))
+        subst (λ (r : Procedure). CallsUnknown program weights known r.registers r.code) own (this (subst (λ (n : ℕ). slice_get known n ≡ Some None) same none))
     | inr other ↦ before k q (omega (arith, low, other)) there none
   ]

@@ -60,28 +60,22 @@ use Rattle.tw_soundness.proofs.Sums.{sum_apart, sum_new, sum_replaced}
 use Rattle.tw_soundness.proofs.TaskEvents.{fresh_rule, fresh_task}
 use Rattle.tw_bounds.specs.GreatestCost.{greatest_cost}
 use Rattle.tw_bounds.specs.declared.weights.Weights.{Weights}
-use Rattle.tw_bounds.specs.Bounds.{AreBounds, bound_at, cost_in, data_weight, rule_events}
+use Rattle.tw_bounds.specs.Bounds.{AreBounds, bound_at, cost_in, rule_events, texts_added, weight_added}
 use Rattle.tw_bounds.proofs.Numbers.{costs_true, greatest_same, mapped_some, num_at, of_known, weight_at, weight_in, weight_num, weighted}
-use Rattle.tw_bounds.specs.Contents.{is_text, is_text_scalar, members_held, texts_held}
-use Rattle.tw_bounds.specs.Limited.{adds_member, adds_text}
+use Rattle.tw_bounds.specs.Contents.{members_held, texts_held}
+use Rattle.tw_bounds.specs.Limited.{adds_member}
 use Rattle.tw_bounds.specs.Runs.{rule_events_by, instructions_by, tasks_by, weight_made}
 use Rattle.tw_bounds.proofs.GreatestCost.{left, pays, stop_at}
 use Rattle.tw_bounds.proofs.Holding.{Gains, one_if}
-use Rattle.tw_bounds.proofs.Moved.{DataGoes, GoesBy, StepsBy, data_goes, for_new, step_goes, subscribed_gains, subscribed_next}
+use Rattle.tw_bounds.proofs.Moved.{DataGoes, GoesBy, StepsBy, data_goes, for_new, step_goes, subscribed_gains, subscribed_next, types_fit}
 use Rattle.tw_bounds.proofs.Reached.{greatest_is}
 
 -- the weight of an instruction on data pays for what it adds to the store
-new_is : (weights : Weights) (i : DataInstr) → for_new weights.datum i + weights.member * one_if (adds_member i) + weights.text * one_if (adds_text i) ≡ data_weight weights i
-new_is weights (on_data.New write read ty) = by (is_text_scalar ty)
-  where
-    by : (b : Bool) → weights.datum + weights.member * 0 + weights.text * one_if b ≡ weights.datum + (if b then weights.text else 0)
-    by true = omega arith
-    by false = omega arith
-new_is weights (on_data.Insert by container subscript member skip) = at (is_text by)
-  where
-    at : (b : Bool) → 0 + weights.member * 1 + weights.text * one_if b ≡ weights.member + (if b then weights.text else 0)
-    at true = omega arith
-    at false = omega arith
+new_is : (weights : Weights) (i : DataInstr) → for_new weights.datum i + weights.member * one_if (adds_member i) ≡ weight_added weights i
+new_is weights (on_data.New write read ty) = omega arith
+new_is weights (on_data.Insert by container subscript member skip) = omega arith
+new_is weights (on_data.InsertValue map subscript from skip) = omega arith
+new_is weights (on_data.AddValue map subscript from) = omega arith
 new_is weights i = omega arith
 
 -- the weight of what a later store holds
@@ -145,7 +139,7 @@ module _ (program : List Procedure) (weights : Weights) (bounds : List (Option �
   -- by a task that runs: what is left to it
   abbrev pub owed_in : Option Procedure → Frame → ℕ
   owed_in None f = 0
-  owed_in (Some p) f = left (weight_at program weights bounds p.code) (flows p.code) f.position.place f.position.loops
+  owed_in (Some p) f = left (weight_at program weights bounds p.registers p.code) (flows p.code) f.position.place f.position.loops
 
   abbrev pub frame_owes : Frame → ℕ
   frame_owes f = owed_in (slice_get program f.procedure) f
@@ -180,7 +174,7 @@ module _ (program : List Procedure) (weights : Weights) (bounds : List (Option �
 
 module _ (program : List Procedure) (p : Procedure) (sound : IsSound (flows p.code)) (weights : Weights) (bounds : List (Option ℕ)) where
   abbrev cost : ℕ → ℕ
-  cost place = weight_at program weights bounds p.code place
+  cost place = weight_at program weights bounds p.registers p.code place
 
   abbrev left_at : Position → ℕ
   left_at at = left cost (flows p.code) at.place at.loops
@@ -190,11 +184,11 @@ module _ (program : List Procedure) (p : Procedure) (sound : IsSound (flows p.co
     pub loops : LoopsFit (flows p.code) at.place at.loops
 
   -- an instruction is paid
-  pub one_paid : (at to : Position) (i : Instr) → Fits at → slice_get p.code at.place ≡ Some i → GoesBy (flow_of i) at to → weight_num program weights bounds i + left_at to ≤ left_at at
+  pub one_paid : (at to : Position) (i : Instr) → Fits at → slice_get p.code at.place ≡ Some i → GoesBy (flow_of i) at to → weight_num program weights bounds p.registers i + left_at to ≤ left_at at
   one_paid at to i fit here g =
       let flow = flow_there p.code at.place i here in
       let h = pays cost (flows p.code) sound at.place (flow_of i) at.loops g.way (record { place = to.place; loops = to.loops }) flow fit.loops g.goes in
-      let c : cost at.place ≡ weight_num program weights bounds i = ap (weight_in program weights bounds) here in
+      let c : cost at.place ≡ weight_num program weights bounds p.registers i = ap (weight_in program weights bounds p.registers) here in
       omega arith
 
   fits_on : (at to : Position) (i : Instr) → Fits at → slice_get p.code at.place ≡ Some i → GoesBy (flow_of i) at to → Fits to
@@ -224,25 +218,25 @@ module _ (program : List Procedure) (typings : Typings) (is : IsProgram program)
   sound_at k p here = (accepts program typings is are k p here).sound
 
   -- a task owes its price and what is left at its first place
-  starts : (k b : ℕ) (p : Procedure) → slice_get program k ≡ Some p → bound_at bounds k ≡ Some b → weights.task + greatest_cost (weight_at program weights bounds p.code) (flows p.code) 0 ≡ num_at bounds k
+  starts : (k b : ℕ) (p : Procedure) → slice_get program k ≡ Some p → bound_at bounds k ≡ Some b → weights.task + greatest_cost (weight_at program weights bounds p.registers p.code) (flows p.code) 0 ≡ num_at bounds k
   starts k b p here is_bound =
       let o = all.each k p b here is_bound in
-      let same = greatest_same (flows p.code) (cost_in o.costs) (weight_at program weights bounds p.code) o.walk (costs_true program weights bounds p.code o.costs o.are) o.greatest_cost in
-      let d = greatest_is (weight_at program weights bounds p.code) (flows p.code) (sound_at k p here) o.walk same in
+      let same = greatest_same (flows p.code) (cost_in o.costs) (weight_at program weights bounds p.registers p.code) o.walk (costs_true program weights bounds p.registers p.code o.costs o.are) o.greatest_cost in
+      let d = greatest_is (weight_at program weights bounds p.registers p.code) (flows p.code) (sound_at k p here) o.walk same in
       omega (arith, o.sum, d, of_known bounds k b is_bound)
 
   -- a procedure that is called has a bound
   rule_bound : (k b place : ℕ) (p : Procedure) (action : Action) → slice_get program k ≡ Some p → bound_at bounds k ≡ Some b → slice_get p.code place ≡ Some (instr.Rule action) → HasBound program weights bounds action.procedure
   rule_bound k b place p action here is_bound at =
       let o = all.each k p b here is_bound in
-      let n = weighted program weights bounds p.code o.costs o.are place (instr.Rule action) at in
+      let n = weighted program weights bounds p.registers p.code o.costs o.are place (instr.Rule action) at in
       let m = mapped_some (bound_at bounds action.procedure) n.0 _ n.1 in
       (m.0, m.1)
 
   put_bound : (k b place : ℕ) (p : Procedure) (action : Action) → slice_get program k ≡ Some p → bound_at bounds k ≡ Some b → slice_get p.code place ≡ Some (instr.Put action) → HasBound program weights bounds action.procedure
   put_bound k b place p action here is_bound at =
       let o = all.each k p b here is_bound in
-      let n = weighted program weights bounds p.code o.costs o.are place (instr.Put action) at in
+      let n = weighted program weights bounds p.registers p.code o.costs o.are place (instr.Put action) at in
       let m = mapped_some (bound_at bounds action.procedure) n.0 _ n.1 in
       (m.0, m.1)
 
@@ -269,7 +263,7 @@ module _ (program : List Procedure) (typings : Typings) (is : IsProgram program)
         let w = held.budgets.within a f p budget.0 runs here budget.1 in
         record { inside = w.inside; loops = w.fits }
 
-    owes_is : (f : Frame) (p : Procedure) → slice_get program f.procedure ≡ Some p → frame_owes program weights bounds f ≡ left (weight_at program weights bounds p.code) (flows p.code) f.position.place f.position.loops
+    owes_is : (f : Frame) (p : Procedure) → slice_get program f.procedure ≡ Some p → frame_owes program weights bounds f ≡ left (weight_at program weights bounds p.registers p.code) (flows p.code) f.position.place f.position.loops
     owes_is f p here = ap (λ o. owed_in program weights bounds o f) here
 
     -- a frame takes the place of another
@@ -290,7 +284,7 @@ module _ (program : List Procedure) (typings : Typings) (is : IsProgram program)
         let free = none_is (get s.frames a) (and_second (is_in layout a) (is_none (get s.frames a)) both) in
         let b = begun_so e.0 e.1 frame goes in
         let own = owes_is frame b.0 (ap (slice_get program) b.2 ∙ b.1) in
-        let at_start = ap (λ (n : ℕ). left (weight_at program weights bounds b.0.code) (flows b.0.code) n frame.position.loops) b.3 ∙ ap (λ l. left (weight_at program weights bounds b.0.code) (flows b.0.code) 0 l) b.4 in
+        let at_start = ap (λ (n : ℕ). left (weight_at program weights bounds b.0.registers b.0.code) (flows b.0.code) n frame.position.loops) b.3 ∙ ap (λ l. left (weight_at program weights bounds b.0.registers b.0.code) (flows b.0.code) 0 l) b.4 in
         let known = bounded.tasks e.0 e.1 (best_waits a s.tasks e first) in
         let whole = starts e.1.procedure known.0 b.0 b.1 known.1 in
         let frames = sum_new actor_cmp actor_cmp_total actor_cmp-IsAntisymmetric (frame_owes program weights bounds) s.frames a frame free in
@@ -327,7 +321,9 @@ module _ (program : List Procedure) (typings : Typings) (is : IsProgram program)
             let y = owes_is g at.procedure here.procedure in
             let n = m.next weights.datum in
             let new = new_is weights i in
-            let held = held_paid weights (one_if (adds_member i)) (one_if (adds_text i)) s.store c.store m.gains in
+            let texts = ap (λ registers. texts_added registers i) (types_fit at.procedure.registers at.frame.position.values (held.types.values a at.frame at.procedure here.frame here.procedure)) in
+            let gains = subst (λ (n : ℕ). Gains (one_if (adds_member i)) n s.store c.store) texts m.gains in
+            let held = held_paid weights (one_if (adds_member i)) (texts_added at.procedure.registers i) s.store c.store gains in
             record { is = record { by = omega arith; bounded = record { frames = framed a at.frame g here.frame refl; tasks = bounded.tasks; rules = bounded.rules } } })
         by at here (instr.Rule action) e =
             if_ok (called program at.procedure.kind (context_of s at.frame) action) (λ call went.
@@ -386,12 +382,12 @@ module _ (program : List Procedure) (typings : Typings) (is : IsProgram program)
         greatest_left cost code place [] = omega arith
         greatest_left cost code place (inner ∷ outer) = omega arith
 
-        ret_left : (p : Procedure) (at : Position) (i : Instr) → slice_get p.code at.place ≡ Some i → is_ret i ≡ true → weights.instr ≤ left (weight_at program weights bounds p.code) (flows p.code) at.place at.loops
+        ret_left : (p : Procedure) (at : Position) (i : Instr) → slice_get p.code at.place ≡ Some i → is_ret i ≡ true → weights.instr ≤ left (weight_at program weights bounds p.registers p.code) (flows p.code) at.place at.loops
         ret_left p at i here ret =
             let own : slice_get p.code at.place ≡ Some instr.Ret = here ∙ ap Some (at_ret i ret) in
-            let d = stop_at (weight_at program weights bounds p.code) (flows p.code) at.place (flow_there p.code at.place instr.Ret own) in
-            let c : weight_at program weights bounds p.code at.place ≡ weights.instr = ap (weight_in program weights bounds) own in
-            let l = greatest_left (weight_at program weights bounds p.code) (flows p.code) at.place at.loops in
+            let d = stop_at (weight_at program weights bounds p.registers p.code) (flows p.code) at.place (flow_there p.code at.place instr.Ret own) in
+            let c : weight_at program weights bounds p.registers p.code at.place ≡ weights.instr = ap (weight_in program weights bounds p.registers) own in
+            let l = greatest_left (weight_at program weights bounds p.registers p.code) (flows p.code) at.place at.loops in
             omega arith
 
     -- a rule stays as it is, except for a stage

@@ -1,6 +1,7 @@
 -- The total weight of a task of a procedure, with all tasks that descend from it.
-use Rattle.std.specs.Prelude.{◌≡◌, ℕ, ◌+◌, ◌*◌, ◌<◌, ◌⊎◌, get_or, List, length, filter, map, Option, Some, slice_get, if◌then◌else◌}
-use Rattle.std.specs.Option.{option_flatten, option_map}
+use Rattle.std.specs.Prelude.{◌≡◌, ℕ, ◌+◌, ◌*◌, ◌<◌, ◌⊎◌, false, get_or, List, length, filter, map, Option, Some, slice_get, if◌then◌else◌}
+use Rattle.std.specs.Option.{option_flatten, option_map, option_map_or}
+use Rattle.tw_types.specs.declared.data_type.Scalar.{Scalar}
 use Rattle.tw_types.specs.declared.param.Param.{Param}
 use Rattle.tw_types.specs.Mode.{is_closed_mode}
 use Rattle.tw_code.specs.declared.instr.Action.{Action}
@@ -19,27 +20,46 @@ use Rattle.tw_bounds.specs.Cost.{IsGreatestCost}
 abbrev pub bound_at : List (Option ℕ) → ℕ → Option ℕ
 bound_at bounds q = option_flatten (slice_get bounds q)
 
+-- returns 1 for a register of texts, else 0
+abbrev pub text_in : List Scalar → ℕ → ℕ
+text_in registers register = if option_map_or is_text (slice_get registers register) false then 1 else 0
+
+-- counts the texts that an instruction adds at most, by the types of the procedure's registers
+abbrev pub texts_added : List Scalar → DataInstr → ℕ
+texts_added registers (on_data.New write read ty) = if is_text_scalar ty then 1 else 0
+texts_added registers (on_data.Insert by container subscript member skip) = if is_text by then 1 else 0
+texts_added registers (on_data.InsertValue map subscript from skip) = text_in registers subscript + text_in registers from
+texts_added registers (on_data.AddValue map subscript from) = text_in registers subscript
+texts_added registers i = 0
+
+-- returns the weight of the datum, member or value that an instruction adds
+abbrev pub weight_added : Weights → DataInstr → ℕ
+weight_added weights (on_data.New write read ty) = weights.datum
+weight_added weights (on_data.Insert by container subscript member skip) = weights.member
+weight_added weights (on_data.InsertValue map subscript from skip) = weights.member
+weight_added weights (on_data.AddValue map subscript from) = weights.member
+weight_added weights i = 0
+
 -- returns what an instruction on data adds to its own weight
-abbrev pub data_weight : Weights → DataInstr → ℕ
-data_weight weights (on_data.New write read ty) = weights.datum + (if is_text_scalar ty then weights.text else 0)
-data_weight weights (on_data.Insert by container subscript member skip) = weights.member + (if is_text by then weights.text else 0)
-data_weight weights i = 0
+abbrev pub data_weight : Weights → List Scalar → DataInstr → ℕ
+data_weight weights registers i = weight_added weights i + weights.text * texts_added registers i
 
 -- returns the greatest number of events after a RULE: an Ask and a Deliver for each `closed` parameter, and a Release
 abbrev pub rule_events : List Param → ℕ
 rule_events params = 1 + 2 * length (filter (λ p. is_closed_mode p.mode) params)
 
--- returns the weight of an instruction: its own, and the bound of the task of its RULE or PUT, if that has one
-abbrev pub weight_of : List Procedure → Weights → List (Option ℕ) → Instr → Option ℕ
-weight_of program weights bounds (instr.Local i) = Some weights.instr
-weight_of program weights bounds (instr.Data i) = Some (weights.instr + data_weight weights i)
-weight_of program weights bounds (instr.Rule action) = option_map (λ b. weights.instr + weights.rule + weights.rule_event * rule_events (params_of program action.procedure) + b) (bound_at bounds action.procedure)
-weight_of program weights bounds (instr.Put action) = option_map (λ b. weights.instr + b) (bound_at bounds action.procedure)
-weight_of program weights bounds instr.Ret = Some weights.instr
+-- returns the weight of an instruction of a procedure with such registers: its own, and the bound of the task of its RULE or PUT, if that
+-- has one
+abbrev pub weight_of : List Procedure → Weights → List (Option ℕ) → List Scalar → Instr → Option ℕ
+weight_of program weights bounds registers (instr.Local i) = Some weights.instr
+weight_of program weights bounds registers (instr.Data i) = Some (weights.instr + data_weight weights registers i)
+weight_of program weights bounds registers (instr.Rule action) = option_map (λ b. weights.instr + weights.rule + weights.rule_event * rule_events (params_of program action.procedure) + b) (bound_at bounds action.procedure)
+weight_of program weights bounds registers (instr.Put action) = option_map (λ b. weights.instr + b) (bound_at bounds action.procedure)
+weight_of program weights bounds registers instr.Ret = Some weights.instr
 
 -- holds if these are the costs of the places
-abbrev pub AreCosts : List Procedure → Weights → List (Option ℕ) → List Instr → List ℕ → Type 0
-AreCosts program weights bounds code costs = map (weight_of program weights bounds) code ≡ map Some costs
+abbrev pub AreCosts : List Procedure → Weights → List (Option ℕ) → List Scalar → List Instr → List ℕ → Type 0
+AreCosts program weights bounds registers code costs = map (weight_of program weights bounds registers) code ≡ map Some costs
 
 abbrev pub cost_in : List ℕ → ℕ → ℕ
 cost_in costs place = get_or costs place 0
@@ -47,7 +67,7 @@ cost_in costs place = get_or costs place 0
 -- the bound of a task of the procedure: the task's own weight, and the cost of the most expensive walk
 pub record IsBoundOf (program : List Procedure) (weights : Weights) (bounds : List (Option ℕ)) (p : Procedure) (bound : ℕ) : Type 0 where
   pub costs : List ℕ
-  pub are : AreCosts program weights bounds p.code costs
+  pub are : AreCosts program weights bounds p.registers p.code costs
   pub walk : ℕ
   pub greatest_cost : IsGreatestCost (flows p.code) (cost_in costs) walk
   pub sum : bound ≡ weights.task + walk

@@ -1,12 +1,11 @@
 -- The members and texts that a store holds.
 use Rattle.std.specs.Prelude.{ℕ, ◌+◌, ◌*◌, Bool, true, false, ◌&&◌, if◌then◌else◌}
-use Rattle.std.specs.FinMap as map
 use Rattle.tw_types.specs.declared.data_type.Scalar.{Scalar}
 use Rattle.tw_types.specs.declared.data_type.Scalar.TheVariants as scalar
-use Rattle.tw_types.specs.DataType.{is_container_by, is_scalar}
+use Rattle.tw_types.specs.DataType.{has_subscripts_by, is_map, is_scalar}
 use Rattle.tw_types.specs.Nesting.{NestedScalar}
 use Rattle.tw_types.specs.Store.{Datum, Store}
-use Rattle.tw_types.specs.StoreCalls.{members_in}
+use Rattle.tw_types.specs.StoreCalls.{count_in}
 use Rattle.tw_types.specs.Totals.{total}
 
 abbrev pub is_text : Scalar → Bool
@@ -16,13 +15,18 @@ is_text scalar.Text = true
 abbrev pub is_text_scalar : NestedScalar → Bool
 is_text_scalar ty = is_scalar ty && is_text ty.scalar
 
--- counts the members of a container; a scalar has none
-abbrev pub member_count : Datum → ℕ
-member_count x = map.len (members_in x.content)
+-- returns whether it is a map whose values are texts
+abbrev pub is_map_to_texts : NestedScalar → Bool
+is_map_to_texts ty = is_map ty && is_text ty.scalar
 
--- counts the texts in a datum: a scalar of texts is one, even while it is unset, and so is each subscript that is a text
+-- counts the members of a container, or the values of a map; a scalar has none
+abbrev pub member_count : Datum → ℕ
+member_count x = count_in x.content
+
+-- counts the texts in a datum: a scalar of texts is one, even while it is unset, and so is each subscript that is a text, and each value of
+-- a map that is one
 abbrev pub text_count : Datum → ℕ
-text_count x = (if is_text_scalar x.ty then 1 else 0) + (if is_container_by scalar.Text x.ty then member_count x else 0)
+text_count x = (if is_text_scalar x.ty then 1 else 0) + ((if has_subscripts_by scalar.Text x.ty then member_count x else 0) + (if is_map_to_texts x.ty then member_count x else 0))
 
 abbrev pub members_held : Store → ℕ
 members_held s = total member_count s.live

@@ -1,5 +1,5 @@
 -- The bounds that a limit of events gives. They hold for programs without bounds of their own, too.
-use Rattle.std.specs.Prelude.{◌≡◌, ℕ, ◌+◌, ◌*◌, ◌<◌, ◌≤◌, Bool, true, false, if◌then◌else◌, List, length, Some, slice_get}
+use Rattle.std.specs.Prelude.{◌≡◌, ℕ, ◌+◌, ◌*◌, ◌<◌, ◌≤◌, Bool, true, false, if◌then◌else◌, nat_le, List, length, Some, slice_get}
 use Rattle.std.specs.List.{list_any}
 use Rattle.tw_types.specs.declared.event.Event.{Event}
 use Rattle.tw_types.specs.declared.input.Input.{Input}
@@ -17,7 +17,8 @@ use Rattle.tw_code.specs.machine.Opening.{opening, reached}
 use Rattle.tw_code.specs.machine.State.{State}
 use Rattle.tw_bounds.specs.declared.bound.Bound.TheVariants.{AtMost}
 use Rattle.tw_bounds.specs.declared.limited.LimitedBounds.{LimitedBounds}
-use Rattle.tw_bounds.specs.Contents.{bytes_held, is_text, is_text_scalar, members_held}
+use Rattle.tw_bounds.specs.Bounds.{texts_added}
+use Rattle.tw_bounds.specs.Contents.{bytes_held, members_held}
 use Rattle.tw_bounds.specs.Reports.{reported}
 use Rattle.tw_bounds.specs.Runs.{instructions_in, tasks_in}
 
@@ -51,16 +52,16 @@ is_on_data test (instr.Rule action) = false
 is_on_data test (instr.Put action) = false
 is_on_data test instr.Ret = false
 
--- holds for an INS
+-- holds for an INS, MINS or MADD
 abbrev pub adds_member : DataInstr → Bool
 adds_member (on_data.Insert by container subscript member skip) = true
+adds_member (on_data.InsertValue map subscript from skip) = true
+adds_member (on_data.AddValue map subscript from) = true
 adds_member i = false
 
--- holds for a NEW of a scalar of texts, and for an INS by a text
-abbrev pub adds_text : DataInstr → Bool
-adds_text (on_data.New write read ty) = is_text_scalar ty
-adds_text (on_data.Insert by container subscript member skip) = is_text by
-adds_text i = false
+-- holds if the procedure has an instruction that adds at least so many texts
+abbrev pub adds_texts : ℕ → Procedure → Bool
+adds_texts least p = list_any (is_on_data (λ i. nat_le least (texts_added p.registers i))) p.code
 
 -- holds for a RULE
 abbrev pub makes_rule : Instr → Bool
@@ -78,10 +79,14 @@ has_instr test program = list_any (λ p. list_any test p.code) program
 abbrev pub one_each : (Instr → Bool) → List Procedure → ℕ → ℕ
 one_each test program limit = if has_instr test program then limit else 0
 
+-- returns two for each event if an instruction adds two texts, one if one does, else none
+abbrev pub texts_each : List Procedure → ℕ → ℕ
+texts_each program limit = (if list_any (adds_texts 1) program then limit else 0) + (if list_any (adds_texts 2) program then limit else 0)
+
 -- ---- bounds by the limit
 
 -- each event takes at most one task, executes at most the largest budget of instructions, makes at most one datum or rule, and adds
--- at most one member and one text, of at most 4,096 bytes
+-- at most one member or value and two texts, of at most 4,096 bytes each
 pub record AreLimitedBounds (program : List Procedure) (limit : ℕ) (bounds : LimitedBounds) : Type 0 where
   pub tasks : bounds.tasks ≡ reported (Some limit)
   pub most : ℕ
@@ -90,7 +95,7 @@ pub record AreLimitedBounds (program : List Procedure) (limit : ℕ) (bounds : L
   pub new_data : bounds.data ≡ reported (Some (one_each makes_datum program limit))
   pub rules : bounds.rules ≡ reported (Some (one_each makes_rule program limit))
   pub members : bounds.members ≡ reported (Some (one_each (is_on_data adds_member) program limit))
-  pub bytes : bounds.bytes ≡ reported (Some (4096 * one_each (is_on_data adds_text) program limit))
+  pub bytes : bounds.bytes ≡ reported (Some (4096 * texts_each program limit))
   pub events : bounds.events ≡ reported (Some limit)
 
 -- a run with these events, which led to this state, is within these bounds

@@ -1,6 +1,7 @@
 -- The state while the bounds of all procedures are computed.
 use Rattle.std.specs.Prelude.{◌≡◌, ℕ, ◌<◌, ◌≤◌, min, List, length, map, Option, Some, None, slice_get}
 use Rattle.std.specs.Option.{option_map}
+use Rattle.tw_types.specs.declared.data_type.Scalar.{Scalar}
 use Rattle.tw_code.specs.declared.instr.Instr.{Instr}
 use Rattle.tw_code.specs.declared.procedure.Procedure.{Procedure}
 use Rattle.tw_code.specs.accepting.Structure.{IsStructured}
@@ -28,12 +29,12 @@ abbrev pub AreWithin : List (Option ℕ) → Type 0
 AreWithin known = (q b : ℕ) → bound_at known q ≡ Some b → b ≤ cap
 
 -- holds if some place calls a procedure whose bound isn't known
-abbrev pub CallsUnknown : List Procedure → Weights → List (Option ℕ) → List Instr → Type 0
-CallsUnknown program weights known code = (place : ℕ) × (i : Instr) × (slice_get code place ≡ Some i) × (weight_of program weights known i ≡ None)
+abbrev pub CallsUnknown : List Procedure → Weights → List (Option ℕ) → List Scalar → List Instr → Type 0
+CallsUnknown program weights known registers code = (place : ℕ) × (i : Instr) × (slice_get code place ≡ Some i) × (weight_of program weights known registers i ≡ None)
 
 -- holds if each procedure whose bound isn't known calls one whose bound isn't known
 abbrev pub IsFixpoint : List Procedure → Weights → List (Option ℕ) → Type 0
-IsFixpoint program weights known = (k : ℕ) (p : Procedure) → slice_get program k ≡ Some p → slice_get known k ≡ Some None → CallsUnknown program weights known p.code
+IsFixpoint program weights known = (k : ℕ) (p : Procedure) → slice_get program k ≡ Some p → slice_get known k ≡ Some None → CallsUnknown program weights known p.registers p.code
 
 -- the bound of a procedure whose bound wasn't known
 pub record IsNext (program : List Procedure) (weights : Weights) (known exact : List (Option ℕ)) (k b : ℕ) : Type 0 where

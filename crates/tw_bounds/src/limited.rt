@@ -1,14 +1,16 @@
 //! Bounds that a limit of events gives.
 
-ghost use Rattle.std.specs.Prelude.{◌≡◌, ◌≤◌, ◌*◌, Some, if◌then◌else◌, max};
+ghost use Rattle.std.specs.Prelude.{◌≡◌, ◌≤◌, ◌+◌, ◌*◌, Some, if◌then◌else◌, max, nat_le};
+ghost use Rattle.tw_bounds.specs.Bounds.{texts_added};
 ghost use Rattle.std.specs.List.{list_any};
 ghost use Rattle.tw_code.specs.accepting.Walk.{greatest_budget};
-ghost use Rattle.tw_bounds.specs.Limited.{AreLimitedBounds, IsLargestBudget, LimitsRuns, adds_member, adds_text, has_instr, is_on_data, makes_datum, makes_rule};
+ghost use Rattle.tw_bounds.specs.Limited.{AreLimitedBounds, IsLargestBudget, LimitsRuns, adds_member, adds_texts, has_instr, is_on_data, makes_datum, makes_rule};
 ghost use Rattle.tw_bounds.specs.Reports.{reported};
 
 use crate::bound::Bound;
-use crate::texts::{is_text, is_text_scalar};
+use crate::texts::texts_added;
 use tw_code::{DataInstr, Instr, Procedure};
+use tw_types::Scalar;
 use tw_verify::Verified;
 
 /// Bounds of a run with a limited number of events.
@@ -22,7 +24,7 @@ pub struct LimitedBounds {
     pub data: Bound,
     /// Rules made by RULE.
     pub rules: Bound,
-    /// Members that the store holds beyond those of the inputs, at any time.
+    /// Members and values that the store holds beyond those of the inputs, at any time.
     pub members: Bound,
     /// Bytes of the texts that the store holds beyond those of the inputs, at any time.
     pub bytes: Bound,
@@ -80,25 +82,29 @@ fn makes_rules(program: &[Procedure]) -> bool
     program.iter().any(|procedure| has_rule(procedure))
 }
 
-/// Returns whether an instruction adds a member.
+/// Returns whether an instruction adds a member or a value.
 fn adds_member(instr: &Instr) -> bool
     ensures { result ≡ is_on_data adds_member instr.now }
 {
-    matches!(instr, Instr::Data(DataInstr::Insert { .. }))
+    matches!(
+        instr,
+        Instr::Data(
+            DataInstr::Insert { .. } | DataInstr::InsertValue { .. } | DataInstr::AddValue { .. }
+        )
+    )
 }
 
-/// Returns whether an instruction adds a text.
-fn adds_text(instr: &Instr) -> bool
-    ensures { result ≡ is_on_data adds_text instr.now }
+/// Returns whether an instruction adds at least so many texts.
+fn adds_so_many(least: u64, registers: &[Scalar], instr: &Instr) -> bool
+    ensures { result ≡ is_on_data (λ i. nat_le least (texts_added registers.now i)) instr.now }
 {
     match instr {
-        Instr::Data(DataInstr::New { ty, .. }) => is_text_scalar(*ty),
-        Instr::Data(DataInstr::Insert { by, .. }) => is_text(*by),
+        Instr::Data(i) => least <= texts_added(registers, i),
         _ => false,
     }
 }
 
-/// Returns whether a procedure has an instruction that adds a member.
+/// Returns whether a procedure has an instruction that adds a member or a value.
 fn has_insert(procedure: &Procedure) -> bool
     ensures { result ≡ list_any (is_on_data adds_member) procedure.now.code }
 {
@@ -109,29 +115,30 @@ fn has_insert(procedure: &Procedure) -> bool
         .any(|instr| adds_member(instr))
 }
 
-/// Returns whether a procedure has an instruction that adds a text.
-fn has_text(procedure: &Procedure) -> bool
-    ensures { result ≡ list_any (is_on_data adds_text) procedure.now.code }
+/// Returns whether a procedure has an instruction that adds at least so many texts.
+fn has_texts(least: u64, procedure: &Procedure) -> bool
+    ensures { result ≡ adds_texts least procedure.now }
 {
+    let registers = procedure.registers.as_slice();
     procedure
         .code
         .as_slice()
         .iter()
-        .any(|instr| adds_text(instr))
+        .any(|instr| adds_so_many(least, registers, instr))
 }
 
-/// Returns whether an event can add a member.
+/// Returns whether an event can add a member or a value.
 fn adds_members(program: &[Procedure]) -> bool
     ensures { result ≡ has_instr (is_on_data adds_member) program.now }
 {
     program.iter().any(|procedure| has_insert(procedure))
 }
 
-/// Returns whether an event can add a text.
-fn adds_texts(program: &[Procedure]) -> bool
-    ensures { result ≡ has_instr (is_on_data adds_text) program.now }
+/// Returns whether an event can add at least so many texts.
+fn adds_texts(least: u64, program: &[Procedure]) -> bool
+    ensures { result ≡ list_any (adds_texts least) program.now }
 {
-    program.iter().any(|procedure| has_text(procedure))
+    program.iter().any(|procedure| has_texts(least, procedure))
 }
 
 /// Returns the bound if each event makes one thing, or none does.
@@ -142,12 +149,13 @@ fn one_each(makes: bool, limit: u32) -> Bound
     Bound::from_capped(Some(number))
 }
 
-/// Returns the bound of bytes if each event adds one text, or none does.
-fn bytes_each(adds: bool, limit: u32) -> Bound
-    ensures { result ≡ reported (Some (4096 * (if adds then limit else 0))) }
+/// Returns the bound of bytes if each event adds a text, or none does, and each a second one, or none does.
+fn bytes_each(adds_one: bool, adds_two: bool, limit: u32) -> Bound
+    ensures { result ≡ reported (Some (4096 * ((if adds_one then limit else 0) + (if adds_two then limit else 0)))) }
 {
-    let texts = if adds { u64::from(limit) } else { 0 };
-    Bound::from_capped(Some(4096 * texts))
+    let first = if adds_one { u64::from(limit) } else { 0 };
+    let second = if adds_two { u64::from(limit) } else { 0 };
+    Bound::from_capped(Some(4096 * (first + second)))
 }
 
 /// Returns the larger of two numbers.
@@ -171,7 +179,7 @@ pub fn largest_budget(verified: &Verified) -> u64
 }
 
 /// Returns the bounds of runs with at most `limit` events. Each event takes at most one task, executes instructions of one task,
-/// makes at most one datum or rule, and adds at most one member and one text.
+/// makes at most one datum or rule, and adds at most one member or value and two texts.
 pub fn limited_bounds(verified: &Verified, limit: u32) -> LimitedBounds
     ensures are { AreLimitedBounds verified.now.program limit result }
     ensures runs { LimitsRuns verified.now.program limit result }
@@ -184,7 +192,7 @@ pub fn limited_bounds(verified: &Verified, limit: u32) -> LimitedBounds
         data: one_each(makes_data(procedures), limit),
         rules: one_each(makes_rules(procedures), limit),
         members: one_each(adds_members(procedures), limit),
-        bytes: bytes_each(adds_texts(procedures), limit),
+        bytes: bytes_each(adds_texts(1, procedures), adds_texts(2, procedures), limit),
         events: one_each(true, limit),
     }
 }

@@ -27,10 +27,11 @@ fn bound_of(
     requires known { AreWithin known.now }
     ensures found { (exact : List (Option ℕ)) → AreCapped known.now exact → IfOk result (λ o. IfSome o (IsCappedBound program.now weights.now exact procedure.now)) }
     ensures within { IfOk result (λ o. IfSome o (λ b. b ≤ cap)) }
-    ensures unknown { IfOk result (λ o. o ≡ None → CallsUnknown program.now weights.now known.now procedure.now.code) }
+    ensures unknown { IfOk result (λ o. o ≡ None → CallsUnknown program.now weights.now known.now procedure.now.registers procedure.now.code) }
 {
+    let registers = procedure.registers.as_slice();
     let code = procedure.code.as_slice();
-    let Some(costs) = place_costs(alloc, program, weights, known, code)? else {
+    let Some(costs) = place_costs(alloc, program, weights, known, registers, code)? else {
         return Ok(None);
     };
     let walk = greatest_walk_cost(alloc, code, &costs)?;

@@ -1,18 +1,18 @@
 //! Costs of instructions, computed from the known bounds.
 
-ghost use Rattle.std.specs.Prelude.{◌≡◌, ◌<◌, ◌≤◌, ◌^◌, if◌then◌else◌, IfOk, IfSome, None, filter, length};
+ghost use Rattle.std.specs.Prelude.{◌≡◌, ◌<◌, ◌≤◌, ◌^◌, IfOk, IfSome, None, filter, length};
 ghost use Rattle.tw_types.specs.Mode.{is_closed_mode};
 ghost use Rattle.tw_code.specs.format.Program.{IsProgram};
 ghost use Rattle.tw_code.specs.machine.Arguments.{params_of};
-ghost use Rattle.tw_bounds.specs.Bounds.{AreCosts, bound_at, data_weight, weight_of, rule_events};
+ghost use Rattle.tw_bounds.specs.Bounds.{AreCosts, bound_at, data_weight, weight_added, weight_of, rule_events};
 ghost use Rattle.tw_bounds.specs.Solving.{AreWithin, CallsUnknown};
 ghost use Rattle.tw_bounds.specs.Rows.{AreSmall, most_cost};
 
-use crate::texts::{is_text, is_text_scalar};
+use crate::texts::texts_added;
 use crate::weights::Weights;
 use std::alloc::{AllocError, Global};
 use tw_code::{DataInstr, Instr, Procedure};
-use tw_types::{Mode, Param};
+use tw_types::{Mode, Param, Scalar};
 
 /// Returns the bound of a procedure, if it is known.
 fn bound_of(known: &[Option<u64>], number: u8) -> Option<u64>
@@ -32,28 +32,26 @@ fn closed_in(params: &[Param]) -> usize
         .count()
 }
 
-/// Returns the weight of one text, if there is one.
-fn text_weight(weights: &Weights, is_text: bool) -> u64
-    ensures is { result ≡ (if is_text then weights.now.text else 0) }
+/// Returns the weight of the datum, member or value that an instruction adds.
+fn weight_added(weights: &Weights, instr: &DataInstr) -> u64
+    ensures is { result ≡ weight_added weights.now instr.now }
     ensures small { result < 2 ^ 32 }
 {
-    if is_text { u64::from(weights.text) } else { 0 }
-}
-
-/// Returns what an instruction on data adds to its own weight.
-fn data_weight(weights: &Weights, instr: DataInstr) -> u64
-    ensures is { result ≡ data_weight weights.now instr }
-    ensures small { result < 2 ^ 33 }
-{
     match instr {
-        DataInstr::New { ty, .. } => {
-            u64::from(weights.datum) + text_weight(weights, is_text_scalar(ty))
-        }
-        DataInstr::Insert { by, .. } => {
-            u64::from(weights.member) + text_weight(weights, is_text(by))
+        DataInstr::New { .. } => u64::from(weights.datum),
+        DataInstr::Insert { .. } | DataInstr::InsertValue { .. } | DataInstr::AddValue { .. } => {
+            u64::from(weights.member)
         }
         _ => 0,
     }
+}
+
+/// Returns what an instruction on data adds to its own weight.
+fn data_weight(weights: &Weights, registers: &[Scalar], instr: &DataInstr) -> u64
+    ensures is { result ≡ data_weight weights.now registers.now instr.now }
+    ensures small { result < 2 ^ 34 }
+{
+    weight_added(weights, instr) + u64::from(weights.text) * texts_added(registers, instr)
 }
 
 /// Returns the greatest number of events after a RULE of the procedure: an Ask and a Deliver for each `closed` parameter, and a
@@ -74,17 +72,18 @@ pub fn instr_weight(
     program: &[Procedure],
     weights: &Weights,
     known: &[Option<u64>],
+    registers: &[Scalar],
     instr: &Instr,
 ) -> Option<u64>
     requires limits { IsProgram program.now }
     requires within { AreWithin known.now }
-    ensures is { result ≡ weight_of program.now weights.now known.now instr.now }
+    ensures is { result ≡ weight_of program.now weights.now known.now registers.now instr.now }
     ensures small { IfSome result (λ n. n ≤ most_cost) }
 {
     let own = u64::from(weights.instr);
     match instr {
         Instr::Local(_) | Instr::Ret => Some(own),
-        Instr::Data(i) => Some(own + data_weight(weights, *i)),
+        Instr::Data(i) => Some(own + data_weight(weights, registers, i)),
         Instr::Rule(action) => match bound_of(known, action.procedure) {
             Some(bound) => {
                 let rule_event = u64::from(weights.rule_event)
@@ -106,17 +105,18 @@ pub fn place_costs(
     program: &[Procedure],
     weights: &Weights,
     known: &[Option<u64>],
+    registers: &[Scalar],
     code: &[Instr],
 ) -> Result<Option<Vec<u64>>, AllocError>
     requires limits { IsProgram program.now }
     requires within { AreWithin known.now }
-    ensures costs { IfOk result (λ o. IfSome o (λ costs. AreCosts program.now weights.now known.now code.now costs.items)) }
+    ensures costs { IfOk result (λ o. IfSome o (λ costs. AreCosts program.now weights.now known.now registers.now code.now costs.items)) }
     ensures small { IfOk result (λ o. IfSome o (λ costs. AreSmall costs.items)) }
-    ensures unknown { IfOk result (λ o. o ≡ None → CallsUnknown program.now weights.now known.now code.now) }
+    ensures unknown { IfOk result (λ o. o ≡ None → CallsUnknown program.now weights.now known.now registers.now code.now) }
 {
     let mut costs = Vec::new(alloc);
     for instr in code.iter() {
-        let Some(weight) = instr_weight(program, weights, known, instr) else {
+        let Some(weight) = instr_weight(program, weights, known, registers, instr) else {
             return Ok(None);
         };
         costs.push(weight)?;

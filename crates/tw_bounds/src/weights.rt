@@ -13,8 +13,8 @@ pub struct Weights {
     pub rule: u32,
     /// An event of a rule: an Ask and a Deliver for a `closed` parameter, and its Release.
     pub rule_event: u32,
-    /// A member that INS inserts.
+    /// A member that INS inserts, or a value that MINS or MADD puts.
     pub member: u32,
-    /// A scalar of texts that NEW makes, or a subscript by INS that is a text.
+    /// A scalar of texts that NEW makes, or a subscript or value of INS, MINS or MADD that is a text.
     pub text: u32,
 }

@@ -30,6 +30,11 @@ module _ (program : List Procedure) (s : State) (c : Copied) where
   inserts_here frame (Some (instr.Data (on_data.Look by member container subscript skip))) e is = cc
   inserts_here frame (Some (instr.Data (on_data.Size to container))) e is = cc
   inserts_here frame (Some (instr.Data (on_data.SubscriptAt by to container index skip))) e is = cc
+  inserts_here frame (Some (instr.Data (on_data.InsertValue map subscript from skip))) e is =
+      let f = some_first (slice_get program frame.procedure) (λ p. slice_get p.code frame.position.place) (instr.Data (on_data.InsertValue map subscript from skip)) e in
+      record { i = instr.Data (on_data.InsertValue map subscript from skip); is = (f.0, f.1, f.2); container = map; inserts = refl }
+  inserts_here frame (Some (instr.Data (on_data.AddValue map subscript from))) e is = cc
+  inserts_here frame (Some (instr.Data (on_data.GetValue to map subscript skip))) e is = cc
   inserts_here frame (Some (instr.Data (on_data.CopyRead to from))) e is = cc
   inserts_here frame (Some (instr.Data (on_data.CopyWrite to from))) e is = cc
   inserts_here frame (Some (instr.Data (on_data.DropRead right))) e is = cc

@@ -1,5 +1,5 @@
 -- Equal outputs are printed alike, if they have equal types. Types aren't in what is found; the invariant has them.
-use Rattle.std.proofs.Common.{◌≡◌, ℕ, suc, ◌++◌, inl, inr, Bool, List, [], ◌∷◌, Option, Some, None, refl, sym, ap, subst, ◌∙◌, slice_get, length, map, codes, decimal}
+use Rattle.std.proofs.Common.{◌≡◌, ℕ, suc, ◌++◌, inl, inr, Bool, true, false, if◌then◌else◌, List, [], ◌∷◌, Option, Some, None, refl, sym, ap, subst, ◌∙◌, slice_get, length, map, codes, decimal}
 use Rattle.std.proofs.lemmas.List.{length-map}
 use Rattle.std.proofs.lemmas.Option.{same_Some}
 use Rattle.std.specs.FinMap as fin
@@ -8,12 +8,12 @@ use Rattle.std.specs.Option.{option_and_then, option_map}
 use Rattle.serde_json.specs.Data as json
 use Rattle.tw_types.proofs.Totals.{IsEntry, get_entry}
 use Rattle.tw_types.proofs.ValueOrder.{value_cmp_total}
-use Rattle.tw_types.specs.DataType.{element_of, is_container_by}
+use Rattle.tw_types.specs.DataType.{element_of, is_container_by, is_map_by, is_sums}
 use Rattle.tw_types.specs.Nesting.{NestedScalar}
 use Rattle.tw_types.specs.declared.data_type.Scalar.TheVariants as scalar
 use Rattle.tw_types.specs.declared.value.Value.TheVariants as value
-use Rattle.tw_types.specs.Store.{Contains, Content, Data, Datum, Members, Set, Store, Unset, is_closed}
-use Rattle.tw_types.specs.StoreCalls.{member_at, members_in, value_in}
+use Rattle.tw_types.specs.Store.{Contains, Content, Data, Datum, Maps, Members, Set, Store, Unset, Values, is_closed}
+use Rattle.tw_types.specs.StoreCalls.{entries_in as values_in, member_at, members_in, value_in}
 use Rattle.tw_types.specs.TypedStore.{IsTypedStore}
 use Rattle.tw_types.specs.ValueOrder.{Subscript, value_cmp}
 use Rattle.tw_code.specs.declared.procedure.Procedure.{Procedure}
@@ -22,10 +22,10 @@ use Rattle.tw_code.specs.machine.Rights.{RightType}
 use Rattle.tw_code.specs.machine.State.{State}
 use Rattle.tw_soundness.proofs.DataInsert.{found_inside}
 use Rattle.tw_soundness.specs.InOrder.{HeldAsDue, IsInOrder, output_rights}
-use Rattle.tw_determinism.specs.Found.{Look, SameOutputs, at_path, found, look_of, shown}
+use Rattle.tw_determinism.specs.Found.{Entries, Look, Members as Subscripts, Nothing, SameOutputs, Shown, Single, Sums, at_path, found, look_of, shown}
 use Rattle.tw_report.specs.Lines.{value_text}
-use Rattle.tw_report.specs.Report.{closed_text, container_word, content_text, datum_text, entries_in, member_lines, output_line, output_text, output_texts, scalar_word, subscript_text}
-use Rattle.tw_json_output.specs.Outputs.{container_kind, content_json, content_kind, datum_json, datum_kind, key_of, kinds_json, output_json, outputs_json, scalar_json, value_json, with_members}
+use Rattle.tw_report.specs.Report.{closed_text, container_word, content_text, datum_text, entries_in, map_word, member_lines, output_line, output_text, output_texts, scalar_word, subscript_text, value_lines, values_of, values_word}
+use Rattle.tw_json_output.specs.Outputs.{container_kind, content_json, content_kind, datum_json, datum_kind, key_of, kinds_json, map_kind, output_json, outputs_json, scalar_json, value_json, values_json, values_of as value_type, with_members}
 use Rattle.tw_certificate.specs.Printed.{ArePrintedAlike}
 
 abbrev Entry : Type 0
@@ -44,67 +44,114 @@ same_length : (m n : Members) → fin.keys m ≡ fin.keys n → fin.len m ≡ fi
 same_length m n e =
     len-entries m ∙ sym (length-map (fin.entries m) (λ (e : Entry). e.0)) ∙ ap length e ∙ length-map (fin.entries n) (λ (e : Entry). e.0) ∙ sym (len-entries n)
 
+-- what two contents have in common that show the same
+abbrev AreAlike : Content → Content → Type 0
+AreAlike Unset Unset = Unit {0}
+AreAlike (Set u) (Set v) = u ≡ v
+AreAlike (Contains m) (Contains n) = fin.keys m ≡ fin.keys n
+AreAlike (Maps u) (Maps v) = u ≡ v
+AreAlike c d = ⊥
+
+abbrev shows_map : Shown → Bool
+shows_map (Entries values) = true
+shows_map (Sums values) = true
+shows_map s = false
+
+no_map : (s : Shown) → shows_map s ≡ false → (b : Bool) (values : Values) → (if b then Sums values else Entries values) ≡ s → ⊥
+no_map s none true values e = let z : true ≡ false = ap shows_map e ∙ none in cc
+no_map s none false values e = let z : true ≡ false = ap shows_map e ∙ none in cc
+
+same_values : (a b : Bool) (u v : Values) → (if a then Sums u else Entries u) ≡ (if b then Sums v else Entries v) → u ≡ v
+same_values true true u v e = cc
+same_values true false u v e = cc
+same_values false true u v e = cc
+same_values false false u v e = cc
+
+alike : (a b : NestedScalar) (c d : Content) → shown a c ≡ shown b d → AreAlike c d
+alike a b Unset Unset e = tt
+alike a b (Set u) (Set v) e = cc
+alike a b (Contains m) (Contains n) e = cc
+alike a b (Maps u) (Maps v) e = same_values (is_sums a) (is_sums b) u v e
+alike a b (Maps u) Unset e = no_map Nothing refl (is_sums a) u e
+alike a b (Maps u) (Set v) e = no_map (Single v) refl (is_sums a) u e
+alike a b (Maps u) (Contains n) e = no_map (Subscripts (fin.keys n)) refl (is_sums a) u e
+alike a b Unset (Maps v) e = no_map Nothing refl (is_sums b) v (sym e)
+alike a b (Set u) (Maps v) e = no_map (Single u) refl (is_sums b) v (sym e)
+alike a b (Contains m) (Maps v) e = no_map (Subscripts (fin.keys m)) refl (is_sums b) v (sym e)
+alike a b c d e = cc
+
+contents_alike : (x y : Datum) → look_of x ≡ look_of y → AreAlike x.content y.content
+contents_alike x y e = alike x.ty y.ty x.content y.content (ap (λ (l : Look). l.content) e)
+
 abbrev head_of : NestedScalar → Bool → List ℕ
 head_of ty closed = container_word ty ++ (scalar_word ty.scalar ++ closed_text closed)
 
-content_alike : (x y : Datum) (c d : Content) → shown c ≡ shown d → is_closed x ≡ is_closed y → x.ty ≡ y.ty → content_text x c ≡ content_text y d
-content_alike x y Unset Unset e closed ty = refl
-content_alike x y Unset (Set v) e closed ty = cc
-content_alike x y Unset (Contains n) e closed ty = cc
-content_alike x y (Set u) Unset e closed ty = cc
-content_alike x y (Set u) (Set v) e closed ty = let same : u ≡ v = cc in ap value_text same
-content_alike x y (Set u) (Contains n) e closed ty = cc
-content_alike x y (Contains m) Unset e closed ty = cc
-content_alike x y (Contains m) (Set v) e closed ty = cc
-content_alike x y (Contains m) (Contains n) e closed ty =
-    let keys : fin.keys m ≡ fin.keys n = cc in
-    ap (λ c. head_of x.ty c ++ decimal (fin.len m)) closed ∙ ap (λ t. head_of t (is_closed y) ++ decimal (fin.len m)) ty ∙ ap (λ k. head_of y.ty (is_closed y) ++ decimal k) (same_length m n keys)
+abbrev map_head_of : NestedScalar → Bool → List ℕ
+map_head_of ty closed = map_word ty ++ (values_word ty ++ closed_text closed)
+
+content_alike : (x y : Datum) (c d : Content) → AreAlike c d → is_closed x ≡ is_closed y → x.ty ≡ y.ty → content_text x c ≡ content_text y d
+content_alike x y Unset Unset h closed ty = refl
+content_alike x y (Set u) (Set v) h closed ty = ap value_text h
+content_alike x y (Contains m) (Contains n) h closed ty =
+    ap (λ c. head_of x.ty c ++ decimal (fin.len m)) closed ∙ ap (λ t. head_of t (is_closed y) ++ decimal (fin.len m)) ty ∙ ap (λ k. head_of y.ty (is_closed y) ++ decimal k) (same_length m n h)
+content_alike x y (Maps u) (Maps v) h closed ty =
+    ap (λ c. map_head_of x.ty c ++ decimal (fin.len u)) closed ∙ ap (λ t. map_head_of t (is_closed y) ++ decimal (fin.len u)) ty
+    ∙ ap (λ (values : Values). map_head_of y.ty (is_closed y) ++ decimal (fin.len values)) h
+content_alike x y c d h closed ty = absurd h
 
 text_alike : (o p : Option Datum) → AreTwins o p → datum_text o ≡ datum_text p
 text_alike None None h = refl
 text_alike None (Some y) h = absurd h
 text_alike (Some x) None h = absurd h
-text_alike (Some x) (Some y) h = content_alike x y x.content y.content (ap (λ (l : Look). l.content) h.0) (ap (λ (l : Look). l.closed) h.0) h.1
+text_alike (Some x) (Some y) h = content_alike x y x.content y.content (contents_alike x y h.0) (ap (λ (l : Look). l.closed) h.0) h.1
 
-value_alike : (c d : Content) → shown c ≡ shown d → value_in c ≡ value_in d
-value_alike Unset Unset e = refl
-value_alike Unset (Set v) e = cc
-value_alike Unset (Contains n) e = cc
-value_alike (Set u) Unset e = cc
-value_alike (Set u) (Set v) e = let same : u ≡ v = cc in ap Some same
-value_alike (Set u) (Contains n) e = cc
-value_alike (Contains m) Unset e = cc
-value_alike (Contains m) (Set v) e = cc
-value_alike (Contains m) (Contains n) e = refl
+value_alike : (c d : Content) → AreAlike c d → value_in c ≡ value_in d
+value_alike Unset Unset h = refl
+value_alike (Set u) (Set v) h = ap Some h
+value_alike (Contains m) (Contains n) h = refl
+value_alike (Maps u) (Maps v) h = refl
+value_alike c d h = absurd h
 
 json_alike : (o p : Option Datum) → AreTwins o p → datum_json o ≡ datum_json p
 json_alike None None h = refl
 json_alike None (Some y) h = absurd h
 json_alike (Some x) None h = absurd h
-json_alike (Some x) (Some y) h = ap value_json (value_alike x.content y.content (ap (λ (l : Look). l.content) h.0))
+json_alike (Some x) (Some y) h = ap value_json (value_alike x.content y.content (contents_alike x y h.0))
 
 abbrev kind_at : NestedScalar → Bool → List ℕ
 kind_at ty closed = container_kind (is_container_by scalar.Text ty) ty.scalar closed
 
-content_kind_alike : (x y : Datum) (c d : Content) → shown c ≡ shown d → is_closed x ≡ is_closed y → x.ty ≡ y.ty → content_kind x c ≡ content_kind y d
-content_kind_alike x y Unset Unset e closed ty = refl
-content_kind_alike x y Unset (Set v) e closed ty = cc
-content_kind_alike x y Unset (Contains n) e closed ty = cc
-content_kind_alike x y (Set u) Unset e closed ty = cc
-content_kind_alike x y (Set (value.Int n)) (Set (value.Int m)) e closed ty = refl
-content_kind_alike x y (Set (value.Int n)) (Set (value.Text m)) e closed ty = cc
-content_kind_alike x y (Set (value.Text n)) (Set (value.Int m)) e closed ty = cc
-content_kind_alike x y (Set (value.Text n)) (Set (value.Text m)) e closed ty = refl
-content_kind_alike x y (Set u) (Contains n) e closed ty = cc
-content_kind_alike x y (Contains m) Unset e closed ty = cc
-content_kind_alike x y (Contains m) (Set v) e closed ty = cc
-content_kind_alike x y (Contains m) (Contains n) e closed ty = ap (kind_at x.ty) closed ∙ ap (λ t. kind_at t (is_closed y)) ty
+abbrev map_kind_at : NestedScalar → Bool → List ℕ
+map_kind_at ty closed = map_kind (is_map_by scalar.Text ty) (value_type ty) closed
+
+content_kind_alike : (x y : Datum) (c d : Content) → AreAlike c d → is_closed x ≡ is_closed y → x.ty ≡ y.ty → content_kind x c ≡ content_kind y d
+content_kind_alike x y Unset Unset h closed ty = refl
+content_kind_alike x y (Set (value.Int n)) (Set (value.Int m)) h closed ty = refl
+content_kind_alike x y (Set (value.Int n)) (Set (value.Text m)) h closed ty = cc
+content_kind_alike x y (Set (value.Text n)) (Set (value.Int m)) h closed ty = cc
+content_kind_alike x y (Set (value.Text n)) (Set (value.Text m)) h closed ty = refl
+content_kind_alike x y (Contains m) (Contains n) h closed ty = ap (kind_at x.ty) closed ∙ ap (λ t. kind_at t (is_closed y)) ty
+content_kind_alike x y (Maps u) (Maps v) h closed ty = ap (map_kind_at x.ty) closed ∙ ap (λ t. map_kind_at t (is_closed y)) ty
+content_kind_alike x y c d h closed ty = absurd h
 
 kind_alike : (o p : Option Datum) → AreTwins o p → datum_kind o ≡ datum_kind p
 kind_alike None None h = refl
 kind_alike None (Some y) h = absurd h
 kind_alike (Some x) None h = absurd h
-kind_alike (Some x) (Some y) h = content_kind_alike x y x.content y.content (ap (λ (l : Look). l.content) h.0) (ap (λ (l : Look). l.closed) h.0) h.1
+kind_alike (Some x) (Some y) h = content_kind_alike x y x.content y.content (contents_alike x y h.0) (ap (λ (l : Look). l.closed) h.0) h.1
+
+values_same : (c d : Content) → AreAlike c d → fin.entries (values_in c) ≡ fin.entries (values_in d)
+values_same Unset Unset h = refl
+values_same (Set u) (Set v) h = refl
+values_same (Contains m) (Contains n) h = refl
+values_same (Maps u) (Maps v) h = ap (λ (values : Values). fin.entries values) h
+values_same c d h = absurd h
+
+listed_alike : (o p : Option Datum) → AreTwins o p → values_of o ≡ values_of p
+listed_alike None None h = refl
+listed_alike None (Some y) h = absurd h
+listed_alike (Some x) None h = absurd h
+listed_alike (Some x) (Some y) h = values_same x.content y.content (contents_alike x y h.0)
 
 -- ---- members
 
@@ -161,26 +208,23 @@ module _ (live others : Data) where
   outputs_alike k [] (j ∷ more) h = absurd (h 0)
   outputs_alike k (i ∷ ids) [] h = absurd (h 0)
   outputs_alike k (i ∷ ids) (j ∷ more) h =
-      ap (λ line. (line ++ member_lines live (entries_in (get live i))) ++ output_texts live (suc k) ids) (output_line_alike k (get live i) (get others j) (h 0).0)
-      ∙ ap (λ lines. (output_line k (get others j) ++ lines) ++ output_texts live (suc k) ids) (members_alike (entries_in (get live i)) (entries_in (get others j)) (h 0).1)
+      ap (λ line. (line ++ (member_lines live (entries_in (get live i)) ++ value_lines (values_of (get live i)))) ++ output_texts live (suc k) ids) (output_line_alike k (get live i) (get others j) (h 0).0)
+      ∙ ap (λ lines. (output_line k (get others j) ++ (lines ++ value_lines (values_of (get live i)))) ++ output_texts live (suc k) ids) (members_alike (entries_in (get live i)) (entries_in (get others j)) (h 0).1)
+      ∙ ap (λ values. (output_line k (get others j) ++ (member_lines others (entries_in (get others j)) ++ value_lines values)) ++ output_texts live (suc k) ids) (listed_alike (get live i) (get others j) (h 0).0)
       ∙ ap (λ rest. output_text others k (get others j) ++ rest) (outputs_alike (suc k) ids more (λ n. h (suc n)))
 
-  content_json_alike : (c d : Content) → shown c ≡ shown d → AreTwinLists (fin.entries (members_in c)) (fin.entries (members_in d)) → content_json live c ≡ content_json others d
+  content_json_alike : (c d : Content) → AreAlike c d → AreTwinLists (fin.entries (members_in c)) (fin.entries (members_in d)) → content_json live c ≡ content_json others d
   content_json_alike Unset Unset e h = refl
-  content_json_alike Unset (Set v) e h = cc
-  content_json_alike Unset (Contains n) e h = cc
-  content_json_alike (Set u) Unset e h = cc
-  content_json_alike (Set u) (Set v) e h = let same : u ≡ v = cc in ap scalar_json same
-  content_json_alike (Set u) (Contains n) e h = cc
-  content_json_alike (Contains m) Unset e h = cc
-  content_json_alike (Contains m) (Set v) e h = cc
+  content_json_alike (Set u) (Set v) e h = ap scalar_json e
   content_json_alike (Contains m) (Contains n) e h = ap json.object (object_alike json.no_members (fin.entries m) (fin.entries n) h)
+  content_json_alike (Maps u) (Maps v) e h = ap (λ (values : Values). json.object (values_json (fin.entries values))) e
+  content_json_alike c d e h = absurd e
 
   output_json_alike : (o p : Option Datum) → AreTwins o p → AreTwinLists (entries_in o) (entries_in p) → output_json live o ≡ output_json others p
   output_json_alike None None h members = refl
   output_json_alike None (Some y) h members = absurd h
   output_json_alike (Some x) None h members = absurd h
-  output_json_alike (Some x) (Some y) h members = content_json_alike x.content y.content (ap (λ (l : Look). l.content) h.0) members
+  output_json_alike (Some x) (Some y) h members = content_json_alike x.content y.content (contents_alike x y h.0) members
 
   values_alike : (ids more : List ℕ) → ((n : ℕ) → AreTwinOutputs (slice_get ids n) (slice_get more n)) → outputs_json live ids ≡ outputs_json others more
   values_alike [] [] h = refl
@@ -212,16 +256,12 @@ module _ (s t : Store) (typed : IsTypedStore s) (also : IsTypedStore t) where
     own : AreTwins (Some x) (Some y)
     own = twins_by_look (Some x) (Some y) (sym (ap (option_map look_of) here) ∙ same [] ∙ ap (option_map look_of) there) (λ a b e f. sym (ap (λ (d : Datum). d.ty) (same_Some x a e)) ∙ ty ∙ ap (λ (d : Datum). d.ty) (same_Some y b f))
 
-    keys_alike : (c d : Content) → shown c ≡ shown d → map (λ (e : Entry). e.0) (fin.entries (members_in c)) ≡ map (λ (e : Entry). e.0) (fin.entries (members_in d))
-    keys_alike Unset Unset e = refl
-    keys_alike Unset (Set v) e = cc
-    keys_alike Unset (Contains n) e = cc
-    keys_alike (Set u) Unset e = cc
-    keys_alike (Set u) (Set v) e = refl
-    keys_alike (Set u) (Contains n) e = cc
-    keys_alike (Contains m) Unset e = cc
-    keys_alike (Contains m) (Set v) e = cc
-    keys_alike (Contains m) (Contains n) e = let keys : fin.keys m ≡ fin.keys n = cc in keys
+    keys_alike : (c d : Content) → AreAlike c d → map (λ (e : Entry). e.0) (fin.entries (members_in c)) ≡ map (λ (e : Entry). e.0) (fin.entries (members_in d))
+    keys_alike Unset Unset h = refl
+    keys_alike (Set u) (Set v) h = refl
+    keys_alike (Contains m) (Contains n) h = h
+    keys_alike (Maps u) (Maps v) h = refl
+    keys_alike c d h = absurd h
 
     -- what is found at one subscript
     at_key : (u : Store) (id member : ℕ) (z : Datum) (key : Subscript) → get u.live id ≡ Some z → get (members_in z.content) key ≡ Some member → found u (key ∷ []) id ≡ option_map look_of (get u.live member)
@@ -239,7 +279,7 @@ module _ (s t : Store) (typed : IsTypedStore s) (also : IsTypedStore t) where
         (sym (typed.nested.members i e.1 x a here is (found_inside x e.0 e.1 one)) ∙ ap element_of ty ∙ also.nested.members j f.1 y b there also_is (found_inside y f.0 f.1 two)))
 
     entries_alike : AreTwinLists s.live t.live (fin.entries (members_in x.content)) (fin.entries (members_in y.content))
-    entries_alike = twins_by_keys s.live t.live _ _ (keys_alike x.content y.content (ap (λ (l : Look). l.content) own.0)) member_twins
+    entries_alike = twins_by_keys s.live t.live _ _ (keys_alike x.content y.content (contents_alike x y own.0)) member_twins
 
   both : (right : Option RightType) (a b : Option ℕ) → HeldAsDue s right a → HeldAsDue t right b → ((path : List Subscript) → option_and_then (found s path) a ≡ option_and_then (found t path) b) → AreTwinOutputs s.live t.live a b
   both None None None h g same = tt

@@ -25,7 +25,7 @@ pub record CallsAt (event : Event) (s : State) (procedure place : ℕ) : Type 0 
   pub in_procedure : frame.procedure ≡ procedure
   pub at_place : frame.position.place ≡ place
 
--- at the place is an INS or TINS
+-- at the place is an INS, TINS or MINS
 pub record IsInsertion (program : List Procedure) (number place : ℕ) : Type 0 where
   pub i : Instr
   pub is : IsAt program number place i

@@ -3,18 +3,19 @@
 ghost use Rattle.std.specs.Prelude.{◌≡◌, false, true, MatchOption, Some, slice_get};
 ghost use Rattle.std.specs.FinMap.{get};
 ghost use Rattle.std.specs.Option.{option_and_then, option_copied};
-ghost use Rattle.tw_types.specs.StoreCalls.{member_at};
+ghost use Rattle.tw_types.specs.StoreCalls.{entry_at, member_at};
 ghost use Rattle.tw_code.specs.declared.instr.Instr.TheVariants.{Data as OnData};
 ghost use Rattle.tw_code.specs.machine.Due.{instr_here};
 ghost use Rattle.tw_code.specs.machine.Rights.{right_at};
 ghost use Rattle.tw_determinism.specs.Contested.{Copied, copied_by, copy_in, copy_of, is_contest, is_contest_of, is_copied};
+ghost use Rattle.tw_determinism.specs.Refused.{is_value_taken};
 ghost use Rattle.tw_certificate.specs.Noted.{IsCalm, IsContestedAt, IsPlaceOf, Notes};
 
 use std::collections::BTreeSet;
 use tw_code::{DataInstr, Instr};
 use tw_copies::CopyInsertion;
 use tw_machine::{Frame, Plain};
-use tw_types::{Actor, DatumId, Event};
+use tw_types::{Actor, DatumId, Event, Value};
 
 /// Returns the datum whose write right an instruction on data copies.
 fn copy_of_data(frame: &Frame, instr: &DataInstr) -> Option<DatumId>
@@ -25,6 +26,8 @@ fn copy_of_data(frame: &Frame, instr: &DataInstr) -> Option<DatumId>
         DataInstr::New { .. } | DataInstr::Store { .. } | DataInstr::Get { .. } => None,
         DataInstr::Insert { .. } | DataInstr::Look { .. } | DataInstr::Size { .. } => None,
         DataInstr::SubscriptAt { .. } | DataInstr::CopyRead { .. } => None,
+        DataInstr::InsertValue { .. } | DataInstr::AddValue { .. } => None,
+        DataInstr::GetValue { .. } => None,
         DataInstr::DropRead { .. } | DataInstr::DropWrite { .. } => None,
     }
 }
@@ -74,6 +77,23 @@ fn member_at(plain: &Plain, frame: &Frame, container: u8, subscript: u8) -> Opti
     datum.member_at(at.borrowed())
 }
 
+/// Returns whether a map has a value at the subscript in a value register.
+fn has_value_at(plain: &Plain, frame: &Frame, map: u8, subscript: u8) -> bool
+    ensures { result ≡ is_value_taken plain.now.state.store frame.now map subscript }
+{
+    value_at(plain, frame, map, subscript).is_some()
+}
+
+/// Returns the value of a map at the subscript in a value register.
+fn value_at<'p>(plain: &'p Plain, frame: &Frame, map: u8, subscript: u8) -> Option<&'p Value>
+    ensures { option_copied result ≡ option_and_then (λ id. option_and_then (λ at. entry_at plain.now.state.store id at) (slice_get frame.now.position.values subscript)) (right_at frame.now.rights map) }
+{
+    let id = frame.right(map)?;
+    let at = frame.position().value(subscript)?;
+    let datum = plain.state().datum(id)?;
+    datum.value_at(at.borrowed())
+}
+
 /// Returns whether the set has this datum, if there is one.
 fn is_copied(copied: &BTreeSet<u64>, id: Option<DatumId>) -> bool
     ensures { (c : Copied) → Notes copied.now c → result ≡ is_copied c id }
@@ -100,6 +120,16 @@ fn is_contest_on(plain: &Plain, copied: &BTreeSet<u64>, frame: &Frame, instr: &D
             let is_taken = member_at(plain, frame, container, subscript).is_some();
             is_copy & is_taken
         }
+        DataInstr::InsertValue {
+            map,
+            subscript,
+            from: _,
+            skip: _,
+        } => {
+            let is_copy = is_copied(copied, frame.right(map));
+            is_copy & has_value_at(plain, frame, map, subscript)
+        }
+        DataInstr::AddValue { .. } | DataInstr::GetValue { .. } => false,
         DataInstr::New { .. } | DataInstr::Store { .. } | DataInstr::Get { .. } => false,
         DataInstr::Look { .. } | DataInstr::Size { .. } | DataInstr::SubscriptAt { .. } => false,
         DataInstr::CopyRead { .. } | DataInstr::CopyWrite { .. } => false,

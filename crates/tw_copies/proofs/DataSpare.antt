@@ -14,10 +14,10 @@ use Rattle.tw_types.specs.Counts.{hits}
 use Rattle.tw_types.specs.DataType.{element_of}
 use Rattle.tw_types.specs.Mode.{is_read, is_write}
 use Rattle.tw_types.specs.Nesting.{NestedScalar}
+use Rattle.tw_types.specs.Value.{scalar_of}
 use Rattle.tw_types.specs.StoreCalls as calls
-use Rattle.tw_types.specs.StoreCalls.{member_at, members_at, subscript_after}
-use Rattle.tw_types.specs.StoreChecks.{may_be_read, may_copy_write, may_drop_read, may_drop_write, may_insert, may_look, may_read_members, may_read_members_by, may_retrieve, may_store}
-use Rattle.std.specs.FinMap as fin
+use Rattle.tw_types.specs.StoreCalls.{entry_at, member_at, subscript_after, subscripts_at}
+use Rattle.tw_types.specs.StoreChecks.{may_be_read, may_copy_write, may_drop_read, may_drop_write, may_add, may_insert, may_look, may_put, may_read_entry, may_read_members, may_read_subscripts_by, may_retrieve, may_store}
 use Rattle.tw_types.proofs.Freeing.{hits_other, hits_same}
 use Rattle.tw_types.proofs.Results.{must_then, ok_after, ok_first, there_then}
 use Rattle.tw_code.specs.declared.flow.Way.{Way}
@@ -27,7 +27,7 @@ use Rattle.tw_code.specs.declared.instr.DataInstr.TheVariants as on_data
 use Rattle.tw_code.specs.accepting.Flow.{data_flow, onward}
 use Rattle.tw_code.specs.accepting.Typing.{a_member_read, a_read, a_write, after_data, asks_data, reads, writes}
 use Rattle.tw_code.specs.machine.Holders.{write_by}
-use Rattle.tw_code.specs.machine.Data.{Context, after_insert, after_look, data_instr, datum_at, datum_of, suits}
+use Rattle.tw_code.specs.machine.Data.{Context, after_insert, after_look, after_put, data_instr, datum_at, datum_of, if_absent, suits, suits_entry, suits_subscript}
 use Rattle.tw_code.specs.machine.Position.{int_at, must_have_type, of_type_at, with_result}
 use Rattle.tw_code.specs.machine.Rights.{RightType, Typing, must_be_empty, right_at}
 use Rattle.tw_soundness.proofs.Values.{AllYes, passed}
@@ -55,6 +55,9 @@ new_few (on_data.Insert by container subscript member skip) next d = omega arith
 new_few (on_data.Look by member container subscript skip) next d = omega arith
 new_few (on_data.Size to container) next d = omega arith
 new_few (on_data.SubscriptAt by to container index skip) next d = omega arith
+new_few (on_data.InsertValue map subscript from skip) next d = omega arith
+new_few (on_data.AddValue map subscript from) next d = omega arith
+new_few (on_data.GetValue to map subscript skip) next d = omega arith
 new_few (on_data.CopyRead to from) next d = omega arith
 new_few (on_data.CopyWrite to from) next d = omega arith
 new_few (on_data.DropRead right) next d = omega arith
@@ -68,6 +71,9 @@ new_old (on_data.Insert by container subscript member skip) next d less = refl
 new_old (on_data.Look by member container subscript skip) next d less = refl
 new_old (on_data.Size to container) next d less = refl
 new_old (on_data.SubscriptAt by to container index skip) next d less = refl
+new_old (on_data.InsertValue map subscript from skip) next d less = refl
+new_old (on_data.AddValue map subscript from) next d less = refl
+new_old (on_data.GetValue to map subscript skip) next d less = refl
 new_old (on_data.CopyRead to from) next d less = refl
 new_old (on_data.CopyWrite to from) next d less = refl
 new_old (on_data.DropRead right) next d less = refl
@@ -198,8 +204,8 @@ module _ (registers : List Scalar) (typing : Typing) (c : Context) where
       let v = ok_after (must_have_type c.position to by) _ k e in
       let count = ok_first (int_at c.position index) _ k v.1 in
       let h = there_then (right_at c.rights container) EmptyRegister _ k count.2 in
-      let may = ok_after (may_read_members_by by (datum_of c h.0)) _ k h.2 in
-      subst (λ (z : Context). DataSpare typing (on_data.SubscriptAt by to container index skip) c z) (same_ok _ k may.1) (either (subscript_after count.0 (fin.keys (members_at c.store h.0))))
+      let may = ok_after (may_read_subscripts_by by (datum_of c h.0)) _ k h.2 in
+      subst (λ (z : Context). DataSpare typing (on_data.SubscriptAt by to container index skip) c z) (same_ok _ k may.1) (either (subscript_after count.0 (subscripts_at c.store h.0)))
     where
       either : (found : Option Value) → DataSpare typing (on_data.SubscriptAt by to container index skip) c (record c { position = with_result c.position to skip found })
       either None = record { way = Skipped; goes_on = refl; less = λ d m n covers. kept d m n covers; fresh = λ d less. refl }
@@ -237,6 +243,41 @@ module _ (registers : List Scalar) (typing : Typing) (c : Context) where
       either None = record { way = Skipped; goes_on = refl; less = λ d m n covers. kept d m n covers; fresh = λ d less. refl }
       either (Some y) = record { way = Completed; goes_on = refl; less = λ d m n covers. set_read d m n member (a_member_read (right_at typing container)) (Some y) (no_write d (right_at typing container) (Some y)) covers; fresh = λ d less. refl }
 
+  insert_value : (map subscript from skip : ℕ) (k : Context) → data_instr (on_data.InsertValue map subscript from skip) c ≡ Ok k → DataSpare typing (on_data.InsertValue map subscript from skip) c k
+  insert_value map subscript from skip k e =
+      let at = there_then (slice_get c.position.values subscript) WrongRegister _ k e in
+      let v = there_then (slice_get c.position.values from) WrongRegister _ k at.2 in
+      let fits = must_then (suits_entry at.0 v.0 (datum_at c map)) WrongRegister _ k v.2 in
+      let h = there_then (right_at c.rights map) EmptyRegister _ k fits.1 in
+      let may = ok_after (may_put at.0 v.0 (datum_of c h.0)) _ k h.2 in
+      subst (λ (z : Context). DataSpare typing (on_data.InsertValue map subscript from skip) c z) (same_ok _ k may.1) (either h.0 at.0 (if_absent (entry_at c.store h.0 at.0) v.0))
+    where
+      either : (id : ℕ) (at : Value) (put : Option Value) → DataSpare typing (on_data.InsertValue map subscript from skip) c (after_put c id at skip put)
+      either id at None = record { way = Skipped; goes_on = refl; less = λ d m n covers. kept d m n covers; fresh = λ d less. refl }
+      either id at (Some x) = record { way = Completed; goes_on = refl; less = λ d m n covers. kept d m n covers; fresh = λ d less. refl }
+
+  add_value : (map subscript from : ℕ) (k : Context) → data_instr (on_data.AddValue map subscript from) c ≡ Ok k → DataSpare typing (on_data.AddValue map subscript from) c k
+  add_value map subscript from k e =
+      let at = there_then (slice_get c.position.values subscript) WrongRegister _ k e in
+      let v = ok_first (int_at c.position from) _ k at.2 in
+      let fits = must_then (suits_subscript at.0 (datum_at c map)) WrongRegister _ k v.2 in
+      let h = there_then (right_at c.rights map) EmptyRegister _ k fits.1 in
+      let may = ok_after (may_add at.0 (datum_of c h.0)) _ k h.2 in
+      subst (λ (z : Context). DataSpare typing (on_data.AddValue map subscript from) c z) (same_ok _ k may.1) (record { way = Completed; goes_on = refl; less = λ d m n covers. kept d m n covers; fresh = λ d less. refl })
+
+  get_value : (to map subscript skip : ℕ) (k : Context) → data_instr (on_data.GetValue to map subscript skip) c ≡ Ok k → DataSpare typing (on_data.GetValue to map subscript skip) c k
+  get_value to map subscript skip k e =
+      let v = there_then (slice_get c.position.values to) WrongRegister _ k e in
+      let at = there_then (slice_get c.position.values subscript) WrongRegister _ k v.2 in
+      let fits = must_then (suits_entry at.0 v.0 (datum_at c map)) WrongRegister _ k at.2 in
+      let h = there_then (right_at c.rights map) EmptyRegister _ k fits.1 in
+      let may = ok_after (may_read_entry at.0 (scalar_of v.0) (datum_of c h.0)) _ k h.2 in
+      subst (λ (z : Context). DataSpare typing (on_data.GetValue to map subscript skip) c z) (same_ok _ k may.1) (either (entry_at c.store h.0 at.0))
+    where
+      either : (found : Option Value) → DataSpare typing (on_data.GetValue to map subscript skip) c (record c { position = with_result c.position to skip found })
+      either None = record { way = Skipped; goes_on = refl; less = λ d m n covers. kept d m n covers; fresh = λ d less. refl }
+      either (Some y) = record { way = Completed; goes_on = refl; less = λ d m n covers. kept d m n covers; fresh = λ d less. refl }
+
   new : (write read : ℕ) (ty : NestedScalar) (k : Context) → data_instr (on_data.New write read ty) c ≡ Ok k → DataSpare typing (on_data.New write read ty) c k
   new write read ty k e =
       let first = ok_after (must_be_empty c.rights write) _ k e in
@@ -262,6 +303,9 @@ module _ (registers : List Scalar) (typing : Typing) (c : Context) where
   data_spare (on_data.Look by member container subscript skip) k asked e = look by member container subscript skip k e
   data_spare (on_data.Size to container) k asked e = size to container k e
   data_spare (on_data.SubscriptAt by to container index skip) k asked e = subscript by to container index skip k e
+  data_spare (on_data.InsertValue map subscript from skip) k asked e = insert_value map subscript from skip k e
+  data_spare (on_data.AddValue map subscript from) k asked e = add_value map subscript from k e
+  data_spare (on_data.GetValue to map subscript skip) k asked e = get_value to map subscript skip k e
   data_spare (on_data.CopyRead to from) k asked e = copy_read to from k asked e
   data_spare (on_data.CopyWrite to from) k asked e = copy_write to from k e
   data_spare (on_data.DropRead right) k asked e = drop_read right k e

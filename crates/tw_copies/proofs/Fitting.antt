@@ -53,6 +53,9 @@ module _ (program : List Procedure) (marks : List Bool) where
   data_kept number (on_data.Look by member container subscript skip) r met e = e
   data_kept number (on_data.Size to container) r met e = e
   data_kept number (on_data.SubscriptAt by to container index skip) r met e = e
+  data_kept number (on_data.InsertValue map subscript from skip) r met e = e
+  data_kept number (on_data.AddValue map subscript from) r met e = e
+  data_kept number (on_data.GetValue to map subscript skip) r met e = e
   data_kept number (on_data.CopyRead to from) r met e = e
   data_kept number (on_data.CopyWrite to from) r met e = by (r == to) (r == from) refl refl e
     where
@@ -79,9 +82,8 @@ module _ (program : List Procedure) (marks : List Bool) where
       rules = λ number place p action here at. from_first number action.procedure action refl (met number place (instr.Rule action) (p, here, at));
       puts = λ number place p action here at. from_first number action.procedure action refl (met number place (instr.Put action) (p, here, at));
     };
-    inserts = λ number place container subscript member skip by p here at.
-        unmarked number container (is_marked marks number container) refl
-        (λ marked. none number place (record { p = p; here = here; inserts = record { i = instr.Data (on_data.Insert by container subscript member skip); at = at; container = container; inserts = refl; marked = marked } }));
+    inserts = λ number place register i p here at into.
+        unmarked number register (is_marked marks number register) refl (λ marked. none number place (record { p = p; here = here; inserts = record { i = i; at = at; container = register; inserts = into; marked = marked } }));
   }
     where
       unmarked : (number container : ℕ) (b : Bool) → is_marked marks number container ≡ b → (is_marked marks number container ≡ true → ⊥) → is_marked marks number container ≡ false

@@ -70,6 +70,9 @@ module _ (program : List Procedure) (proper : IsProgram program) (marks : List B
   data_wanted number place (on_data.Look by member container subscript skip) at owner register h = absurd h
   data_wanted number place (on_data.Size to container) at owner register h = absurd h
   data_wanted number place (on_data.SubscriptAt by to container index skip) at owner register h = absurd h
+  data_wanted number place (on_data.InsertValue map subscript from skip) at owner register h = absurd h
+  data_wanted number place (on_data.AddValue map subscript from) at owner register h = absurd h
+  data_wanted number place (on_data.GetValue to map subscript skip) at owner register h = absurd h
   data_wanted number place (on_data.CopyRead to from) at owner register h = absurd h
   data_wanted number place (on_data.CopyWrite to from) at owner register h = subst (λ n. Wanted n register) (sym h.0) (by h.1)
     where

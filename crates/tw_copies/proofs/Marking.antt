@@ -1,7 +1,6 @@
 -- Marks of right registers by places: at a marked register and place, the right may be a copy, or may have been copied. A program that
 -- inserts only by rights that aren't marked has no contested insertion.
 use Rattle.std.specs.Prelude.{◌≡◌, ℕ, suc, ◌==◌, Bool, true, false, not, ◌&&◌, ◌||◌, if◌then◌else◌, List, [], ◌∷◌, Some, slice_get}
-use Rattle.tw_types.specs.declared.data_type.Scalar.{Scalar}
 use Rattle.tw_types.specs.declared.param.Param.{Param}
 use Rattle.tw_types.specs.Mode.{is_val}
 use Rattle.tw_code.specs.declared.flow.Way.{Way}
@@ -11,6 +10,7 @@ use Rattle.tw_code.specs.declared.instr.DataInstr.TheVariants as on_data
 use Rattle.tw_code.specs.declared.instr.Instr.{Instr}
 use Rattle.tw_code.specs.declared.instr.Instr.TheVariants as instr
 use Rattle.tw_code.specs.declared.procedure.Procedure.{Procedure}
+use Rattle.tw_copies.specs.Copies.{InsertsInto}
 use Rattle.tw_code.specs.accepting.Flow.{flow_of, onward}
 use Rattle.tw_code.specs.accepting.WellTyped.{IsEndOf}
 use Rattle.tw_code.specs.machine.Arguments.{params_of}
@@ -61,10 +61,9 @@ pub record AreClosed (program : List Procedure) (marks : Marks) : Type 0 where
   pub rules : (number place : ℕ) (p : Procedure) (action : Action) → slice_get program number ≡ Some p → slice_get p.code place ≡ Some (instr.Rule action) → HandsMarks program marks (marks number place) action
   pub puts : (number place : ℕ) (p : Procedure) (action : Action) → slice_get program number ≡ Some p → slice_get p.code place ≡ Some (instr.Put action) → HandsMarks program marks (marks number place) action
 
--- no INS has a marked container
+-- no insertion has a marked container or map
 abbrev pub InsertsUnmarked : List Procedure → Marks → Type 0
-InsertsUnmarked program marks = (number place container subscript member skip : ℕ) (by : Scalar) (p : Procedure) → slice_get program number ≡ Some p
-    → slice_get p.code place ≡ Some (instr.Data (on_data.Insert by container subscript member skip)) → marks number place container ≡ false
+InsertsUnmarked program marks = (number place register : ℕ) (i : Instr) (p : Procedure) → slice_get program number ≡ Some p → slice_get p.code place ≡ Some i → InsertsInto i register → marks number place register ≡ false
 
 -- ---- the programs that pass
 

@@ -29,6 +29,9 @@ module _ (program : List Procedure) (proper : IsProgram program) where
   insert_within (instr.Data (on_data.Look by member container subscript skip)) register is inserts = absurd inserts
   insert_within (instr.Data (on_data.Size to container)) register is inserts = absurd inserts
   insert_within (instr.Data (on_data.SubscriptAt by to container index skip)) register is inserts = absurd inserts
+  insert_within (instr.Data (on_data.InsertValue map subscript from skip)) register is inserts = subst (λ k. k < 16) inserts (omega (arith, is.1.0.1))
+  insert_within (instr.Data (on_data.AddValue map subscript from)) register is inserts = absurd inserts
+  insert_within (instr.Data (on_data.GetValue to map subscript skip)) register is inserts = absurd inserts
   insert_within (instr.Data (on_data.CopyRead to from)) register is inserts = absurd inserts
   insert_within (instr.Data (on_data.CopyWrite to from)) register is inserts = absurd inserts
   insert_within (instr.Data (on_data.DropRead right)) register is inserts = absurd inserts

@@ -10,11 +10,10 @@ use Rattle.tw_types.specs.declared.actor.Actor.{Actor}
 use Rattle.tw_types.specs.declared.event.Event.{Event}
 use Rattle.tw_types.specs.declared.event.Event.TheVariants.{Take, Local, Call, End, Ask, Deliver, Release}
 use Rattle.tw_types.specs.declared.input.Input.{Input}
-use Rattle.tw_types.specs.declared.data_type.Scalar.{Scalar}
 use Rattle.tw_types.specs.declared.param.Param.{Param}
 use Rattle.tw_types.specs.Actor.{actor_cmp, number_in_kind}
 use Rattle.tw_types.specs.Counts.{hits}
-use Rattle.tw_types.specs.DataType.{is_container_by}
+use Rattle.tw_types.specs.DataType.{is_container_by, is_plain_map}
 use Rattle.tw_types.specs.Layout.{ActorCounts}
 use Rattle.tw_types.specs.Mode.{is_val, is_write}
 use Rattle.tw_types.specs.Outcome.{Went, outcome_of}
@@ -30,7 +29,7 @@ use Rattle.tw_code.specs.declared.instr.DataInstr.TheVariants as on_data
 use Rattle.tw_code.specs.declared.instr.Instr.{Instr}
 use Rattle.tw_code.specs.declared.instr.Instr.TheVariants as instr
 use Rattle.tw_code.specs.declared.procedure.Procedure.{Procedure}
-use Rattle.tw_code.specs.accepting.Typing.{writes, writes_container_by}
+use Rattle.tw_code.specs.accepting.Typing.{asks_data, writes, writes_container_by, writes_map}
 use Rattle.tw_code.specs.format.Program.{IsProgram}
 use Rattle.tw_code.specs.machine.Arguments.{called, params_of, put_called}
 use Rattle.tw_code.specs.machine.Data.{Context, data_instr}
@@ -39,7 +38,7 @@ use Rattle.tw_code.specs.machine.Holders.{Typings, frame_writes, id_of, over, re
 use Rattle.tw_code.specs.machine.Inputs.{AreInputsOf}
 use Rattle.tw_code.specs.machine.Machine.{RunningInstr, call_by, running_instr_of, step}
 use Rattle.tw_code.specs.machine.Opening.{opening}
-use Rattle.tw_code.specs.machine.Rights.{Rights, Typing, right_at, right_of}
+use Rattle.tw_code.specs.machine.Rights.{RightType, Rights, Typing, right_at, right_of}
 use Rattle.tw_code.specs.machine.State.{Frame, State, after_context, context_of}
 use Rattle.tw_code.proofs.Leaving.{IsRunningAt, is_running_at}
 use Rattle.tw_soundness.specs.Invariant.{IsHeld}
@@ -49,10 +48,11 @@ use Rattle.tw_soundness.proofs.Lasting.{Lasts, step_lasts}
 use Rattle.tw_soundness.proofs.Running.{asked_at, register_holds, typed_after}
 use Rattle.tw_soundness.proofs.Safe.{accepts, kept_by, opened_held}
 use Rattle.tw_soundness.proofs.Sums.{sum_apart}
-use Rattle.tw_soundness.proofs.Values.{passed}
+use Rattle.tw_soundness.proofs.Values.{AllYes, passed}
 use Rattle.tw_determinism.specs.Contested.{ContestsNone, Copied, contests, copied_by, copy_in, copy_of, is_contest, is_contest_of, is_copied, none_copied, with_copy}
 use Rattle.tw_determinism.specs.OneResult.{NeverContests}
-use Rattle.tw_determinism.specs.Refused.{is_taken}
+use Rattle.tw_determinism.specs.Refused.{is_taken, is_value_taken}
+use Rattle.tw_copies.specs.Copies.{InsertsInto}
 use Rattle.tw_determinism.proofs.Begun.{begins}
 use Rattle.tw_determinism.proofs.Options.{some_first}
 use Rattle.tw_copies.proofs.Copying.{is_copy}
@@ -109,6 +109,9 @@ no_copy_of f (on_data.Insert by container subscript member skip) e = refl
 no_copy_of f (on_data.Look by member container subscript skip) e = refl
 no_copy_of f (on_data.Size to container) e = refl
 no_copy_of f (on_data.SubscriptAt by to container index skip) e = refl
+no_copy_of f (on_data.InsertValue map subscript from skip) e = refl
+no_copy_of f (on_data.AddValue map subscript from) e = refl
+no_copy_of f (on_data.GetValue to map subscript skip) e = refl
 no_copy_of f (on_data.CopyRead to from) e = refl
 no_copy_of f (on_data.CopyWrite to from) e = cc
 no_copy_of f (on_data.DropRead right) e = refl
@@ -287,6 +290,9 @@ module _ (program : List Procedure) (typings : Typings) (proper : IsProgram prog
       data_tracks (on_data.Look by member container subscript skip) true is at c e grows = cc
       data_tracks (on_data.Size to container) true is at c e grows = cc
       data_tracks (on_data.SubscriptAt by to container index skip) true is at c e grows = cc
+      data_tracks (on_data.InsertValue map subscript from skip) true is at c e grows = cc
+      data_tracks (on_data.AddValue map subscript from) true is at c e grows = cc
+      data_tracks (on_data.GetValue to map subscript skip) true is at c e grows = cc
       data_tracks (on_data.CopyRead to from) true is at c e grows = cc
       data_tracks (on_data.DropRead right) true is at c e grows = cc
       data_tracks (on_data.DropWrite right) true is at c e grows = cc
@@ -342,19 +348,20 @@ module _ (program : List Procedure) (typings : Typings) (proper : IsProgram prog
 
     -- ---- nothing is contested
 
-    insert_calm : (a : Actor) (f : Frame) → get s.frames a ≡ Some f → (by : Scalar) (container subscript member skip : ℕ) → instr_here program f ≡ Some (instr.Data (on_data.Insert by container subscript member skip)) → is_copied copied (right_at f.rights container) ≡ false
-    insert_calm a f runs by container subscript member skip is = having (right_at f.rights container) refl
+    insert_calm : (a : Actor) (f : Frame) → get s.frames a ≡ Some f → (i : DataInstr) (register : ℕ) → instr_here program f ≡ Some (instr.Data i) → InsertsInto (instr.Data i) register
+        → ((p : Procedure) → AllYes (asks_data p.registers i (typing_of typings f)) → (q : RightType) × (right_at (typing_of typings f) register ≡ Some q) × (is_write q.mode ≡ true)) → is_copied copied (right_at f.rights register) ≡ false
+    insert_calm a f runs i container is into write_right = having (right_at f.rights container) refl
       where
-        at : (p : Procedure) × (slice_get program f.procedure ≡ Some p) × (slice_get p.code f.position.place ≡ Some (instr.Data (on_data.Insert by container subscript member skip)))
+        at : (p : Procedure) × (slice_get program f.procedure ≡ Some p) × (slice_get p.code f.position.place ≡ Some (instr.Data i))
         at = some_first (slice_get program f.procedure) (λ (q : Procedure). slice_get q.code f.position.place) _ is
 
         clash : (id : ℕ) → right_at f.rights container ≡ Some id → copied id ≡ true → ⊥
         clash id there is =
-            let q = passed (writes_container_by by) (right_at (typing_of typings f) container) (asked_at program typings proper are f.procedure at.0 at.1 f.position.place (instr.Data (on_data.Insert by container subscript member skip)) at.2).0 in
-            let write = (and_parts (is_write q.0.mode) (is_container_by by q.0.ty) q.2).0 in
+            let q = write_right at.0 (asked_at program typings proper are f.procedure at.0 at.1 f.position.place (instr.Data i) at.2) in
+            let write = q.2 in
             let one = spare_there id (marks f.procedure f.position.place) (typing_of typings f) f.rights container (Some q.0) (Some id) (filled_at (typing_of typings f) container q.0 q.1) (filled_at f.rights container id there) in
             let count : one_spare id (marks f.procedure f.position.place container) (Some q.0) (Some id) ≡ 1 =
-            ap (λ b. one_spare id b (Some q.0) (Some id)) (inserts f.procedure f.position.place container subscript member skip by at.0 at.1 at.2) ∙ ap (λ b. if b then hits id id else 0) write ∙ hits_same id in
+            ap (λ b. one_spare id b (Some q.0) (Some id)) (inserts f.procedure f.position.place container (instr.Data i) at.0 at.1 at.2 into) ∙ ap (λ b. if b then hits id id else 0) write ∙ hits_same id in
             let part_of = part-le-total actor_cmp actor_cmp_total actor_cmp-IsAntisymmetric (frame_spare program typings marks id) s.frames a in
             let part_is : part (frame_spare program typings marks id) (get s.frames a) ≡ frame_spare program typings marks id f = ap (part (frame_spare program typings marks id)) runs in
             let none = tracks.spent id is in
@@ -372,10 +379,19 @@ module _ (program : List Procedure) (typings : Typings) (proper : IsProgram prog
     data_calm a f runs (on_data.New write read ty) is = refl
     data_calm a f runs (on_data.Store datum from) is = refl
     data_calm a f runs (on_data.Get to datum) is = refl
-    data_calm a f runs (on_data.Insert by container subscript member skip) is = ap (λ b. b && is_taken s.store f container subscript) (insert_calm a f runs by container subscript member skip is)
+    data_calm a f runs (on_data.Insert by container subscript member skip) is =
+        ap (λ b. b && is_taken s.store f container subscript) (insert_calm a f runs (on_data.Insert by container subscript member skip) container is refl (λ p asked.
+        let q = passed (writes_container_by by) (right_at (typing_of typings f) container) asked.0 in
+        (q.0, q.1, (and_parts (is_write q.0.mode) (is_container_by by q.0.ty) q.2).0)))
     data_calm a f runs (on_data.Look by member container subscript skip) is = refl
     data_calm a f runs (on_data.Size to container) is = refl
     data_calm a f runs (on_data.SubscriptAt by to container index skip) is = refl
+    data_calm a f runs (on_data.InsertValue map subscript from skip) is =
+        ap (λ b. b && is_value_taken s.store f map subscript) (insert_calm a f runs (on_data.InsertValue map subscript from skip) map is refl (λ p asked.
+        let q = passed writes_map (right_at (typing_of typings f) map) asked.0 in
+        (q.0, q.1, (and_parts (is_write q.0.mode) (is_plain_map q.0.ty) q.2).0)))
+    data_calm a f runs (on_data.AddValue map subscript from) is = refl
+    data_calm a f runs (on_data.GetValue to map subscript skip) is = refl
     data_calm a f runs (on_data.CopyRead to from) is = refl
     data_calm a f runs (on_data.CopyWrite to from) is = refl
     data_calm a f runs (on_data.DropRead right) is = refl

@@ -36,9 +36,10 @@ pub data MayBeCopy (program : List Procedure) : ℕ → ℕ → Type 0 where
 
 -- ---- insertions
 
--- holds for an INS or TINS into the container of this register
+-- holds for an INS or TINS into the container of this register, and for a MINS into its map
 abbrev pub InsertsInto : Instr → ℕ → Type 0
 InsertsInto (instr.Data (on_data.Insert by container subscript member skip)) register = container ≡ register
+InsertsInto (instr.Data (on_data.InsertValue map subscript from skip)) register = map ≡ register
 InsertsInto (instr.Data i) register = ⊥
 InsertsInto (instr.Local i) register = ⊥
 InsertsInto (instr.Rule action) register = ⊥

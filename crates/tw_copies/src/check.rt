@@ -10,12 +10,12 @@ use std::alloc::{AllocError, Global};
 use tw_determinism::one_result_if_uncontested;
 use tw_verify::Verified;
 
-/// An insertion into a container by a right that may be a copy.
+/// An insertion into a container or map by a right that may be a copy.
 #[derive(Clone, Copy, Debug)]
 pub struct CopyInsertion {
     /// The number of the procedure.
     pub procedure: usize,
-    /// The place of its INS or TINS.
+    /// The place of its INS, TINS or MINS.
     pub place: usize,
 }
 

@@ -1,4 +1,4 @@
-//! Finds insertions into containers of marked registers.
+//! Finds insertions into containers and maps of marked registers.
 
 ghost use Rattle.std.specs.Prelude.{◌≡◌, ◌<◌, ◌≤◌, ◌^◌, ℕ, MatchOption};
 ghost use Rattle.tw_code.specs.format.Program.{IsProgram};
@@ -9,17 +9,18 @@ use crate::check::CopyInsertion;
 use crate::marks::is_marked;
 use tw_code::{DataInstr, Instr, Procedure};
 
-/// Returns the register of the container, if the instruction inserts.
+/// Returns the register of the container or map, if the instruction inserts.
 fn container_of(instr: &Instr) -> Option<u8>
     ensures { MatchOption result ((register : ℕ) → InsertsInto instr.now register → ⊥) (InsertsInto instr.now) }
 {
     match instr {
         Instr::Data(DataInstr::Insert { container, .. }) => Some(*container),
+        Instr::Data(DataInstr::InsertValue { map, .. }) => Some(*map),
         Instr::Data(_) | Instr::Local(_) | Instr::Rule(_) | Instr::Put(_) | Instr::Ret => None,
     }
 }
 
-/// Returns the register of the container, if the instruction inserts and the register is marked.
+/// Returns the register of the container or map, if the instruction inserts and the register is marked.
 fn marked_container(marks: &[bool], number: usize, instr: &Instr) -> Option<u8>
     requires { number < 2 ^ 16 }
     ensures { MatchOption result ((register : ℕ) → InsertsInto instr.now register → IsMarked marks.now number register → ⊥)
@@ -28,7 +29,7 @@ fn marked_container(marks: &[bool], number: usize, instr: &Instr) -> Option<u8>
     container_of(instr).filter(|register| is_marked(marks, number, *register))
 }
 
-/// Returns the first place that inserts into a container of a marked register.
+/// Returns the first place that inserts into a container or map of a marked register.
 fn insertion_in(marks: &[bool], number: usize, code: &[Instr]) -> Option<usize>
     requires { number < 2 ^ 16 }
     ensures { MatchOption result ((place : ℕ) → InsertsMarked marks.now number code.now place → ⊥)

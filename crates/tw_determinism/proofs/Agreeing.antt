@@ -5,6 +5,7 @@ use Rattle.std.specs.Option.{option_map}
 use Rattle.tw_types.proofs.Mapped.{get_mapped}
 use Rattle.tw_types.proofs.ValueOrder.{value_cmp_total, value_cmp-IsAntisymmetric}
 use Rattle.tw_types.specs.Mapped.{mapped}
+use Rattle.tw_types.specs.Nesting.{NestedScalar}
 use Rattle.tw_types.specs.Store as store
 use Rattle.tw_soundness.proofs.Live.{IsLive, register_is_live, rule_is_live, task_is_live}
 use Rattle.tw_determinism.proofs.MachineNames.{Arg, Content, Frame, IsHeld, Members, Param, Procedure, RightArg, RightType, Rights, Rule, State, Subscript, Task, Typing, Typings, ValueArg, is_closed_mode, is_write, params_of, right_at, typing_of}
@@ -54,10 +55,11 @@ members_agree f g members h = same_map value_cmp_total value_cmp-IsAntisymmetric
     by at None e = refl
     by at (Some id) e = ap Some (h at id e)
 
-pub cell_agrees : (f g : ℕ → Name) (content : Content) → ((members : Members) (at : Subscript) (id : ℕ) → content ≡ store.Contains members → get members at ≡ Some id → g id ≡ f id) → cell_of g content ≡ cell_of f content
-cell_agrees f g store.Unset h = refl
-cell_agrees f g (store.Set x) h = refl
-cell_agrees f g (store.Contains members) h = ap Contains (members_agree f g members (λ at id e. h members at id refl e))
+pub cell_agrees : (f g : ℕ → Name) (ty : NestedScalar) (content : Content) → ((members : Members) (at : Subscript) (id : ℕ) → content ≡ store.Contains members → get members at ≡ Some id → g id ≡ f id) → cell_of g ty content ≡ cell_of f ty content
+cell_agrees f g ty store.Unset h = refl
+cell_agrees f g ty (store.Set x) h = refl
+cell_agrees f g ty (store.Maps values) h = refl
+cell_agrees f g ty (store.Contains members) h = ap Contains (members_agree f g members (λ at id e. h members at id refl e))
 
 -- ---- tasks
 

@@ -3,18 +3,18 @@ use Rattle.std.proofs.Common.{◌≡◌, inl, inr, ℕ, zero, suc, ◌+◌, ◌<
 use Rattle.std.specs.FinMap.{get, insert, empty, get-empty}
 use Rattle.std.specs.Option.{option_map}
 use Rattle.tw_types.specs.declared.input.Input.{Input}
-use Rattle.tw_code.specs.machine.Opening.{Opened, added_given, closed_scalar, main_params, main_task, nothing_opened, numbered, opened, opening, opening_of, with_given, with_output}
+use Rattle.tw_code.specs.machine.Opening.{Opened, added_given, closed_map, closed_scalar, main_params, main_task, nothing_opened, numbered, opened, opening, opening_of, with_given, with_output}
 use Rattle.tw_types.specs.DataType.{container_of, scalar_type}
 use Rattle.tw_types.specs.declared.param.Param.{Param}
 use Rattle.tw_types.specs.declared.value.Value.{Value}
-use Rattle.tw_types.specs.Given.{Given, Single, Container, given_by}
+use Rattle.tw_types.specs.Given.{Given, Single, Container, Entries, given_for}
 use Rattle.tw_types.specs.Mode.{is_write}
 use Rattle.tw_types.specs.Store as store
 use Rattle.tw_types.specs.Store.{added, empty_store, new_datum}
 use Rattle.tw_types.specs.ValueOrder.{Subscript}
 use Rattle.tw_types.proofs.Freeing.{data_insert_other, data_insert_same}
 use Rattle.tw_types.specs.Totals.{total}
-use Rattle.tw_determinism.proofs.MachineNames.{Datum, Frame, IsHeld, Procedure, Rule, Store, Task, Typings, actor_cmp, cases_eq, insert_other, insert_same, nat_cmp-IsAntisymmetric, nat_cmp_total, part, put_or_before, same_Some, total-empty, total-insert}
+use Rattle.tw_determinism.proofs.MachineNames.{Datum, Frame, IsHeld, NestedScalar, Procedure, Rule, Store, Task, Typings, actor_cmp, cases_eq, insert_other, insert_same, nat_cmp-IsAntisymmetric, nat_cmp_total, part, put_or_before, same_Some, total-empty, total-insert}
 use Rattle.tw_determinism.proofs.Names.{Name, name_cmp, name_cmp-same, name_cmp_total}
 use Rattle.tw_determinism.proofs.CoreEffects.{Cell, Unset, Cells, Threads, Thread, Waits, Waiting, Net}
 use Rattle.tw_determinism.proofs.CoreMachine.{IsMade, WasMade}
@@ -29,7 +29,7 @@ first_name id = id ∷ []
 -- a cell for each id in use
 abbrev pub cell_at_id : Option Datum → Cell
 cell_at_id None = Unset
-cell_at_id (Some x) = cell_of first_name x.content
+cell_at_id (Some x) = cell_of first_name x.ty x.content
 
 pub cells_below : Store → ℕ → Cells
 cells_below s zero = empty
@@ -76,18 +76,19 @@ given_few s (Single x) few = added_few s (closed_scalar x) (omega arith) few
 given_few s (Container by scalar es) few =
     let x : Datum = record { ty = container_of by (scalar_type scalar); content = store.Contains (numbered (s.next + 1) es); reads = 1; writes = 0; subscribers = [] } in
     members_few (added s x) es (added_few s x (omega arith) few)
+given_few s (Entries sums by scalar es) few = added_few s (closed_map sums by scalar es) (omega arith) few
 
-input_few : (o : Opened) (i : Option Input) → HasFew o.store → HasFew (with_given o i).store
-input_few o None few = few
-input_few o (Some i) few = given_few o.store (given_by i) few
+input_few : (o : Opened) (ty : NestedScalar) (i : Option Input) → HasFew o.store → HasFew (with_given o ty i).store
+input_few o ty None few = few
+input_few o ty (Some i) few = given_few o.store (given_for ty i) few
 
 opened_few : (o : Opened) (params : List Param) (inputs : List Input) → HasFew o.store → HasFew (opened o params inputs).store
 opened_few o [] inputs few = few
 opened_few o (p ∷ params) inputs few =
-    by (is_write p.mode) (opened_few (with_output o p.ty) params inputs (added_few o.store (new_datum p.ty) (omega arith) few)) (opened_few (with_given o (slice_get inputs 0)) params (drop 1 inputs) (input_few o (slice_get inputs 0) few))
+    by (is_write p.mode) (opened_few (with_output o p.ty) params inputs (added_few o.store (new_datum p.ty) (omega arith) few)) (opened_few (with_given o p.ty (slice_get inputs 0)) params (drop 1 inputs) (input_few o p.ty (slice_get inputs 0) few))
   where
-    by : (b : Bool) → HasFew (opened (with_output o p.ty) params inputs).store → HasFew (opened (with_given o (slice_get inputs 0)) params (drop 1 inputs)).store
-        → HasFew (if b then opened (with_output o p.ty) params inputs else opened (with_given o (slice_get inputs 0)) params (drop 1 inputs)).store
+    by : (b : Bool) → HasFew (opened (with_output o p.ty) params inputs).store → HasFew (opened (with_given o p.ty (slice_get inputs 0)) params (drop 1 inputs)).store
+        → HasFew (if b then opened (with_output o p.ty) params inputs else opened (with_given o p.ty (slice_get inputs 0)) params (drop 1 inputs)).store
     by true h k = h
     by false h k = k
 

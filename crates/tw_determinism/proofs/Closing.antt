@@ -1,16 +1,17 @@
 -- A datum is closed in a state exactly if it is in its core machine.
-use Rattle.std.proofs.Common.{◌≡◌, inl, inr, ℕ, zero, suc, ◌+◌, ◌<◌, ◌≤◌, ◌==◌, true, false, List, [], ◌∷◌, Option, Some, None, refl, sym, ap, subst, ◌∙◌, slice_get, arith, nat_cmp}
+use Rattle.std.proofs.Common.{◌≡◌, inl, inr, ℕ, zero, suc, Bool, ◌+◌, ◌<◌, ◌≤◌, ◌==◌, true, false, if◌then◌else◌, List, [], ◌∷◌, Option, Some, None, refl, sym, ap, subst, ◌∙◌, slice_get, arith, nat_cmp}
 use Rattle.std.specs.FinMap.{get, remove}
 use Rattle.std.specs.Option.{option_flatten}
 use Rattle.tw_types.proofs.Totals.{remove_other, total-remove}
-use Rattle.tw_determinism.proofs.MachineNames.{Actor, Arg, Content, Mode, Val, Closed, Ref, Write, eqb-true, is_val, reads_of, Datum, IsHeld, Param, Procedure, RightArg, RightType, Rights, RightsFit, State, Store, Typing, Typings, ValueArg, actor_cmp, actor_cmp-IsAntisymmetric, actor_cmp_total, balanced_some, frame_writes, hits_same, is_closed, is_write, nat_cmp-IsAntisymmetric, nat_cmp_total, over, params_of, part, part-le-total, right_at, right_of, rule_writes, same_Some, task_writes, total, typing_of, write_by, writes_of}
+use Rattle.tw_determinism.proofs.MachineNames.{Actor, Arg, Content, Mode, Val, Closed, Ref, Write, eqb-true, is_val, reads_of, Datum, IsHeld, NestedScalar, is_sums, Param, Procedure, RightArg, RightType, Rights, RightsFit, State, Store, Typing, Typings, ValueArg, actor_cmp, actor_cmp-IsAntisymmetric, actor_cmp_total, balanced_some, frame_writes, hits_same, is_closed, is_write, nat_cmp-IsAntisymmetric, nat_cmp_total, over, params_of, part, part-le-total, right_at, right_of, rule_writes, same_Some, task_writes, total, typing_of, write_by, writes_of}
 use Rattle.tw_types.specs.Store as store
+use Rattle.tw_types.specs.Store.{Values}
 use Rattle.tw_soundness.proofs.Registers.{emptied, found}
 use Rattle.tw_types.specs.Mapped.{mapped}
 use Rattle.tw_soundness.proofs.Live.{IsLive, register_is_live, rule_is_live, task_is_live}
 use Rattle.tw_soundness.proofs.Over.{over_params}
 use Rattle.tw_determinism.proofs.Names.{Name}
-use Rattle.tw_determinism.proofs.CoreEffects.{Set, Contains, Thread, Waits, Runs, Net, HasWrite, HoldsWrite, IsWritable, IsClosed}
+use Rattle.tw_determinism.proofs.CoreEffects.{Set, Contains, Maps, Sums, Thread, Threads, Waits, Runs, Net, HasWrite, HoldsWrite, IsWritable, IsShut, IsClosed, map_cell}
 use Rattle.tw_determinism.proofs.CoreMachine.{IsAlone}
 use Rattle.tw_determinism.proofs.Options.{some_mapped}
 use Rattle.tw_determinism.proofs.Showing.{Holder, OfFrame, OfTask, OfRule, Naming, Shows, cell_of, named, named_at, named_one, rights_in, running, thread_in, waiting}
@@ -85,15 +86,41 @@ unset_open x is = by x.content is
     by store.Unset is = refl
     by (store.Set v) is = cc
     by (store.Contains other) is = cc
+    by (store.Maps other) is = cc
 
--- a container that is closed has no writes
+-- a container that is closed has no writes, nor a map
 no_writes : (x : Datum) (members : _) → x.content ≡ store.Contains members → is_closed x ≡ true → x.writes ≡ 0
 no_writes x members is closed = eqb-true x.writes 0 (by x.content is closed)
   where
     by : (content : Content) → content ≡ store.Contains members → is_closed (record x { content = content }) ≡ true → (x.writes == 0) ≡ true
     by store.Unset is closed = cc
     by (store.Set v) is closed = cc
+    by (store.Maps other) is closed = cc
     by (store.Contains other) is closed = closed
+
+no_map_writes : (x : Datum) (values : _) → x.content ≡ store.Maps values → is_closed x ≡ true → x.writes ≡ 0
+no_map_writes x values is closed = eqb-true x.writes 0 (by x.content is closed)
+  where
+    by : (content : Content) → content ≡ store.Maps values → is_closed (record x { content = content }) ≡ true → (x.writes == 0) ≡ true
+    by store.Unset is closed = cc
+    by (store.Set v) is closed = cc
+    by (store.Contains other) is closed = cc
+    by (store.Maps other) is closed = closed
+
+-- a map is closed, of sums or not, if nobody may write it
+map_shut : (threads : Threads) (d : Name) (ty : NestedScalar) (values : Values) → IsWritable threads d → IsShut threads d (map_cell ty values)
+map_shut threads d ty values nobody = by (is_sums ty)
+  where
+    by : (b : Bool) → IsShut threads d (if b then Sums values else Maps values)
+    by true = nobody
+    by false = nobody
+
+pub map_unwritten : (threads : Threads) (d : Name) (ty : NestedScalar) (values : Values) → IsShut threads d (map_cell ty values) → IsWritable threads d
+map_unwritten threads d ty values shut = by (is_sums ty) shut
+  where
+    by : (b : Bool) → IsShut threads d (if b then Sums values else Maps values) → IsWritable threads d
+    by true h = h
+    by false h = h
 
 module _ (program : List Procedure) (typings : Typings) (s : State) (held : IsHeld program typings s) (n : Naming) (m : Net) (shows : Shows program typings n s m) where
   below : (id : ℕ) → IsLive program typings s held id → id < s.store.next
@@ -176,7 +203,7 @@ module _ (program : List Procedure) (typings : Typings) (s : State) (held : IsHe
 
   -- a running task that has the only write right may write alone
   pub alone_shown : (a : Actor) (th : Thread) (id : ℕ) (x : Datum) → get s.store.live id ≡ Some x → x.writes ≤ 1 → thread_in program typings n.datum s (OfFrame a) ≡ Some th → HoldsWrite (n.datum id) th → IsAlone m (n.holder (OfFrame a)) (n.datum id)
-  alone_shown a th id x live few at has = record { cell = cell_of n.datum x.content; there = shows.cells.live id x live; nobody = nobody_else }
+  alone_shown a th id x live few at has = record { cell = cell_of n.datum x.ty x.content; there = shows.cells.live id x live; nobody = nobody_else }
     where
       nobody_else : (u : Name) (ti : Thread) → (u ≡ n.holder (OfFrame a) → ⊥) → get m.threads u ≡ Some ti → HoldsWrite (n.datum id) ti → ⊥
       nobody_else u ti apart there also = elim (shows.threads.all u ti there) [
@@ -195,9 +222,14 @@ module _ (program : List Procedure) (typings : Typings) (s : State) (held : IsHe
     where
       by : (content : Content) → x.content ≡ content → IsClosed m (n.datum id)
       by store.Unset is = let open_one : is_closed x ≡ false = unset_open x is in cc
-      by (store.Set v) is = record { cell = Set v; there = subst (λ c. get m.cells (n.datum id) ≡ Some (cell_of n.datum c)) is (shows.cells.live id x live); shut = tt }
+      by (store.Set v) is = record { cell = Set v; there = subst (λ c. get m.cells (n.datum id) ≡ Some (cell_of n.datum x.ty c)) is (shows.cells.live id x live); shut = tt }
       by (store.Contains members) is = record {
         cell = Contains (mapped n.datum members);
-        there = subst (λ c. get m.cells (n.datum id) ≡ Some (cell_of n.datum c)) is (shows.cells.live id x live);
+        there = subst (λ c. get m.cells (n.datum id) ≡ Some (cell_of n.datum x.ty c)) is (shows.cells.live id x live);
         shut = nobody id x live (no_writes x members is closed);
+      }
+      by (store.Maps values) is = record {
+        cell = map_cell x.ty values;
+        there = subst (λ c. get m.cells (n.datum id) ≡ Some (cell_of n.datum x.ty c)) is (shows.cells.live id x live);
+        shut = map_shut m.threads (n.datum id) x.ty values (nobody id x live (no_map_writes x values is closed));
       }

@@ -6,7 +6,7 @@ use Rattle.tw_types.specs.declared.event.Event.{Event}
 use Rattle.tw_types.specs.declared.event.Event.TheVariants.{Take, Local, Call, End, Ask, Deliver, Release}
 use Rattle.tw_types.specs.Layout.{ActorCounts}
 use Rattle.tw_types.specs.Store.{Store}
-use Rattle.tw_types.specs.StoreCalls.{member_at}
+use Rattle.tw_types.specs.StoreCalls.{entry_at, member_at}
 use Rattle.tw_code.specs.declared.instr.DataInstr.{DataInstr}
 use Rattle.tw_code.specs.declared.instr.DataInstr.TheVariants as on_data
 use Rattle.tw_code.specs.declared.instr.Instr.{Instr}
@@ -17,7 +17,7 @@ use Rattle.tw_code.specs.machine.Rights.{right_at}
 use Rattle.tw_code.specs.machine.State.{Frame, State}
 use Rattle.tw_determinism.specs.Contested.{ContestsNone, Copied, contests, copied_by, copy_in, copy_of, is_contest, is_contest_of, is_copied, with_copy}
 use Rattle.tw_determinism.specs.OneResult.{CopiesNone}
-use Rattle.tw_determinism.specs.Refused.{RefusesNone, is_refused, is_refused_of, is_taken, refuses}
+use Rattle.tw_determinism.specs.Refused.{RefusesNone, is_refused, is_refused_of, is_taken, is_value_taken, refuses}
 use Rattle.tw_determinism.proofs.Options.{some_first}
 use Rattle.tw_determinism.proofs.Persisting.{or_right}
 
@@ -37,6 +37,14 @@ module _ (c : Copied) (all : (id : ℕ) → c id ≡ true) where
   data_contests s frame (on_data.Look by member container subscript skip) = refl
   data_contests s frame (on_data.Size to container) = refl
   data_contests s frame (on_data.SubscriptAt by to container index skip) = refl
+  data_contests s frame (on_data.InsertValue map subscript from skip) = having (right_at frame.rights map)
+    where
+      having : (o : Option ℕ) → (is_copied c o && is_some (option_and_then (λ id. option_and_then (λ at. entry_at s id at) (slice_get frame.position.values subscript)) o))
+          ≡ is_some (option_and_then (λ id. option_and_then (λ at. entry_at s id at) (slice_get frame.position.values subscript)) o)
+      having None = refl
+      having (Some id) = ap (λ b. b && is_some (option_and_then (λ at. entry_at s id at) (slice_get frame.position.values subscript))) (all id)
+  data_contests s frame (on_data.AddValue map subscript from) = refl
+  data_contests s frame (on_data.GetValue to map subscript skip) = refl
   data_contests s frame (on_data.CopyRead to from) = refl
   data_contests s frame (on_data.CopyWrite to from) = refl
   data_contests s frame (on_data.DropRead right) = refl
@@ -94,6 +102,9 @@ module _ (program : List Procedure) (uncopied : CopiesNone program) where
   no_copy frame (Some (instr.Data (on_data.Look by member container subscript skip))) is = refl
   no_copy frame (Some (instr.Data (on_data.Size to container))) is = refl
   no_copy frame (Some (instr.Data (on_data.SubscriptAt by to container index skip))) is = refl
+  no_copy frame (Some (instr.Data (on_data.InsertValue map subscript from skip))) is = refl
+  no_copy frame (Some (instr.Data (on_data.AddValue map subscript from))) is = refl
+  no_copy frame (Some (instr.Data (on_data.GetValue to map subscript skip))) is = refl
   no_copy frame (Some (instr.Data (on_data.CopyRead to from))) is = refl
   no_copy frame (Some (instr.Data (on_data.CopyWrite to from))) is =
       let p = some_first (slice_get program frame.procedure) (λ (p : Procedure). slice_get p.code frame.position.place) _ is in
@@ -130,6 +141,13 @@ module _ (program : List Procedure) (uncopied : CopiesNone program) where
     data_calm s frame (on_data.Look by member container subscript skip) = refl
     data_calm s frame (on_data.Size to container) = refl
     data_calm s frame (on_data.SubscriptAt by to container index skip) = refl
+    data_calm s frame (on_data.InsertValue map subscript from skip) = ap (λ b. b && is_value_taken s frame map subscript) (having (right_at frame.rights map))
+      where
+        having : (o : Option ℕ) → is_copied c o ≡ false
+        having None = refl
+        having (Some id) = none id
+    data_calm s frame (on_data.AddValue map subscript from) = refl
+    data_calm s frame (on_data.GetValue to map subscript skip) = refl
     data_calm s frame (on_data.CopyRead to from) = refl
     data_calm s frame (on_data.CopyWrite to from) = refl
     data_calm s frame (on_data.DropRead right) = refl

@@ -1,6 +1,6 @@
 -- The core machine's states, and what a step of a task does: tasks and data by names, with no actors, priorities, counts or freeing.
 use Rattle.std.proofs.Common.{◌≡◌, ℕ, ◌+◌, Bool, true, false, if◌then◌else◌, List, [], ◌∷◌, Option, Some, None, slice_get, slice_set}
-use Rattle.std.specs.Prelude.{pos, Result, Ok, Err}
+use Rattle.std.specs.Prelude.{pos, ℤ, Result, Ok, Err}
 use Rattle.std.specs.FinMap as fin
 use Rattle.std.specs.FinMap.{FinMap}
 use Rattle.std.specs.Option.{option_and_then, option_map}
@@ -8,9 +8,10 @@ use Rattle.tw_types.specs.declared.cause.Cause.{Cause}
 use Rattle.tw_types.specs.declared.param.Param.{Param}
 use Rattle.tw_types.specs.declared.value.Value.{Value}
 use Rattle.tw_types.specs.declared.value.Value.TheVariants as value
-use Rattle.tw_types.specs.DataType.{is_scalar}
+use Rattle.tw_types.specs.DataType.{is_map, is_scalar, is_sums}
 use Rattle.tw_types.specs.Mode.{is_val, is_closed_mode}
 use Rattle.tw_types.specs.Nesting.{NestedScalar}
+use Rattle.tw_types.specs.Store.{Values}
 use Rattle.tw_types.specs.StoreCalls.{subscript_after}
 use Rattle.tw_types.specs.ValueOrder.{Subscript, value_cmp}
 use Rattle.tw_code.specs.declared.instr.Action.{Action}
@@ -19,6 +20,7 @@ use Rattle.tw_code.specs.declared.instr.DataInstr.TheVariants as on_data
 use Rattle.tw_code.specs.declared.instr.Instr.{Instr}
 use Rattle.tw_code.specs.declared.instr.Instr.TheVariants as instr
 use Rattle.tw_code.specs.declared.procedure.Procedure.{Procedure}
+use Rattle.tw_code.specs.machine.Data.{sum_with}
 use Rattle.tw_code.specs.machine.Local.{local_instr}
 use Rattle.tw_code.specs.machine.Position.{Position, value_at, int_at, of_type_at, with_value, with_result, at_next_place, at_goal}
 use Rattle.tw_code.specs.machine.Rights.{first_rights, right_at}
@@ -40,11 +42,13 @@ Registers = List (Option Right)
 abbrev pub MemberNames : Type 0
 MemberNames = FinMap value_cmp Name
 
--- the content of a datum
+-- the content of a datum; values are put into a map, and added to one of sums
 pub data Cell : Type 0 where
   Unset : Cell
   Set : Value → Cell
   Contains : MemberNames → Cell
+  Maps : Values → Cell
+  Sums : Values → Cell
 
 -- a task that waits, as a rule or in the queue, until these data are closed
 pub record Waiting : Type 0 where
@@ -97,11 +101,13 @@ HoldsWrite d Ended = ⊥
 abbrev pub IsWritable : Threads → Name → Type 0
 IsWritable threads d = (t : Name) (th : Thread) → fin.get threads t ≡ Some th → HoldsWrite d th → ⊥
 
--- a scalar is set, or nobody may write the container
+-- a scalar is set, or nobody may write the container or map
 abbrev pub IsShut : Threads → Name → Cell → Type 0
 IsShut threads d Unset = ⊥
 IsShut threads d (Set x) = Unit {0}
 IsShut threads d (Contains members) = IsWritable threads d
+IsShut threads d (Maps values) = IsWritable threads d
+IsShut threads d (Sums values) = IsWritable threads d
 
 pub record IsClosed (m : Net) (d : Name) : Type 0 where
   pub cell : Cell
@@ -113,19 +119,39 @@ pub record IsClosed (m : Net) (d : Name) : Type 0 where
 pub data Writing : Type 0 where
   SetTo : Value → Writing
   Put : Subscript → Name → Writing
+  PutValue : Subscript → Value → Writing
+  Add : Subscript → ℤ → Writing
 
 -- a scalar is set once, and a subscript taken once
 abbrev pub put_if_free : MemberNames → Subscript → Name → Option Name → Option Cell
 put_if_free members at member (Some other) = None
 put_if_free members at member None = Some (Contains (fin.insert members at member))
 
+abbrev pub value_if_free : Values → Subscript → Value → Option Value → Option Cell
+value_if_free values at x (Some other) = None
+value_if_free values at x None = Some (Maps (fin.insert values at x))
+
 abbrev pub written : Writing → Cell → Option Cell
 written (SetTo x) Unset = Some (Set x)
 written (SetTo x) (Set y) = None
 written (SetTo x) (Contains members) = None
+written (SetTo x) (Maps values) = None
+written (SetTo x) (Sums values) = None
 written (Put at member) Unset = None
 written (Put at member) (Set y) = None
 written (Put at member) (Contains members) = put_if_free members at member (fin.get members at)
+written (Put at member) (Maps values) = None
+written (Put at member) (Sums values) = None
+written (PutValue at x) Unset = None
+written (PutValue at x) (Set y) = None
+written (PutValue at x) (Contains members) = None
+written (PutValue at x) (Maps values) = value_if_free values at x (fin.get values at)
+written (PutValue at x) (Sums values) = None
+written (Add at n) Unset = None
+written (Add at n) (Set y) = None
+written (Add at n) (Contains members) = None
+written (Add at n) (Maps values) = None
+written (Add at n) (Sums values) = Some (Sums (fin.insert values at (sum_with (fin.get values at) n)))
 
 -- apart from its own thread a step changes nothing, or makes a datum or a task of the next name, or writes, or copies a write right
 pub data Act : Type 0 where
@@ -173,18 +199,46 @@ pub record Done : Type 0 where
   pub rights : Registers
   pub act : Act
 
+abbrev pub map_cell : NestedScalar → Values → Cell
+map_cell ty values = if is_sums ty then Sums values else Maps values
+
 abbrev pub empty_cell : NestedScalar → Cell
-empty_cell ty = if is_scalar ty then Unset else Contains fin.empty
+empty_cell ty = if is_scalar ty then Unset else if is_map ty then map_cell ty fin.empty else Contains fin.empty
 
 abbrev pub value_in : Cell → Option Value
 value_in Unset = None
 value_in (Set x) = Some x
 value_in (Contains members) = None
+value_in (Maps values) = None
+value_in (Sums values) = None
 
 abbrev pub members_in : Cell → MemberNames
 members_in Unset = fin.empty
 members_in (Set x) = fin.empty
 members_in (Contains members) = members
+members_in (Maps values) = fin.empty
+members_in (Sums values) = fin.empty
+
+abbrev pub entries_in : Cell → Values
+entries_in Unset = fin.empty
+entries_in (Set x) = fin.empty
+entries_in (Contains members) = fin.empty
+entries_in (Maps values) = values
+entries_in (Sums values) = values
+
+abbrev pub count_in : Cell → ℕ
+count_in Unset = 0
+count_in (Set x) = 0
+count_in (Contains members) = fin.len members
+count_in (Maps values) = fin.len values
+count_in (Sums values) = fin.len values
+
+abbrev pub subscripts_in : Cell → List Subscript
+subscripts_in Unset = []
+subscripts_in (Set x) = []
+subscripts_in (Contains members) = fin.keys members
+subscripts_in (Maps values) = fin.keys values
+subscripts_in (Sums values) = fin.keys values
 
 abbrev pub done : Running → Position → Registers → Act → Done
 done f position rights act = record { position = position; rights = rights; act = act }
@@ -203,6 +257,14 @@ placed f register skip d at member (Some other) = done f (at_goal f.position ski
 abbrev pub member_seen : Option Cell → Subscript → Option Name
 member_seen cell at = option_and_then (λ c. fin.get (members_in c) at) cell
 
+-- puts the value if there is none, or skips
+abbrev pub value_placed : Running → ℕ → Name → Subscript → Value → Option Value → Done
+value_placed f skip d at x None = done f (at_next_place f.position) f.rights (Writes d (PutValue at x))
+value_placed f skip d at x (Some other) = done f (at_goal f.position skip) f.rights Nothing
+
+abbrev pub entry_seen : Option Cell → Subscript → Option Value
+entry_seen cell at = option_and_then (λ c. fin.get (entries_in c) at) cell
+
 -- the right in the register, if it is one to write
 abbrev pub to_write : Option Right → Option Name
 to_write None = None
@@ -220,9 +282,15 @@ on_cells next cell f (on_data.Insert by container subscript member skip) =
 on_cells next cell f (on_data.Look by member container subscript skip) =
     option_and_then (λ at. option_map (λ c. looked f member skip (fin.get (members_in c) at)) cell) (ok (of_type_at f.position subscript by))
 on_cells next cell f (on_data.Size to container) =
-    option_map (λ c. done f (at_next_place (with_value f.position to (value.Int (pos (fin.len (members_in c)))))) f.rights Nothing) cell
+    option_map (λ c. done f (at_next_place (with_value f.position to (value.Int (pos (count_in c))))) f.rights Nothing) cell
 on_cells next cell f (on_data.SubscriptAt by to container index skip) =
-    option_and_then (λ count. option_map (λ c. done f (with_result f.position to skip (subscript_after count (fin.keys (members_in c)))) f.rights Nothing) cell) (ok (int_at f.position index))
+    option_and_then (λ count. option_map (λ c. done f (with_result f.position to skip (subscript_after count (subscripts_in c))) f.rights Nothing) cell) (ok (int_at f.position index))
+on_cells next cell f (on_data.InsertValue map subscript from skip) =
+    option_and_then (λ at. option_and_then (λ x. option_map (λ d. value_placed f skip d at x (entry_seen cell at)) (to_write (right_at f.rights map))) (ok (value_at f.position from))) (ok (value_at f.position subscript))
+on_cells next cell f (on_data.AddValue map subscript from) =
+    option_and_then (λ at. option_and_then (λ n. option_map (λ d. done f (at_next_place f.position) f.rights (Writes d (Add at n))) (to_write (right_at f.rights map))) (ok (int_at f.position from))) (ok (value_at f.position subscript))
+on_cells next cell f (on_data.GetValue to map subscript skip) =
+    option_and_then (λ at. option_map (λ c. done f (with_result f.position to skip (fin.get (entries_in c) at)) f.rights Nothing) cell) (ok (value_at f.position subscript))
 on_cells next cell f (on_data.CopyRead to from) = option_map (λ right. done f (at_next_place f.position) (slice_set f.rights to (Some right)) Nothing) (right_at f.rights from)
 on_cells next cell f (on_data.CopyWrite to from) = option_map (λ d. done f (at_next_place f.position) (slice_set f.rights to (Some (record { write = true; of = d }))) (Shares d)) (to_write (right_at f.rights from))
 on_cells next cell f (on_data.DropRead right) = Some (done f (at_next_place f.position) (slice_set f.rights right None) Nothing)
@@ -234,6 +302,7 @@ reads_at (on_data.Get to datum) = Some datum
 reads_at (on_data.Look by member container subscript skip) = Some container
 reads_at (on_data.Size to container) = Some container
 reads_at (on_data.SubscriptAt by to container index skip) = Some container
+reads_at (on_data.GetValue to map subscript skip) = Some map
 reads_at i = None
 
 -- ---- one step of a thread
@@ -261,7 +330,7 @@ effect_of program next cell (Waits w) = started program w
 effect_of program next cell (Runs f) = option_and_then (by_instr program next cell f) (instr_of program f)
 effect_of program next cell Ended = None
 
--- what it looks at: nothing, a datum that must be closed, or the container into which it inserts
+-- what it looks at: nothing, a datum that must be closed, or the container or map into which it inserts
 pub data Subject : Type 0 where
   Blind : Subject
   Reads : Name → Subject
@@ -277,6 +346,7 @@ writing (Some d) = Into d
 
 abbrev pub subject_of_data : Running → DataInstr → Subject
 subject_of_data f (on_data.Insert by container subscript member skip) = writing (to_write (right_at f.rights container))
+subject_of_data f (on_data.InsertValue map subscript from skip) = writing (to_write (right_at f.rights map))
 subject_of_data f i = reading (option_map (λ right. right.of) (option_and_then (right_at f.rights) (reads_at i)))
 
 abbrev pub subject_of_instr : Running → Option Instr → Subject

@@ -10,6 +10,9 @@ use Rattle.tw_types.specs.declared.data_type.Scalar.TheVariants as scalar
 use Rattle.tw_types.specs.declared.value.Value.TheVariants as value
 use Rattle.tw_types.specs.Mapped.{entry_by, mapped}
 use Rattle.tw_types.specs.Store as store
+use Rattle.tw_types.specs.Store.{Values}
+use Rattle.tw_types.specs.DataType.{has_sums, is_container}
+use Rattle.tw_types.proofs.SameTypes.{by_container, container_only, map_only}
 use Rattle.tw_types.specs.StoreCalls as calls
 use Rattle.tw_code.specs.declared.instr.DataInstr.TheVariants as on_data
 use Rattle.tw_code.specs.declared.instr.Instr.TheVariants as instr
@@ -19,16 +22,16 @@ use Rattle.tw_soundness.proofs.Running.{asked_at, register_holds}
 use Rattle.tw_soundness.proofs.TaskEvents.{fits_of, other_reads, other_writes}
 use Rattle.tw_soundness.proofs.Values.{AllYes, passed}
 use Rattle.tw_soundness.proofs.Live.{register_is_live}
-use Rattle.tw_determinism.proofs.MachineNames.{Actor, AlreadySet, AreRight, Cause, IsOfType, Result, WrongType, by_deep, is_of, same_scalar, scalar_of, Completed, Content, Context, DataInstr, Datum, EmptyRegister, Frame, IsHeld, IsProgram, Members, NestedScalar, Ok, Procedure, RightType, Scalar, Skipped, State, Store, Subscript, Typing, Typings, UnsetDatum, Value, WrongRegister, a_member_read, a_read, a_write, after_data, after_insert, after_look, and_parts, asks_data, at_goal, at_next_place, changed, context_of, data_flow, data_instr, datum_at, datum_of, element_of, int_at, inserted, is_closed, is_closed_mode, is_container_by, is_scalar, is_unset, is_write, may_be_read, may_copy_write, may_drop_read, may_drop_write, may_insert, may_look, may_read_members, may_read_members_by, may_retrieve, may_store, member_at, members_at, must_be_empty, must_have_type, must_then, of_type_at, ok_after, ok_first, ok_or, one_read_more, one_write_less, one_write_more, onward, option_and_then, option_map, passes, read_dropped, reads, reads_closed_container, reads_closed_container_by, reads_closed_scalar, reads_member_of, right_at, same_Some, set_to, settled, store_after, subscribers_cleared, subscript_after, suits, there_then, typing_of, with_member, with_result, with_value, writes, writes_container_by, writes_scalar}
+use Rattle.tw_determinism.proofs.MachineNames.{Actor, AlreadySet, AreRight, Cause, IsOfType, Result, WrongType, is_of, same_scalar, scalar_of, Completed, Content, Context, DataInstr, Datum, EmptyRegister, Frame, IsHeld, IsProgram, Members, NestedScalar, Ok, Procedure, RightType, Scalar, Skipped, State, Store, Subscript, Typing, Typings, UnsetDatum, Value, WrongRegister, a_member_read, a_read, a_write, after_data, after_insert, after_look, after_put, and_parts, asks_data, at_goal, at_next_place, changed, context_of, data_flow, data_instr, datum_at, datum_of, element_of, entry_at, has_subscripts_by, if_absent, int_at, inserted, is_closed, is_closed_mode, is_container_by, is_map, is_plain_map, is_scalar, is_sums, is_unset, is_write, may_add, may_put, may_read_entry, may_be_read, may_copy_write, may_drop_read, may_drop_write, may_insert, may_look, may_read_members, may_read_subscripts_by, may_retrieve, may_store, member_at, must_be_empty, must_have_type, must_then, of_type_at, ok_after, ok_first, ok_or, one_read_more, one_write_less, one_write_more, onward, option_and_then, option_map, passes, read_dropped, reads, reads_closed_by, reads_closed_container, reads_closed_container_by, reads_closed_map, reads_closed_scalar, reads_member_of, right_at, same_Some, set_to, settled, store_after, subscribers_cleared, size_at, subscript_after, subscripts_at, suits, suits_entry, suits_subscript, sum_with, there_then, typing_of, value_at, value_put, with_entry, with_member, with_result, with_value, writes, writes_container_by, writes_map, writes_scalar, writes_sums}
 use Rattle.tw_determinism.specs.Contested.{copy_of, is_contest, is_copied, with_copy}
-use Rattle.tw_determinism.specs.Refused.{is_taken}
+use Rattle.tw_determinism.specs.Refused.{is_taken, is_value_taken}
 use Rattle.tw_determinism.proofs.Names.{Name, name_cmp_total, name_cmp-same}
-use Rattle.tw_determinism.proofs.CoreEffects.{Bears, Cell, Cells, Contains, Done, HasWrite, HoldsWrite, Into, IsClosed, Net, Nothing, Put, Reads, Right, Running, Runs, Set, SetTo, Shares, Unset, Writes, cell_at, done, empty_cell, looked, member_seen, members_in, ok, on_cells, placed, put_if_free, reading, reads_at, subject_of_data, to_write, value_in, writing, written}
+use Rattle.tw_determinism.proofs.CoreEffects.{Add, Bears, Cell, Cells, Contains, Done, HasWrite, HoldsWrite, Into, IsClosed, Maps, Net, Nothing, Put, PutValue, Reads, Right, Running, Runs, Set, SetTo, Shares, Sums, Unset, Writes, cell_at, count_in, done, empty_cell, entries_in, entry_seen, looked, member_seen, members_in, ok, on_cells, placed, put_if_free, reading, reads_at, subject_of_data, subscripts_in, to_write, value_if_free, value_in, value_placed, writing, written}
 use Rattle.tw_determinism.proofs.CoreMachine.{IsAlone, IsMade, IsPast, IsThere, WasMade, child_of, edit_of, edited, share_of, with_share}
 use Rattle.tw_determinism.proofs.Agreeing.{named_agrees}
 use Rattle.tw_determinism.proofs.CellsShown.{name_before, name_here, shows_kept, shows_new, shows_put, with_name}
 use Rattle.tw_determinism.proofs.Closing.{alone_shown, closed_shown}
-use Rattle.tw_determinism.proofs.Remaining.{Kept, cleared_content, cleared_writes, dropped_kept, fewer, fewer_after, fewer_put, kept_after, kept_itself, put_kept, settled_kept}
+use Rattle.tw_determinism.proofs.Remaining.{Kept, body, cleared_body, cleared_writes, dropped_kept, fewer, fewer_after, fewer_put, kept_after, kept_itself, put_kept, settled_kept}
 use Rattle.tw_determinism.proofs.SharedShown.{shared_copied, shared_kept, shared_new, shared_put}
 use Rattle.tw_determinism.proofs.Showing.{OfFrame, Naming, Shows, ShowsCells, ShowsShared, cell_of, named, named_at, named_one, named_set, running}
 
@@ -59,13 +62,18 @@ new_made m is (j ∷ t) r at made =
 abbrev members_of_content : Content → Members
 members_of_content content = calls.members_in content
 
-members_by : (f : ℕ → Name) (content : Content) → members_in (cell_of f content) ≡ mapped f (members_of_content content)
-members_by f store.Unset = sym (Rattle.tw_types.proofs.Mapped.empty_mapped f)
-members_by f (store.Set x) = sym (Rattle.tw_types.proofs.Mapped.empty_mapped f)
-members_by f (store.Contains members) = refl
+members_by : (f : ℕ → Name) (ty : NestedScalar) (content : Content) → members_in (cell_of f ty content) ≡ mapped f (members_of_content content)
+members_by f ty store.Unset = sym (Rattle.tw_types.proofs.Mapped.empty_mapped f)
+members_by f ty (store.Set x) = sym (Rattle.tw_types.proofs.Mapped.empty_mapped f)
+members_by f ty (store.Contains members) = refl
+members_by f ty (store.Maps values) = by (is_sums ty)
+  where
+    by : (b : Bool) → members_in (if b then Sums values else Maps values) ≡ mapped f fin.empty
+    by true = sym (Rattle.tw_types.proofs.Mapped.empty_mapped f)
+    by false = sym (Rattle.tw_types.proofs.Mapped.empty_mapped f)
 
-member_by : (f : ℕ → Name) (content : Content) (at : Subscript) → get (members_in (cell_of f content)) at ≡ option_map f (get (members_of_content content) at)
-member_by f content at = ap (λ ms. get ms at) (members_by f content) ∙ get_mapped f (members_of_content content) at
+member_by : (f : ℕ → Name) (ty : NestedScalar) (content : Content) (at : Subscript) → get (members_in (cell_of f ty content)) at ≡ option_map f (get (members_of_content content) at)
+member_by f ty content at = ap (λ ms. get ms at) (members_by f ty content) ∙ get_mapped f (members_of_content content) at
 
 keys_each : (f : ℕ → Name) (es : List (Subscript × ℕ)) → each (λ e. e.0) (each (entry_by f) es) ≡ each (λ e. e.0) es
 keys_each f [] = refl
@@ -74,13 +82,48 @@ keys_each f (e ∷ es) = ap (λ ks. e.0 ∷ ks) (keys_each f es)
 pub keys_by : (f : ℕ → Name) (members : Members) → fin.keys (mapped f members) ≡ fin.keys members
 keys_by f members = ap (each (λ e. e.0)) (entries_mapped f members) ∙ keys_each f (fin.entries members)
 
-value_by : (f : ℕ → Name) (content : Content) → value_in (cell_of f content) ≡ calls.value_in content
-value_by f store.Unset = refl
-value_by f (store.Set x) = refl
-value_by f (store.Contains members) = refl
+value_by : (f : ℕ → Name) (ty : NestedScalar) (content : Content) → value_in (cell_of f ty content) ≡ calls.value_in content
+value_by f ty store.Unset = refl
+value_by f ty (store.Set x) = refl
+value_by f ty (store.Contains members) = refl
+value_by f ty (store.Maps values) = by (is_sums ty)
+  where
+    by : (b : Bool) → value_in (if b then Sums values else Maps values) ≡ None
+    by true = refl
+    by false = refl
+
+entries_by : (f : ℕ → Name) (ty : NestedScalar) (content : Content) → entries_in (cell_of f ty content) ≡ calls.entries_in content
+entries_by f ty store.Unset = refl
+entries_by f ty (store.Set x) = refl
+entries_by f ty (store.Contains members) = refl
+entries_by f ty (store.Maps values) = by (is_sums ty)
+  where
+    by : (b : Bool) → entries_in (if b then Sums values else Maps values) ≡ values
+    by true = refl
+    by false = refl
+
+count_by : (f : ℕ → Name) (ty : NestedScalar) (content : Content) → count_in (cell_of f ty content) ≡ calls.count_in content
+count_by f ty store.Unset = refl
+count_by f ty (store.Set x) = refl
+count_by f ty (store.Contains members) = len_mapped f members
+count_by f ty (store.Maps values) = by (is_sums ty)
+  where
+    by : (b : Bool) → count_in (if b then Sums values else Maps values) ≡ fin.len values
+    by true = refl
+    by false = refl
+
+subscripts_by : (f : ℕ → Name) (ty : NestedScalar) (content : Content) → subscripts_in (cell_of f ty content) ≡ calls.subscripts_of content
+subscripts_by f ty store.Unset = refl
+subscripts_by f ty (store.Set x) = refl
+subscripts_by f ty (store.Contains members) = keys_by f members
+subscripts_by f ty (store.Maps values) = by (is_sums ty)
+  where
+    by : (b : Bool) → subscripts_in (if b then Sums values else Maps values) ≡ fin.keys values
+    by true = refl
+    by false = refl
 
 -- a change that leaves the content
-pub changed_kept : (s : Store) (id : ℕ) (h : Datum → Datum) → ((x : Datum) → (h x).content ≡ x.content) → ((x : Datum) → (h x).writes ≤ x.writes) → Kept (changed s id h).live s.live × ((changed s id h).next ≡ s.next)
+pub changed_kept : (s : Store) (id : ℕ) (h : Datum → Datum) → ((x : Datum) → body (h x) ≡ body x) → ((x : Datum) → (h x).writes ≤ x.writes) → Kept (changed s id h).live s.live × ((changed s id h).next ≡ s.next)
 changed_kept s id h same less = by (get s.live id) refl
   where
     by : (o : Option Datum) → get s.live id ≡ o → Kept (changed s id h).live s.live × ((changed s id h).next ≡ s.next)
@@ -142,7 +185,7 @@ module _ (program : List Procedure) (typings : Typings) (proper : IsProgram prog
     live : get s.store.live id ≡ Some x
     ty : x.ty ≡ q.ty
     closed : is_closed_mode q.mode ≡ true → is_closed x ≡ true
-    cell : get m.cells (n.datum id) ≡ Some (cell_of n.datum x.content)
+    cell : get m.cells (n.datum id) ≡ Some (cell_of n.datum x.ty x.content)
 
   reg : (k : ℕ) (q : RightType) (id : ℕ) → right_at typing k ≡ Some q → right_at fr.rights k ≡ Some id → Reg k q id
   reg k q id typed at =
@@ -198,11 +241,11 @@ module _ (program : List Procedure) (typings : Typings) (proper : IsProgram prog
 
   -- ---- DROPW
 
-  store_kept : (id : ℕ) (x : Datum) (h : Datum → Datum) → get s.store.live id ≡ Some x → (h x).content ≡ x.content → (h x).writes ≤ x.writes
+  store_kept : (id : ℕ) (x : Datum) (h : Datum → Datum) → get s.store.live id ≡ Some x → body (h x) ≡ body x → (h x).writes ≤ x.writes
       → Kept (store_after s.store id h).live s.store.live × ((store_after s.store id h).next ≡ s.store.next)
   store_kept id x h live same less = rw live (
     kept_after (settled s.store.live id (subscribers_cleared (h x))) (insert s.store.live id (subscribers_cleared (h x))) s.store.live
-        (settled_kept s.store.live id (subscribers_cleared (h x))) (put_kept s.store.live id x (subscribers_cleared (h x)) live (cleared_content (h x) ∙ same) (let l = cleared_writes (h x) in omega (arith, l, less))),
+        (settled_kept s.store.live id (subscribers_cleared (h x))) (put_kept s.store.live id x (subscribers_cleared (h x)) live (cleared_body (h x) ∙ same) (let l = cleared_writes (h x) in omega (arith, l, less))),
     refl,
   )
 
@@ -250,11 +293,11 @@ module _ (program : List Procedure) (typings : Typings) (proper : IsProgram prog
       let q = passed writes (right_at typing from) asked.1.0 in
       let one = reg from q.0 h.0 q.1 h.1 in
       let y : Datum = one_write_more one.x in
-      let put = shows_put n.datum s.store m.cells shows.cells h.0 one.x y (cell_of n.datum one.x.content) one.live (fresh_below h.0 one.x one.live) fresh_below refl in
-      let same_cells : insert m.cells (n.datum h.0) (cell_of n.datum one.x.content) ≡ m.cells = maps.insert_same name_cmp_total name_cmp-same m.cells (n.datum h.0) (cell_of n.datum one.x.content) one.cell in
+      let put = shows_put n.datum s.store m.cells shows.cells h.0 one.x y (cell_of n.datum one.x.ty one.x.content) one.live (fresh_below h.0 one.x one.live) fresh_below refl in
+      let same_cells : insert m.cells (n.datum h.0) (cell_of n.datum one.x.ty one.x.content) ≡ m.cells = maps.insert_same name_cmp_total name_cmp-same m.cells (n.datum h.0) (cell_of n.datum one.x.ty one.x.content) one.cell in
       let store_is : record s.store { live = insert s.store.live h.0 y } ≡ changed s.store h.0 one_write_more = rw one.live refl in
       let cells : ShowsCells n.datum (changed s.store h.0 one_write_more) m.cells = subst (λ z. ShowsCells n.datum z m.cells) store_is (subst (ShowsCells n.datum (record s.store { live = insert s.store.live h.0 y })) same_cells put) in
-      let shared = shared_copied n.datum n.copied n.start s.store m.cells m.shared shows.shared h.0 one.x (cell_of n.datum one.x.content) (fresh_below h.0 one.x one.live) one.cell shows.cells.apart in
+      let shared = shared_copied n.datum n.copied n.start s.store m.cells m.shared shows.shared h.0 one.x (cell_of n.datum one.x.ty one.x.content) (fresh_below h.0 one.x one.live) one.cell shows.cells.apart in
       let writes_so : slice_set r.rights to (Some (record { write = is_write q.0.mode; of = n.datum h.0 })) ≡ slice_set r.rights to (Some (record { write = true; of = n.datum h.0 })) =
       ap (λ b. slice_set r.rights to (Some (record { write = b; of = n.datum h.0 }))) q.2 in
       let x : Done = done r (at_next_place fr.position) (slice_set r.rights to (Some (record { write = true; of = n.datum h.0 }))) (Shares (n.datum h.0)) in (
@@ -286,7 +329,7 @@ module _ (program : List Procedure) (typings : Typings) (proper : IsProgram prog
 
   -- the closed datum that it reads
   record Watches (i : DataInstr) (id : ℕ) (x : Datum) : Type 0 where
-    is_read_so : cell_at m (subject_of_data r i) ≡ Some (cell_of n.datum x.content)
+    is_read_so : cell_at m (subject_of_data r i) ≡ Some (cell_of n.datum x.ty x.content)
     closed : (d : Name) → subject_of_data r i ≡ Reads d → IsClosed m d
     alone : (d : Name) → subject_of_data r i ≡ Into d → m.shared d ≡ false → IsAlone m (n.holder (OfFrame a)) d
 
@@ -311,7 +354,7 @@ module _ (program : List Procedure) (typings : Typings) (proper : IsProgram prog
       let both = and_parts (is_closed_mode q.0.mode) (is_scalar q.0.ty) q.2 in
       let one = reg datum q.0 h.0 q.1 h.1 in
       let sub = subject (on_data.Get to datum) datum q.0 h.0 refl refl both.0 one in
-      let value_is : value_in (cell_of n.datum one.x.content) ≡ Some y.0 = value_by n.datum one.x.content ∙ sym (ap (option_and_then (λ (z : Datum). calls.value_in z.content)) one.live) ∙ y.1 in
+      let value_is : value_in (cell_of n.datum one.x.ty one.x.content) ≡ Some y.0 = value_by n.datum one.x.ty one.x.content ∙ sym (ap (option_and_then (λ (z : Datum). calls.value_in z.content)) one.live) ∙ y.1 in
       let x : Done = done r (at_next_place (with_value fr.position to y.0)) r.rights Nothing in (
         record {
           done = x;
@@ -325,9 +368,6 @@ module _ (program : List Procedure) (typings : Typings) (proper : IsProgram prog
         inl (subst (λ (z : Context). DataGoes (on_data.Get to datum) z x) (same_ok _ k y.2) (plain (on_data.Get to datum) refl refl _ Completed x refl refl refl refl (kept_itself s.store.live) refl)),
       )
 
-  members_are : (id : ℕ) (x : Datum) → get s.store.live id ≡ Some x → members_at s.store id ≡ calls.members_in x.content
-  members_are id x live = rw live refl
-
   size_shows : (to container : ℕ) (k : Context) → AllYes (asks_data p.registers (on_data.Size to container) typing) → data_instr (on_data.Size to container) c ≡ Ok k → DataShows (on_data.Size to container) k
   size_shows to container k asked e =
       let v = ok_after (must_have_type fr.position to scalar.Int) _ k e in
@@ -337,12 +377,12 @@ module _ (program : List Procedure) (typings : Typings) (proper : IsProgram prog
       let both = and_parts (is_closed_mode q.0.mode) (not (is_scalar q.0.ty)) q.2 in
       let one = reg container q.0 h.0 q.1 h.1 in
       let sub = subject (on_data.Size to container) container q.0 h.0 refl refl both.0 one in
-      let count_is : fin.len (members_in (cell_of n.datum one.x.content)) ≡ fin.len (members_at s.store h.0) =
-      ap fin.len (members_by n.datum one.x.content) ∙ len_mapped n.datum (calls.members_in one.x.content) ∙ ap fin.len (sym (members_are h.0 one.x one.live)) in
-      let x : Done = done r (at_next_place (with_value fr.position to (value.Int (pos (fin.len (members_at s.store h.0)))))) r.rights Nothing in (
+      let size_is : size_at s.store h.0 ≡ calls.count_in one.x.content = rw one.live refl in
+      let count_is : count_in (cell_of n.datum one.x.ty one.x.content) ≡ size_at s.store h.0 = count_by n.datum one.x.ty one.x.content ∙ sym size_is in
+      let x : Done = done r (at_next_place (with_value fr.position to (value.Int (pos (size_at s.store h.0))))) r.rights Nothing in (
         record {
           done = x;
-          is = ap (option_map (λ z. done r (at_next_place (with_value r.position to (value.Int (pos (fin.len (members_in z)))))) r.rights Nothing)) sub.is_read_so
+          is = ap (option_map (λ z. done r (at_next_place (with_value r.position to (value.Int (pos (count_in z))))) r.rights Nothing)) sub.is_read_so
               ∙ ap (λ j. Some (done r (at_next_place (with_value r.position to (value.Int (pos j)))) r.rights Nothing)) count_is;
           closed = sub.closed;
           alone = sub.alone;
@@ -358,20 +398,20 @@ module _ (program : List Procedure) (typings : Typings) (proper : IsProgram prog
       let v = ok_after (must_have_type fr.position to by) _ k e in
       let count = ok_first (int_at fr.position index) _ k v.1 in
       let h = there_then (right_at fr.rights container) EmptyRegister _ k count.2 in
-      let may = ok_after (may_read_members_by by (datum_of c h.0)) _ k h.2 in
-      let q = passed (reads_closed_container_by by) (right_at typing container) asked.0 in
-      let both = and_parts (is_closed_mode q.0.mode) (is_container_by by q.0.ty) q.2 in
+      let may = ok_after (may_read_subscripts_by by (datum_of c h.0)) _ k h.2 in
+      let q = passed (reads_closed_by by) (right_at typing container) asked.0 in
+      let both = and_parts (is_closed_mode q.0.mode) (has_subscripts_by by q.0.ty) q.2 in
       let one = reg container q.0 h.0 q.1 h.1 in
       let i : DataInstr = on_data.SubscriptAt by to container index skip in
       let sub = subject i container q.0 h.0 refl refl both.0 one in
-      let keys_are : fin.keys (members_in (cell_of n.datum one.x.content)) ≡ fin.keys (members_at s.store h.0) =
-      ap fin.keys (members_by n.datum one.x.content) ∙ keys_by n.datum (calls.members_in one.x.content) ∙ ap fin.keys (sym (members_are h.0 one.x one.live)) in
-      let found : Option Value = subscript_after count.0 (fin.keys (members_at s.store h.0)) in
+      let keys : subscripts_at s.store h.0 ≡ calls.subscripts_of one.x.content = rw one.live refl in
+      let keys_are : subscripts_in (cell_of n.datum one.x.ty one.x.content) ≡ subscripts_at s.store h.0 = subscripts_by n.datum one.x.ty one.x.content ∙ sym keys in
+      let found : Option Value = subscript_after count.0 (subscripts_at s.store h.0) in
       let x : Done = done r (with_result fr.position to skip found) r.rights Nothing in (
         record {
           done = x;
-          is = ap (λ o. option_and_then (λ j. option_map (λ z. done r (with_result r.position to skip (subscript_after j (fin.keys (members_in z)))) r.rights Nothing) (cell_at m (subject_of_data r i))) (ok o)) count.1
-              ∙ ap (option_map (λ z. done r (with_result r.position to skip (subscript_after count.0 (fin.keys (members_in z)))) r.rights Nothing)) sub.is_read_so
+          is = ap (λ o. option_and_then (λ j. option_map (λ z. done r (with_result r.position to skip (subscript_after j (subscripts_in z))) r.rights Nothing) (cell_at m (subject_of_data r i))) (ok o)) count.1
+              ∙ ap (option_map (λ z. done r (with_result r.position to skip (subscript_after count.0 (subscripts_in z))) r.rights Nothing)) sub.is_read_so
               ∙ ap (λ ks. Some (done r (with_result r.position to skip (subscript_after count.0 ks)) r.rights Nothing)) keys_are;
           closed = sub.closed;
           alone = sub.alone;
@@ -394,6 +434,7 @@ module _ (program : List Procedure) (typings : Typings) (proper : IsProgram prog
       by store.Unset e = refl
       by (store.Set y) e = cc
       by (store.Contains members) e = cc
+      by (store.Maps values) e = cc
 
   store_shows : (datum from : ℕ) (k : Context) → AllYes (asks_data p.registers (on_data.Store datum from) typing) → data_instr (on_data.Store datum from) c ≡ Ok k → DataShows (on_data.Store datum from) k
   store_shows datum from k asked e =
@@ -405,9 +446,9 @@ module _ (program : List Procedure) (typings : Typings) (proper : IsProgram prog
       let both = and_parts (is_write q.0.mode) (is_scalar q.0.ty) q.2 in
       let one = reg datum q.0 h.0 q.1 h.1 in
       let unset = unset_is one.x v.0 (subst (λ o. may_store v.0 o ≡ Ok tt) one.live may.0) in
-      let cell : get m.cells (n.datum h.0) ≡ Some Unset = subst (λ z. get m.cells (n.datum h.0) ≡ Some (cell_of n.datum z)) unset one.cell in
+      let cell : get m.cells (n.datum h.0) ≡ Some Unset = subst (λ z. get m.cells (n.datum h.0) ≡ Some (cell_of n.datum one.x.ty z)) unset one.cell in
       let y : Datum = subscribers_cleared (set_to v.0 one.x) in
-      let put = shows_put n.datum s.store m.cells shows.cells h.0 one.x y (Set v.0) one.live (fresh_below h.0 one.x one.live) fresh_below (ap (cell_of n.datum) (sym (cleared_content (set_to v.0 one.x)))) in
+      let put = shows_put n.datum s.store m.cells shows.cells h.0 one.x y (Set v.0) one.live (fresh_below h.0 one.x one.live) fresh_below (sym (ap (λ b. cell_of n.datum b.0 b.1) (cleared_body (set_to v.0 one.x)))) in
       let kept : Kept (store_after s.store h.0 (set_to v.0)).live (insert s.store.live h.0 y) × ((store_after s.store h.0 (set_to v.0)).next ≡ s.store.next) = rw one.live (settled_kept s.store.live h.0 y, refl) in
       let x : Done = done r (at_next_place fr.position) (slice_set r.rights datum None) (Writes (n.datum h.0) (SetTo v.0)) in (
         record {
@@ -517,7 +558,7 @@ module _ (program : List Procedure) (typings : Typings) (proper : IsProgram prog
         let y : Datum = with_member at inner x in
         let free : get (mapped n.datum ms) at ≡ None = get_mapped n.datum ms at ∙ ap (option_map n.datum) (sym found ∙ is_so) in
         let new : Cell = Contains (insert (mapped n.datum ms) at (n.datum inner)) in
-        let new_is : new ≡ cell_of n.datum y.content = ap Contains (sym (insert_mapped n.datum value_cmp_total value_cmp-IsAntisymmetric ms at inner) ∙ ap (λ z. mapped n.datum (insert (calls.members_in z) at inner)) (sym content)) in
+        let new_is : new ≡ cell_of n.datum y.ty y.content = ap Contains (sym (insert_mapped n.datum value_cmp_total value_cmp-IsAntisymmetric ms at inner) ∙ ap (λ z. mapped n.datum (insert (calls.members_in z) at inner)) (sym content)) in
         let put = shows_put n.datum s.store m.cells shows.cells id x y new live (fresh_below id x live) fresh_below new_is in
         let kept : Kept (inserted s.store id at inner).live (insert s.store.live id y) × ((inserted s.store id at inner).next ≡ s.store.next) = rw live (kept_itself (insert s.store.live id y), refl) in
         record {
@@ -615,10 +656,10 @@ module _ (program : List Procedure) (typings : Typings) (proper : IsProgram prog
       let w = passed (reads_member_of q.0) (right_at typing member) member_met in
       let one = reg container q.0 h.0 q.1 h.1 in
       let two = reg member w.0 g.0 w.1 g.1 in
-      let deep : is_scalar one.x.ty ≡ false = ap is_scalar one.ty ∙ by_deep by q.0.ty both.1 in
-      let ms = container_content one.x deep (held_so.types.store.contents h.0 one.x one.live) in
+      let inner : is_container one.x.ty ≡ true = ap is_container one.ty ∙ by_container by q.0.ty both.1 in
+      let ms = container_content one.x inner (held_so.types.store.contents h.0 one.x one.live) in
       let i : DataInstr = on_data.Insert by container subscript member skip in
-      let cell : get m.cells (n.datum h.0) ≡ Some (Contains (mapped n.datum ms.0)) = subst (λ z. get m.cells (n.datum h.0) ≡ Some (cell_of n.datum z)) ms.1 one.cell in
+      let cell : get m.cells (n.datum h.0) ≡ Some (Contains (mapped n.datum ms.0)) = subst (λ z. get m.cells (n.datum h.0) ≡ Some (cell_of n.datum one.x.ty z)) ms.1 one.cell in
       let found : member_at s.store h.0 v.0 ≡ get ms.0 v.0 = ap (option_and_then (λ (z : Datum). get (calls.members_in z.content) v.0)) one.live ∙ ap (λ z. get (calls.members_in z) v.0) ms.1 in
       let writes_so = write_of container q.0 h.0 both.0 one in
       let seen : Option Cell = cell_at m (subject_of_data r i) in
@@ -629,12 +670,16 @@ module _ (program : List Procedure) (typings : Typings) (proper : IsProgram prog
       ∙ ap (option_map (λ right. placed r member skip (n.datum h.0) v.0 right.of (member_seen seen v.0))) two.named_so)
       (n.copied h.0) refl (member_at s.store h.0 v.0) refl k (same_ok _ k may.1)
     where
-      container_content : (x : Datum) → is_scalar x.ty ≡ false → IsOfType x.ty x.content → (members : Members) × (x.content ≡ store.Contains members)
-      container_content x deep of = having x.content of
+      container_content : (x : Datum) → is_container x.ty ≡ true → IsOfType x.ty x.content → (members : Members) × (x.content ≡ store.Contains members)
+      container_content x inner of = having x.content of
         where
+          only : (is_scalar x.ty ≡ false) × (is_map x.ty ≡ false)
+          only = container_only x.ty inner
+
           having : (content : Content) → IsOfType x.ty content → (members : Members) × (content ≡ store.Contains members)
-          having store.Unset h = let z : true ≡ false = sym h ∙ deep in cc
-          having (store.Set y) h = let z : true ≡ false = sym h.0 ∙ deep in cc
+          having store.Unset h = let z : true ≡ false = sym h ∙ only.0 in cc
+          having (store.Set y) h = let z : true ≡ false = sym h.0 ∙ only.0 in cc
+          having (store.Maps values) h = let z : true ≡ false = sym h.0 ∙ only.1 in cc
           having (store.Contains members) h = (members, refl)
 
       value_register : (at : Subscript) → of_type_at fr.position subscript by ≡ Ok at → slice_get fr.position.values subscript ≡ Some at
@@ -661,7 +706,7 @@ module _ (program : List Procedure) (typings : Typings) (proper : IsProgram prog
       let i : DataInstr = on_data.Look by member container subscript skip in
       let sub = subject i container q.0 h.0 refl refl both.0 one in
       let found : member_at s.store h.0 v.0 ≡ get (calls.members_in one.x.content) v.0 = ap (option_and_then (λ (z : Datum). get (calls.members_in z.content) v.0)) one.live in
-      let by_name : get (members_in (cell_of n.datum one.x.content)) v.0 ≡ option_map n.datum (member_at s.store h.0 v.0) = member_by n.datum one.x.content v.0 ∙ ap (option_map n.datum) (sym found) in
+      let by_name : get (members_in (cell_of n.datum one.x.ty one.x.content)) v.0 ≡ option_map n.datum (member_at s.store h.0 v.0) = member_by n.datum one.x.ty one.x.content v.0 ∙ ap (option_map n.datum) (sym found) in
       let x : Done = looked r member skip (option_map n.datum (member_at s.store h.0 v.0)) in (
         record {
           done = x;
@@ -700,6 +745,264 @@ module _ (program : List Procedure) (typings : Typings) (proper : IsProgram prog
           plain (on_data.Look by member container subscript skip) refl refl _ Completed _ refl refl refl
           (named_set n.datum typing fr.rights member (a_read of.0) (Some inner) ∙ ap (λ t. named n.datum (slice_set typing member t) (slice_set fr.rights member (Some inner))) (sym of.1)) kept.0 kept.1
 
+  -- ---- MINS, MADD and MGET
+
+  map_content : (x : Datum) → is_map x.ty ≡ true → IsOfType x.ty x.content → (values : Values) × (x.content ≡ store.Maps values)
+  map_content x mapped of = having x.content of
+    where
+      plain_one : is_scalar x.ty ≡ false
+      plain_one = (map_only x.ty mapped).0
+
+      having : (content : Content) → IsOfType x.ty content → (values : Values) × (content ≡ store.Maps values)
+      having store.Unset h = let z : true ≡ false = sym h ∙ plain_one in cc
+      having (store.Set y) h = let z : true ≡ false = sym h.0 ∙ plain_one in cc
+      having (store.Contains members) h = let z : true ≡ false = sym mapped ∙ (container_only x.ty h.0).1 in cc
+      having (store.Maps values) h = (values, refl)
+
+  entry_is : (id : ℕ) (x : Datum) (vs : Values) (at : Subscript) → get s.store.live id ≡ Some x → x.content ≡ store.Maps vs → entry_at s.store id at ≡ get vs at
+  entry_is id x vs at live content = ap (option_and_then (λ (z : Datum). get (calls.entries_in z.content) at)) live ∙ ap (λ z. get (calls.entries_in z) at) content
+
+  -- one value more, or another in place of one
+  module _ (i : DataInstr) (id : ℕ) (x : Datum) (vs : Values) (at v : Value) (new : Cell) (live : get s.store.live id ≡ Some x) (new_is : new ≡ cell_of n.datum x.ty (store.Maps (insert (calls.entries_in x.content) at v))) where
+    abbrev y : Datum
+    y = with_entry at v x
+
+    put_shown : ShowsCells n.datum (value_put s.store id at v) (insert m.cells (n.datum id) new)
+    put_shown =
+        let put = shows_put n.datum s.store m.cells shows.cells id x y new live (fresh_below id x live) fresh_below new_is in
+        let kept : Kept (value_put s.store id at v).live (insert s.store.live id y) × ((value_put s.store id at v).next ≡ s.store.next) = rw live (kept_itself (insert s.store.live id y), refl) in
+        shows_kept n.datum (record s.store { live = insert s.store.live id y }) (insert m.cells (n.datum id) new) put (value_put s.store id at v) kept.0 kept.1
+
+    put_shared : ShowsShared n.datum n.copied n.start (value_put s.store id at v) (insert m.cells (n.datum id) new) m.shared
+    put_shared =
+        let kept : Kept (value_put s.store id at v).live (insert s.store.live id y) × ((value_put s.store id at v).next ≡ s.store.next) = rw live (kept_itself (insert s.store.live id y), refl) in
+        shared_put n.datum n.copied n.start (value_put s.store id at v) m.cells m.shared
+        (shared_kept n.datum n.copied n.start s.store m.cells m.shared shows.shared (value_put s.store id at v)
+        (fewer_after _ (insert s.store.live id y) _ (fewer _ _ kept.0) (fewer_put s.store.live id x y live (omega arith))) kept.1)
+        (n.datum id) new
+
+  module _ (map subscript from skip : ℕ) (at v : Value) (id : ℕ) (x : Datum) (vs : Values)
+      (value_is : slice_get fr.position.values subscript ≡ Some at) (register : right_at fr.rights map ≡ Some id) (live : get s.store.live id ≡ Some x) (content : x.content ≡ store.Maps vs) (no_sums : is_sums x.ty ≡ false)
+      (cell : get m.cells (n.datum id) ≡ Some (Maps vs)) (name_is : subject_of_data r (on_data.InsertValue map subscript from skip) ≡ Into (n.datum id))
+      (holds : HoldsWrite (n.datum id) (Runs r))
+      (places : on_cells next (cell_at m (subject_of_data r (on_data.InsertValue map subscript from skip))) r (on_data.InsertValue map subscript from skip)
+      ≡ Some (value_placed r skip (n.datum id) at v (entry_seen (cell_at m (subject_of_data r (on_data.InsertValue map subscript from skip))) at))) where
+    abbrev j : DataInstr
+    j = on_data.InsertValue map subscript from skip
+
+    abbrev puts_value : Done
+    puts_value = done r (at_next_place fr.position) r.rights (Writes (n.datum id) (PutValue at v))
+
+    abbrev skips_value : Done
+    skips_value = done r (at_goal fr.position skip) r.rights Nothing
+
+    found_value : entry_at s.store id at ≡ get vs at
+    found_value = entry_is id x vs at live content
+
+    value_taken_so : (o : Option Value) → entry_at s.store id at ≡ o → is_value_taken s.store fr map subscript ≡ is_some o
+    value_taken_so o is_so = ap (λ o. is_some (option_and_then (λ d. option_and_then (λ y. entry_at s.store d y) (slice_get fr.position.values subscript)) o)) register
+        ∙ ap (λ o. is_some (option_and_then (λ y. entry_at s.store id y) o)) value_is ∙ ap is_some is_so
+
+    map_copied_so : (b : Bool) → n.copied id ≡ b → is_copied n.copied (right_at fr.rights map) ≡ b
+    map_copied_so b c = ap (is_copied n.copied) register ∙ c
+
+    -- it may be put
+    free_value_goes : entry_at s.store id at ≡ None → DataGoes j (after_put c id at skip (Some v)) puts_value
+    free_value_goes is_so =
+        let free : get vs at ≡ None = sym found_value ∙ is_so in
+        let new : Cell = Maps (insert vs at v) in
+        let new_is : new ≡ cell_of n.datum x.ty (store.Maps (insert (calls.entries_in x.content) at v)) =
+        ap (λ z. Maps (insert (calls.entries_in z) at v)) (sym content) ∙ ap (λ b. if b then Sums (insert (calls.entries_in x.content) at v) else Maps (insert (calls.entries_in x.content) at v)) (sym no_sums) in
+        record {
+          not_contested = ap (λ b. is_copied n.copied (right_at fr.rights map) && b) (value_taken_so None is_so) ∙ and_false (is_copied n.copied (right_at fr.rights map));
+          way = Completed;
+          goes_on = refl;
+          names = n.datum;
+          agree = λ d less. refl;
+          position = refl;
+          rights = refl;
+          after = insert m.cells (n.datum id) new;
+          edits = ap (λ o. option_map (insert m.cells (n.datum id)) (option_and_then (written (PutValue at v)) o)) cell
+              ∙ ap (λ o. option_map (insert m.cells (n.datum id)) (value_if_free vs at v o)) free;
+          shown = put_shown j id x vs at v new live new_is;
+          shared = put_shared j id x vs at v new live new_is;
+        }
+
+    -- taken, and nobody else may write: it skips
+    value_skip_goes : n.copied id ≡ false → DataGoes j (after_put c id at skip None) skips_value
+    value_skip_goes not = plain j (ap (λ b. b && is_value_taken s.store fr map subscript) (map_copied_so false not)) refl _ Skipped _ refl refl refl refl (kept_itself s.store.live) refl
+
+    -- taken, and others may write: no step
+    value_never : (other : Value) → n.copied id ≡ true → entry_at s.store id at ≡ Some other → IsContest j puts_value
+    value_never other was is_so =
+        let taken : get vs at ≡ Some other = sym found_value ∙ is_so in
+        record {
+          contested = ap (λ b. b && is_value_taken s.store fr map subscript) (map_copied_so true was) ∙ value_taken_so (Some other) is_so;
+          never = λ after edits.
+              let none : edited m.cells next (edit_of (Writes (n.datum id) (PutValue at v))) ≡ None =
+              ap (λ o. option_map (insert m.cells (n.datum id)) (option_and_then (written (PutValue at v)) o)) cell
+              ∙ ap (λ o. option_map (insert m.cells (n.datum id)) (value_if_free vs at v o)) taken in
+              cc;
+        }
+
+    map_shared_is : m.shared (n.datum id) ≡ n.copied id
+    map_shared_is = shows.shared.below id (fresh_below id x live)
+
+    -- what it sees of the map's value
+    sees_value : (b : Bool) → n.copied id ≡ b → entry_seen (cell_at m (subject_of_data r j)) at ≡ (if b then None else entry_at s.store id at)
+    sees_value b c = ap (λ o. entry_seen (cell_at m o) at) name_is ∙ ap (λ z. entry_seen (if z then None else get m.cells (n.datum id)) at) (map_shared_is ∙ c) ∙ ap (λ o. entry_seen (if b then None else o) at) cell ∙ seen b
+      where
+        seen : (b : Bool) → entry_seen (if b then None else Some (Maps vs)) at ≡ (if b then None else entry_at s.store id at)
+        seen true = refl
+        seen false = sym found_value
+
+    map_alone : (d : Name) → subject_of_data r j ≡ Into d → m.shared d ≡ false → IsAlone m (n.holder (OfFrame a)) d
+    map_alone d is not =
+        let same : n.datum id ≡ d = same_into (n.datum id) d (sym name_is ∙ is) in
+        let free : n.copied id ≡ false = sym map_shared_is ∙ ap m.shared same ∙ not in
+        subst (IsAlone m (n.holder (OfFrame a))) same
+        (alone_shown program typings s held_so n m shows a (Runs r) id x live (shows.shared.few id x live free) (ap (option_map (λ frame. Runs (running n.datum typings frame))) runs) holds)
+
+    map_unread : (d : Name) → subject_of_data r j ≡ Reads d → IsClosed m d
+    map_unread d is = let none : Into (n.datum id) ≡ Reads d = sym name_is ∙ is in cc
+
+    abbrev wills_put_value : entry_seen (cell_at m (subject_of_data r j)) at ≡ None → DataWills j
+    wills_put_value none = record {
+      done = puts_value;
+      is = places ∙ ap (λ o. Some (value_placed r skip (n.datum id) at v o)) none;
+      closed = map_unread;
+      alone = map_alone;
+      target = (Maps vs, cell);
+      child = refl;
+    }
+
+    abbrev wills_skip_value : (other : Value) → entry_seen (cell_at m (subject_of_data r j)) at ≡ Some other → DataWills j
+    wills_skip_value other some = record {
+      done = skips_value;
+      is = places ∙ ap (λ o. Some (value_placed r skip (n.datum id) at v o)) some;
+      closed = map_unread;
+      alone = map_alone;
+      target = tt;
+      child = refl;
+    }
+
+    value_by_case : (b : Bool) → n.copied id ≡ b → (o : Option Value) → entry_at s.store id at ≡ o → (k : Context) → after_put c id at skip (if_absent o v) ≡ k → DataShows j k
+    value_by_case true was None is_so k e = (wills_put_value (sees_value true was), inl (subst (λ z. DataGoes j z puts_value) e (free_value_goes is_so)))
+    value_by_case true was (Some other) is_so k e = (wills_put_value (sees_value true was), inr (value_never other was is_so))
+    value_by_case false was None is_so k e = (wills_put_value (sees_value false was ∙ is_so), inl (subst (λ z. DataGoes j z puts_value) e (free_value_goes is_so)))
+    value_by_case false was (Some other) is_so k e = (wills_skip_value other (sees_value false was ∙ is_so), inl (subst (λ z. DataGoes j z skips_value) e (value_skip_goes was)))
+
+  insert_value_shows : (map subscript from skip : ℕ) (k : Context) → AllYes (asks_data p.registers (on_data.InsertValue map subscript from skip) typing)
+      → data_instr (on_data.InsertValue map subscript from skip) c ≡ Ok k → DataShows (on_data.InsertValue map subscript from skip) k
+  insert_value_shows map subscript from skip k asked e =
+      let at = there_then (slice_get fr.position.values subscript) WrongRegister _ k e in
+      let v = there_then (slice_get fr.position.values from) WrongRegister _ k at.2 in
+      let fits = must_then (suits_entry at.0 v.0 (datum_at c map)) WrongRegister _ k v.2 in
+      let h = there_then (right_at fr.rights map) EmptyRegister _ k fits.1 in
+      let may = ok_after (may_put at.0 v.0 (datum_of c h.0)) _ k h.2 in
+      let q = passed writes_map (right_at typing map) asked.0 in
+      let both = and_parts (is_write q.0.mode) (is_plain_map q.0.ty) q.2 in
+      let one = reg map q.0 h.0 q.1 h.1 in
+      let kinds = and_parts (is_map one.x.ty) (not (has_sums one.x.ty.map)) (ap is_plain_map one.ty ∙ both.1) in
+      let no_sums : is_sums one.x.ty ≡ false = plain_no_sums (is_map one.x.ty) (has_sums one.x.ty.map) kinds.1 in
+      let vs = map_content one.x kinds.0 (held_so.types.store.contents h.0 one.x one.live) in
+      let i : DataInstr = on_data.InsertValue map subscript from skip in
+      let cell : get m.cells (n.datum h.0) ≡ Some (Maps vs.0) = subst (λ z. get m.cells (n.datum h.0) ≡ Some (cell_of n.datum one.x.ty z)) vs.1 one.cell ∙ ap (λ b. Some (if b then Sums vs.0 else Maps vs.0)) no_sums in
+      let writes_so = write_of map q.0 h.0 both.0 one in
+      let seen : Option Cell = cell_at m (subject_of_data r i) in
+      value_by_case map subscript from skip at.0 v.0 h.0 one.x vs.0 at.1 h.1 one.live vs.1 no_sums cell (ap writing writes_so)
+      (map, subst (HasWrite (n.datum h.0)) (sym one.named_so) (both.0, refl))
+      (ap (λ o. option_and_then (λ at. option_and_then (λ x. option_map (λ d. value_placed r skip d at x (entry_seen seen at)) (to_write (right_at r.rights map))) (ok (value_at r.position from))) (ok (ok_or o WrongRegister))) at.1
+      ∙ ap (λ o. option_and_then (λ x. option_map (λ d. value_placed r skip d at.0 x (entry_seen seen at.0)) (to_write (right_at r.rights map))) (ok (ok_or o WrongRegister))) v.1
+      ∙ ap (option_map (λ d. value_placed r skip d at.0 v.0 (entry_seen seen at.0))) writes_so)
+      (n.copied h.0) refl (entry_at s.store h.0 at.0) refl k (same_ok _ k may.1)
+    where
+      plain_no_sums : (b c : Bool) → not c ≡ true → (b && c) ≡ false
+      plain_no_sums b true e = cc
+      plain_no_sums true false e = refl
+      plain_no_sums false false e = refl
+
+  add_value_shows : (map subscript from : ℕ) (k : Context) → AllYes (asks_data p.registers (on_data.AddValue map subscript from) typing)
+      → data_instr (on_data.AddValue map subscript from) c ≡ Ok k → DataShows (on_data.AddValue map subscript from) k
+  add_value_shows map subscript from k asked e =
+      let at = there_then (slice_get fr.position.values subscript) WrongRegister _ k e in
+      let v = ok_first (int_at fr.position from) _ k at.2 in
+      let fits = must_then (suits_subscript at.0 (datum_at c map)) WrongRegister _ k v.2 in
+      let h = there_then (right_at fr.rights map) EmptyRegister _ k fits.1 in
+      let may = ok_after (may_add at.0 (datum_of c h.0)) _ k h.2 in
+      let q = passed writes_sums (right_at typing map) asked.0 in
+      let both = and_parts (is_write q.0.mode) (is_sums q.0.ty && same_scalar scalar.Int q.0.ty.scalar) q.2 in
+      let one = reg map q.0 h.0 q.1 h.1 in
+      let sums : is_sums one.x.ty ≡ true = ap is_sums one.ty ∙ (and_parts (is_sums q.0.ty) _ both.1).0 in
+      let vs = map_content one.x (and_parts (is_map one.x.ty) (has_sums one.x.ty.map) sums).0 (held_so.types.store.contents h.0 one.x one.live) in
+      let i : DataInstr = on_data.AddValue map subscript from in
+      let cell : get m.cells (n.datum h.0) ≡ Some (Sums vs.0) = subst (λ z. get m.cells (n.datum h.0) ≡ Some (cell_of n.datum one.x.ty z)) vs.1 one.cell ∙ ap (λ b. Some (if b then Sums vs.0 else Maps vs.0)) sums in
+      let found : entry_at s.store h.0 at.0 ≡ get vs.0 at.0 = entry_is h.0 one.x vs.0 at.0 one.live vs.1 in
+      let sum : Value = sum_with (entry_at s.store h.0 at.0) v.0 in
+      let new : Cell = Sums (insert vs.0 at.0 (sum_with (get vs.0 at.0) v.0)) in
+      let new_is : new ≡ cell_of n.datum one.x.ty (store.Maps (insert (calls.entries_in one.x.content) at.0 sum)) =
+      ap (λ o. Sums (insert vs.0 at.0 (sum_with o v.0))) (sym found) ∙ ap (λ z. Sums (insert (calls.entries_in z) at.0 sum)) (sym vs.1)
+      ∙ ap (λ b. if b then Sums (insert (calls.entries_in one.x.content) at.0 sum) else Maps (insert (calls.entries_in one.x.content) at.0 sum)) (sym sums) in
+      let x : Done = done r (at_next_place fr.position) r.rights (Writes (n.datum h.0) (Add at.0 v.0)) in (
+        record {
+          done = x;
+          is = ap (λ o. option_and_then (λ at. option_and_then (λ n. option_map (λ d. done r (at_next_place r.position) r.rights (Writes d (Add at n))) (to_write (right_at r.rights map))) (ok (int_at r.position from))) (ok (ok_or o WrongRegister))) at.1
+              ∙ ap (λ o. option_and_then (λ n. option_map (λ d. done r (at_next_place r.position) r.rights (Writes d (Add at.0 n))) (to_write (right_at r.rights map))) (ok o)) v.1
+              ∙ ap (option_map (λ d. done r (at_next_place r.position) r.rights (Writes d (Add at.0 v.0)))) (write_of map q.0 h.0 both.0 one);
+          closed = λ d at. cc;
+          alone = λ d at not. cc;
+          target = (Sums vs.0, cell);
+          child = refl;
+        },
+        inl (subst (λ (z : Context). DataGoes i z x) (same_ok _ k may.1) (record {
+          not_contested = refl;
+          way = Completed;
+          goes_on = refl;
+          names = n.datum;
+          agree = λ id less. refl;
+          position = refl;
+          rights = refl;
+          after = insert m.cells (n.datum h.0) new;
+          edits = ap (λ o. option_map (insert m.cells (n.datum h.0)) (option_and_then (written (Add at.0 v.0)) o)) cell;
+          shown = put_shown i h.0 one.x vs.0 at.0 sum new one.live new_is;
+          shared = put_shared i h.0 one.x vs.0 at.0 sum new one.live new_is;
+        })),
+      )
+
+  get_value_shows : (to map subscript skip : ℕ) (k : Context) → AllYes (asks_data p.registers (on_data.GetValue to map subscript skip) typing)
+      → data_instr (on_data.GetValue to map subscript skip) c ≡ Ok k → DataShows (on_data.GetValue to map subscript skip) k
+  get_value_shows to map subscript skip k asked e =
+      let v = there_then (slice_get fr.position.values to) WrongRegister _ k e in
+      let at = there_then (slice_get fr.position.values subscript) WrongRegister _ k v.2 in
+      let fits = must_then (suits_entry at.0 v.0 (datum_at c map)) WrongRegister _ k at.2 in
+      let h = there_then (right_at fr.rights map) EmptyRegister _ k fits.1 in
+      let may = ok_after (may_read_entry at.0 (scalar_of v.0) (datum_of c h.0)) _ k h.2 in
+      let q = passed reads_closed_map (right_at typing map) asked.0 in
+      let both = and_parts (is_closed_mode q.0.mode) (is_map q.0.ty) q.2 in
+      let one = reg map q.0 h.0 q.1 h.1 in
+      let i : DataInstr = on_data.GetValue to map subscript skip in
+      let sub = subject i map q.0 h.0 refl refl both.0 one in
+      let entry : entry_at s.store h.0 at.0 ≡ get (calls.entries_in one.x.content) at.0 = ap (option_and_then (λ (z : Datum). get (calls.entries_in z.content) at.0)) one.live in
+      let entry_so : get (entries_in (cell_of n.datum one.x.ty one.x.content)) at.0 ≡ entry_at s.store h.0 at.0 = ap (λ vs. get vs at.0) (entries_by n.datum one.x.ty one.x.content) ∙ sym entry in
+      let found : Option Value = entry_at s.store h.0 at.0 in
+      let x : Done = done r (with_result fr.position to skip found) r.rights Nothing in (
+        record {
+          done = x;
+          is = ap (λ o. option_and_then (λ at. option_map (λ z. done r (with_result r.position to skip (get (entries_in z) at)) r.rights Nothing) (cell_at m (subject_of_data r i))) (ok (ok_or o WrongRegister))) at.1
+              ∙ ap (option_map (λ z. done r (with_result r.position to skip (get (entries_in z) at.0)) r.rights Nothing)) sub.is_read_so
+              ∙ ap (λ o. Some (done r (with_result r.position to skip o) r.rights Nothing)) entry_so;
+          closed = sub.closed;
+          alone = sub.alone;
+          target = tt;
+          child = refl;
+        },
+        inl (subst (λ (z : Context). DataGoes i z x) (same_ok _ k may.1) (either found)),
+      )
+    where
+      either : (found : Option Value) → DataGoes (on_data.GetValue to map subscript skip) (record c { position = with_result fr.position to skip found }) (done r (with_result fr.position to skip found) r.rights Nothing)
+      either None = plain (on_data.GetValue to map subscript skip) refl refl _ Skipped _ refl refl refl refl (kept_itself s.store.live) refl
+      either (Some y) = plain (on_data.GetValue to map subscript skip) refl refl _ Completed _ refl refl refl refl (kept_itself s.store.live) refl
+
   -- ---- each of them
 
   pub data_shows : (i : DataInstr) (k : Context) → slice_get p.code fr.position.place ≡ Some (instr.Data i) → data_instr i c ≡ Ok k → DataShows i k
@@ -710,6 +1013,9 @@ module _ (program : List Procedure) (typings : Typings) (proper : IsProgram prog
   data_shows (on_data.Look by member container subscript skip) k at e = look_shows by member container subscript skip k (met (on_data.Look by member container subscript skip) at) e
   data_shows (on_data.Size to container) k at e = size_shows to container k (met (on_data.Size to container) at) e
   data_shows (on_data.SubscriptAt by to container index skip) k at e = subscript_shows by to container index skip k (met (on_data.SubscriptAt by to container index skip) at) e
+  data_shows (on_data.InsertValue map subscript from skip) k at e = insert_value_shows map subscript from skip k (met (on_data.InsertValue map subscript from skip) at) e
+  data_shows (on_data.AddValue map subscript from) k at e = add_value_shows map subscript from k (met (on_data.AddValue map subscript from) at) e
+  data_shows (on_data.GetValue to map subscript skip) k at e = get_value_shows to map subscript skip k (met (on_data.GetValue to map subscript skip) at) e
   data_shows (on_data.CopyRead to from) k at e = copy_read_shows to from k (met (on_data.CopyRead to from) at) e
   data_shows (on_data.CopyWrite to from) k at e = copy_write_shows to from k (met (on_data.CopyWrite to from) at) e
   data_shows (on_data.DropRead register) k at e = drop_read_shows register k (met (on_data.DropRead register) at) e

@@ -1,5 +1,5 @@
 -- The outputs of a state are a part of those of another whose core machine is later, if they have the same names.
-use Rattle.std.proofs.Common.{◌≡◌, ℕ, ◌≤◌, Bool, true, false, List, [], ◌∷◌, Option, Some, None, refl, sym, ap, subst, ◌∙◌, slice_get, arith, nat_cmp}
+use Rattle.std.proofs.Common.{◌≡◌, ℕ, ◌≤◌, Bool, true, false, if◌then◌else◌, List, [], ◌∷◌, Option, Some, None, refl, sym, ap, subst, ◌∙◌, slice_get, arith, nat_cmp}
 use Rattle.std.specs.Prelude.{map as each}
 use Rattle.std.specs.FinMap as fin
 use Rattle.std.specs.FinMap.{get, get-empty}
@@ -8,15 +8,16 @@ use Rattle.tw_types.specs.declared.ending.Ending.{Ending}
 use Rattle.tw_types.specs.Mapped.{entry_by, mapped}
 use Rattle.tw_types.proofs.Mapped.{entries_mapped, get_mapped}
 use Rattle.tw_types.specs.Store as store
+use Rattle.tw_types.specs.Store.{Values}
 use Rattle.tw_types.specs.StoreCalls.{member_at, members_in}
 use Rattle.tw_types.specs.ValueOrder.{Subscript, value_cmp}
 use Rattle.tw_code.specs.machine.Ending.{ending}
 use Rattle.tw_soundness.proofs.DataInsert.{found_inside}
 use Rattle.tw_soundness.proofs.Live.{output_is_live}
-use Rattle.tw_determinism.proofs.MachineNames.{Content, Datum, IsHeld, Members, Procedure, State, Typings, balanced_none, inside, is_closed, nat_cmp-IsAntisymmetric, nat_cmp_total, part, part-le-total, reads_of, same_Some, subscripts_in, writes_of}
-use Rattle.tw_determinism.specs.Found.{Single, Members as Subscripts, ArePartOf, IsFoundAlso, IsPartOf, Look, SameOutputs, at_path, found, look_of, shown}
+use Rattle.tw_determinism.proofs.MachineNames.{Content, Datum, IsHeld, Members, NestedScalar, is_sums, Procedure, State, Typings, balanced_none, inside, is_closed, nat_cmp-IsAntisymmetric, nat_cmp_total, part, part-le-total, reads_of, same_Some, subscripts_in, writes_of}
+use Rattle.tw_determinism.specs.Found.{Nothing, Single, Members as Subscripts, Entries, Sums as Added, ArePartOf, IsFoundAlso, IsPartOf, Look, SameOutputs, at_path, found, look_of, shown}
 use Rattle.tw_determinism.proofs.Names.{Name}
-use Rattle.tw_determinism.proofs.CoreEffects.{Cell, Unset, Set, Contains, IsClosed, Net}
+use Rattle.tw_determinism.proofs.CoreEffects.{Cell, Unset, Set, Contains, Maps, Sums, IsClosed, Net}
 use Rattle.tw_determinism.proofs.Closing.{closed_shown}
 use Rattle.tw_determinism.proofs.Later.{IsLater, IsWithin, later_itself}
 use Rattle.tw_determinism.proofs.Options.{some_first, some_mapped}
@@ -32,41 +33,107 @@ keys_each f (e ∷ es) = ap (λ ks. e.0 ∷ ks) (keys_each f es)
 keys_by : (f : ℕ → Name) (members : Members) → fin.keys (mapped f members) ≡ fin.keys members
 keys_by f members = ap (each (λ e. e.0)) (entries_mapped f members) ∙ keys_each f (fin.entries members)
 
+abbrev is_a_map : Cell → Bool
+is_a_map Unset = false
+is_a_map (Set x) = false
+is_a_map (Contains members) = false
+is_a_map (Maps values) = true
+is_a_map (Sums values) = true
+
 -- what shows of a content by names
 abbrev keys_in : Cell → List Subscript
 keys_in Unset = []
 keys_in (Set x) = []
 keys_in (Contains members) = fin.keys members
+keys_in (Maps values) = []
+keys_in (Sums values) = []
 
-same_shown : (f g : ℕ → Name) (c d : Content) → cell_of f c ≡ cell_of g d → shown c ≡ shown d
-same_shown f g store.Unset store.Unset e = refl
-same_shown f g store.Unset (store.Set y) e = cc
-same_shown f g store.Unset (store.Contains y) e = cc
-same_shown f g (store.Set x) store.Unset e = cc
-same_shown f g (store.Set x) (store.Set y) e = let same : x ≡ y = cc in ap Single same
-same_shown f g (store.Set x) (store.Contains y) e = cc
-same_shown f g (store.Contains x) store.Unset e = cc
-same_shown f g (store.Contains x) (store.Set y) e = cc
-same_shown f g (store.Contains x) (store.Contains y) e = ap Subscripts (sym (keys_by f x) ∙ ap keys_in e ∙ keys_by g y)
+-- by types that are maps of sums or not
+maps_shown : (a b : Bool) (x y : Values) → (if a then Sums x else Maps x) ≡ (if b then Sums y else Maps y) → (if a then Added x else Entries x) ≡ (if b then Added y else Entries y)
+maps_shown true true x y e = let same : x ≡ y = cc in ap Added same
+maps_shown true false x y e = cc
+maps_shown false true x y e = cc
+maps_shown false false x y e = let same : x ≡ y = cc in ap Entries same
 
-part_shown : (f g : ℕ → Name) (c d : Content) → IsWithin (cell_of f c) (cell_of g d) → IsPartOf (shown c) (shown d)
-part_shown f g store.Unset store.Unset h = tt
-part_shown f g store.Unset (store.Set y) h = tt
-part_shown f g store.Unset (store.Contains y) h = h
-part_shown f g (store.Set x) store.Unset h = cc
-part_shown f g (store.Set x) (store.Set y) h = let same : y ≡ x = cc in ap Single same
-part_shown f g (store.Set x) (store.Contains y) h = cc
-part_shown f g (store.Contains x) store.Unset h = h
-part_shown f g (store.Contains x) (store.Set y) h = h
-part_shown f g (store.Contains x) (store.Contains y) h = tt
+no_map : (c : Cell) → is_a_map c ≡ false → (a : Bool) (x : Values) → (if a then Sums x else Maps x) ≡ c → ⊥
+no_map c none true x e = let z : true ≡ false = ap is_a_map e ∙ none in cc
+no_map c none false x e = let z : true ≡ false = ap is_a_map e ∙ none in cc
+
+same_shown : (f g : ℕ → Name) (a b : NestedScalar) (c d : Content) → cell_of f a c ≡ cell_of g b d → shown a c ≡ shown b d
+same_shown f g a b store.Unset store.Unset e = refl
+same_shown f g a b store.Unset (store.Set y) e = cc
+same_shown f g a b store.Unset (store.Contains y) e = cc
+same_shown f g a b store.Unset (store.Maps y) e = absurd (no_map Unset refl (is_sums b) y (sym e))
+same_shown f g a b (store.Set x) store.Unset e = cc
+same_shown f g a b (store.Set x) (store.Set y) e = let same : x ≡ y = cc in ap Single same
+same_shown f g a b (store.Set x) (store.Contains y) e = cc
+same_shown f g a b (store.Set x) (store.Maps y) e = absurd (no_map (Set x) refl (is_sums b) y (sym e))
+same_shown f g a b (store.Contains x) store.Unset e = cc
+same_shown f g a b (store.Contains x) (store.Set y) e = cc
+same_shown f g a b (store.Contains x) (store.Contains y) e = ap Subscripts (sym (keys_by f x) ∙ ap keys_in e ∙ keys_by g y)
+same_shown f g a b (store.Contains x) (store.Maps y) e = absurd (no_map (Contains (mapped f x)) refl (is_sums b) y (sym e))
+same_shown f g a b (store.Maps x) store.Unset e = absurd (no_map Unset refl (is_sums a) x e)
+same_shown f g a b (store.Maps x) (store.Set y) e = absurd (no_map (Set y) refl (is_sums a) x e)
+same_shown f g a b (store.Maps x) (store.Contains y) e = absurd (no_map (Contains (mapped g y)) refl (is_sums a) x e)
+same_shown f g a b (store.Maps x) (store.Maps y) e = maps_shown (is_sums a) (is_sums b) x y e
+
+part_shown : (f g : ℕ → Name) (a b : NestedScalar) (c d : Content) → IsWithin (cell_of f a c) (cell_of g b d) → IsPartOf (shown a c) (shown b d)
+part_shown f g a b store.Unset store.Unset h = tt
+part_shown f g a b store.Unset (store.Set y) h = tt
+part_shown f g a b store.Unset (store.Contains y) h = absurd h
+part_shown f g a b store.Unset (store.Maps y) h = no (is_sums b) h
+  where
+    no : (b : Bool) → IsWithin Unset (if b then Sums y else Maps y) → IsPartOf Nothing (if b then Added y else Entries y)
+    no true h = absurd h
+    no false h = absurd h
+part_shown f g a b (store.Set x) store.Unset h = cc
+part_shown f g a b (store.Set x) (store.Set y) h = let same : y ≡ x = cc in ap Single same
+part_shown f g a b (store.Set x) (store.Contains y) h = cc
+part_shown f g a b (store.Set x) (store.Maps y) h = absurd (no_map (Set x) refl (is_sums b) y h)
+part_shown f g a b (store.Contains x) store.Unset h = absurd h
+part_shown f g a b (store.Contains x) (store.Set y) h = absurd h
+part_shown f g a b (store.Contains x) (store.Contains y) h = tt
+part_shown f g a b (store.Contains x) (store.Maps y) h = no (is_sums b) h
+  where
+    no : (b : Bool) → IsWithin (Contains (mapped f x)) (if b then Sums y else Maps y) → IsPartOf (Subscripts (fin.keys x)) (if b then Added y else Entries y)
+    no true h = absurd h
+    no false h = absurd h
+part_shown f g a b (store.Maps x) store.Unset h = no (is_sums a) h
+  where
+    no : (a : Bool) → IsWithin (if a then Sums x else Maps x) Unset → IsPartOf (if a then Added x else Entries x) Nothing
+    no true h = absurd h
+    no false h = absurd h
+part_shown f g a b (store.Maps x) (store.Set y) h = no (is_sums a) h
+  where
+    no : (a : Bool) → IsWithin (if a then Sums x else Maps x) (Set y) → IsPartOf (if a then Added x else Entries x) (Single y)
+    no true h = absurd h
+    no false h = absurd h
+part_shown f g a b (store.Maps x) (store.Contains y) h = no (is_sums a) h
+  where
+    no : (a : Bool) → IsWithin (if a then Sums x else Maps x) (Contains (mapped g y)) → IsPartOf (if a then Added x else Entries x) (Subscripts (fin.keys y))
+    no true h = absurd h
+    no false h = absurd h
+part_shown f g a b (store.Maps x) (store.Maps y) h = both (is_sums a) (is_sums b) h
+  where
+    both : (a b : Bool) → IsWithin (if a then Sums x else Maps x) (if b then Sums y else Maps y) → IsPartOf (if a then Added x else Entries x) (if b then Added y else Entries y)
+    both true true h = h
+    both true false h = absurd h
+    both false true h = absurd h
+    both false false h = h
 
 -- a member, by names: where there is one, there is one in all that has the content
-member_within : (f g : ℕ → Name) (c d : Content) (at : Subscript) (i : ℕ) → get (members_in c) at ≡ Some i → IsWithin (cell_of f c) (cell_of g d) → (j : ℕ) × (get (members_in d) at ≡ Some j) × (f i ≡ g j)
-member_within f g store.Unset d at i is h = let none : None ≡ Some i = sym (get-empty value_cmp at) ∙ is in cc
-member_within f g (store.Set x) d at i is h = let none : None ≡ Some i = sym (get-empty value_cmp at) ∙ is in cc
-member_within f g (store.Contains x) store.Unset at i is h = absurd h
-member_within f g (store.Contains x) (store.Set y) at i is h = absurd h
-member_within f g (store.Contains x) (store.Contains y) at i is h =
+member_within : (f g : ℕ → Name) (a b : NestedScalar) (c d : Content) (at : Subscript) (i : ℕ) → get (members_in c) at ≡ Some i → IsWithin (cell_of f a c) (cell_of g b d) → (j : ℕ) × (get (members_in d) at ≡ Some j) × (f i ≡ g j)
+member_within f g a b store.Unset d at i is h = let none : None ≡ Some i = sym (get-empty value_cmp at) ∙ is in cc
+member_within f g a b (store.Set x) d at i is h = let none : None ≡ Some i = sym (get-empty value_cmp at) ∙ is in cc
+member_within f g a b (store.Maps x) d at i is h = let none : None ≡ Some i = sym (get-empty value_cmp at) ∙ is in cc
+member_within f g a b (store.Contains x) store.Unset at i is h = absurd h
+member_within f g a b (store.Contains x) (store.Set y) at i is h = absurd h
+member_within f g a b (store.Contains x) (store.Maps y) at i is h = no (is_sums b) h
+  where
+    no : (b : Bool) → IsWithin (Contains (mapped f x)) (if b then Sums y else Maps y) → (j : ℕ) × (get (members_in (store.Maps y)) at ≡ Some j) × (f i ≡ g j)
+    no true h = absurd h
+    no false h = absurd h
+member_within f g a b (store.Contains x) (store.Contains y) at i is h =
     let there : get (mapped g y) at ≡ Some (f i) = h at (f i) (get_mapped f x at ∙ ap (option_map f) is) in
     let j = some_mapped (get y at) g (f i) (sym (get_mapped g y at) ∙ there) in
     (j.0, j.1, sym j.2)
@@ -90,11 +157,11 @@ module _ (program : List Procedure) (typings : Typings) (s : State) (held : IsHe
 module _ (program : List Procedure) (typings : Typings) (t s : State) (held_first : IsHeld program typings t) (held : IsHeld program typings s) (o n : Naming) (l m : Net)
     (shows_first : Shows program typings o t l) (shows : Shows program typings n s m) (later : IsLater l m) where
   -- the content of the datum of one name
-  within : (i j : ℕ) (x y : Datum) → o.datum i ≡ n.datum j → get t.store.live i ≡ Some x → get s.store.live j ≡ Some y → IsWithin (cell_of o.datum x.content) (cell_of n.datum y.content)
+  within : (i j : ℕ) (x y : Datum) → o.datum i ≡ n.datum j → get t.store.live i ≡ Some x → get s.store.live j ≡ Some y → IsWithin (cell_of o.datum x.ty x.content) (cell_of n.datum y.ty y.content)
   within i j x y same first second =
-      let a = later.cells (o.datum i) (cell_of o.datum x.content) (shows_first.cells.live i x first) in
-      let b : get m.cells (o.datum i) ≡ Some (cell_of n.datum y.content) = ap (get m.cells) same ∙ shows.cells.live j y second in
-      subst (IsWithin (cell_of o.datum x.content)) (same_Some a.0 (cell_of n.datum y.content) (sym a.1 ∙ b)) a.2
+      let a = later.cells (o.datum i) (cell_of o.datum x.ty x.content) (shows_first.cells.live i x first) in
+      let b : get m.cells (o.datum i) ≡ Some (cell_of n.datum y.ty y.content) = ap (get m.cells) same ∙ shows.cells.live j y second in
+      subst (IsWithin (cell_of o.datum x.ty x.content)) (same_Some a.0 (cell_of n.datum y.ty y.content) (sym a.1 ∙ b)) a.2
 
   record Leads (d : ℕ) (path : List Subscript) (j : ℕ) : Type 0 where
     id : ℕ
@@ -108,7 +175,7 @@ module _ (program : List Procedure) (typings : Typings) (t s : State) (held_firs
   leads (k ∷ path) i j d y same live at =
       let a = some_first (member_at t.store i k) (at_path t.store path) d at in
       let b = some_first (get t.store.live i) (λ x. get (members_in x.content) k) a.0 a.1 in
-      let c = member_within o.datum n.datum b.0.content y.content k a.0 b.2 (within i j b.0 y same b.1 live) in
+      let c = member_within o.datum n.datum b.0.ty y.ty b.0.content y.content k a.0 b.2 (within i j b.0 y same b.1 live) in
       let z = member_is_live program typings s held j y k c.0 live c.1 in
       let rest = leads path a.0 c.0 d z.0 c.2 z.1 a.2 in
       let here : member_at s.store j k ≡ Some c.0 = ap (option_and_then (λ (x : Datum). get (members_in x.content) k)) live ∙ c.1 in
@@ -120,11 +187,11 @@ module _ (program : List Procedure) (typings : Typings) (t s : State) (held_firs
     whole d id x y same first second closed =
         let c = closed_shown program typings t held_first o l shows_first d x first closed in
         let b = later.closed (o.datum d) c in
-        let x_is : c.cell ≡ cell_of o.datum x.content = same_Some c.cell _ (sym c.there ∙ shows_first.cells.live d x first) in
-        let y_is : b.0.cell ≡ cell_of n.datum y.content = same_Some b.0.cell _ (sym b.0.there ∙ ap (get m.cells) same ∙ shows.cells.live id y second) in
+        let x_is : c.cell ≡ cell_of o.datum x.ty x.content = same_Some c.cell _ (sym c.there ∙ shows_first.cells.live d x first) in
+        let y_is : b.0.cell ≡ cell_of n.datum y.ty y.content = same_Some b.0.cell _ (sym b.0.there ∙ ap (get m.cells) same ∙ shows.cells.live id y second) in
         let shut = closed_back program typings s held end ends n m shows id y second (subst (IsClosed m) same b.0) in
-        let content : shown y.content ≡ shown x.content = same_shown n.datum o.datum y.content x.content (sym y_is ∙ b.1 ∙ x_is) in
-        ap (λ c. record (look_of y) { content = c }) content ∙ ap (λ z. record { content = shown x.content; closed = z }) (shut ∙ sym closed)
+        let content : shown y.ty y.content ≡ shown x.ty x.content = same_shown n.datum o.datum y.ty x.ty y.content x.content (sym y_is ∙ b.1 ∙ x_is) in
+        ap (λ c. record (look_of y) { content = c }) content ∙ ap (λ z. record { content = shown x.ty x.content; closed = z }) (shut ∙ sym closed)
 
     found_also : (path : List Subscript) (i j : ℕ) (y : Datum) (look : Look) → o.datum i ≡ n.datum j → get s.store.live j ≡ Some y → found t.store path i ≡ Some look → IsFoundAlso look (found s.store path j)
     found_also path i j y look same live is =
@@ -134,7 +201,7 @@ module _ (program : List Procedure) (typings : Typings) (t s : State) (held_firs
         record {
           other = look_of c.y;
           there = ap (option_and_then (λ d. option_map look_of (get s.store.live d))) c.at ∙ ap (option_map look_of) c.live;
-          part = subst (λ (z : Look). IsPartOf z.content (shown c.y.content)) b.2 (part_shown o.datum n.datum b.0.content c.y.content (within a.0 c.id b.0 c.y c.same b.1 c.live));
+          part = subst (λ (z : Look). IsPartOf z.content (shown c.y.ty c.y.content)) b.2 (part_shown o.datum n.datum b.0.ty c.y.ty b.0.content c.y.content (within a.0 c.id b.0 c.y c.same b.1 c.live));
           whole = λ closed. whole a.0 c.id b.0 c.y c.same b.1 c.live (ap (λ (z : Look). z.closed) b.2 ∙ closed) ∙ b.2;
         }
 
@@ -154,13 +221,13 @@ module _ (program : List Procedure) (typings : Typings) (t s : State) (held_firs
   same_look : (d id : ℕ) (x y : Datum) → o.datum d ≡ n.datum id → get t.store.live d ≡ Some x → get s.store.live id ≡ Some y → look_of x ≡ look_of y
   same_look d id x y same first second = by (is_closed x) refl (is_closed y) refl
     where
-      content : shown x.content ≡ shown y.content
-      content = same_shown o.datum n.datum x.content y.content (same_Some _ _ (sym (shows_first.cells.live d x first) ∙ ap (get m.cells) same ∙ shows.cells.live id y second))
+      content : shown x.ty x.content ≡ shown y.ty y.content
+      content = same_shown o.datum n.datum x.ty y.ty x.content y.content (same_Some _ _ (sym (shows_first.cells.live d x first) ∙ ap (get m.cells) same ∙ shows.cells.live id y second))
 
       by : (b : Bool) → is_closed x ≡ b → (c : Bool) → is_closed y ≡ c → look_of x ≡ look_of y
       by true e c f = sym (whole program typings t s held_first held o n m m shows_first shows (later_itself m) end ends d id x y same first second e)
       by false e true f = whole program typings s t held held_first n o m m shows shows_first (later_itself m) end_first ends_first id d y x (sym same) second first f
-      by false e false f = ap (λ c. record { content = c; closed = is_closed x }) content ∙ ap (λ z. record { content = shown y.content; closed = z }) (e ∙ sym f)
+      by false e false f = ap (λ c. record { content = c; closed = is_closed x }) content ∙ ap (λ z. record { content = shown y.ty y.content; closed = z }) (e ∙ sym f)
 
   same_at : (path : List Subscript) (i j : ℕ) (y : Datum) (look : Look) → o.datum i ≡ n.datum j → get s.store.live j ≡ Some y → found t.store path i ≡ Some look → found s.store path j ≡ Some look
   same_at path i j y look same live is =

@@ -16,7 +16,7 @@ use Rattle.tw_code.specs.machine.Position.{value_at, int_at, of_type_at}
 use Rattle.tw_code.specs.machine.Rights.{right_at}
 use Rattle.tw_code.specs.machine.State.{filled}
 use Rattle.tw_determinism.proofs.Names.{Name}
-use Rattle.tw_determinism.proofs.CoreEffects.{Right, Registers, Cell, Waiting, Running, Thread, Waits, Runs, Ended, HasWrite, HoldsWrite, Writing, Nothing, Bears, Makes, Writes, Shares, Effect, Handed, handed, with_given, with_moved, Done, ok, on_cells, done, looked, placed, member_seen, to_write, by_instr, instr_of, effect_of}
+use Rattle.tw_determinism.proofs.CoreEffects.{Right, Registers, Cell, Waiting, Running, Thread, Waits, Runs, Ended, HasWrite, HoldsWrite, Writing, Nothing, Bears, Makes, Writes, Shares, Effect, Handed, handed, with_given, with_moved, Done, ok, on_cells, done, looked, placed, value_placed, member_seen, entry_seen, to_write, by_instr, instr_of, effect_of}
 use Rattle.tw_determinism.proofs.Options.{WhereSome, some_here, some_both, some_map, some_of}
 
 -- ---- registers
@@ -93,6 +93,15 @@ put_in next f at register from d w has = record {
   share = λ e is. cc;
 }
 
+-- it has the same rights, and writes
+wrote : (next : Name) (f : Running) (at : _) (from : ℕ) (d : Name) (w : Writing) → HasWrite d (right_at f.rights from) → DoneKeeps next f (done f at f.rights (Writes d w))
+wrote next f at from d w has = record {
+  own = λ e k h. inl (k, h);
+  child = λ v e. cc;
+  target = λ e v is. let same : d ≡ e = cc in (from, subst (λ x. HasWrite x (right_at f.rights from)) same has);
+  share = λ e is. cc;
+}
+
 may_write : (o : Option Right) (d : Name) → to_write o ≡ Some d → HasWrite d o
 may_write None d e = cc
 may_write (Some right) d e = by right.write refl e
@@ -113,6 +122,10 @@ looked_keeps next f register skip (Some member) = record {
 placed_keeps : (next : Name) (f : Running) (register skip from : ℕ) (d : Name) (at : _) (member : Name) (o : Option Name) → HasWrite d (right_at f.rights from) → DoneKeeps next f (placed f register skip d at member o)
 placed_keeps next f register skip from d at member None has = put_in next f _ register from d _ has
 placed_keeps next f register skip from d at member (Some other) has = kept next f _
+
+value_placed_keeps : (next : Name) (f : Running) (skip from : ℕ) (d : Name) (at x : Value) (o : Option Value) → HasWrite d (right_at f.rights from) → DoneKeeps next f (value_placed f skip d at x o)
+value_placed_keeps next f skip from d at x None has = wrote next f _ from d _ has
+value_placed_keeps next f skip from d at x (Some other) has = kept next f _
 
 born : (next : Name) (f : Running) (at : _) (write read : ℕ) (cell : Cell)
     → DoneKeeps next f (done f at (slice_set (slice_set f.rights write (Some (record { write = true; of = next }))) read (Some (record { write = false; of = next }))) (Bears cell))
@@ -140,6 +153,11 @@ on_cells_keeps next cell f (on_data.Look by member container subscript skip) =
     some_both (ok (of_type_at f.position subscript by)) (λ at _. some_map cell _ (λ c _. looked_keeps next f member skip _))
 on_cells_keeps next cell f (on_data.Size to container) = some_map cell _ (λ c _. kept next f _)
 on_cells_keeps next cell f (on_data.SubscriptAt by to container index skip) = some_both (ok (int_at f.position index)) (λ count _. some_map cell _ (λ c _. kept next f _))
+on_cells_keeps next cell f (on_data.InsertValue map subscript from skip) =
+    some_both (ok (value_at f.position subscript)) (λ at _. some_both (ok (value_at f.position from)) (λ x _. some_map (to_write (right_at f.rights map)) _ (λ d is. value_placed_keeps next f skip map d at x (entry_seen cell at) (may_write _ d is))))
+on_cells_keeps next cell f (on_data.AddValue map subscript from) =
+    some_both (ok (value_at f.position subscript)) (λ at _. some_both (ok (int_at f.position from)) (λ n _. some_map (to_write (right_at f.rights map)) _ (λ d is. wrote next f _ map d _ (may_write _ d is))))
+on_cells_keeps next cell f (on_data.GetValue to map subscript skip) = some_both (ok (value_at f.position subscript)) (λ at _. some_map cell _ (λ c _. kept next f _))
 on_cells_keeps next cell f (on_data.CopyRead to from) = some_map (right_at f.rights from) _ (λ right is. copied next f _ to from right is)
 on_cells_keeps next cell f (on_data.CopyWrite to from) = some_map (to_write (right_at f.rights from)) _ (λ d is. shared next f _ to from d (may_write _ d is))
 on_cells_keeps next cell f (on_data.DropRead right) = some_here (emptied next f _ right)

@@ -10,7 +10,7 @@ use Rattle.tw_types.proofs.Parts.{put_or_before}
 use Rattle.tw_types.proofs.Totals.{insert_other, insert_same}
 use Rattle.tw_code.specs.declared.procedure.Procedure.{Procedure}
 use Rattle.tw_determinism.proofs.Names.{Name, name_cmp, name_cmp_total, name_cmp-same}
-use Rattle.tw_determinism.proofs.CoreEffects.{Cell, Unset, Set, Contains, Threads, Thread, Waits, Runs, Ended, Waiting, Writing, SetTo, Put, Act, Nothing, Bears, Makes, Writes, Shares, Subject, Blind, Reads, Into, Effect, written, Net, HoldsWrite, IsWritable, IsShut, IsClosed, effect_of, cell_at, subject_of, next_name, spent_of}
+use Rattle.tw_determinism.proofs.CoreEffects.{Cell, Unset, Set, Contains, Maps, Sums, Threads, Thread, Waits, Runs, Ended, Waiting, Writing, SetTo, Put, PutValue, Add, Act, Nothing, Bears, Makes, Writes, Shares, Subject, Blind, Reads, Into, Effect, written, Net, HoldsWrite, IsWritable, IsShut, IsClosed, effect_of, cell_at, subject_of, next_name, spent_of}
 use Rattle.tw_determinism.proofs.CoreMachine.{Edit, Leaves, Adds, Changes, edit_of, child_of, share_of, with_share, edited, with_child, threads_after, IsAlone, IsThere, IsMade, IsPast, WasMade, Steps, Wills}
 use Rattle.tw_determinism.proofs.Keeping.{Keeps, effect_keeps}
 use Rattle.tw_determinism.proofs.Options.{some_of, some_first, some_mapped}
@@ -91,6 +91,8 @@ child_made (Shares d) w e = cc
 pub set_stays : (w : Writing) (x : _) (c : Cell) → written w (Set x) ≡ Some c → ⊥
 set_stays (SetTo y) x c e = cc
 set_stays (Put at member) x c e = cc
+set_stays (PutValue at y) x c e = cc
+set_stays (Add at n) x c e = cc
 
 -- ---- what is closed stays so
 
@@ -121,6 +123,8 @@ module _ (program : List Procedure) (m n : Net) (is_made : IsMade m) (t : Name) 
       touched w c held Unset shut e = shut
       touched w c held (Set x) shut e = set_stays w x c e
       touched w c held (Contains members) shut e = shut t step.wills.thread step.wills.there held
+      touched w c held (Maps values) shut e = shut t step.wills.thread step.wills.there held
+      touched w c held (Sums values) shut e = shut t step.wills.thread step.wills.there held
 
       by : (act : Act) → step.wills.effect.act ≡ act → edited m.cells (next_name t step.wills.thread) (edit_of act) ≡ Some n.cells → get n.cells d ≡ Some cell
       by Nothing is e = subst (λ z. get z d ≡ Some cell) (same_Some m.cells n.cells e) there
@@ -144,6 +148,8 @@ module _ (program : List Procedure) (m n : Net) (is_made : IsMade m) (t : Name) 
       by Unset there shut = shut
       by (Set x) there shut = tt
       by (Contains members) there shut = writable_before d (Contains members) there shut
+      by (Maps values) there shut = writable_before d (Maps values) there shut
+      by (Sums values) there shut = writable_before d (Sums values) there shut
 
   pub still_closed : (d : Name) → IsClosed m d → IsClosed n d
   still_closed d c = let k = closed_kept d c in record { cell = c.cell; there = k.0; shut = k.1 }

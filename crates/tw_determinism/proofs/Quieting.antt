@@ -17,6 +17,7 @@ use Rattle.tw_determinism.proofs.Names.{Name}
 use Rattle.tw_determinism.proofs.CoreEffects.{Thread, Waits, Ended, Net, HasWrite, IsWritable, IsShut, IsClosed, awaits_of, cell_at, effect_of, next_name, subject_of}
 use Rattle.tw_determinism.proofs.CoreMachine.{IsOver}
 use Rattle.tw_determinism.proofs.Options.{some_mapped}
+use Rattle.tw_determinism.proofs.Closing.{map_unwritten}
 use Rattle.tw_determinism.proofs.Showing.{Holder, OfFrame, OfTask, OfRule, Naming, Shows, alive, awaits_in, cell_of, one, rights_in, thread_in, waiting}
 
 -- ---- consequences of an ending
@@ -117,15 +118,19 @@ module _ (program : List Procedure) (typings : Typings) (s : State) (held : IsHe
   pub closed_back : (id : ℕ) (x : Datum) → get s.store.live id ≡ Some x → IsClosed m (n.datum id) → is_closed x ≡ true
   closed_back id x live c = by x.content refl
     where
-      cell_is : c.cell ≡ cell_of n.datum x.content
-      cell_is = same_Some c.cell (cell_of n.datum x.content) (sym c.there ∙ shows.cells.live id x live)
+      cell_is : c.cell ≡ cell_of n.datum x.ty x.content
+      cell_is = same_Some c.cell (cell_of n.datum x.ty x.content) (sym c.there ∙ shows.cells.live id x live)
 
       by : (content : Content) → x.content ≡ content → is_closed (record x { content = content }) ≡ true
-      by store.Unset is = absurd (subst (IsShut m.threads (n.datum id)) (cell_is ∙ ap (cell_of n.datum) is) c.shut)
+      by store.Unset is = absurd (subst (IsShut m.threads (n.datum id)) (cell_is ∙ ap (cell_of n.datum x.ty) is) c.shut)
       by (store.Set v) is = refl
       by (store.Contains members) is = elim (cases_eq x.writes 0) [
         | inl none ↦ eq-eqb x.writes 0 none
-        | inr some ↦ absurd (rule_has id x live some (subst (IsShut m.threads (n.datum id)) (cell_is ∙ ap (cell_of n.datum) is) c.shut))
+        | inr some ↦ absurd (rule_has id x live some (subst (IsShut m.threads (n.datum id)) (cell_is ∙ ap (cell_of n.datum x.ty) is) c.shut))
+      ]
+      by (store.Maps values) is = elim (cases_eq x.writes 0) [
+        | inl none ↦ eq-eqb x.writes 0 none
+        | inr some ↦ absurd (rule_has id x live some (map_unwritten m.threads (n.datum id) x.ty values (subst (IsShut m.threads (n.datum id)) (cell_is ∙ ap (cell_of n.datum x.ty) is) c.shut)))
       ]
 
   -- a rule's task waits

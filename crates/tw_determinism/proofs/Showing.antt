@@ -6,6 +6,7 @@ use Rattle.tw_types.specs.declared.actor.Actor.{Actor}
 use Rattle.tw_types.specs.declared.param.Param.{Param}
 use Rattle.tw_types.specs.Mapped.{mapped}
 use Rattle.tw_types.specs.Mode.{is_closed_mode, is_write}
+use Rattle.tw_types.specs.Nesting.{NestedScalar}
 use Rattle.tw_types.specs.Rule.{Rule}
 use Rattle.tw_types.specs.Store as store
 use Rattle.tw_types.specs.Store.{Content, Datum, Store}
@@ -18,7 +19,7 @@ use Rattle.tw_code.specs.machine.Rights.{RightType, Rights, Typing, right_at}
 use Rattle.tw_code.specs.machine.State.{Frame, State, values_in}
 use Rattle.tw_determinism.specs.Contested.{Copied}
 use Rattle.tw_determinism.proofs.Names.{Name}
-use Rattle.tw_determinism.proofs.CoreEffects.{Right, Registers, Cell, Unset, Set, Contains, Cells, Threads, Shared, Thread, Waits, Runs, Ended, Waiting, Running, Net}
+use Rattle.tw_determinism.proofs.CoreEffects.{Right, Registers, Cell, Unset, Set, Contains, Cells, Threads, Shared, Thread, Waits, Runs, Ended, Waiting, Running, Net, map_cell}
 use Rattle.tw_determinism.proofs.CoreMachine.{IsMade}
 
 -- ---- rights by names
@@ -47,14 +48,15 @@ awaits_in f (p ∷ params) (RightArg id ∷ args) = if is_closed_mode p.mode the
 
 -- ---- data
 
-abbrev pub cell_of : (ℕ → Name) → Content → Cell
-cell_of f store.Unset = Unset
-cell_of f (store.Set x) = Set x
-cell_of f (store.Contains members) = Contains (mapped f members)
+abbrev pub cell_of : (ℕ → Name) → NestedScalar → Content → Cell
+cell_of f ty store.Unset = Unset
+cell_of f ty (store.Set x) = Set x
+cell_of f ty (store.Contains members) = Contains (mapped f members)
+cell_of f ty (store.Maps values) = map_cell ty values
 
 -- each live datum is there, freed ones too, and no two ids have one name
 pub record ShowsCells (f : ℕ → Name) (s : Store) (cells : Cells) : Type 0 where
-  pub live : (id : ℕ) (x : Datum) → get s.live id ≡ Some x → get cells (f id) ≡ Some (cell_of f x.content)
+  pub live : (id : ℕ) (x : Datum) → get s.live id ≡ Some x → get cells (f id) ≡ Some (cell_of f x.ty x.content)
   pub used : (id : ℕ) → id < s.next → (f id ≡ []) ⊎ ((c : Cell) × (get cells (f id) ≡ Some c))
   pub apart : (i j : ℕ) → i < s.next → j < s.next → f i ≡ f j → i ≡ j
 

@@ -8,17 +8,25 @@ use Rattle.std.proofs.lemmas.Option.{same_Some}
 use Rattle.tw_types.proofs.Orders.{own_key, tied}
 use Rattle.tw_types.proofs.Totals.{insert_other, insert_same}
 use Rattle.tw_types.proofs.ValueOrder.{value_cmp_total, value_cmp-IsAntisymmetric}
-use Rattle.tw_types.specs.ValueOrder.{Subscript, value_cmp}
+use Rattle.std.specs.Int.{int_wrap, w64}
+use Rattle.std.proofs.lemmas.Int.{int_wrap-add_left}
+use Rattle.std.proofs.Math.IntN.{+ℤ_assoc, +ℤ_comm}
+use Rattle.std.specs.Prelude.{ℤ, ◌+ℤ◌}
+use Rattle.tw_types.specs.declared.value.Value.{Value}
+use Rattle.tw_types.specs.declared.value.Value.TheVariants as value
+use Rattle.tw_types.specs.Store.{Values}
+use Rattle.tw_types.specs.ValueOrder.{Subscript, int_of, value_cmp}
+use Rattle.tw_code.specs.machine.Data.{sum_with}
 use Rattle.tw_code.specs.declared.procedure.Procedure.{Procedure}
 use Rattle.tw_determinism.proofs.Names.{Name, name_cmp, name_cmp_total, name_cmp-same, insert_swap, insert_twice}
-use Rattle.tw_determinism.proofs.CoreEffects.{Cell, Cells, Unset, Set, Contains, MemberNames, Threads, Thread, Waits, Waiting, Writing, SetTo, Put, Shared, Effect, written, put_if_free, Net, effect_of, cell_at, subject_of, next_name}
+use Rattle.tw_determinism.proofs.CoreEffects.{Cell, Cells, Unset, Set, Contains, Maps, Sums, MemberNames, Threads, Thread, Waits, Waiting, Writing, SetTo, Put, PutValue, Add, Shared, Effect, written, put_if_free, value_if_free, Net, effect_of, cell_at, subject_of, next_name}
 use Rattle.tw_determinism.proofs.CoreMachine.{Edit, Leaves, Adds, Changes, edit_of, child_of, share_of, with_share, edited, with_child, threads_after, IsThere, IsMade, Steps, Wills}
 use Rattle.tw_determinism.proofs.Options.{some_first, some_mapped}
 use Rattle.tw_determinism.proofs.Persisting.{name_dec, new_cell, new_thread, set_stays, wills_kept}
 
 -- ---- two writings of one datum
 
-subscript_dec : (x y : Subscript) → (x ≡ y) ⊎ (x ≡ y → ⊥)
+pub subscript_dec : (x y : Subscript) → (x ≡ y) ⊎ (x ≡ y → ⊥)
 subscript_dec x y = elim (cases_Bool (eq_by_cmp value_cmp x y)) [
   | inl t ↦ inl (value_cmp-IsAntisymmetric x y (tied (value_cmp x y) t))
   | inr u ↦ inr (λ e. let own : eq_by_cmp value_cmp x x ≡ true = own_key value_cmp_total x in let other : eq_by_cmp value_cmp x x ≡ false = subst (λ z. eq_by_cmp value_cmp x z ≡ false) (sym e) u in cc)
@@ -46,10 +54,75 @@ puts ms i j d e c free is =
       put_now (insert ms j e) i d (get (insert ms j e) i) free_i ∙ ap Some (ap Contains (insert_swap value_cmp_total value_cmp-IsAntisymmetric ms j i e d apart) ∙ second.1),
     )
 
+value_done : (xs : Values) (at : Subscript) (x : Value) (o : Option Value) (c : Cell) → value_if_free xs at x o ≡ Some c → (o ≡ None) × (Maps (insert xs at x) ≡ c)
+value_done xs at x None c e = (refl, same_Some _ c e)
+value_done xs at x (Some other) c e = cc
+
+value_now : (xs : Values) (at : Subscript) (x : Value) (o : Option Value) → o ≡ None → value_if_free xs at x o ≡ Some (Maps (insert xs at x))
+value_now xs at x None e = refl
+value_now xs at x (Some other) e = cc
+
+after_value : (xs : Values) (i : Subscript) (x : Value) (v : Writing) (c : Cell) → get xs i ≡ None → written v (Maps (insert xs i x)) ≡ Some c → Both v (PutValue i x) (Maps xs) c
+after_value xs i x (SetTo y) c free is = cc
+after_value xs i x (Put j d) c free is = cc
+after_value xs i x (Add j n) c free is = cc
+after_value xs i x (PutValue j y) c free is =
+    let second = value_done (insert xs i x) j y (get (insert xs i x) j) c is in
+    let apart : j ≡ i → ⊥ = λ same. let there : get (insert xs i x) j ≡ Some x = ap (get (insert xs i x)) same ∙ insert_same value_cmp value_cmp_total xs i x in let none = second.0 in cc in
+    let free_j : get xs j ≡ None = sym (insert_other value_cmp value_cmp_total value_cmp-IsAntisymmetric xs i x j apart) ∙ second.0 in
+    let free_i : get (insert xs j y) i ≡ None = insert_other value_cmp value_cmp_total value_cmp-IsAntisymmetric xs j y i (λ same. apart (sym same)) ∙ free in (
+      Maps (insert xs j y),
+      value_now xs j y (get xs j) free_j,
+      value_now (insert xs j y) i x (get (insert xs j y) i) free_i ∙ ap Some (ap Maps (insert_swap value_cmp_total value_cmp-IsAntisymmetric xs j i y x apart) ∙ second.1),
+    )
+
+-- the sums of two integers, in either order
+wrap_swap : (a b : ℤ) → int_wrap w64 (a +ℤ b) ≡ int_wrap w64 (b +ℤ a)
+wrap_swap a b = ap (int_wrap w64) (+ℤ_comm a b)
+
+sums_swap : (o : Option Value) (n k : ℤ) → sum_with (Some (sum_with o n)) k ≡ sum_with (Some (sum_with o k)) n
+sums_swap None n k = ap value.Int (wrap_swap n k)
+sums_swap (Some old) n k = ap value.Int (
+    int_wrap-add_left w64 (int_of old +ℤ n) k ∙ ap (int_wrap w64) (+ℤ_assoc (int_of old) n k ∙ ap (λ z. int_of old +ℤ z) (+ℤ_comm n k) ∙ sym (+ℤ_assoc (int_of old) k n)) ∙ sym (int_wrap-add_left w64 (int_of old +ℤ k) n))
+
+sum_put : Values → Subscript → ℤ → Values
+sum_put xs at n = insert xs at (sum_with (get xs at) n)
+
+sums_apart : (xs : Values) (i j : Subscript) (n k : ℤ) → (j ≡ i → ⊥) → sum_put (sum_put xs i n) j k ≡ sum_put (sum_put xs j k) i n
+unfolding sum_put
+sums_apart xs i j n k apart =
+    ap (λ o. insert (insert xs i (sum_with (get xs i) n)) j (sum_with o k)) (insert_other value_cmp value_cmp_total value_cmp-IsAntisymmetric xs i (sum_with (get xs i) n) j apart)
+    ∙ insert_swap value_cmp_total value_cmp-IsAntisymmetric xs i j (sum_with (get xs i) n) (sum_with (get xs j) k) (λ same. apart (sym same))
+    ∙ ap (λ o. insert (insert xs j (sum_with (get xs j) k)) i (sum_with o n)) (sym (insert_other value_cmp value_cmp_total value_cmp-IsAntisymmetric xs j (sum_with (get xs j) k) i (λ same. apart (sym same))))
+
+sums_same : (xs : Values) (i : Subscript) (n k : ℤ) → sum_put (sum_put xs i n) i k ≡ sum_put (sum_put xs i k) i n
+unfolding sum_put
+sums_same xs i n k =
+    ap (λ o. insert (insert xs i (sum_with (get xs i) n)) i (sum_with o k)) (insert_same value_cmp value_cmp_total xs i (sum_with (get xs i) n))
+    ∙ insert_twice value_cmp_total value_cmp-IsAntisymmetric xs i (sum_with (get xs i) n) (sum_with (Some (sum_with (get xs i) n)) k)
+    ∙ ap (insert xs i) (sums_swap (get xs i) n k)
+    ∙ sym (insert_twice value_cmp_total value_cmp-IsAntisymmetric xs i (sum_with (get xs i) k) (sum_with (Some (sum_with (get xs i) k)) n))
+    ∙ ap (λ o. insert (insert xs i (sum_with (get xs i) k)) i (sum_with o n)) (sym (insert_same value_cmp value_cmp_total xs i (sum_with (get xs i) k)))
+
+after_sum : (xs : Values) (i : Subscript) (n : ℤ) (v : Writing) (c : Cell) → written v (Sums (insert xs i (sum_with (get xs i) n))) ≡ Some c → Both v (Add i n) (Sums xs) c
+unfolding sum_put
+after_sum xs i n (SetTo y) c is = cc
+after_sum xs i n (Put j d) c is = cc
+after_sum xs i n (PutValue j y) c is = cc
+after_sum xs i n (Add j k) c is = (Sums (sum_put xs j k), refl, ap Some (ap Sums swapped ∙ same_Some _ c is))
+  where
+    swapped : sum_put (sum_put xs j k) i n ≡ sum_put (sum_put xs i n) j k
+    swapped = elim (subscript_dec j i) [
+      | inl same ↦ ap (λ q. sum_put (sum_put xs q k) i n) same ∙ sums_same xs i k n ∙ ap (λ q. sum_put (sum_put xs i n) q k) (sym same)
+      | inr other ↦ sym (sums_apart xs i j n k other)
+    ]
+
 commutes : (w v : Writing) (a b c : Cell) → written w a ≡ Some b → written v b ≡ Some c → Both v w a c
 commutes (SetTo x) v Unset b c e f = absurd (set_stays v x c (subst (λ z. written v z ≡ Some c) (sym (same_Some (Set x) b e)) f))
 commutes (SetTo x) v (Set y) b c e f = cc
 commutes (SetTo x) v (Contains ms) b c e f = cc
+commutes (SetTo x) v (Maps xs) b c e f = cc
+commutes (SetTo x) v (Sums xs) b c e f = cc
 commutes (Put i d) v Unset b c e f = cc
 commutes (Put i d) v (Set y) b c e f = cc
 commutes (Put i d) (SetTo x) (Contains ms) b c e f =
@@ -59,6 +132,28 @@ commutes (Put i d) (SetTo x) (Contains ms) b c e f =
 commutes (Put i d) (Put j x) (Contains ms) b c e f =
     let first = put_done ms i d (get ms i) b e in
     puts ms i j d x c first.0 (subst (λ z. written (Put j x) z ≡ Some c) (sym first.1) f)
+commutes (Put i d) (PutValue j x) (Contains ms) b c e f =
+    let first = put_done ms i d (get ms i) b e in
+    let g : None ≡ Some c = subst (λ z. written (PutValue j x) z ≡ Some c) (sym first.1) f in
+    cc
+commutes (Put i d) (Add j n) (Contains ms) b c e f =
+    let first = put_done ms i d (get ms i) b e in
+    let g : None ≡ Some c = subst (λ z. written (Add j n) z ≡ Some c) (sym first.1) f in
+    cc
+commutes (Put i d) v (Maps xs) b c e f = cc
+commutes (Put i d) v (Sums xs) b c e f = cc
+commutes (PutValue i x) v Unset b c e f = cc
+commutes (PutValue i x) v (Set y) b c e f = cc
+commutes (PutValue i x) v (Contains ms) b c e f = cc
+commutes (PutValue i x) v (Sums xs) b c e f = cc
+commutes (PutValue i x) v (Maps xs) b c e f =
+    let first = value_done xs i x (get xs i) b e in
+    after_value xs i x v c first.0 (subst (λ z. written v z ≡ Some c) (sym first.1) f)
+commutes (Add i n) v Unset b c e f = cc
+commutes (Add i n) v (Set y) b c e f = cc
+commutes (Add i n) v (Contains ms) b c e f = cc
+commutes (Add i n) v (Maps xs) b c e f = cc
+commutes (Add i n) v (Sums xs) b c e f = after_sum xs i n v c (subst (λ z. written v z ≡ Some c) (sym (same_Some _ b e)) f)
 
 -- ---- two edits
 

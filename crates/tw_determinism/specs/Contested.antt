@@ -1,4 +1,4 @@
--- Insertions that are refused at a container whose write right has been copied before: another task may have taken the subscript.
+-- Insertions that are refused at a container or map whose write right has been copied before: another task may have taken the subscript.
 use Rattle.std.specs.Prelude.{◌≡◌, ℕ, ◌==◌, Bool, false, ◌&&◌, ◌||◌, List, [], ◌∷◌, Option, Some, None}
 use Rattle.std.specs.FinMap as fin
 use Rattle.tw_types.specs.declared.event.Event.{Event}
@@ -14,7 +14,7 @@ use Rattle.tw_code.specs.machine.Due.{instr_here}
 use Rattle.tw_code.specs.machine.Machine.{step}
 use Rattle.tw_code.specs.machine.Rights.{right_at}
 use Rattle.tw_code.specs.machine.State.{Frame, State}
-use Rattle.tw_determinism.specs.Refused.{is_taken}
+use Rattle.tw_determinism.specs.Refused.{is_taken, is_value_taken}
 
 -- ---- write rights that have been copied
 
@@ -59,11 +59,12 @@ abbrev pub is_copied : Copied → Option ℕ → Bool
 is_copied copied None = false
 is_copied copied (Some id) = copied id
 
--- returns whether a frame's instruction is an insertion that will be refused at such a container
+-- returns whether a frame's instruction is an insertion that will be refused at such a container or map
 abbrev pub is_contest : Copied → Store → Frame → Option Instr → Bool
 is_contest copied s frame None = false
 is_contest copied s frame (Some (instr.Local i)) = false
 is_contest copied s frame (Some (instr.Data (on_data.Insert by container subscript member skip))) = is_copied copied (right_at frame.rights container) && is_taken s frame container subscript
+is_contest copied s frame (Some (instr.Data (on_data.InsertValue map subscript from skip))) = is_copied copied (right_at frame.rights map) && is_value_taken s frame map subscript
 is_contest copied s frame (Some (instr.Data i)) = false
 is_contest copied s frame (Some (instr.Rule action)) = false
 is_contest copied s frame (Some (instr.Put action)) = false

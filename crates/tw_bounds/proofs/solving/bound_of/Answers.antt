@@ -1,4 +1,5 @@
 use Rattle.std.proofs.Common.{ℕ, List, ap, sym, subst, arith, ◌∙◌}
+use Rattle.tw_types.specs.declared.data_type.Scalar.{Scalar}
 use Rattle.tw_code.specs.declared.instr.Instr.{Instr}
 use Rattle.tw_code.specs.accepting.Flow.{flows}
 use Rattle.tw_budget.specs.Sound.{IsSound}
@@ -18,5 +19,6 @@ returns-clause-found c = λ exact is.
     let h = rw c.in-Some.is at all in
     let walk = c.in_ok-walk.ensures in
     let same = ap (λ (xs : List ℕ). greatest_cost (cost_in xs) (flows c.as_slice-code.result.now) 0) c.deref.ensures.value ∙ ap (λ (code : List Instr). greatest_cost (cost_in costs) (flows code) 0) c.as_slice-code.ensures in
-    let are = subst (λ (code : List Instr). AreCosts c.args.program.now c.args.weights.now c.args.known.now code costs) c.as_slice-code.ensures h in
+    let registers = subst (λ (types : List Scalar). AreCosts c.args.program.now c.args.weights.now c.args.known.now types c.as_slice-code.result.now costs) c.as_slice-registers.ensures h in
+    let are = subst (λ (code : List Instr). AreCosts c.args.program.now c.args.weights.now c.args.known.now c.args.procedure.now.registers code costs) c.as_slice-code.ensures registers in
     capped_bound_made c.args.program.now c.args.weights.now c.args.known.now exact c.args.procedure.now is (sound_flows c.args.procedure.now c.requires.within c.requires.structured) costs are c.capped.result (omega (arith, walk, same, c.from.ensures, c.capped.ensures))
