@@ -1,7 +1,7 @@
 -- The text of a program denotes it.
 use Rattle.std.proofs.Common.{◌≡◌, ◌≢◌, ◌==◌, ◌≤◌, ◌<◌, ℕ, zero, suc, ◌+◌, Bool, true, false, List, [], ◌∷◌, ◌++◌, length, get_or, map, codes, Option, Some, None, refl, sym, ap, subst, ◌∙◌, append_assoc, append-nil, arith}
 use Rattle.std.specs.Prelude.{IsUtf8, decimal, slice_index_or}
-use Rattle.tw_asm.proofs.AsmNames.{AllByRecursion, AllPairs, AreCode, Bare, Code, Contains, Goals, GoesTo, HaveWords, Head, Instr, IsInstrOf, IsLine, IsProcedure, IsProcedureOf, IsVersioned, Label, OfVersion, One, Placed, Procedure, Registers, SpellProcedures, SpellsProcedure, SpellsProgram, SpellsVersion, Statement, Two, Version, Versioned, Word, code_lines, concat, disassembly, eqb-true, flat_map, goal_word, join_with_byte, label_at, label_line, label_places, line_of, lines, nat_tests, option_and_then, procedure_lines, skip_of, version_line}
+use Rattle.tw_asm.proofs.AsmNames.{AllByRecursion, AllPairs, AreCode, Bare, Code, Contains, Four, Goals, GoesTo, HaveWords, Head, Instr, IsInstrOf, IsLine, IsProcedure, IsProcedureOf, IsVersioned, Label, OfVersion, One, Placed, Procedure, Registers, SpellProcedures, SpellsProcedure, SpellsProgram, SpellsVersion, Statement, Two, Version, Versioned, Word, code_lines, concat, disassembly, eqb-true, flat_map, goal_word, join_with_byte, label_at, label_line, label_places, line_of, lines, nat_tests, option_and_then, procedure_lines, skip_of, version_line}
 use Rattle.std.proofs.lemmas.List.Elements.{Contains-append_left, Contains-append_right}
 use Rattle.std.proofs.lemmas.Str.{IsUtf8-append, IsUtf8-nil}
 use Rattle.tw_code.proofs.Widening.{instr_widened, widened}
@@ -249,6 +249,13 @@ written_version Two =
       words = l.words ∷ [];
       spells = SpellsVersion.said Two l.words l.spells;
       writes = writes_line (GoesTo [] 0) (OfVersion 2) (bare_line (goal_word None) (OfVersion 2)) l;
+    }
+written_version Four =
+    let l = version_written One (GoesTo [] 0) (goal_word None) 4 (number_within Four) in
+    record {
+      words = l.words ∷ [];
+      spells = SpellsVersion.said Four l.words l.spells;
+      writes = writes_line (GoesTo [] 0) (OfVersion 4) (bare_line (goal_word None) (OfVersion 4)) l;
     }
 
 record IsProgramWritten (program : Versioned) : Type 0 where

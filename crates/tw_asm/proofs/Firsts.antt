@@ -38,7 +38,7 @@ some_content never s = absurd (unsayable s)
 some_had : (l : Line) (s : is_sayable l ≡ true) → Had l (some_content l s)
 some_had nothing s = tt
 some_had goal s = (tt, tt)
-some_had (type version) s = (tt, tt)
+some_had (type version) s = ((tt, tt), tt)
 some_had args s = (tt, tt)
 some_had (more o l) s = (tt, some_had l s)
 some_had never s = tt

@@ -1,6 +1,6 @@
 -- Procedures' heads: the words are read as a statement that they denote, or they denote none.
 use Rattle.std.proofs.Common.{◌≡◌, ℕ, List, [], ◌∷◌, ◌++◌, length, map, codes, None, Result, Ok, Err, refl, sym, ap, subst, ◌∙◌}
-use Rattle.tw_asm.proofs.AsmNames.{AllByRecursion, AnyName, AnyShortName, Bare, Closed, Code, TokenError, Form, Goals, HasParam, Head, IsInLimits, IsList, IsParam, IsTypeOfMode, IsTypeUnderOf, Kind, Label, Limit, Mode, Name, Natural, NestedScalar, NoName, OfVersion, Param, Ref, Registers, SpellParts, Spells, Statement, Two, Val, Version, Word, Write, as_is, both, flat_map, is_scalar, kind_word, mode_word, param_parts, register_part}
+use Rattle.tw_asm.proofs.AsmNames.{AllByRecursion, AnyName, AnyShortName, Bare, Closed, Code, TokenError, Form, Four, Goals, HasParam, HasType, Head, IsInLimits, IsList, IsParam, IsTypeOfMode, IsTypeUnderOf, Kind, Label, Limit, Mode, Name, Natural, NestedScalar, NoName, OfVersion, Param, Ref, Registers, SpellParts, Spells, Statement, Val, Version, Word, Write, as_is, both, flat_map, is_scalar, kind_word, mode_word, param_parts, register_part}
 use Rattle.tw_asm.proofs.Answered.{Judged, first_is, none_some, proc_is_none}
 use Rattle.tw_asm.proofs.OperandWords.{Free, kind_read}
 use Rattle.tw_asm.proofs.ParamWords.{AreParams, IsShallowParam, one_params, param_words, params_read}
@@ -19,7 +19,7 @@ use Rattle.tw_asm.specs.reading.Lines.{ended, few, head_in, head_read, kind_in, 
 up : (G : Goals) (ps : List Param) → SpellParts G (flat_map param_parts ps) (flat_map param_words ps)
 up G [] = refl
 up G (p ∷ ps) =
-    let ty = words_of p.ty.containers p.ty.scalar in
+    let ty = words_of p.ty.containers p.ty.map p.ty.scalar in
     (Bare (mode_word p.mode) ∷ [], ty ++ flat_map param_words ps, refl, refl, (ty, flat_map param_words ps, refl, refl, up G ps))
 
 down : (G : Goals) (ps : List Param) (ws : List Word) → SpellParts G (flat_map param_parts ps) ws → ws ≡ flat_map param_words ps
@@ -29,20 +29,20 @@ down G (p ∷ ps) ws (first, others, cut, is, (words, rest, parts, has, whole)) 
     ∙ (
     ap (λ (vs : List Word). vs ++ others) is
     ∙ ap (λ (vs : List Word). Bare (mode_word p.mode) ∷ vs)
-    (parts ∙ (ap (λ (vs : List Word). vs ++ rest) has ∙ ap (λ (vs : List Word). words_of p.ty.containers p.ty.scalar ++ vs) (down G ps rest whole)))
+    (parts ∙ (ap (λ (vs : List Word). vs ++ rest) has ∙ ap (λ (vs : List Word). words_of p.ty.containers p.ty.map p.ty.scalar ++ vs) (down G ps rest whole)))
     )
 
 -- ---- limits
 
 params_within : (version : Version) (ps : List Param) → AllByRecursion (HasParam version) ps → AllByRecursion IsShallowParam ps → AllByRecursion IsParam ps
 params_within version [] f m = tt
-params_within version (p ∷ ps) f m = (by p.mode p.ty f.0.0 m.0, params_within version ps f.1 m.1)
+params_within version (p ∷ ps) f m = (by p.mode p.ty f.0.0 f.0.1 m.0, params_within version ps f.1 m.1)
   where
-    by : (mode : Mode) (ty : NestedScalar) → IsTypeOfMode mode (is_scalar ty) → IsShallow ty → IsTypeUnderOf Two mode ty
-    by Val ty f m = f
-    by Closed ty f m = (m, any_type ty.containers)
-    by Ref ty f m = (m, any_type ty.containers)
-    by Write ty f m = (m, any_type ty.containers)
+    by : (mode : Mode) (ty : NestedScalar) → IsTypeOfMode mode (is_scalar ty) → HasType version ty → IsShallow ty → IsTypeUnderOf Four mode ty
+    by Val ty f has m = f
+    by Closed ty f has m = (m, any_type version ty has)
+    by Ref ty f has m = (m, any_type version ty has)
+    by Write ty f has m = (m, any_type version ty has)
 
 params_shallow : (ps : List Param) → AllByRecursion IsParam ps → AllByRecursion IsShallowParam ps
 params_shallow [] h = tt

@@ -1,6 +1,6 @@
 -- Reading the operands of a line, whatever the instruction.
 use Rattle.std.proofs.Common.{◌≡◌, ℕ, ◌≤◌, List, [], ◌∷◌, ◌++◌, length, map, codes, Option, Some, None, inl, inr, refl, sym, ap, subst, ◌∙◌, arith, append-nil}
-use Rattle.tw_asm.proofs.AsmNames.{AllByRecursion, Bare, Goals, HasType, IsList, IsName, IsRegister, IsSkip, IsTypeOf, Natural, NoName, OnlyName, Part, Skip, SpellParts, SpellsPart, SpellsWith, Two, TypeOf, Word, at_label, further, natural_in}
+use Rattle.tw_asm.proofs.AsmNames.{AllByRecursion, Bare, Four, Goals, HasType, IsList, IsName, IsRegister, IsSkip, IsTypeOf, Natural, NoName, OnlyName, Part, Skip, SpellParts, SpellsPart, SpellsWith, TypeOf, Word, at_label, further, natural_in}
 use Rattle.tw_asm.proofs.Names.{HasGoal, MayGoal, goal_read, no_letter}
 use Rattle.tw_asm.proofs.OperandWords.{Has, IsFine, May, natural_read, operand_read, part_of}
 use Rattle.tw_lexer.proofs.Readings.{Reads}
@@ -60,7 +60,7 @@ parts_of never x = []
 abbrev pub MayParts : (l : Line) → LineContent l → Type 0
 MayParts nothing x = Unit {0}
 MayParts goal x = IsSkip x.skip × Unit {0}
-MayParts (type version) x = IsTypeOf Two x × Unit {0}
+MayParts (type version) x = IsTypeOf Four x × Unit {0}
 MayParts args x = IsList 0 8 IsRegister x × Unit {0}
 MayParts (more o l) x = May o x.0 × MayParts l x.1
 MayParts never x = Unit {0}
@@ -242,7 +242,7 @@ parts_may goal (w ∷ []) x h m = (by x.skip x.label h m, tt)
     by skip None h m = m
     by skip (Some name) h m = (omega arith, omega (arith, h.0))
 parts_may goal (w ∷ v ∷ ws) x h m = absurd h
-parts_may (type version) ws x h m = ((m, any_type x.containers), tt)
+parts_may (type version) ws x h m = ((m, any_type version x h.1), tt)
 parts_may args ws x h m = (m, tt)
 parts_may (more o l) [] x h m = absurd h
 parts_may (more o l) (w ∷ ws) x h m = (m.0, parts_may l ws x.1 h.1 m.1)

@@ -1,8 +1,15 @@
 -- Lines as they are written from left to right.
-use Rattle.std.proofs.Common.{arith, ◌≡◌, ℕ, ◌+◌, ◌<◌, ◌≤◌, suc, List, [], ◌∷◌, ◌++◌, length, map, take, get_or, codes, refl, sym, ap, ◌∙◌, append_assoc, append-nil}
+use Rattle.std.proofs.Common.{arith, ◌≡◌, ℕ, ◌+◌, ◌<◌, ◌≤◌, suc, List, [], ◌∷◌, ◌++◌, length, map, take, get_or, codes, if◌then◌else◌, Some, None, refl, sym, ap, ◌∙◌, append_assoc, append-nil}
 use Rattle.tw_asm.proofs.AsmNames.{Err, Natural, Ok, OnOk, Part, Result, spaced_all, decimal, flat_map, join_with_byte, operand_parts, operand_words, part_words, spaced, take_all}
 use Rattle.std.proofs.Math.Seq.{take-suc}
 use Rattle.std.proofs.lemmas.Grind.{flat_map-append}
+use Rattle.tw_types.specs.DataType.{by_of, element_of, has_sums, is_container_by}
+use Rattle.tw_types.specs.Nesting.{NestedScalar}
+use Rattle.tw_types.specs.declared.data_type.MapKind.{MapKind}
+use Rattle.tw_types.specs.declared.data_type.MapKind.TheVariants.{NoMap, Values, Sums}
+use Rattle.tw_types.specs.declared.data_type.Scalar.{Scalar}
+use Rattle.tw_types.specs.declared.data_type.Scalar.TheVariants.{Int, Text}
+use Rattle.tw_asm.specs.Parts.{container_word, leaf_words, map_word, scalar_word, sum_word, type_words}
 use Rattle.tw_code.specs.declared.sink.Operand as operands
 use Rattle.tw_code.specs.format.Sink.{seen}
 
@@ -15,6 +22,34 @@ spaced_more out words more = append_assoc out (spaced_all words) (spaced_all mor
 
 pub spaced_param : (out : List ℕ) (word : List ℕ) (words : List (List ℕ)) → (out ++ spaced_all (word ∷ [])) ++ spaced_all words ≡ out ++ spaced_all (word ∷ words ++ [])
 spaced_param out word words = spaced_more out (word ∷ []) words ∙ ap (λ (ws : List (List ℕ)). out ++ spaced_all (word ∷ ws)) (sym (append-nil words))
+
+-- ---- the words of a type without containers
+
+pub map_words : (kind : MapKind) (s by : Scalar) (first second : List ℕ) → Some by ≡ by_of kind → first ≡ map_word by → second ≡ (if has_sums kind then sum_word s else scalar_word s) → first ∷ second ∷ [] ≡ leaf_words kind s
+map_words NoMap s by first second is e f = cc
+map_words (Values own) s by first second is e f = let same : by ≡ own = cc in ap (λ w. w ∷ second ∷ []) (e ∙ ap map_word same) ∙ ap (λ w. map_word own ∷ w ∷ []) f
+map_words (Sums own) s by first second is e f = let same : by ≡ own = cc in ap (λ w. w ∷ second ∷ []) (e ∙ ap map_word same) ∙ ap (λ w. map_word own ∷ w ∷ []) f
+
+pub scalar_words : (kind : MapKind) (s : Scalar) → None ≡ by_of kind → scalar_word s ∷ [] ≡ leaf_words kind s
+scalar_words NoMap s is = refl
+scalar_words (Values own) s is = cc
+scalar_words (Sums own) s is = cc
+
+-- the words of a container, from those of its members
+pub container_words : (ty element : NestedScalar) (word : List ℕ) → Some element ≡ element_of ty → word ≡ (if is_container_by Text ty then container_word Text else container_word Int) → word ∷ type_words element ≡ type_words ty
+container_words ty element word is e = at ty.containers ty.map ty.scalar is e
+  where
+    outer : (c : Scalar) (cs : List Scalar) (kind : MapKind) (s : Scalar)
+        → (if is_container_by Text (record { containers = c ∷ cs; scalar = s; map = kind }) then container_word Text else container_word Int) ≡ container_word c
+    outer Int cs kind s = refl
+    outer Text cs kind s = refl
+
+    at : (cs : List Scalar) (kind : MapKind) (s : Scalar) → Some element ≡ element_of (record { containers = cs; scalar = s; map = kind })
+        → word ≡ (if is_container_by Text (record { containers = cs; scalar = s; map = kind }) then container_word Text else container_word Int) → word ∷ type_words element ≡ map container_word cs ++ leaf_words kind s
+    at [] kind s is e = cc
+    at (c ∷ cs) kind s is e =
+        let inner : element ≡ record { containers = cs; scalar = s; map = kind } = cc in
+        ap (λ (w : List ℕ). w ∷ type_words element) (e ∙ outer c cs kind s) ∙ ap (λ (t : NestedScalar). container_word c ∷ type_words t) inner
 
 -- ---- loops over what is written
 

@@ -1,13 +1,13 @@
 -- Registers, the version and labels: the words are read as a statement that they denote, or they denote none.
-use Rattle.std.proofs.Common.{◌≡◌, ◌≢◌, ℕ, ◌≤◌, List, [], ◌∷◌, ◌++◌, length, map, codes, Option, Some, None, Result, Ok, Err, refl, sym, ap, subst, ◌∙◌}
-use Rattle.tw_asm.proofs.AsmNames.{AllByRecursion, AnyName, AnyShortName, Bare, Code, TokenError, Form, Goals, HasForm, Head, Instr, IsInLimits, IsList, IsName, IsRead, IsWithin, Label, Limit, Name, Natural, NoName, OfVersion, Opcode, Part, Registers, Scalar, SpellParts, Spells, SpellsWith, Statement, Version, Word, as_is, flat_map, kind_word, name_in, natural_in, operand_parts, param_parts, register_part, row, scalar_in, scalar_word, word_of}
+use Rattle.std.proofs.Common.{◌≡◌, ◌≢◌, ◌==◌, ℕ, zero, suc, ◌≤◌, Bool, true, false, inl, inr, arith, List, [], ◌∷◌, ◌++◌, length, map, codes, Option, Some, None, Result, Ok, Err, refl, sym, ap, subst, ◌∙◌}
+use Rattle.tw_asm.proofs.AsmNames.{AllByRecursion, AnyName, AnyShortName, Bare, Code, TokenError, Form, Goals, HasForm, Head, Instr, IsInLimits, IsList, IsName, IsRead, IsVersionNumber, IsWithin, Label, Limit, Name, Natural, NoName, OfVersion, Opcode, Part, Registers, Scalar, SpellParts, Spells, SpellsWith, Statement, Version, Word, as_is, eqb-true, flat_map, if◌then◌else◌, kind_word, name_in, natural_in, operand_parts, param_parts, register_part, row, scalar_in, scalar_word, version_known, word_of}
 use Rattle.tw_asm.proofs.Answered.{Judged, first_is, none_some, regs_is_none, version_is_none}
 use Rattle.tw_lexer.proofs.Colons.{before, found_before}
 use Rattle.tw_asm.proofs.Names.{IsThisName, name_read}
 use Rattle.tw_asm.proofs.OperandWords.{Free, natural_read, scalar_read}
 use Rattle.tw_lexer.proofs.Readings.{Reads}
 use Rattle.tw_asm.proofs.Sequences.{HaveEach, each_long, each_read, few_read}
-use Rattle.tw_asm.proofs.Spelled.{bare_is}
+use Rattle.tw_asm.proofs.Spelled.{bare_is, digits_same}
 use Rattle.tw_asm.proofs.Table as tables
 use Rattle.tw_asm.proofs.TypeWords.{other_bytes}
 use Rattle.tw_asm.proofs.Versions.{by_number}
@@ -114,7 +114,7 @@ is_version version G ws (Code i) h = let k = code_first version G i (codes "vers
 version_spelled : (version : Version) (G : Goals) (w : Word) (n : ℕ) → SpellsWith [] n (w ∷ []) → Spells version G (OfVersion n) (Bare (codes "version") ∷ w ∷ [])
 version_spelled version G w n h = record { form = tt; parts = (Bare (codes "version") ∷ [], w ∷ [], refl, refl, (w ∷ [], [], refl, h, refl)) }
 
-version_judged : (version : Version) (w : Word) (r : Result ℕ TokenError) → Reads (λ n. SpellsWith [] n (w ∷ [])) (IsWithin 1 2) r → Judged version (as_is version_read r) (Bare (codes "version") ∷ w ∷ [])
+version_judged : (version : Version) (w : Word) (r : Result ℕ TokenError) → Reads (λ n. SpellsWith [] n (w ∷ [])) IsVersionNumber r → Judged version (as_is version_read r) (Bare (codes "version") ∷ w ∷ [])
 version_judged version w (Ok n) h =
     subst (λ (k : ℕ). IsRead version (record { statement = OfVersion k; goal = None }) (Bare (codes "version") ∷ w ∷ [])) (sym (by_number n h.1)) (h.1, version_spelled version NoName w n h.0)
 version_judged version w (Err Form) h = λ form. let k = is_version version AnyName (w ∷ []) form.0 form.1 in h k.0 (same k.0 k.2.0 k.2.1 k.2.2)
@@ -128,6 +128,32 @@ version_judged version w (Err Limit) h = (
       h.1 k.0 (subst (SpellsWith [] k.0) (sym k.2.1) k.2.2) (subst IsInLimits k.1 say.1),
 )
 
+-- from 1 to 4, but not 3
+known_read : (w : Word) (r : Result ℕ TokenError) → Reads (λ n. SpellsWith [] n (w ∷ [])) (IsWithin 1 4) r → Reads (λ n. SpellsWith [] n (w ∷ [])) IsVersionNumber (version_known r)
+known_read w (Ok n) h = by (n == 3) refl
+  where
+    number : (n : ℕ) → IsWithin 1 4 n → (n == 3) ≡ false → IsVersionNumber n
+    number zero k e = absurd (omega (arith, k.0))
+    number (suc zero) k e = inl (omega arith, omega arith)
+    number (suc (suc zero)) k e = inl (omega arith, omega arith)
+    number (suc (suc (suc zero))) k e = absurd cc
+    number (suc (suc (suc (suc zero)))) k e = inr refl
+    number (suc (suc (suc (suc (suc n))))) k e = absurd (omega (arith, k.1))
+
+    no_third : (k : ℕ) → k ≡ 3 → IsVersionNumber k → ⊥
+    no_third k e (inl m) = omega (arith, e, m.1)
+    no_third k e (inr m) = omega (arith, e, m)
+
+    by : (t : Bool) → (n == 3) ≡ t → Reads (λ n. SpellsWith [] n (w ∷ [])) IsVersionNumber (if t then Err Limit else Ok n)
+    by true e = ((n, h.0), λ k s m. no_third k ((digits_same [] k n (w ∷ []) (w ∷ []) [] [] s h.0 refl).0 ∙ eqb-true n 3 e) m)
+    by false e = (h.0, number n h.1 e)
+known_read w (Err Form) h = h
+known_read w (Err Limit) h = (h.0, λ n s m. h.1 n s (small n m))
+  where
+    small : (n : ℕ) → IsVersionNumber n → IsWithin 1 4 n
+    small n (inl m) = (m.0, omega (arith, m.1))
+    small n (inr m) = (omega (arith, m), omega (arith, m))
+
 no_one : (w : Word) → [] ≡ w ∷ [] → ⊥
 no_one w e = cc
 
@@ -136,7 +162,7 @@ no_more v w x ws e = cc
 
 pub version_answered : (version : Version) (ws : List Word) → Judged version (version_in ws) (Bare (codes "version") ∷ ws)
 version_answered version [] = λ form. let k = is_version version AnyName [] form.0 form.1 in no_one k.2.0 k.2.1
-version_answered version (w ∷ []) = version_judged version w (natural_in 1 2 w) (natural_read 1 2 w)
+version_answered version (w ∷ []) = version_judged version w (version_known (natural_in 1 4 w)) (known_read w (natural_in 1 4 w) (natural_read 1 4 w))
 version_answered version (w ∷ x ∷ ws) = λ form. let k = is_version version AnyName (w ∷ x ∷ ws) form.0 form.1 in no_more k.2.0 w x ws k.2.1
 
 -- ---- labels

@@ -1,10 +1,12 @@
 -- Reading lists of items, and types.
 use Rattle.std.proofs.Common.{◌≡◌, ℕ, suc, ◌≤◌, Bool, true, false, cond, List, [], ◌∷◌, ◌++◌, length, Result, Ok, Err, refl, sym, ap, subst, ◌∙◌, arith, append_assoc, append-nil}
-use Rattle.tw_asm.proofs.AsmNames.{AllByRecursion, Bare, TokenError, Form, HasType, IsList, Limit, NestedScalar, Scalar, Version, Word, around, as_is, both, contained, container_in, container_of, container_word, depth_of, each, each_from, few, joined, ltb-true, nat_lt, nat_tests, put_first, scalar_in, scalar_type, scalar_word, type_in}
-use Rattle.tw_asm.proofs.OperandWords.{Free, IsContainerOf, container_read, scalar_read}
+use Rattle.tw_asm.proofs.AsmNames.{AllByRecursion, Bare, TokenError, Form, HasType, Int, IsList, IsMapOf, IsSubscriptOf, Limit, MapKind, NestedScalar, NoMap, Scalar, Sums, Values, Version, Word, around, as_is, before, both, contained, container_in, container_of, container_word, depth_of, each, each_from, few, if◌then◌else◌, is_scalar, is_sum, joined, ltb-true, map_in, map_of, map_word, mapped, nat_lt, nat_tests, put_first, scalar_in, scalar_type, scalar_word, sum_word, sums_of, type_from, type_in, typed, whole_type}
+use Rattle.tw_asm.specs.declared.gathering.Begun.{Begun}
+use Rattle.tw_asm.specs.declared.gathering.Begun.TheVariants as so_far
+use Rattle.tw_asm.proofs.OperandWords.{Free, IsContainerOf, IsMapWordOf, container_read, map_read, scalar_read, sum_is, sum_isnt}
 use Rattle.tw_lexer.proofs.Readings.{Reads, carried}
 use Rattle.tw_asm.proofs.Readings.{both_read, likewise}
-use Rattle.tw_asm.proofs.TypeWords.{one_container, one_type, words_of}
+use Rattle.tw_asm.proofs.TypeWords.{first_is, first_no_sum, has_map, has_sums_of, leaf_apart, map_no_container, map_no_scalar, map_since, one_container, one_map, one_type, rest_is, some_words, sum_no_scalar, sums_since, words_of}
 
 -- ---- from the right
 
@@ -89,7 +91,7 @@ each_long Has (w ∷ ws) (a ∷ items) h = ap suc (each_long Has ws items h.1)
 
 -- holds if these are the words of a type that the version has
 abbrev pub IsTypeIn : Version → List Word → NestedScalar → Type 0
-IsTypeIn version ws ty = (ws ≡ words_of ty.containers ty.scalar) × HasType version ty
+IsTypeIn version ws ty = (ws ≡ words_of ty.containers ty.map ty.scalar) × HasType version ty
 
 abbrev pub IsShallow : NestedScalar → Type 0
 IsShallow ty = depth_of ty ≤ 3
@@ -120,16 +122,15 @@ around_read P one (Err Limit) h = ((container_of h.0.0.0 h.0.0.1, (h.0.0, h.0.1,
     inner : (x : Scalar × NestedScalar) → IsShallow (container_of x.0 x.1) → IsShallow x.1
     inner x m = omega (arith, m)
 
-no_words : (cs : List Scalar) (s : Scalar) → [] ≡ words_of cs s → ⊥
-no_words [] s e = cc
-no_words (c ∷ cs) s e = cc
+no_words : (cs : List Scalar) (kind : MapKind) (s : Scalar) → [] ≡ words_of cs kind s → ⊥
+no_words cs kind s e = some_words cs kind s [] (append-nil (words_of cs kind s) ∙ sym e)
 
-one_word : (version : Version) (w : Word) (cs : List Scalar) (s : Scalar) → w ∷ [] ≡ words_of cs s → (cs ≡ []) × (w ≡ Bare (scalar_word s))
-one_word version w [] s e = (refl, cc)
-one_word version w (c ∷ cs) s e = absurd (no_words cs s (rest_is e))
-  where
-    rest_is : w ∷ [] ≡ Bare (container_word c) ∷ words_of cs s → [] ≡ words_of cs s
-    rest_is e = cc
+-- the words of a type, before nothing
+closed_words : (ws : List Word) (cs : List Scalar) (kind : MapKind) (s : Scalar) → ws ≡ words_of cs kind s → words_of cs kind s ++ [] ≡ ws
+closed_words ws cs kind s e = append-nil (words_of cs kind s) ∙ sym e
+
+one_typed : (version : Version) (ws : List Word) (t u : NestedScalar) → IsTypeIn version ws t → IsTypeIn version ws u → t ≡ u
+one_typed version ws t u h k = (one_type t u [] [] (closed_words ws t.containers t.map t.scalar h.0 ∙ sym (closed_words ws u.containers u.map u.scalar k.0))).0
 
 -- holds for the word of a container and the words of a type
 abbrev IsPair : Version → Word → List Word → Scalar × NestedScalar → Type 0
@@ -138,45 +139,176 @@ IsPair version w ws x = IsContainerOf version w x.0 × IsTypeIn version ws x.1
 one_pair : (version : Version) (w : Word) (ws : List Word) (x y : Scalar × NestedScalar) → IsPair version w ws x → IsPair version w ws y → x ≡ y
 one_pair version w ws x y h k =
     let by = one_container x.0 y.0 (sym h.0.0 ∙ k.0.0) in
-    let ty = (one_type x.1 y.1 [] [] (ap (λ (vs : List Word). vs ++ []) (sym h.1.0 ∙ k.1.0))).0 in
+    let ty = one_typed version ws x.1 y.1 h.1 k.1 in
     ap (λ (c : Scalar). pair c x.1) by ∙ ap (pair y.0) ty
   where
     pair : Scalar → NestedScalar → Scalar × NestedScalar
     pair c t = (c, t)
 
-module _ (version : Version) (w x : Word) (ws : List Word) where
-  contained_to : (ty : NestedScalar) → IsAround (IsPair version w (x ∷ ws)) ty → IsTypeIn version (w ∷ x ∷ ws) ty
-  contained_to ty (p, h, e) = subst (IsTypeIn version (w ∷ x ∷ ws)) (sym e) (both h.0.0 h.1.0, (h.0.1, h.1.1))
-    where
-      both : {v : Word} {vs : List Word} → w ≡ v → x ∷ ws ≡ vs → w ∷ x ∷ ws ≡ v ∷ vs
-      both e f = cc
+-- what was read of a type, from its last word on
+record IsTyped (version : Version) (ws : List Word) (r : Result NestedScalar TokenError) : Type 0 where
+  read : Reads (IsTypeIn version ws) IsShallow r
+  some : ws ≡ [] → ⊥
+  no_sum : ws ≡ Bare (sum_word Int) ∷ [] → ⊥
 
-  contained_back : (cs : List Scalar) (s : Scalar) → IsTypeIn version (w ∷ x ∷ ws) (record { containers = cs; scalar = s }) → IsAround (IsPair version w (x ∷ ws)) (record { containers = cs; scalar = s })
-  contained_back [] s h = absurd (two h.0)
-    where
-      two : w ∷ x ∷ ws ≡ Bare (scalar_word s) ∷ [] → ⊥
-      two e = cc
-  contained_back (c ∷ cs) s h = ((c, record { containers = cs; scalar = s }), ((first_is h.0, h.1.0), (rest_is h.0, h.1.1)), refl)
-    where
-      first_is : w ∷ x ∷ ws ≡ Bare (container_word c) ∷ words_of cs s → w ≡ Bare (container_word c)
-      first_is e = cc
+abbrev IsBegun : Version → List Word → Begun → Type 0
+IsBegun version ws so_far.Nothing = ws ≡ []
+IsBegun version ws so_far.Sum = ws ≡ Bare (sum_word Int) ∷ []
+IsBegun version ws (so_far.Type r) = IsTyped version ws r
 
-      rest_is : w ∷ x ∷ ws ≡ Bare (container_word c) ∷ words_of cs s → x ∷ ws ≡ words_of cs s
-      rest_is e = cc
+module _ (version : Version) (w : Word) (ws : List Word) where
+  -- ---- a container
+
+  module _ (by : Scalar) (is : IsContainerOf version w by) where
+    contained_to : (ty : NestedScalar) → IsAround (IsPair version w ws) ty → IsTypeIn version (w ∷ ws) ty
+    contained_to ty (p, h, e) = subst (IsTypeIn version (w ∷ ws)) (sym e) (both h.0.0 h.1.0, ((h.0.1, h.1.1.0), h.1.1.1))
+      where
+        both : {v : Word} {vs : List Word} → w ≡ v → ws ≡ vs → w ∷ ws ≡ v ∷ vs
+        both e f = cc
+
+    contained_back : (cs : List Scalar) (kind : MapKind) (s : Scalar) → IsTypeIn version (w ∷ ws) (record { containers = cs; scalar = s; map = kind }) → IsAround (IsPair version w ws) (record { containers = cs; scalar = s; map = kind })
+    contained_back [] kind s h = absurd (leaf_apart by kind s ws [] (ap (λ (v : Word). v ∷ ws) (sym is.0) ∙ sym (closed_words (w ∷ ws) [] kind s h.0)))
+    contained_back (c ∷ cs) kind s h =
+        let first = first_is w (Bare (container_word c)) ws (words_of cs kind s) h.0 in
+        let rest = rest_is w (Bare (container_word c)) ws (words_of cs kind s) h.0 in
+        ((c, record { containers = cs; scalar = s; map = kind }), ((first, h.1.0.0), (rest, (h.1.0.1, h.1.1))), refl)
+
+    contained_read : (r : Result NestedScalar TokenError) → Reads (IsTypeIn version ws) IsShallow r → Reads (IsTypeIn version (w ∷ ws)) IsShallow (contained (Ok by) r)
+    contained_read r h =
+        likewise (IsAround (IsPair version w ws)) IsShallow (IsTypeIn version (w ∷ ws)) IsShallow
+        contained_to (λ ty k. contained_back ty.containers ty.map ty.scalar k) (λ ty k m. m) (λ ty k m. m) (contained (Ok by) r)
+        (around_read (IsPair version w ws) (one_pair version w ws) (both (Ok by) r)
+        (both_read (IsContainerOf version w) Free (IsTypeIn version ws) IsShallow (Ok by) r (is, tt) h))
+
+  -- ---- a map
+
+  -- a type whose first word is that of a map
+  module _ (by : Scalar) (is : IsMapWordOf version w by) (read : Result NestedScalar TokenError) (t : IsTyped version ws read) where
+    -- it is a scalar's word, after that of the map
+    leaf_back : (ty : NestedScalar) → IsTypeIn version (w ∷ ws) ty → (s : Scalar) × IsTypeIn version ws (scalar_type s) × (ty ≡ map_of by s)
+    leaf_back ty h = each ty.containers ty.map ty.scalar h.0 h.1.1
+      where
+        each : (cs : List Scalar) (kind : MapKind) (s : Scalar) → w ∷ ws ≡ words_of cs kind s → IsMapOf version s kind
+            → (found : Scalar) × IsTypeIn version ws (scalar_type found) × (record { containers = cs; scalar = s; map = kind } ≡ map_of by found)
+        each [] NoMap s e k = absurd (map_no_scalar by s (sym is.0 ∙ first_is w (Bare (scalar_word s)) ws [] e))
+        each [] (Values own) s e k =
+            let same = one_map own by (sym (first_is w (Bare (map_word own)) ws (Bare (scalar_word s) ∷ []) e) ∙ is.0) in
+            (s, (rest_is w (Bare (map_word own)) ws (Bare (scalar_word s) ∷ []) e, (tt, tt)), ap (λ (c : Scalar). map_of c s) same)
+        each [] (Sums own) s e k =
+            let sums = sums_since version s own k in
+            absurd (t.no_sum (rest_is w (Bare (map_word own)) ws (Bare (sum_word s) ∷ []) e ∙ ap (λ (c : Scalar). Bare (sum_word c) ∷ []) sums.1))
+        each (c ∷ cs) kind s e k = absurd (map_no_container by c (sym is.0 ∙ first_is w (Bare (container_word c)) ws (words_of cs kind s) e))
+
+    leaf_to : (s : Scalar) → IsTypeIn version ws (scalar_type s) → IsTypeIn version (w ∷ ws) (map_of by s)
+    leaf_to s h = (ap (λ (v : Word). v ∷ ws) is.0 ∙ ap (λ (vs : List Word). Bare (map_word by) ∷ vs) h.0, (tt, has_map version s by is.1))
+
+    mapped_read : (r : Result NestedScalar TokenError) → Reads (IsTypeIn version ws) IsShallow r → Reads (IsTypeIn version (w ∷ ws)) IsShallow (mapped by r)
+    mapped_read (Ok ty) h = choose (is_scalar ty) refl
+      where
+        leaf_is : (cs : List Scalar) (kind : MapKind) (s : Scalar) → is_scalar (record { containers = cs; scalar = s; map = kind }) ≡ true → record { containers = cs; scalar = s; map = kind } ≡ scalar_type s
+        leaf_is [] NoMap s e = refl
+        leaf_is [] (Values own) s e = absurd cc
+        leaf_is [] (Sums own) s e = absurd cc
+        leaf_is (c ∷ cs) kind s e = absurd cc
+
+        apart : false ≡ true → ⊥
+        apart e = cc
+
+        choose : (b : Bool) → is_scalar ty ≡ b → Reads (IsTypeIn version (w ∷ ws)) IsShallow (if b then Ok (map_of by ty.scalar) else Err Form)
+        choose true e = (leaf_to ty.scalar (subst (IsTypeIn version ws) (leaf_is ty.containers ty.map ty.scalar e) h.0), omega arith)
+        choose false e = λ u k. let back = leaf_back u k in apart (sym e ∙ ap is_scalar (one_typed version ws ty (scalar_type back.0) h.0 back.1))
+    mapped_read (Err Form) h = λ u k. let back = leaf_back u k in h (scalar_type back.0) back.1
+    mapped_read (Err Limit) h = λ u k. let back = leaf_back u k in h.1 (scalar_type back.0) back.1 (omega arith)
+
+  sums_read : ws ≡ Bare (sum_word Int) ∷ [] → Reads (IsTypeIn version (w ∷ ws)) IsShallow (as_is sums_of (map_in version w))
+  sums_read alone = carried sums_of (IsMapWordOf version w) Free (IsTypeIn version (w ∷ ws)) IsShallow to (λ ty h. back ty.containers ty.map ty.scalar h.0 h.1.1) (λ by h m. omega arith) (λ by h m. tt) (map_in version w) (map_read version w)
+    where
+      to : (by : Scalar) → IsMapWordOf version w by → IsTypeIn version (w ∷ ws) (sums_of by)
+      to by h = (ap (λ (v : Word). v ∷ ws) h.0 ∙ ap (λ (vs : List Word). Bare (map_word by) ∷ vs) alone, (tt, has_sums_of version by h.1))
+
+      back : (cs : List Scalar) (kind : MapKind) (s : Scalar) → w ∷ ws ≡ words_of cs kind s → IsMapOf version s kind → (by : Scalar) × IsMapWordOf version w by × (record { containers = cs; scalar = s; map = kind } ≡ sums_of by)
+      back [] NoMap s e k = absurd (no_more (sym alone ∙ rest_is w (Bare (scalar_word s)) ws [] e))
+        where
+          no_more : Bare (sum_word Int) ∷ [] ≡ [] → ⊥
+          no_more e = cc
+      back [] (Values by) s e k =
+          let rest = sym alone ∙ rest_is w (Bare (map_word by)) ws (Bare (scalar_word s) ∷ []) e in
+          absurd (sum_no_scalar Int s (first_is (Bare (sum_word Int)) (Bare (scalar_word s)) [] [] rest))
+      back [] (Sums by) s e k =
+          let sums = sums_since version s by k in
+          (by, (first_is w (Bare (map_word by)) ws (Bare (sum_word s) ∷ []) e, sums.0), ap (λ (c : Scalar). record { containers = []; scalar = c; map = Sums by }) sums.1)
+      back (c ∷ cs) kind s e k =
+          let rest = sym (rest_is w (Bare (container_word c)) ws (words_of cs kind s) e) ∙ alone in
+          absurd (first_no_sum cs kind s Int [] [] (append-nil (words_of cs kind s) ∙ rest))
+
+  -- neither a container nor a map
+  neither : (ws ≡ [] → ⊥) → ((by : Scalar) → IsContainerOf version w by → ⊥) → ((by : Scalar) → IsMapWordOf version w by → ⊥) → (ty : NestedScalar) → IsTypeIn version (w ∷ ws) ty → ⊥
+  neither some no_container no_map ty h = each ty.containers ty.map ty.scalar h.0 h.1.0 h.1.1
+    where
+      each : (cs : List Scalar) (kind : MapKind) (s : Scalar) → w ∷ ws ≡ words_of cs kind s → AllByRecursion (IsSubscriptOf version) cs → IsMapOf version s kind → ⊥
+      each [] NoMap s e all k = some (rest_is w (Bare (scalar_word s)) ws [] e)
+      each [] (Values by) s e all k = no_map by (first_is w (Bare (map_word by)) ws (Bare (scalar_word s) ∷ []) e, map_since version s by k)
+      each [] (Sums by) s e all k = no_map by (first_is w (Bare (map_word by)) ws (Bare (sum_word s) ∷ []) e, (sums_since version s by k).0)
+      each (c ∷ cs) kind s e all k = no_container c (first_is w (Bare (container_word c)) ws (words_of cs kind s) e, all.0)
+
+  before_read : (read : Result NestedScalar TokenError) → IsTyped version ws read → (r m : Result Scalar TokenError) → Reads (IsContainerOf version w) Free r → Reads (IsMapWordOf version w) Free m
+      → Reads (IsTypeIn version (w ∷ ws)) IsShallow (before r m read)
+  before_read read t (Ok by) m h k = contained_read by h.0 read t.read
+  before_read read t (Err Form) (Ok by) h k = mapped_read by k.0 read t read t.read
+  before_read read t (Err Form) (Err Form) h k = neither t.some h k
+  before_read read t (Err Form) (Err Limit) h k = absurd (k.1 k.0.0 k.0.1 tt)
+  before_read read t (Err Limit) m h k = absurd (h.1 h.0.0 h.0.1 tt)
+
+-- ---- the last word
 
 scalar_alone : (version : Version) (w : Word) → Reads (IsTypeIn version (w ∷ [])) IsShallow (as_is scalar_type (scalar_in w))
 scalar_alone version w =
-    carried scalar_type (λ s. w ≡ Bare (scalar_word s)) Free (IsTypeIn version (w ∷ [])) IsShallow (λ s e. (ap (λ (v : Word). v ∷ []) e, tt)) (λ ty h. back ty.containers ty.scalar h.0)
+    carried scalar_type (λ s. w ≡ Bare (scalar_word s)) Free (IsTypeIn version (w ∷ [])) IsShallow (λ s e. (ap (λ (v : Word). v ∷ []) e, (tt, tt))) (λ ty h. back ty.containers ty.map ty.scalar h.0)
     (λ s e m. omega arith) (λ s e m. tt) (scalar_in w) (scalar_read w)
   where
-    back : (cs : List Scalar) (s : Scalar) → w ∷ [] ≡ words_of cs s → (found : Scalar) × (w ≡ Bare (scalar_word found)) × (record { containers = cs; scalar = s } ≡ scalar_type found)
-    back cs s e = let one = one_word version w cs s e in (s, one.1, ap (λ (ds : List Scalar). record { containers = ds; scalar = s }) one.0)
+    no_more : {v : Word} → [] ≡ v ∷ [] → ⊥
+    no_more e = cc
+
+    back : (cs : List Scalar) (kind : MapKind) (s : Scalar) → w ∷ [] ≡ words_of cs kind s → (found : Scalar) × (w ≡ Bare (scalar_word found)) × (record { containers = cs; scalar = s; map = kind } ≡ scalar_type found)
+    back [] NoMap s e = (s, first_is w (Bare (scalar_word s)) [] [] e, refl)
+    back [] (Values by) s e = absurd (no_more (rest_is w (Bare (map_word by)) [] (Bare (scalar_word s) ∷ []) e))
+    back [] (Sums by) s e = absurd (no_more (rest_is w (Bare (map_word by)) [] (Bare (sum_word s) ∷ []) e))
+    back (c ∷ cs) kind s e = absurd (no_words cs kind s (rest_is w (Bare (container_word c)) [] (words_of cs kind s) e))
+
+first_read : (version : Version) (w : Word) → IsBegun version (w ∷ []) (typed version w so_far.Nothing)
+first_read version w = by (is_sum w) refl
+  where
+    some : w ∷ [] ≡ [] → ⊥
+    some e = cc
+
+    by : (b : Bool) → is_sum w ≡ b → IsBegun version (w ∷ []) (if b then so_far.Sum else so_far.Type (as_is scalar_type (scalar_in w)))
+    by true e = ap (λ (v : Word). v ∷ []) (sum_is w e)
+    by false e = record { read = scalar_alone version w; some = some; no_sum = λ h. sum_isnt w e (first_is w (Bare (sum_word Int)) [] [] h) }
+
+-- ---- all words
+
+begun_kept : (version : Version) (ws : List Word) → IsBegun version ws (type_from version ws)
+begun_kept version [] = refl
+begun_kept version (w ∷ ws) = by (type_from version ws) (begun_kept version ws)
+  where
+    some : w ∷ ws ≡ [] → ⊥
+    some e = cc
+
+    more : (ws ≡ [] → ⊥) → w ∷ ws ≡ Bare (sum_word Int) ∷ [] → ⊥
+    more not_alone e = not_alone (rest_is w (Bare (sum_word Int)) ws [] e)
+
+    no_end : Bare (sum_word Int) ∷ [] ≡ [] → ⊥
+    no_end e = cc
+
+    by : (b : Begun) → IsBegun version ws b → IsBegun version (w ∷ ws) (typed version w b)
+    by so_far.Nothing h = subst (λ (vs : List Word). IsBegun version (w ∷ vs) (typed version w so_far.Nothing)) (sym h) (first_read version w)
+    by so_far.Sum h = record { read = sums_read version w ws h; some = some; no_sum = more (λ e. no_end (sym h ∙ e)) }
+    by (so_far.Type read) h = record { read = before_read version w ws read h (container_in version w) (map_in version w) (container_read version w) (map_read version w); some = some; no_sum = more h.some }
 
 pub type_read : (version : Version) (ws : List Word) → Reads (IsTypeIn version ws) IsShallow (type_in version ws)
-type_read version [] = λ ty h. no_words ty.containers ty.scalar h.0
-type_read version (w ∷ []) = scalar_alone version w
-type_read version (w ∷ x ∷ ws) =
-    likewise (IsAround (IsPair version w (x ∷ ws))) IsShallow (IsTypeIn version (w ∷ x ∷ ws)) IsShallow
-    (contained_to version w x ws) (λ ty h. contained_back version w x ws ty.containers ty.scalar h) (λ ty h m. m) (λ ty h m. m) (contained (container_in version w) (type_in version (x ∷ ws)))
-    (around_read (IsPair version w (x ∷ ws)) (one_pair version w (x ∷ ws)) (both (container_in version w) (type_in version (x ∷ ws)))
-    (both_read (IsContainerOf version w) Free (IsTypeIn version (x ∷ ws)) IsShallow (container_in version w) (type_in version (x ∷ ws)) (container_read version w) (type_read version (x ∷ ws))))
+type_read version ws = by (type_from version ws) (begun_kept version ws)
+  where
+    by : (b : Begun) → IsBegun version ws b → Reads (IsTypeIn version ws) IsShallow (whole_type b)
+    by so_far.Nothing h = λ ty k. no_words ty.containers ty.map ty.scalar (sym h ∙ k.0)
+    by so_far.Sum h = λ ty k. first_no_sum ty.containers ty.map ty.scalar Int [] [] (append-nil (words_of ty.containers ty.map ty.scalar) ∙ sym k.0 ∙ h)
+    by (so_far.Type read) h = h.read

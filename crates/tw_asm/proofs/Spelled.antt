@@ -1,9 +1,9 @@
 -- Words denote one list of parts, except for skips by name.
 use Rattle.std.proofs.Common.{◌≡◌, ◌⊎◌, inl, inr, ℕ, true, List, [], ◌∷◌, ◌++◌, map, codes, Option, Some, None, refl, sym, ap, subst, ◌∙◌, arith}
-use Rattle.tw_asm.proofs.AsmNames.{Bare, Goals, IsInRange, IsName, Literal, Name, Natural, NestedScalar, NoName, Number, OnlyName, Part, Quoted, Right, Scalar, Skip, SpellParts, SpellsDigits, SpellsNumber, SpellsPart, SpellsWith, Target, TypeOf, Value, Word, append_cancel_left, container_word, scalar_word}
+use Rattle.tw_asm.proofs.AsmNames.{Bare, Goals, IsInRange, IsName, Literal, Name, Natural, NestedScalar, NoName, Number, OnlyName, Part, Quoted, Right, Skip, SpellParts, SpellsDigits, SpellsNumber, SpellsPart, SpellsWith, Target, TypeOf, Value, Word, append_cancel_left}
 use Rattle.tw_lexer.proofs.Numerals.{one_number, one_size}
 use Rattle.tw_asm.proofs.Rows.{AreAlike, different, is_last, reskip, skips_last, sort_of}
-use Rattle.tw_asm.proofs.TypeWords.{one_type, words_of}
+use Rattle.tw_asm.proofs.TypeWords.{one_type, some_words, words_of}
 
 -- holds if these goals are names of labels
 abbrev pub AreNames : Goals → Type 0
@@ -49,7 +49,7 @@ first_words v w f g x y is has e =
     let both = cons_is v w x y (ap (λ (h : List Word). h ++ x) (sym is) ∙ e ∙ ap (λ (h : List Word). h ++ y) has) in
     (both.0, is ∙ ap (λ (u : Word). u ∷ []) both.0 ∙ sym has, both.1)
 
-digits_same : (front : List ℕ) (n m : ℕ) (f g x y : List Word) → SpellsWith front n f → SpellsWith front m g → f ++ x ≡ g ++ y → (n ≡ m) × (f ≡ g) × (x ≡ y)
+pub digits_same : (front : List ℕ) (n m : ℕ) (f g x y : List Word) → SpellsWith front n f → SpellsWith front m g → f ++ x ≡ g ++ y → (n ≡ m) × (f ≡ g) × (x ≡ y)
 digits_same front n m f g x y (ds, h, is) (cs, k, has) e =
     let same = first_words (Bare (front ++ ds)) (Bare (front ++ cs)) f g x y is has e in
     let digits = append_cancel_left front ds cs (bare_is (front ++ ds) (front ++ cs) same.0) in
@@ -109,7 +109,7 @@ module _ (a b : Goals) (names : AreNames a) (others : AreNames b) where
   one_part (Literal v) (Literal w) f g x y s h k e = let same = first_words (Quoted v) (Quoted w) f g x y h k e in (inl (ap Literal (quoted_is v w same.0)), same.1, same.2)
   one_part (TypeOf t) (TypeOf u) f g x y s h k e =
       let same = one_type t u x y (ap (λ (ws : List Word). ws ++ x) (sym h) ∙ e ∙ ap (λ (ws : List Word). ws ++ y) k) in
-      (inl (ap TypeOf same.0), h ∙ ap (λ (ty : NestedScalar). words_of ty.containers ty.scalar) same.0 ∙ sym k, same.1)
+      (inl (ap TypeOf same.0), h ∙ ap (λ (ty : NestedScalar). words_of ty.containers ty.map ty.scalar) same.0 ∙ sym k, same.1)
   one_part (Skip n) (Skip m) f g x y s h k e = skips_same n m f g x y h k e
   one_part (Target t) (Target u) f g x y s h k e = targets_same t u f g x y h k e
   one_part p q f g x y s h k e = different (sort_of p) (sort_of q) s refl
@@ -121,11 +121,7 @@ module _ (a b : Goals) (names : AreNames a) (others : AreNames b) where
   some_word (Number m) g y (w, k, has) e = never_cons (Bare w) y (ap (λ (ws : List Word). ws ++ y) (sym has) ∙ e)
   some_word (Natural m) g y (ds, k, has) e = never_cons (Bare ds) y (ap (λ (ws : List Word). ws ++ y) (sym has) ∙ e)
   some_word (Literal t) g y k e = never_cons (Quoted t) y (ap (λ (ws : List Word). ws ++ y) (sym k) ∙ e)
-  some_word (TypeOf ty) g y k e = some_type ty.containers ty.scalar (ap (λ (ws : List Word). ws ++ y) (sym k) ∙ e)
-    where
-      some_type : (cs : List Scalar) (scalar : Scalar) → words_of cs scalar ++ y ≡ [] → ⊥
-      some_type [] scalar h = never_cons (Bare (scalar_word scalar)) y h
-      some_type (c ∷ cs) scalar h = never_cons (Bare (container_word c)) (words_of cs scalar ++ y) h
+  some_word (TypeOf ty) g y k e = some_words ty.containers ty.map ty.scalar y (ap (λ (ws : List Word). ws ++ y) (sym k) ∙ e)
   some_word (Skip m) g y (inl (ds, k, has)) e = never_cons (Bare (codes "+" ++ ds)) y (ap (λ (ws : List Word). ws ++ y) (sym has) ∙ e)
   some_word (Skip m) g y (inr (name, k, has)) e = never_cons (Bare name) y (ap (λ (ws : List Word). ws ++ y) (sym has) ∙ e)
   some_word (Target None) g y k e = never_cons (Bare (codes "any")) y (ap (λ (ws : List Word). ws ++ y) (sym k) ∙ e)

@@ -1,6 +1,6 @@
 -- The instructions and types of each version, within the limits.
-use Rattle.std.proofs.Common.{◌≡◌, ℕ, zero, suc, ◌≤◌, true, List, [], ◌∷◌, refl, arith}
-use Rattle.tw_asm.proofs.AsmNames.{AllByRecursion, Closed, HasInstr, HasOperand, HasParam, HasType, Instr, Int, IsInstr, IsInstrOf, IsOperand, IsOperandOf, IsParam, IsParamOf, IsSubscriptOf, IsTypeOfMode, IsTypeUnderOf, IsWithin, Mode, NestedScalar, One, Operand, Param, Ref, Scalar, Text, Two, Val, Version, Write, depth_of, holds, is_scalar, row, version_by, version_number}
+use Rattle.std.proofs.Common.{◌≡◌, ℕ, zero, suc, ◌≤◌, true, List, [], ◌∷◌, inl, inr, refl, sym, subst, arith}
+use Rattle.tw_asm.proofs.AsmNames.{AllByRecursion, Closed, Four, HasInstr, HasOperand, HasParam, HasType, Instr, Int, IsInstr, IsInstrOf, IsMapOf, IsOperand, IsOperandOf, IsParam, IsParamOf, IsSubscriptOf, IsTypeOfMode, IsTypeUnderOf, IsVersionNumber, IsWithin, MapKind, Mode, NestedScalar, NoMap, One, Operand, Param, Ref, Scalar, Sums, Text, Two, Val, Values, Version, Write, depth_of, holds, is_scalar, row, version_by, version_number}
 use Rattle.tw_code.specs.declared.form.Form.TheVariants as form
 
 -- ---- numbers
@@ -8,23 +8,39 @@ use Rattle.tw_code.specs.declared.form.Form.TheVariants as form
 pub number_back : (version : Version) → version_by (version_number version) ≡ version
 number_back One = refl
 number_back Two = refl
+number_back Four = refl
 
-pub by_number : (n : ℕ) → IsWithin 1 2 n → version_number (version_by n) ≡ n
-by_number zero h = absurd (omega (arith, h.0))
-by_number (suc zero) h = refl
-by_number (suc (suc zero)) h = refl
-by_number (suc (suc (suc n))) h = absurd (omega (arith, h.1))
+pub by_number : (n : ℕ) → IsVersionNumber n → version_number (version_by n) ≡ n
+by_number n (inl h) = early n h
+  where
+    early : (n : ℕ) → IsWithin 1 2 n → version_number (version_by n) ≡ n
+    early zero h = absurd (omega (arith, h.0))
+    early (suc zero) h = refl
+    early (suc (suc zero)) h = refl
+    early (suc (suc (suc n))) h = absurd (omega (arith, h.1))
+by_number n (inr h) = subst (λ (k : ℕ). version_number (version_by k) ≡ k) (sym h) refl
 
-pub number_within : (version : Version) → IsWithin 1 2 (version_number version)
-number_within One = (omega arith, omega arith)
-number_within Two = (omega arith, omega arith)
+pub number_within : (version : Version) → IsVersionNumber (version_number version)
+number_within One = inl (omega arith, omega arith)
+number_within Two = inl (omega arith, omega arith)
+number_within Four = inr refl
 
--- ---- version 2 has all types
+-- ---- version 4 has all types
 
-pub any_type : (containers : List Scalar) → AllByRecursion (IsSubscriptOf Two) containers
-any_type [] = tt
-any_type (Int ∷ inner) = (tt, any_type inner)
-any_type (Text ∷ inner) = (tt, any_type inner)
+any_containers : (containers : List Scalar) → AllByRecursion (IsSubscriptOf Four) containers
+any_containers [] = tt
+any_containers (Int ∷ inner) = (tt, any_containers inner)
+any_containers (Text ∷ inner) = (tt, any_containers inner)
+
+any_map : (version : Version) (scalar : Scalar) (kind : MapKind) → IsMapOf version scalar kind → IsMapOf Four scalar kind
+any_map version scalar NoMap h = tt
+any_map version scalar (Values by) h = tt
+any_map One scalar (Sums by) h = absurd h
+any_map Two scalar (Sums by) h = absurd h
+any_map Four scalar (Sums by) h = h
+
+pub any_type : (version : Version) (ty : NestedScalar) → HasType version ty → HasType Four ty
+any_type version ty h = (any_containers ty.containers, any_map version ty.scalar ty.map h.1)
 
 -- ---- instructions
 
@@ -53,7 +69,7 @@ had version i h = (h.0, had_operands version (row i).1 h.1)
 
 -- ---- parameters
 
-type_narrowed : (version : Version) (mode : Mode) (ty : NestedScalar) → HasType version ty → IsTypeUnderOf Two mode ty → IsTypeUnderOf version mode ty
+type_narrowed : (version : Version) (mode : Mode) (ty : NestedScalar) → HasType version ty → IsTypeUnderOf Four mode ty → IsTypeUnderOf version mode ty
 type_narrowed version Val ty has h = h
 type_narrowed version Closed ty has h = (h.0, has)
 type_narrowed version Ref ty has h = (h.0, has)
@@ -63,12 +79,16 @@ pub params_narrowed : (version : Version) (params : List Param) → AllByRecursi
 params_narrowed version [] has h = tt
 params_narrowed version (param ∷ params) has h = (type_narrowed version param.mode param.ty has.0.1 h.0, params_narrowed version params has.1 h.1)
 
-no_container : (version : Version) (containers : List Scalar) (scalar : Scalar) → is_scalar (record { containers = containers; scalar = scalar }) ≡ true → AllByRecursion (IsSubscriptOf version) containers
-no_container version [] scalar e = tt
-no_container version (by ∷ inner) scalar e = absurd cc
+-- each version has scalars
+scalar_had : (version : Version) (containers : List Scalar) (kind : MapKind) (scalar : Scalar) → is_scalar (record { containers = containers; scalar = scalar; map = kind }) ≡ true
+    → HasType version (record { containers = containers; scalar = scalar; map = kind })
+scalar_had version [] NoMap scalar e = (tt, tt)
+scalar_had version [] (Values by) scalar e = absurd cc
+scalar_had version [] (Sums by) scalar e = absurd cc
+scalar_had version (by ∷ inner) kind scalar e = absurd cc
 
 had_param : (version : Version) (mode : Mode) (ty : NestedScalar) → IsTypeUnderOf version mode ty → IsTypeOfMode mode (is_scalar ty) × HasType version ty
-had_param version Val ty h = (h, no_container version ty.containers ty.scalar h)
+had_param version Val ty h = (h, scalar_had version ty.containers ty.map ty.scalar h)
 had_param version Closed ty h = (tt, h.1)
 had_param version Ref ty h = (tt, h.1)
 had_param version Write ty h = (tt, h.1)
@@ -80,12 +100,13 @@ had_params version (param ∷ params) h = (had_param version param.mode param.ty
 -- ---- depths
 
 -- a type that is allowed with a mode is at most 3 deep
-pub under_shallow : (mode : Mode) (ty : NestedScalar) → IsTypeUnderOf Two mode ty → depth_of ty ≤ 3
-under_shallow Val ty h = flat ty.containers ty.scalar h
+pub under_shallow : (mode : Mode) (ty : NestedScalar) → IsTypeUnderOf Four mode ty → depth_of ty ≤ 3
+under_shallow Val ty h = flat ty.containers ty.map ty.scalar h
   where
-    flat : (containers : List Scalar) (scalar : Scalar) → is_scalar (record { containers = containers; scalar = scalar }) ≡ true → depth_of (record { containers = containers; scalar = scalar }) ≤ 3
-    flat [] scalar e = omega arith
-    flat (by ∷ inner) scalar e = absurd cc
+    flat : (containers : List Scalar) (kind : MapKind) (scalar : Scalar) → is_scalar (record { containers = containers; scalar = scalar; map = kind }) ≡ true
+        → depth_of (record { containers = containers; scalar = scalar; map = kind }) ≤ 3
+    flat [] kind scalar e = omega arith
+    flat (by ∷ inner) kind scalar e = absurd cc
 under_shallow Closed ty h = h.0
 under_shallow Ref ty h = h.0
 under_shallow Write ty h = h.0

@@ -1,6 +1,6 @@
 -- The written line of a statement denotes it.
 use Rattle.std.proofs.Common.{◌≡◌, ◌≢◌, inl, inr, ◌≤◌, ◌<◌, ◌^◌, ◌==◌, ℕ, suc, ℤ, pos, negsuc, Bool, true, false, List, [], ◌∷◌, ◌++◌, map, length, codes, Option, Some, None, refl, ap, subst, ◌∙◌, arith}
-use Rattle.tw_asm.proofs.AsmNames.{◌&&◌, ◌||◌, AllByRecursion, Bare, Closed, Code, FitsSigned, Goals, HasForm, HasInstr, Head, Instr, Int, IsAscii, IsInLimits, IsInName, IsInstr, IsLine, IsName, IsOperand, IsRegister, IsSkip, IsTarget, IsUtf8, IsWord, Kind, Label, Literal, Mode, Name, Natural, Number, OfVersion, Opcode, Operand, Param, Part, Quoted, Ref, Registers, Right, Scalar, Skip, SpellParts, Spells, SpellsPart, SpellsWith, Statement, Target, Text, TypeOf, Val, Value, Version, Word, Write, container_word, decimal, flat_map, goal_word, holds, if◌then◌else◌, instr_parts, is_edge, join_with_byte, kind_word, ltb-true, map-append, mode_word, nat_lt, nat_tests, operand_parts, param_parts, part_words, register_part, scalar_word, skip_among, skip_of, statement_parts, w64, word_of}
+use Rattle.tw_asm.proofs.AsmNames.{◌&&◌, ◌||◌, AllByRecursion, Bare, Closed, Code, FitsSigned, Goals, HasForm, HasInstr, Head, Instr, Int, IsAscii, IsInLimits, IsInName, IsInstr, IsLine, IsName, IsOperand, IsRegister, IsSkip, IsTarget, IsUtf8, IsVersionNumber, IsWord, Kind, Label, Literal, MapKind, Mode, Name, Natural, NoMap, Number, OfVersion, Opcode, Operand, Param, Part, Quoted, Ref, Registers, Right, Scalar, Skip, SpellParts, Spells, SpellsPart, SpellsWith, Statement, Sums, Target, Text, TypeOf, Val, Value, Values, Version, Word, Write, container_word, decimal, flat_map, goal_word, holds, if◌then◌else◌, instr_parts, is_edge, join_with_byte, kind_word, leaf_words, ltb-true, map-append, map_word, mode_word, nat_lt, nat_tests, operand_parts, param_parts, part_words, register_part, scalar_word, skip_among, skip_of, statement_parts, sum_word, w64, word_of}
 use Rattle.std.specs.Fmt.{signed_decimal}
 use Rattle.std.specs.Str.Parse.{AllDigits, IsNumeral}
 use Rattle.std.proofs.lemmas.Fmt.{decimal_is_IsNumeral}
@@ -29,7 +29,7 @@ written_part skip_word (Right register) = Bare (codes "d" ++ decimal register) �
 written_part skip_word (Number number) = Bare (signed_decimal number) ∷ []
 written_part skip_word (Natural number) = Bare (decimal number) ∷ []
 written_part skip_word (Literal text) = Quoted text ∷ []
-written_part skip_word (TypeOf ty) = words_of ty.containers ty.scalar
+written_part skip_word (TypeOf ty) = words_of ty.containers ty.map ty.scalar
 written_part skip_word (Skip skip) = Bare (skip_word skip) ∷ []
 written_part skip_word (Target None) = Bare (codes "any") ∷ []
 written_part skip_word (Target (Some number)) = Bare (decimal number) ∷ []
@@ -42,12 +42,14 @@ abbrev pub text_of : Word → List ℕ
 text_of (Bare word) = word
 text_of (Quoted text) = quoted text
 
-type_texts : (containers : List Scalar) (scalar : Scalar) → map text_of (words_of containers scalar) ≡ map container_word containers ++ (scalar_word scalar ∷ [])
-type_texts [] scalar = refl
-type_texts (by ∷ inner) scalar = ap (λ (ws : List (List ℕ)). container_word by ∷ ws) (type_texts inner scalar)
+type_texts : (containers : List Scalar) (kind : MapKind) (scalar : Scalar) → map text_of (words_of containers kind scalar) ≡ map container_word containers ++ leaf_words kind scalar
+type_texts [] NoMap scalar = refl
+type_texts [] (Values by) scalar = refl
+type_texts [] (Sums by) scalar = refl
+type_texts (by ∷ inner) kind scalar = ap (λ (ws : List (List ℕ)). container_word by ∷ ws) (type_texts inner kind scalar)
 
 part_texts : (skip_word : ℕ → List ℕ) (part : Part) → map text_of (written_part skip_word part) ≡ part_words skip_word part
-part_texts skip_word (TypeOf ty) = type_texts ty.containers ty.scalar
+part_texts skip_word (TypeOf ty) = type_texts ty.containers ty.map ty.scalar
 part_texts skip_word (Target None) = refl
 part_texts skip_word (Target (Some number)) = refl
 part_texts skip_word part = refl
@@ -225,9 +227,19 @@ container_clear : (by : Scalar) → IsClearWord (container_word by)
 container_clear Int = clear_word (codes "cont") refl
 container_clear Text = clear_word (codes "tcont") refl
 
-type_well : (containers : List Scalar) (scalar : Scalar) → AllByRecursion IsWellWritten (words_of containers scalar)
-type_well [] scalar = (bare_word (scalar_word scalar) (scalar_clear scalar), tt)
-type_well (by ∷ inner) scalar = (bare_word (container_word by) (container_clear by), type_well inner scalar)
+map_clear : (by : Scalar) → IsClearWord (map_word by)
+map_clear Int = clear_word (codes "map") refl
+map_clear Text = clear_word (codes "tmap") refl
+
+sum_clear : (scalar : Scalar) → IsClearWord (sum_word scalar)
+sum_clear Int = clear_word (codes "sum") refl
+sum_clear Text = clear_word (codes "texts") refl
+
+type_well : (containers : List Scalar) (kind : MapKind) (scalar : Scalar) → AllByRecursion IsWellWritten (words_of containers kind scalar)
+type_well [] NoMap scalar = (bare_word (scalar_word scalar) (scalar_clear scalar), tt)
+type_well [] (Values by) scalar = (bare_word (map_word by) (map_clear by), (bare_word (scalar_word scalar) (scalar_clear scalar), tt))
+type_well [] (Sums by) scalar = (bare_word (map_word by) (map_clear by), (bare_word (sum_word scalar) (sum_clear scalar), tt))
+type_well (by ∷ inner) kind scalar = (bare_word (container_word by) (container_clear by), type_well inner kind scalar)
 
 register_small : (n : ℕ) → IsRegister n → n < 2 ^ 64
 register_small n h = let high = h.1 in omega arith
@@ -247,7 +259,7 @@ module _ (goals : Goals) (skip_word : ℕ → List ℕ) where
   part_well (Number n) h g = ((signed_decimal n, shown n h, refl), (bare_word (signed_decimal n) (signed_clear n h), tt))
   part_well (Natural n) h g = let small = number_small n h in (digits_spell [] n small, (bare_word (decimal n) (numbered_clear [] n tt small), tt))
   part_well (Literal text) h g = (refl, ((quoted_spells text, quoted_one_line text, quoted_utf8 text h), tt))
-  part_well (TypeOf ty) h g = (refl, type_well ty.containers ty.scalar)
+  part_well (TypeOf ty) h g = (refl, type_well ty.containers ty.map ty.scalar)
   part_well (Skip n) h g = let goal = g n refl in (goal.0, (bare_word (skip_word n) goal.1, tt))
   part_well (Target None) h g = (refl, (bare_word (codes "any") (clear_word (codes "any") refl), tt))
   part_well (Target (Some n)) h g = let small = register_small n h in (digits_spell [] n small, (bare_word (decimal n) (numbered_clear [] n tt small), tt))
@@ -323,9 +335,9 @@ registers_in [] = tt
 registers_in (scalar ∷ registers) = (scalar_clear scalar, registers_in registers)
 
 statement_in : (version : Version) (s : Statement) → HasForm version s → IsInLimits s → AllByRecursion IsInPart (statement_parts s)
-statement_in version (OfVersion number) form h = (clear_word (codes "version") refl, (few h.1, tt))
+statement_in version (OfVersion number) form h = (clear_word (codes "version") refl, (few h, tt))
   where
-    few : number ≤ 2 → number ≤ 65535
+    few : IsVersionNumber number → number ≤ 65535
     few high = omega arith
 statement_in version (Head kind params) form h = (clear_word (codes "proc") refl, (kind_clear kind, params_in params))
 statement_in version (Registers registers) form h = (clear_word (codes "regs") refl, registers_in registers)

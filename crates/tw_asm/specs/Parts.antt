@@ -7,6 +7,8 @@ use Rattle.tw_code.specs.format.Table.{Operand, holds, row, word_of}
 use Rattle.tw_types.specs.Nesting.{NestedScalar}
 use Rattle.tw_types.specs.declared.actor.Kind.{Kind}
 use Rattle.tw_types.specs.declared.actor.Kind.TheVariants.{Control, Leaf}
+use Rattle.tw_types.specs.declared.data_type.MapKind.{MapKind}
+use Rattle.tw_types.specs.declared.data_type.MapKind.TheVariants.{NoMap, Values, Sums}
 use Rattle.tw_types.specs.declared.data_type.Scalar.{Scalar}
 use Rattle.tw_types.specs.declared.data_type.Scalar.TheVariants.{Int, Text}
 use Rattle.tw_types.specs.declared.param.Mode.{Mode}
@@ -49,9 +51,25 @@ abbrev pub container_word : Scalar → List ℕ
 container_word Int = codes "cont"
 container_word Text = codes "tcont"
 
--- returns a word for each container, the outermost first, and the word of the scalar
+-- returns the word of a map, by the type of its subscripts
+abbrev pub map_word : Scalar → List ℕ
+map_word Int = codes "map"
+map_word Text = codes "tmap"
+
+-- returns the word of a map's sums; they are integers, so no version has the second word
+abbrev pub sum_word : Scalar → List ℕ
+sum_word Int = codes "sum"
+sum_word Text = codes "texts"
+
+-- returns the words of a scalar, or of a map
+abbrev pub leaf_words : MapKind → Scalar → List (List ℕ)
+leaf_words NoMap scalar = scalar_word scalar ∷ []
+leaf_words (Values by) scalar = map_word by ∷ scalar_word scalar ∷ []
+leaf_words (Sums by) scalar = map_word by ∷ sum_word scalar ∷ []
+
+-- returns a word for each container, the outermost first, and the words of what is inside
 abbrev pub type_words : NestedScalar → List (List ℕ)
-type_words ty = map container_word ty.containers ++ (scalar_word ty.scalar ∷ [])
+type_words ty = map container_word ty.containers ++ leaf_words ty.map ty.scalar
 
 -- ---- instructions: a row for each form of operands
 

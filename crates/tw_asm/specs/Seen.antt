@@ -59,6 +59,8 @@ abbrev pub data_with_skip : ℕ → DataInstr → DataInstr
 data_with_skip skip (on_data.Insert by container subscript member old) = on_data.Insert by container subscript member skip
 data_with_skip skip (on_data.Look by member container subscript old) = on_data.Look by member container subscript skip
 data_with_skip skip (on_data.SubscriptAt by to container index old) = on_data.SubscriptAt by to container index skip
+data_with_skip skip (on_data.InsertValue map subscript from old) = on_data.InsertValue map subscript from skip
+data_with_skip skip (on_data.GetValue to map subscript old) = on_data.GetValue to map subscript skip
 data_with_skip skip i = i
 
 abbrev pub with_skip : ℕ → Instr → Instr

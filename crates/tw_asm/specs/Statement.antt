@@ -12,8 +12,8 @@ use Rattle.tw_types.specs.declared.param.Param.{Param}
 use Rattle.tw_code.specs.declared.form.Form.TheVariants as form
 use Rattle.tw_code.specs.declared.instr.Instr.{Instr}
 use Rattle.tw_code.specs.declared.version.Version.{Version}
-use Rattle.tw_code.specs.declared.version.Version.TheVariants.{One, Two}
-use Rattle.tw_code.specs.format.Program.{IsInstr, IsList, IsParam, IsSubscriptOf, IsWithin}
+use Rattle.tw_code.specs.declared.version.Version.TheVariants.{One, Two, Four}
+use Rattle.tw_code.specs.format.Program.{IsInstr, IsList, IsMapOf, IsParam, IsSubscriptOf, IsWithin}
 use Rattle.tw_code.specs.format.Table.{Operand, has_opcode, holds, row}
 use Rattle.tw_lexer.specs.Number.{SpellsDigits, SpellsNumber}
 use Rattle.tw_lexer.specs.Words.{Word, Bare, Quoted}
@@ -26,9 +26,14 @@ use Rattle.tw_asm.specs.Parts.{Part, Name, Value, Right, Number, Natural, Litera
 abbrev pub version_number : Version → ℕ
 version_number One = 1
 version_number Two = 2
+version_number Four = 4
 
 abbrev pub version_by : ℕ → Version
-version_by number = if number == 2 then Two else One
+version_by number = if number == 4 then Four else if number == 2 then Two else One
+
+-- holds for 1, 2 and 4
+abbrev pub IsVersionNumber : ℕ → Type 0
+IsVersionNumber number = IsWithin 1 2 number ⊎ (number ≡ 4)
 
 -- ---- statements
 
@@ -99,7 +104,7 @@ SpellParts goals (part ∷ parts) words =
 -- ---- what a version has
 
 abbrev pub HasType : Version → NestedScalar → Type 0
-HasType version ty = AllByRecursion (IsSubscriptOf version) ty.containers
+HasType version ty = AllByRecursion (IsSubscriptOf version) ty.containers × IsMapOf version ty.scalar ty.map
 
 abbrev pub HasOperand : Version → Operand → Type 0
 HasOperand version (holds form.TypeOf ty) = HasType version ty
@@ -111,7 +116,7 @@ HasInstr version i = (has_opcode version (row i).0 ≡ true) × AllByRecursion (
 
 -- ---- statements
 
--- holds unless a container has mode `val`
+-- holds unless a container or a map has mode `val`
 abbrev pub IsTypeOfMode : Mode → Bool → Type 0
 IsTypeOfMode Val scalar = scalar ≡ true
 IsTypeOfMode Closed scalar = Unit {0}
@@ -136,7 +141,7 @@ pub record Spells (version : Version) (goals : Goals) (statement : Statement) (w
 
 -- holds if numbers, counts and texts are within the limits of programs
 abbrev pub IsInLimits : Statement → Type 0
-IsInLimits (OfVersion number) = IsWithin 1 2 number
+IsInLimits (OfVersion number) = IsVersionNumber number
 IsInLimits (Head kind params) = IsList 0 8 IsParam params
 IsInLimits (Registers registers) = IsWithin 0 16 (length registers)
 IsInLimits (Label name) = length name ≤ 64

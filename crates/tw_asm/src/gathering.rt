@@ -2,12 +2,12 @@
 
 ghost use Rattle.std.specs.Prelude.{◌≡◌, IfOk, Ok, map, reverse};
 ghost use Rattle.tw_lexer.specs.Seen.{seen as seen_word};
-ghost use Rattle.tw_asm.specs.reading.Lines.{around, contained, each, few, joined, put_first, type_in, typed};
+ghost use Rattle.tw_asm.specs.reading.Lines.{around, before, contained, each, few, joined, mapped, put_first, type_in, typed, whole_type};
 ghost use Rattle.tw_lexer.specs.Digits.{as_is};
-ghost use Rattle.tw_asm.specs.reading.Operands.{natural_in, scalar_in};
-ghost use Rattle.tw_types.specs.DataType.{scalar_type};
+ghost use Rattle.tw_asm.specs.reading.Operands.{container_in, map_in, natural_in, scalar_in};
+ghost use Rattle.tw_types.specs.DataType.{scalar_type, sums_of};
 
-use crate::operands::{both_of, byte_of, container_of, scalar_of};
+use crate::operands::{both_of, byte_of, container_of, is_sum, map_of, scalar_of};
 use std::alloc::{AllocError, Global};
 use tw_code::{Procedure, Version};
 use tw_lexer::{TokenError, Word};
@@ -108,6 +108,14 @@ pub fn scalars_of(
     Ok(few(Procedure::VALUE_REGISTERS, scalars))
 }
 
+/// The words of a type so far, from the last one on. Before the word `sum` a map's word is due.
+#[derive(Drop)]
+pub enum Begun {
+    Nothing,
+    Sum,
+    Type(Result<DataType, TokenError>),
+}
+
 /// Returns a container around data of type `ty`, whose subscripts have type `by`. Returns `Limit` if that would be more than 3 containers.
 fn around(by: Scalar, ty: DataType) -> Result<DataType, TokenError>
     ensures { result ≡ around (Ok (by, ty)) }
@@ -131,7 +139,8 @@ pub fn contained(
     }
 }
 
-fn scalar_type(word: &Word<'_>) -> Result<DataType, TokenError>
+/// Reads the type of a scalar.
+pub fn scalar_type(word: &Word<'_>) -> Result<DataType, TokenError>
     ensures { result ≡ as_is scalar_type (scalar_in (seen_word word.now)) }
 {
     match scalar_of(word) {
@@ -140,30 +149,77 @@ fn scalar_type(word: &Word<'_>) -> Result<DataType, TokenError>
     }
 }
 
-/// Reads a type from its last word, or puts the container of a word around the type after it.
-fn typed(
-    version: Version,
-    word: &Word<'_>,
-    ty: Option<Result<DataType, TokenError>>,
-) -> Result<DataType, TokenError>
-    ensures { result ≡ typed version (seen_word word.now) ty }
+/// Returns the type of maps from such subscripts to values of this type, or `Form` if it isn't a scalar.
+pub fn mapped(by: Scalar, ty: Result<DataType, TokenError>) -> Result<DataType, TokenError>
+    ensures { result ≡ mapped by ty }
 {
     match ty {
-        None => scalar_type(word),
-        Some(ty) => contained(container_of(version, word), ty),
+        Ok(ty) if ty.is_scalar() => Ok(DataType::map(by, ty.scalar())),
+        _ => Err(TokenError::Form),
     }
 }
 
-/// Reads a type: the words of its containers, the outermost first, and then a scalar.
+/// Reads a map's word before `sum`.
+pub fn sums_of(version: Version, word: &Word<'_>) -> Result<DataType, TokenError>
+    ensures { result ≡ as_is sums_of (map_in version (seen_word word.now)) }
+{
+    match map_of(version, word) {
+        Ok(by) => Ok(DataType::sums(by)),
+        Err(flaw) => Err(flaw),
+    }
+}
+
+/// Reads the word of a container or a map before a type.
+fn before(
+    version: Version,
+    word: &Word<'_>,
+    ty: Result<DataType, TokenError>,
+) -> Result<DataType, TokenError>
+    ensures { result ≡ before (container_in version (seen_word word.now)) (map_in version (seen_word word.now)) ty }
+{
+    match container_of(version, word) {
+        Ok(by) => contained(Ok(by), ty),
+        Err(_) => match map_of(version, word) {
+            Ok(by) => mapped(by, ty),
+            Err(_) => Err(TokenError::Form),
+        },
+    }
+}
+
+/// Reads the last word of a type, or the word before others of it.
+fn typed(version: Version, word: &Word<'_>, begun: Begun) -> Begun
+    ensures { result ≡ typed version (seen_word word.now) begun }
+{
+    match begun {
+        Begun::Nothing => {
+            if is_sum(word) {
+                Begun::Sum
+            } else {
+                Begun::Type(scalar_type(word))
+            }
+        }
+        Begun::Sum => Begun::Type(sums_of(version, word)),
+        Begun::Type(ty) => Begun::Type(before(version, word, ty)),
+    }
+}
+
+/// Returns the type, or `Form` if words are missing.
+fn whole_type(begun: Begun) -> Result<DataType, TokenError>
+    ensures { result ≡ whole_type begun }
+{
+    match begun {
+        Begun::Type(ty) => ty,
+        _ => Err(TokenError::Form),
+    }
+}
+
+/// Reads a type: the words of its containers, the outermost first, and then a scalar or a map.
 pub fn type_of(version: Version, words: &[Word<'_>]) -> Result<DataType, TokenError>
     ensures { result ≡ type_in version (map seen_word words.now) }
 {
-    let mut ty = None;
+    let mut begun = Begun::Nothing;
     for index in (0..words.len()).rev() {
-        ty = Some(typed(version, &words[index], ty));
+        begun = typed(version, &words[index], begun);
     }
-    match ty {
-        Some(ty) => ty,
-        None => Err(TokenError::Form),
-    }
+    whole_type(begun)
 }

@@ -3,13 +3,13 @@
 ghost use Rattle.std.specs.Prelude.{◌≡◌, IfOk, map, reverse};
 ghost use Rattle.tw_lexer.specs.Words.{Bare};
 ghost use Rattle.tw_lexer.specs.Seen.{seen as seen_word};
-ghost use Rattle.tw_asm.specs.reading.Lines.{begins, broken, ended, ends, few, goes_on, kind_in, param_of, params_from, taken, under};
+ghost use Rattle.tw_asm.specs.reading.Lines.{begins, broken, ended, ends, few, goes_on, kind_in, param_of, params_from, taken, under, with_type};
 ghost use Rattle.tw_lexer.specs.Digits.{as_is};
-ghost use Rattle.tw_asm.specs.reading.Operands.{container_in, mode_in, scalar_in};
+ghost use Rattle.tw_asm.specs.reading.Operands.{container_in, is_sum, map_in, mode_in, scalar_in};
 ghost use Rattle.tw_asm.specs.reading.Heads.{seen_params};
 
-use crate::gathering::{contained, few, put_first};
-use crate::operands::{container_of, mode_of, scalar_of};
+use crate::gathering::{Begun, contained, few, mapped, put_first, scalar_type, sums_of};
+use crate::operands::{container_of, is_sum, map_of, mode_of};
 use std::alloc::{AllocError, Global};
 use tw_code::{Procedure, Version};
 use tw_lexer::{TokenError, Word};
@@ -19,7 +19,7 @@ use tw_types::{DataType, Items, Kind, Mode, Param};
 #[derive(Drop)]
 struct Params {
     whole: Result<Vec<Param>, TokenError>,
-    begun: Option<Result<DataType, TokenError>>,
+    begun: Begun,
 }
 
 fn broken() -> Params
@@ -27,24 +27,38 @@ fn broken() -> Params
 {
     Params {
         whole: Err(TokenError::Form),
-        begun: None,
+        begun: Begun::Nothing,
     }
 }
 
-/// Begins a type with its last word.
-fn begins(whole: Result<Vec<Param>, TokenError>, word: &Word<'_>) -> Params
-    ensures { seen_params result ≡ begins (as_is (λ v. reverse v.items) whole) (scalar_in (seen_word word.now)) }
+/// Continues with a type, or is broken without one.
+fn with_type(whole: Result<Vec<Param>, TokenError>, ty: Result<DataType, TokenError>) -> Params
+    ensures { seen_params result ≡ with_type (as_is (λ v. reverse v.items) whole) ty }
 {
-    match scalar_of(word) {
-        Ok(scalar) => Params {
+    match ty {
+        Ok(ty) => Params {
             whole,
-            begun: Some(Ok(DataType::from(scalar))),
+            begun: Begun::Type(Ok(ty)),
         },
         Err(_) => broken(),
     }
 }
 
-/// Returns the type, or `Form` if it is a container and the mode is `val`.
+/// Begins a type with its last word.
+fn begins(whole: Result<Vec<Param>, TokenError>, word: &Word<'_>) -> Params
+    ensures { seen_params result ≡ begins (as_is (λ v. reverse v.items) whole) (is_sum (seen_word word.now)) (scalar_in (seen_word word.now)) }
+{
+    if is_sum(word) {
+        Params {
+            whole,
+            begun: Begun::Sum,
+        }
+    } else {
+        with_type(whole, scalar_type(word))
+    }
+}
+
+/// Returns the type, or `Form` if it is a container or a map and the mode is `val`.
 fn under(mode: Mode, ty: Result<DataType, TokenError>) -> Result<DataType, TokenError>
     ensures { result ≡ under mode ty }
 {
@@ -77,27 +91,30 @@ fn ending(
     match mode_of(word) {
         Ok(mode) => Ok(Params {
             whole: put_first(param_of(mode, ty), whole)?,
-            begun: None,
+            begun: Begun::Nothing,
         }),
         Err(_) => Ok(broken()),
     }
 }
 
-/// Reads a word before a type: a container or a mode.
+/// Reads a word before a type: a container, a map or a mode.
 fn gone_on(
     version: Version,
     whole: Result<Vec<Param>, TokenError>,
     ty: Result<DataType, TokenError>,
     word: &Word<'_>,
 ) -> Result<Params, AllocError>
-    ensures { IfOk result (λ params. seen_params params ≡ goes_on (as_is (λ v. reverse v.items) whole) ty (container_in version (seen_word word.now)) (mode_in (seen_word word.now))) }
+    ensures { IfOk result (λ params. seen_params params ≡ goes_on (as_is (λ v. reverse v.items) whole) ty (container_in version (seen_word word.now)) (map_in version (seen_word word.now)) (mode_in (seen_word word.now))) }
 {
     match container_of(version, word) {
         Ok(by) => Ok(Params {
             whole,
-            begun: Some(contained(Ok(by), ty)),
+            begun: Begun::Type(contained(Ok(by), ty)),
         }),
-        Err(_) => ending(whole, ty, word),
+        Err(_) => match map_of(version, word) {
+            Ok(by) => Ok(with_type(whole, mapped(by, ty))),
+            Err(_) => ending(whole, ty, word),
+        },
     }
 }
 
@@ -107,8 +124,9 @@ fn taken(version: Version, params: Params, word: &Word<'_>) -> Result<Params, Al
 {
     let Params { whole, begun } = params;
     match begun {
-        Some(ty) => gone_on(version, whole, ty, word),
-        None => Ok(begins(whole, word)),
+        Begun::Nothing => Ok(begins(whole, word)),
+        Begun::Sum => Ok(with_type(whole, sums_of(version, word))),
+        Begun::Type(ty) => gone_on(version, whole, ty, word),
     }
 }
 
@@ -118,7 +136,7 @@ fn ended(params: Params) -> Result<Vec<Param>, TokenError>
 {
     let Params { whole, begun } = params;
     match begun {
-        None => match whole {
+        Begun::Nothing => match whole {
             Ok(params) => {
                 let mut params = params;
                 params.reverse();
@@ -126,7 +144,7 @@ fn ended(params: Params) -> Result<Vec<Param>, TokenError>
             }
             Err(flaw) => Err(flaw),
         },
-        Some(_) => Err(TokenError::Form),
+        _ => Err(TokenError::Form),
     }
 }
 
@@ -139,7 +157,7 @@ fn param_list(
 {
     let mut params = Params {
         whole: Ok(Vec::new(alloc)),
-        begun: None,
+        begun: Begun::Nothing,
     };
     for index in (0..words.len()).rev() {
         params = taken(version, params, &words[index])?;

@@ -9,7 +9,7 @@ ghost use Rattle.tw_code.specs.declared.version.Version.{Version};
 ghost use Rattle.tw_code.specs.format.Table.{forms_of, row_of};
 ghost use Rattle.tw_asm.specs.Seen.{bytes_of};
 ghost use Rattle.tw_asm.specs.reading.Forms.{EndsInSkip, TakesNoMemory};
-ghost use Rattle.tw_asm.specs.reading.Shapes.{AreThreeAndSkip, AreTwo, AreTwoAndSkip, made_of_three_and_skip, made_of_two, made_of_two_and_skip, three_in, two_in};
+ghost use Rattle.tw_asm.specs.reading.Shapes.{AreThree, AreThreeAndSkip, AreTwo, AreTwoAndSkip, made_of_three, made_of_three_and_skip, made_of_two, made_of_two_and_skip, three_in, three_with_goal, two_in};
 ghost use Rattle.tw_asm.specs.reading.Lines.{Gives, args, draft_in, drafted, goal, line_in, literal, more, natural, nothing, number, target, value};
 ghost use Rattle.tw_lexer.specs.Digits.{as_is};
 
@@ -141,17 +141,30 @@ fn two_registers<'a>(opcode: Opcode, words: &[Word<'a>]) -> Result<(u8, (u8, ())
     }
 }
 
+/// Reads three registers of the opcode's banks.
+#[rattlefmt::skip]
+fn three_registers<'a>(opcode: Opcode, words: &[Word<'a>]) -> Result<(u8, (u8, (u8, ()))), TokenError>
+    requires { AreThree (forms_of opcode) }
+    ensures { result ≡ three_in (forms_of opcode) (map seen_word words.now) }
+{
+    match opcode {
+        Opcode::AddValue => right_and_two_values(words),
+        _ => unreachable!(),
+    }
+}
+
 /// Reads three registers of the opcode's banks, and a goal.
 #[rattlefmt::skip]
 fn three_registers_and_goal<'a>(opcode: Opcode, words: &[Word<'a>]) -> Result<(u8, (u8, (u8, Goal<'a>))), TokenError>
     requires { AreThreeAndSkip (forms_of opcode) }
-    ensures { result ≡ three_in (forms_of opcode) (map seen_word words.now) }
+    ensures { result ≡ three_with_goal (forms_of opcode) (map seen_word words.now) }
 {
     match opcode {
         Opcode::Add | Opcode::Subtract | Opcode::Multiply | Opcode::Divide | Opcode::Remainder | Opcode::Concatenate => three_values_and_goal(words),
         Opcode::Insert | Opcode::InsertByText => right_value_right_and_goal(words),
         Opcode::Look | Opcode::LookByText => right_right_value_and_goal(words),
-        Opcode::SubscriptAt | Opcode::SubscriptAtByText => value_right_value_and_goal(words),
+        Opcode::SubscriptAt | Opcode::SubscriptAtByText | Opcode::GetValue => value_right_value_and_goal(words),
+        Opcode::InsertValue => right_two_values_and_goal(words),
         _ => unreachable!(),
     }
 }
@@ -189,6 +202,18 @@ fn instr_of_two_and_skip(opcode: Opcode, first: u8, second: u8, skip: u16) -> In
     }
 }
 
+/// Returns an instruction of three registers.
+#[rattlefmt::skip]
+fn instr_of_three(opcode: Opcode, first: u8, second: u8, third: u8) -> Instr
+    requires { AreThree (forms_of opcode) }
+    ensures { result ≡ made_of_three (row_of opcode) first second third }
+{
+    match opcode {
+        Opcode::AddValue => Instr::Data(DataInstr::AddValue { map: first, subscript: second, from: third }),
+        _ => unreachable!(),
+    }
+}
+
 /// Returns an instruction of three registers and a skip.
 #[rattlefmt::skip]
 fn instr_of_three_and_skip(opcode: Opcode, first: u8, second: u8, third: u8, skip: u16) -> Instr
@@ -208,6 +233,8 @@ fn instr_of_three_and_skip(opcode: Opcode, first: u8, second: u8, third: u8, ski
         Opcode::InsertByText => Instr::Data(DataInstr::Insert { by: Scalar::Text, container: first, subscript: second, member: third, skip }),
         Opcode::LookByText => Instr::Data(DataInstr::Look { by: Scalar::Text, member: first, container: second, subscript: third, skip }),
         Opcode::SubscriptAtByText => Instr::Data(DataInstr::SubscriptAt { by: Scalar::Text, to: first, container: second, index: third, skip }),
+        Opcode::InsertValue => Instr::Data(DataInstr::InsertValue { map: first, subscript: second, from: third, skip }),
+        Opcode::GetValue => Instr::Data(DataInstr::GetValue { to: first, map: second, subscript: third, skip }),
         _ => unreachable!(),
     }
 }
@@ -228,6 +255,15 @@ fn two_and_goal_of<'a>(opcode: Opcode, words: &[Word<'a>]) -> Result<Unlinked<'a
 {
     let (first, (second, Goal { skip, label })) = two_values_and_goal(words)?;
     Ok(going(instr_of_two_and_skip(opcode, first, second, skip), label))
+}
+
+/// Reads an instruction of three registers.
+fn three_of<'a>(opcode: Opcode, words: &[Word<'a>]) -> Result<Unlinked<'a>, TokenError>
+    requires { AreThree (forms_of opcode) }
+    ensures { (version : Version) → as_is drafted result ≡ draft_in version opcode (map seen_word words.now) }
+{
+    let (first, (second, (third, ()))) = three_registers(opcode, words)?;
+    Ok(straight(instr_of_three(opcode, first, second, third)))
 }
 
 /// Reads an instruction of three registers and a goal.
@@ -254,7 +290,8 @@ fn going_of<'a>(opcode: Opcode, words: &[Word<'a>]) -> Result<Unlinked<'a>, Toke
         Opcode::Jump => { let Goal { skip, label } = only_goal(words)?; Ok(going(Instr::Local(LocalInstr::Jump { skip }), label)) }
         Opcode::ReadInt | Opcode::JumpEqual | Opcode::JumpLess => two_and_goal_of(opcode, words),
         Opcode::Add | Opcode::Subtract | Opcode::Multiply | Opcode::Divide | Opcode::Remainder | Opcode::Concatenate | Opcode::Insert | Opcode::Look |
-            Opcode::SubscriptAt | Opcode::InsertByText | Opcode::LookByText | Opcode::SubscriptAtByText => three_and_goal_of(opcode, words),
+            Opcode::SubscriptAt | Opcode::InsertByText | Opcode::LookByText | Opcode::SubscriptAtByText | Opcode::InsertValue | Opcode::GetValue =>
+            three_and_goal_of(opcode, words),
         _ => unreachable!(),
     }
 }
@@ -275,6 +312,7 @@ fn plain_of<'a>(version: Version, opcode: Opcode, words: &[Word<'a>]) -> Result<
         Opcode::Ret => { nothing_of(words)?; Ok(straight(Instr::Ret)) }
         Opcode::Copy | Opcode::Length | Opcode::Show | Opcode::Store | Opcode::Get | Opcode::Size | Opcode::CopyRead | Opcode::CopyWrite =>
             two_of(opcode, words),
+        Opcode::AddValue => three_of(opcode, words),
         _ => going_of(opcode, words),
     }
 }

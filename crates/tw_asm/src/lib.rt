@@ -35,9 +35,10 @@ pub use heads::kind_of;
 pub use line_numbers::LineNumbers;
 pub use listing::{LabelPlaces, put_head_lines, put_right};
 pub use operands::{
-    Goal, byte_of, container_of, goal_of, iterations_of, mode_of, number_of, right_of, scalar_of,
-    target_of, value_of,
+    Goal, byte_of, container_of, goal_of, is_sum, iterations_of, map_of, mode_of, number_of,
+    right_of, scalar_of, target_of, value_of,
 };
+pub use read::version_number;
 pub use statement::First;
 pub use theorems::{one_first_fault, one_line_each, spells_once};
 pub use write::put_version;

@@ -2,9 +2,10 @@
 
 ghost use Rattle.std.specs.Prelude.{◌≡◌, ◌≤◌, IfOk};
 ghost use Rattle.tw_lexer.specs.Words.{Bare};
+ghost use Rattle.tw_code.specs.declared.version.Version.TheVariants.{Four};
 ghost use Rattle.tw_lexer.specs.Seen.{seen as seen_word};
 ghost use Rattle.tw_lexer.specs.Digits.{as_is, digits_in, signed_in};
-ghost use Rattle.tw_asm.specs.reading.Operands.{both, natural_in, register_in, number_in, literal_in, name_in, target_in, goal_in, scalar_in, text_container, container_in, mode_in};
+ghost use Rattle.tw_asm.specs.reading.Operands.{both, natural_in, register_in, number_in, literal_in, name_in, target_in, goal_in, scalar_in, text_container, container_in, is_sum, map_in, mode_in};
 
 use std::alloc::{AllocError, Global};
 use std::marker::Model;
@@ -251,7 +252,7 @@ fn text_container(version: Version) -> Result<Scalar, TokenError>
 {
     match version {
         Version::One => Err(TokenError::Form),
-        Version::Two => Ok(Scalar::Text),
+        Version::Two | Version::Four => Ok(Scalar::Text),
     }
 }
 
@@ -274,6 +275,41 @@ pub fn container_of(version: Version, word: &Word<'_>) -> Result<Scalar, TokenEr
     match word {
         Word::Bare(text) => container_in(version, text),
         Word::Quoted(_) => Err(TokenError::Form),
+    }
+}
+
+fn map_word_in(text: &[u8]) -> Result<Scalar, TokenError>
+    ensures { result ≡ map_in Four (Bare text.now) }
+{
+    if text == b"map".as_slice() {
+        Ok(Scalar::Int)
+    } else if text == b"tmap".as_slice() {
+        Ok(Scalar::Text)
+    } else {
+        Err(TokenError::Form)
+    }
+}
+
+/// Reads a map's word, `map` or `tmap`, and returns the type of its subscripts. Only version 4 has maps.
+pub fn map_of(version: Version, word: &Word<'_>) -> Result<Scalar, TokenError>
+    ensures { result ≡ map_in version (seen_word word.now) }
+{
+    match version {
+        Version::One | Version::Two => Err(TokenError::Form),
+        Version::Four => match word {
+            Word::Bare(text) => map_word_in(text),
+            Word::Quoted(_) => Err(TokenError::Form),
+        },
+    }
+}
+
+/// Returns whether it is the word of a map's sums.
+pub fn is_sum(word: &Word<'_>) -> bool
+    ensures { result ≡ is_sum (seen_word word.now) }
+{
+    match word {
+        Word::Bare(text) => *text == b"sum".as_slice(),
+        Word::Quoted(_) => false,
     }
 }
 

@@ -6,7 +6,8 @@ ghost use Rattle.tw_lexer.specs.Words.{Bare};
 ghost use Rattle.tw_asm.specs.Seen.{seen};
 ghost use Rattle.tw_asm.specs.LineAnswers.{Answers};
 ghost use Rattle.tw_asm.specs.Statement.{version_by};
-ghost use Rattle.tw_asm.specs.reading.Lines.{Gives, body_in, head_in, label_line, registers_in, statement_in, version_in};
+ghost use Rattle.tw_asm.specs.reading.Operands.{natural_in};
+ghost use Rattle.tw_asm.specs.reading.Lines.{Gives, body_in, head_in, label_line, registers_in, statement_in, version_in, version_known};
 ghost use Rattle.tw_code.specs.format.Table.{opcode_in};
 
 use crate::gathering::scalars_of;
@@ -19,14 +20,24 @@ use std::alloc::Global;
 use tw_code::{Opcode, Version, opcode_in};
 use tw_lexer::{TokenError, Word, before_colon};
 
-/// Returns the version with this number, 1 or 2.
+/// Returns the version with this number, 1, 2 or 4.
 fn version_by(number: u8) -> Version
     ensures { result ≡ version_by number }
 {
-    if number == 2 {
-        Version::Two
-    } else {
-        Version::One
+    match number {
+        4 => Version::Four,
+        2 => Version::Two,
+        _ => Version::One,
+    }
+}
+
+/// Reads the number of a version. There is no version 3.
+pub fn version_number(word: &Word<'_>) -> Result<u8, TokenError>
+    ensures { result ≡ version_known (natural_in 1 4 (seen_word word.now)) }
+{
+    match byte_of(1, 4, word) {
+        Ok(3) => Err(TokenError::Limit),
+        read => read,
     }
 }
 
@@ -36,7 +47,7 @@ fn version_of<'a>(words: &[Word<'_>]) -> Result<Statement<'a>, Rejection>
 {
     match words {
         [word] => {
-            let number = byte_of(1, 2, word)?;
+            let number = version_number(word)?;
             Ok(Statement::Version(version_by(number)))
         }
         _ => Err(Rejection::Flawed(TokenError::Form)),

@@ -104,6 +104,16 @@ pub fn right_and_value(words: &[Word<'_>]) -> Result<(u8, (u8, ())), TokenError>
     }
 }
 
+/// Reads a right register and two value registers.
+pub fn right_and_two_values(words: &[Word<'_>]) -> Result<(u8, (u8, (u8, ()))), TokenError>
+    ensures { result ≡ line_in (more right (more value (more value nothing))) (map seen_word words.now) }
+{
+    match words {
+        [first, others @ ..] => both_of(right_of(first), two_values(others)),
+        [] => Err(TokenError::Form),
+    }
+}
+
 /// Reads a value register and a right register.
 pub fn value_and_right(words: &[Word<'_>]) -> Result<(u8, (u8, ())), TokenError>
     ensures { result ≡ line_in (more value (more right nothing)) (map seen_word words.now) }
@@ -209,6 +219,18 @@ pub fn three_values_and_goal<'a>(
 {
     match words {
         [first, others @ ..] => both_of(value_of(first), two_values_and_goal(others)),
+        [] => Err(TokenError::Form),
+    }
+}
+
+/// Reads a right register, two value registers and a goal.
+pub fn right_two_values_and_goal<'a>(
+    words: &[Word<'a>],
+) -> Result<(u8, (u8, (u8, Goal<'a>))), TokenError>
+    ensures { result ≡ line_in (more right (more value (more value goal))) (map seen_word words.now) }
+{
+    match words {
+        [first, others @ ..] => both_of(right_of(first), two_values_and_goal(others)),
         [] => Err(TokenError::Form),
     }
 }

@@ -30,6 +30,8 @@ fn data_with_skip(instr: DataInstr, skip: u16) -> DataInstr
         DataInstr::Insert { by, container, subscript, member, .. } => DataInstr::Insert { by, container, subscript, member, skip },
         DataInstr::Look { by, member, container, subscript, .. } => DataInstr::Look { by, member, container, subscript, skip },
         DataInstr::SubscriptAt { by, to, container, index, .. } => DataInstr::SubscriptAt { by, to, container, index, skip },
+        DataInstr::InsertValue { map, subscript, from, .. } => DataInstr::InsertValue { map, subscript, from, skip },
+        DataInstr::GetValue { to, map, subscript, .. } => DataInstr::GetValue { to, map, subscript, skip },
         without => without,
     }
 }

@@ -3,11 +3,11 @@
 ghost use Rattle.std.specs.Prelude.{◌≡◌, ◌++◌, [], ◌∷◌, None, OnOk, codes, decimal, map, if◌then◌else◌};
 ghost use Rattle.std.specs.Fmt.{signed_decimal};
 ghost use Rattle.std.specs.List.{flat_map};
-ghost use Rattle.tw_asm.specs.Parts.{container_word, kind_word, mode_word, scalar_word, Target as target_part, TypeOf as type_part, param_parts};
+ghost use Rattle.tw_asm.specs.Parts.{container_word, kind_word, leaf_words, map_word, mode_word, scalar_word, sum_word, Target as target_part, TypeOf as type_part, param_parts};
 ghost use Rattle.tw_asm.specs.Statement.{Code, Head, Label, Registers};
 ghost use Rattle.tw_asm.specs.Disassembly.{version_line};
 ghost use Rattle.tw_asm.specs.Written.{goal_word, line_of, part_words};
-ghost use Rattle.tw_types.specs.DataType.{is_container_by};
+ghost use Rattle.tw_types.specs.DataType.{has_sums, is_container_by};
 ghost use Rattle.tw_types.specs.declared.data_type.Scalar.TheVariants.{Int, Text};
 ghost use Rattle.tw_code.specs.format.Table.{word_of};
 ghost use Rattle.tw_asm.specs.words.Lines.{spaced_all, operand_words, row_line};
@@ -60,6 +60,36 @@ fn word_of_container(ty: DataType) -> &'static str
     }
 }
 
+fn map_word(by: Scalar) -> &'static str
+    ensures { result.now ≡ map_word by }
+{
+    match by {
+        Scalar::Int => "map",
+        Scalar::Text => "tmap",
+    }
+}
+
+/// Returns the word of a map's sums. There are none of texts.
+fn sum_word(scalar: Scalar) -> &'static str
+    ensures { result.now ≡ sum_word scalar }
+{
+    match scalar {
+        Scalar::Int => "sum",
+        Scalar::Text => "texts",
+    }
+}
+
+/// Returns the word of a map's values, or of its sums.
+fn word_of_values(ty: DataType) -> &'static str
+    ensures { result.now ≡ (if has_sums ty.map then sum_word ty.scalar else scalar_word ty.scalar) }
+{
+    if ty.has_sums() {
+        sum_word(ty.scalar())
+    } else {
+        scalar_word(ty.scalar())
+    }
+}
+
 fn put_number(alloc: Global, out: &mut Vec<u8>, number: i64) -> Result<(), AllocError>
     ensures { OnOk result (out.new.items ≡ out.old.items ++ (codes " " ++ signed_decimal number)) }
 {
@@ -83,6 +113,19 @@ fn put_type(out: &mut Vec<u8>, ty: DataType) -> Result<(), AllocError>
         Some(element) => {
             put_name(out, word_of_container(ty))?;
             put_type(out, element)
+        }
+        None => put_leaf(out, ty),
+    }
+}
+
+/// Writes a type without containers: a scalar, or a map.
+fn put_leaf(out: &mut Vec<u8>, ty: DataType) -> Result<(), AllocError>
+    ensures { OnOk result (out.new.items ≡ out.old.items ++ spaced_all (leaf_words ty.map ty.scalar)) }
+{
+    match ty.map_by() {
+        Some(by) => {
+            put_name(out, map_word(by))?;
+            put_name(out, word_of_values(ty))
         }
         None => put_scalar(out, ty.scalar()),
     }
@@ -271,6 +314,10 @@ pub fn put_version(alloc: Global, out: &mut Vec<u8>, version: Version) -> Result
         Version::One => Ok(()),
         Version::Two => {
             put_numbered(alloc, out, "version ", 2)?;
+            put(out, "\n")
+        }
+        Version::Four => {
+            put_numbered(alloc, out, "version ", 4)?;
             put(out, "\n")
         }
     }

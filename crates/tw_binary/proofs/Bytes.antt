@@ -1,5 +1,5 @@
 -- Items of one byte: each is parsed as it was written, and a wrong one is reported.
-use Rattle.std.proofs.Common.{◌≡◌, ℕ, suc, ◌≤◌, Bool, true, false, cond, eqb, List, [], ◌∷◌, ◌++◌, length, Result, Ok, Err, refl, sym, ap, subst, ◌∙◌, arith, inl, inr}
+use Rattle.std.proofs.Common.{◌≡◌, ℕ, suc, ◌≤◌, Bool, true, false, cond, eqb, Option, Some, None, List, [], ◌∷◌, ◌++◌, length, Result, Ok, Err, refl, sym, ap, subst, ◌∙◌, arith, inl, inr}
 use Rattle.std.specs.List.{concat}
 use Rattle.std.proofs.lemmas.Bool.{le-ltb, eqb-true}
 use Rattle.std.proofs.lemmas.Bool.Decides.{nat_tests}
@@ -14,10 +14,10 @@ use Rattle.tw_binary.specs.declared.fault.FaultNo.{FaultNo}
 use Rattle.tw_binary.specs.declared.fault.FaultNo.TheVariants as fault
 use Rattle.tw_binary.specs.declared.fault.FaultNo.TheVariants.{Limit, Unknown}
 use Rattle.tw_code.specs.declared.version.Version.{Version}
-use Rattle.tw_code.specs.declared.version.Version.TheVariants.{One, Two}
+use Rattle.tw_code.specs.declared.version.Version.TheVariants.{One, Two, Four}
 use Rattle.tw_code.specs.format.Program.{IsWithin, IsRegister}
-use Rattle.tw_binary.specs.Spelling.{Item, byte, kind_code, mode_code, scalar_items, version_items}
-use Rattle.tw_binary.specs.Reading.{Reading, is_within, byte_at, register_at, exactly_at, kind_at, scalar_at, mode_at, version_at}
+use Rattle.tw_binary.specs.Spelling.{Item, byte, kind_code, mode_code, scalar_items, values_items, version_items}
+use Rattle.tw_binary.specs.Reading.{Reading, is_within, byte_at, register_at, exactly_at, kind_at, scalar_at, mode_at, values_at, version_at}
 use Rattle.tw_binary.proofs.Formats.{IsBytes, IsBytes-rest, chosen, passed, ok_is, Takes}
 use Rattle.tw_binary.proofs.Breaks.{IsStrict, IsOfItem, Lacks, Breaks, FailsAt, ended, no_err, err_is, refused}
 
@@ -159,6 +159,27 @@ scalar_strict = record { format = record { takes = takes; again = again }; some 
       let h = refused (eqb b 2) (Text, bs) (record { no = Unknown; left = suc (length bs) }) f g.1 in
       inr (wrong_byte b bs Unknown f Int tt 1 [] refl tt h.1 (λ rest. rw (g.0, h.0) refl))
 
+pub values_strict : IsStrict AnyOf values_items values_at
+unfolding values_at
+values_strict = record { format = record { takes = takes; again = again }; some = None; some_fits = tt; fails = fails } where
+  takes : (bytes : List ℕ) (x : Option Scalar) (rest : List ℕ) → IsBytes bytes → values_at bytes ≡ Ok (x, rest) → Takes bytes (concat (values_items x)) rest × AnyOf x
+  takes [] x rest fits e = absurd cc
+  takes (b ∷ bs) x rest fits e =
+      (by_code values_items 1 (Some Int) _ b bs x rest fits refl (by_code values_items 2 (Some Text) _ b bs x rest fits refl (by_code values_items 3 None _ b bs x rest fits refl (λ h. absurd cc))) e, tt)
+
+  again : (x : Option Scalar) (rest : List ℕ) → AnyOf x → values_at (concat (values_items x) ++ rest) ≡ Ok (x, rest)
+  again None rest h = refl
+  again (Some Int) rest h = refl
+  again (Some Text) rest h = refl
+
+  fails : (bytes : List ℕ) (f : Broken) → IsBytes bytes → values_at bytes ≡ Err f → FailsAt AnyOf values_items values_at bytes f
+  fails [] f fits e = inl (nothing_left f None tt 3 [] refl (err_is {Z = Option Scalar × List ℕ} _ f e))
+  fails (b ∷ bs) f fits e =
+      let g = not_this (eqb b 1) (Some Int, bs) _ f e in
+      let h = not_this (eqb b 2) (Some Text, bs) _ f g.1 in
+      let i = refused (eqb b 3) (None, bs) (record { no = Unknown; left = suc (length bs) }) f h.1 in
+      inr (wrong_byte b bs Unknown f None tt 3 [] refl tt i.1 (λ rest. rw (g.0, h.0, i.0) refl))
+
 abbrev pub mode_items : Mode → List Item
 mode_items mode = a_byte (mode_code mode)
 
@@ -190,15 +211,17 @@ unfolding version_at
 version_strict = record { format = record { takes = takes; again = again }; some = One; some_fits = tt; fails = fails } where
   takes : (bytes : List ℕ) (x : Version) (rest : List ℕ) → IsBytes bytes → version_at bytes ≡ Ok (x, rest) → Takes bytes (concat (version_items x)) rest × AnyOf x
   takes [] x rest fits e = absurd cc
-  takes (b ∷ bs) x rest fits e = (by_code version_items 1 One _ b bs x rest fits refl (by_code version_items 2 Two _ b bs x rest fits refl (λ h. absurd cc)) e, tt)
+  takes (b ∷ bs) x rest fits e = (by_code version_items 1 One _ b bs x rest fits refl (by_code version_items 2 Two _ b bs x rest fits refl (by_code version_items 4 Four _ b bs x rest fits refl (λ h. absurd cc))) e, tt)
 
   again : (x : Version) (rest : List ℕ) → AnyOf x → version_at (concat (version_items x) ++ rest) ≡ Ok (x, rest)
   again One rest h = refl
   again Two rest h = refl
+  again Four rest h = refl
 
   fails : (bytes : List ℕ) (f : Broken) → IsBytes bytes → version_at bytes ≡ Err f → FailsAt AnyOf version_items version_at bytes f
   fails [] f fits e = inl (nothing_left f One tt 1 [] refl (err_is {Z = Version × List ℕ} _ f e))
   fails (b ∷ bs) f fits e =
       let g = not_this (eqb b 1) (One, bs) _ f e in
-      let h = refused (eqb b 2) (Two, bs) (record { no = fault.Version; left = suc (length bs) }) f g.1 in
-      inr (wrong_byte b bs fault.Version f One tt 1 [] refl tt h.1 (λ rest. rw (g.0, h.0) refl))
+      let h = not_this (eqb b 2) (Two, bs) _ f g.1 in
+      let i = refused (eqb b 4) (Four, bs) (record { no = fault.Version; left = suc (length bs) }) f h.1 in
+      inr (wrong_byte b bs fault.Version f One tt 1 [] refl tt i.1 (λ rest. rw (g.0, h.0, i.0) refl))

@@ -1,5 +1,5 @@
 -- Instructions: each is parsed as it was written, and one that is wrong or cut off is reported.
-use Rattle.std.proofs.Common.{◌≡◌, ◌==◌, ℕ, ℤ, pos, zero, suc, Bool, Option, Some, None, true, false, cond, List, [], ◌∷◌, ◌++◌, length, Ok, Err, refl, sym, ap, subst, ◌∙◌, arith, inl, inr}
+use Rattle.std.proofs.Common.{◌≡◌, ◌==◌, ℕ, zero, suc, Bool, Option, Some, None, true, cond, List, [], ◌∷◌, ◌++◌, Ok, Err, refl, sym, ap, subst, ◌∙◌, arith, inl, inr}
 use Rattle.std.specs.List.{AllByRecursion, concat, find, flat_map}
 use Rattle.std.proofs.lemmas.Bool.{eqb-true}
 use Rattle.tw_binary.specs.declared.fault.Broken.{Broken}
@@ -11,11 +11,11 @@ use Rattle.tw_code.specs.declared.instr.Instr.TheVariants as instr
 use Rattle.tw_code.specs.declared.opcode.Opcode.{Opcode}
 use Rattle.tw_code.specs.declared.opcode.TheConstants.{OPCODES}
 use Rattle.tw_code.specs.declared.version.Version.{Version}
-use Rattle.tw_code.specs.declared.version.Version.TheVariants.{One, Two}
+use Rattle.tw_code.specs.declared.version.Version.TheVariants.{One, Two, Four}
 use Rattle.tw_code.specs.format.Program.{IsInstrOf, IsList, IsOperandOf, IsRegister, IsTarget, IsWithin}
 use Rattle.tw_binary.specs.Spelling.{Item, byte, counted_items, instr_items, operand_items, register_items, target_code}
 use Rattle.tw_code.specs.format.Table.{Content, Contents, Operand, Row, a_row, code_of, forms_in, forms_of, has_opcode, holds, if_had, opcode_at, row, row_of}
-use Rattle.tw_binary.specs.Reading.{as_is, args_at, after_code, byte_at, content_at, contents_at, counted, instr_at, made_at, register_at, target_in, target_at}
+use Rattle.tw_binary.specs.Reading.{as_is, args_at, after_code, content_at, contents_at, instr_at, made_at, target_in, target_at}
 use Rattle.tw_binary.proofs.Formats.{chosen, IsBytes, IsBytes-rest, Takes, IsMade, as_is_takes, as_is_again, ok_is}
 use Rattle.tw_binary.proofs.Breaks.{IsStrict, FailsAt, GoesOn, carried, due_after, no_err, err_is, both_strict, counted_strict, as_is_strict, as_is_fails}
 use Rattle.tw_binary.proofs.Bytes.{a_byte, nothing_left, wrong_byte, byte_strict, register_strict}
@@ -146,6 +146,7 @@ found version code o e = found_had version code (find (λ p. code_of p == code) 
 ret_fits : (version : Version) → IsInstrOf version instr.Ret
 ret_fits One = (refl, tt)
 ret_fits Two = (refl, tt)
+ret_fits Four = (refl, tt)
 
 pub instr_strict : (version : Version) → IsStrict (IsInstrOf version) instr_items (instr_at version)
 unfolding instr_at

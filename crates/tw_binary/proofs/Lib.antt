@@ -10,3 +10,4 @@ pub mod Programs
 pub mod TextFormat
 pub mod Types
 pub mod VersionOne
+pub mod VersionTwo

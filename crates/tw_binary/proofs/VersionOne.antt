@@ -2,6 +2,8 @@
 use Rattle.std.proofs.Common.{◌≡◌, ℕ, List, [], ◌∷◌, ◌++◌, length, Option, Some, true, false, refl, sym, ap, subst, ◌∙◌}
 use Rattle.std.specs.Prelude.{slice_get}
 use Rattle.std.specs.List.{concat, flat_map, AllByRecursion}
+use Rattle.tw_types.specs.declared.data_type.MapKind.{MapKind}
+use Rattle.tw_types.specs.declared.data_type.MapKind.TheVariants.{NoMap, Values, Sums}
 use Rattle.tw_types.specs.declared.data_type.Scalar.{Scalar}
 use Rattle.tw_types.specs.declared.data_type.Scalar.TheVariants.{Int, Text}
 use Rattle.tw_types.specs.declared.param.Mode.{Mode}
@@ -9,7 +11,7 @@ use Rattle.tw_types.specs.declared.param.Mode.TheVariants.{Val, Closed, Ref, Wri
 use Rattle.tw_types.specs.declared.param.Param.{Param}
 use Rattle.tw_types.specs.DataType.{is_scalar}
 use Rattle.tw_types.specs.Nesting.{NestedScalar}
-use Rattle.tw_code.specs.declared.form.Form.TheVariants.{Value, Right, Number, Iterations, Literal, TypeOf, Skip, Callee, Target, Args}
+use Rattle.tw_code.specs.declared.form.Form.TheVariants.{TypeOf}
 use Rattle.tw_code.specs.declared.instr.Priority.{Priority}
 use Rattle.tw_code.specs.declared.instr.Priority.TheVariants.{Constant, Computed}
 use Rattle.tw_code.specs.declared.instr.DataInstr.{DataInstr}
@@ -20,34 +22,41 @@ use Rattle.tw_code.specs.declared.opcode.Opcode.{Opcode}
 use Rattle.tw_code.specs.declared.opcode.Opcode.TheVariants as opcode
 use Rattle.tw_code.specs.declared.procedure.Procedure.{Procedure}
 use Rattle.tw_code.specs.declared.version.Version.{Version}
-use Rattle.tw_code.specs.declared.version.Version.TheVariants.{One, Two}
-use Rattle.tw_code.specs.format.Program.{IsInstrOf, IsOperandOf, IsParamOf, IsProcedureOf, IsProgramOf, IsSubscriptOf, IsTypeUnderOf, IsVersioned}
-use Rattle.tw_binary.specs.Spelling.{Item, byte, mode_code, magic, nested_items, type_items, param_items, operand_items, instr_items, procedure_items, spelling}
+use Rattle.tw_code.specs.declared.version.Version.TheVariants.{One, Two, Four}
+use Rattle.tw_code.specs.format.Program.{IsInstrOf, IsMapOf, IsOperandOf, IsParamOf, IsProcedureOf, IsProgramOf, IsSubscriptOf, IsTypeUnderOf, IsVersioned}
+use Rattle.tw_binary.specs.Spelling.{Item, byte, leaf_items, mode_code, magic, nested_items, scalar_items, type_items, param_items, operand_items, instr_items, procedure_items, spelling}
 use Rattle.tw_code.specs.format.Table.{Operand, action_operands, code_of, has_opcode, holds, opcode_by, opcode_of_priority, row}
 use Rattle.tw_binary.specs.VersionOne as one
 use Rattle.tw_binary.specs.VersionOne.{SpellProgram, KeepsVersionOne}
 
 -- lists whose items are alike
-alike : {A : Type 0} (P : A → Type 0) (f g : A → List Item) → ((x : A) → P x → f x ≡ g x) → (xs : List A) → AllByRecursion P xs → flat_map f xs ≡ flat_map g xs
+pub alike : {A : Type 0} (P : A → Type 0) (f g : A → List Item) → ((x : A) → P x → f x ≡ g x) → (xs : List A) → AllByRecursion P xs → flat_map f xs ≡ flat_map g xs
 alike P f g h [] all = refl
 alike P f g h (x ∷ xs) all = ap (λ (y : List Item). y ++ flat_map f xs) (h x all.0) ∙ ap (λ (ys : List Item). g x ++ ys) (alike P f g h xs all.1)
 
 -- ---- types
 
-same_nested : (containers : List Scalar) (s : Scalar) → AllByRecursion (IsSubscriptOf One) containers → nested_items containers s ≡ one.nested_items containers s
-same_nested [] s h = refl
-same_nested (Int ∷ inner) s h = ap (λ (items : List Item). byte 3 ∷ items) (same_nested inner s h.1)
-same_nested (Text ∷ inner) s h = absurd h.0
+same_leaf : (kind : MapKind) (s : Scalar) → IsMapOf One s kind → leaf_items kind s ≡ scalar_items s
+same_leaf NoMap s h = refl
+same_leaf (Values by) s h = absurd h
+same_leaf (Sums by) s h = absurd h
 
-same_scalar : (containers : List Scalar) (s : Scalar) → is_scalar (record { containers = containers; scalar = s }) ≡ true → nested_items containers s ≡ one.nested_items containers s
-same_scalar [] s h = refl
-same_scalar (by ∷ inner) s h = absurd cc
+same_nested : (containers : List Scalar) (kind : MapKind) (s : Scalar) → AllByRecursion (IsSubscriptOf One) containers → IsMapOf One s kind → nested_items containers (leaf_items kind s) ≡ one.nested_items containers s
+same_nested [] kind s h flat = same_leaf kind s flat
+same_nested (Int ∷ inner) kind s h flat = ap (λ (items : List Item). byte 3 ∷ items) (same_nested inner kind s h.1 flat)
+same_nested (Text ∷ inner) kind s h flat = absurd h.0
+
+same_scalar : (containers : List Scalar) (kind : MapKind) (s : Scalar) → is_scalar (record { containers = containers; scalar = s; map = kind }) ≡ true → nested_items containers (leaf_items kind s) ≡ one.nested_items containers s
+same_scalar [] NoMap s h = refl
+same_scalar [] (Values by) s h = absurd cc
+same_scalar [] (Sums by) s h = absurd cc
+same_scalar (by ∷ inner) kind s h = absurd cc
 
 same_under : (mode : Mode) (ty : NestedScalar) → IsTypeUnderOf One mode ty → type_items ty ≡ one.type_items ty
-same_under Val ty h = same_scalar ty.containers ty.scalar h
-same_under Closed ty h = same_nested ty.containers ty.scalar h.1
-same_under Ref ty h = same_nested ty.containers ty.scalar h.1
-same_under Write ty h = same_nested ty.containers ty.scalar h.1
+same_under Val ty h = same_scalar ty.containers ty.map ty.scalar h
+same_under Closed ty h = same_nested ty.containers ty.map ty.scalar h.1.0 h.1.1
+same_under Ref ty h = same_nested ty.containers ty.map ty.scalar h.1.0 h.1.1
+same_under Write ty h = same_nested ty.containers ty.map ty.scalar h.1.0 h.1.1
 
 same_param : (p : Param) → IsParamOf One p → param_items p ≡ one.param_items p
 same_param p h = ap (λ (items : List Item). byte (mode_code p.mode) ∷ items) (same_under p.mode p.ty h)
@@ -55,7 +64,7 @@ same_param p h = ap (λ (items : List Item). byte (mode_code p.mode) ∷ items) 
 -- ---- instructions
 
 same_operand : (o : Operand) → IsOperandOf One o → operand_items o ≡ one.operand_items o
-same_operand (holds TypeOf ty) h = same_nested ty.containers ty.scalar h.1
+same_operand (holds TypeOf ty) h = same_nested ty.containers ty.map ty.scalar h.1.0 h.1.1
 same_operand o h = refl
 
 -- the code is that of version 1, and so are the operands
@@ -103,6 +112,7 @@ keeps_version_one bytes p first = (there p.version, back)
     there : (version : Version) → IsVersioned (record p { version = version }) × (bytes ≡ spelling (record p { version = version })) → (version ≡ One) × SpellProgram bytes p.procedures
     there One h = (refl, record { is_program = h.0; spelled = h.1 ∙ same_spelling p.procedures h.0 })
     there Two h = let two : ◌≡◌ {A = Option ℕ} (Some 2) (Some 1) = sym (ap (λ (bs : List ℕ). slice_get bs 3) h.1) ∙ first in cc
+    there Four h = let four : ◌≡◌ {A = Option ℕ} (Some 4) (Some 1) = sym (ap (λ (bs : List ℕ). slice_get bs 3) h.1) ∙ first in cc
 
     back : (p.version ≡ One) × SpellProgram bytes p.procedures → IsVersioned p × (bytes ≡ spelling p)
     back h = (subst (λ (v : Version). IsProgramOf v p.procedures) (sym h.0) h.1.is_program, h.1.spelled ∙ sym (same_spelling p.procedures h.1.is_program) ∙ ap (λ (v : Version). spelling (record p { version = v })) (sym h.0))

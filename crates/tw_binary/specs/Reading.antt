@@ -5,7 +5,7 @@ use Rattle.std.specs.Int.{w16, w64, from_be_bytes, cast_signed}
 use Rattle.std.specs.Option.{option_map_or}
 use Rattle.std.specs.Str.{is_utf8}
 use Rattle.tw_types.specs.Nesting.{NestedScalar}
-use Rattle.tw_types.specs.DataType.{container_of, scalar_type}
+use Rattle.tw_types.specs.DataType.{container_of, map_of, scalar_type, sums_of}
 use Rattle.tw_types.specs.Result.{◌>>=◌}
 use Rattle.tw_types.specs.declared.actor.Kind.{Kind}
 use Rattle.tw_types.specs.declared.actor.Kind.TheVariants.{Control, Leaf}
@@ -27,7 +27,7 @@ use Rattle.tw_code.specs.declared.instr.Instr.{Instr}
 use Rattle.tw_code.specs.declared.opcode.Opcode.{Opcode}
 use Rattle.tw_code.specs.declared.procedure.Procedure.{Procedure}
 use Rattle.tw_code.specs.declared.version.Version.{Version}
-use Rattle.tw_code.specs.declared.version.Version.TheVariants.{One, Two}
+use Rattle.tw_code.specs.declared.version.Version.TheVariants.{One, Two, Four}
 use Rattle.tw_code.specs.format.Program.{Versioned}
 use Rattle.tw_code.specs.format.Table.{Content, Contents, Row, a_row, opcode_at, row_of}
 
@@ -103,23 +103,46 @@ unfoldable pub scalar_at : Reading Scalar
 scalar_at [] = missing
 scalar_at (b ∷ rest) = if b == 1 then Ok (Int, rest) else if b == 2 then Ok (Text, rest) else wrong Unknown (b ∷ rest)
 
-abbrev pub is_two : Version → Bool
-is_two One = false
-is_two Two = true
+-- returns whether subscripts may be texts
+abbrev pub has_texts : Version → Bool
+has_texts One = false
+has_texts Two = true
+has_texts Four = true
 
 -- returns the type of the subscripts, if this byte begins a container
 abbrev pub container_in : Version → ℕ → Option Scalar
-container_in version b = if b == 3 then Some Int else if b == 4 then if is_two version then Some Text else None else None
+container_in version b = if b == 3 then Some Int else if b == 4 then if has_texts version then Some Text else None else None
+
+-- returns the type of the subscripts, if this byte begins a map
+abbrev pub map_in : Version → ℕ → Option Scalar
+map_in One b = None
+map_in Two b = None
+map_in Four b = if b == 5 then Some Int else if b == 6 then Some Text else None
+
+-- parses the type of a map's values; a 3 is sums'
+unfoldable pub values_at : Reading (Option Scalar)
+values_at [] = missing
+values_at (b ∷ rest) = if b == 1 then Ok (Some Int, rest) else if b == 2 then Ok (Some Text, rest) else if b == 3 then Ok (None, rest) else wrong Unknown (b ∷ rest)
+
+-- returns the type of maps with such subscripts and values
+abbrev pub map_from : Scalar → Option Scalar → NestedScalar
+map_from by None = sums_of by
+map_from by (Some scalar) = map_of by scalar
+
+-- parses a type without containers
+unfoldable pub leaf_at : Version → Reading NestedScalar
+leaf_at version [] = missing
+leaf_at version (b ∷ rest) = option_map_or (λ by. as_is (map_from by) values_at rest) (map_in version b) (as_is scalar_type scalar_at (b ∷ rest))
 
 -- parses a type with at most so many containers
 unfoldable pub type_at : Version → ℕ → Reading NestedScalar
 type_at version room [] = missing
-type_at version zero (b ∷ rest) = option_map_or (λ by. wrong Nesting (b ∷ rest)) (container_in version b) (as_is scalar_type scalar_at (b ∷ rest))
-type_at version (suc room) (b ∷ rest) = option_map_or (λ by. as_is (container_of by) (type_at version room) rest) (container_in version b) (as_is scalar_type scalar_at (b ∷ rest))
+type_at version zero (b ∷ rest) = option_map_or (λ by. wrong Nesting (b ∷ rest)) (container_in version b) (leaf_at version (b ∷ rest))
+type_at version (suc room) (b ∷ rest) = option_map_or (λ by. as_is (container_of by) (type_at version room) rest) (container_in version b) (leaf_at version (b ∷ rest))
 
 -- ---- parameters
 
--- parses a parameter's type: under val it has no container
+-- parses a parameter's type: under val it is a scalar
 abbrev pub type_under : Version → Mode → Reading NestedScalar
 type_under version Val = as_is scalar_type scalar_at
 type_under version Closed = type_at version 3
@@ -192,7 +215,7 @@ procedure_at version = as_is (λ x. record { kind = x.0; params = x.1.0; registe
 
 unfoldable pub version_at : Reading Version
 version_at [] = missing
-version_at (b ∷ rest) = if b == 1 then Ok (One, rest) else if b == 2 then Ok (Two, rest) else wrong fault.Version (b ∷ rest)
+version_at (b ∷ rest) = if b == 1 then Ok (One, rest) else if b == 2 then Ok (Two, rest) else if b == 4 then Ok (Four, rest) else wrong fault.Version (b ∷ rest)
 
 unfoldable pub header_at : Reading Version
 header_at = as_is (λ x. x.1.1.1) (both (exactly_at 0x54 Magic) (both (exactly_at 0x57 Magic) (both (exactly_at 0x42 Magic) version_at)))

@@ -53,6 +53,9 @@ data_row (on_data.CopyRead to from) = (opcode.CopyRead, holds Right to ∷ holds
 data_row (on_data.CopyWrite to from) = (opcode.CopyWrite, holds Right to ∷ holds Right from ∷ [])
 data_row (on_data.DropRead right) = (opcode.DropRead, holds Right right ∷ [])
 data_row (on_data.DropWrite right) = (opcode.DropWrite, holds Right right ∷ [])
+data_row (on_data.InsertValue map subscript from skip) = (opcode.InsertValue, holds Right map ∷ holds Value subscript ∷ holds Value from ∷ holds Skip skip ∷ [])
+data_row (on_data.GetValue to map subscript skip) = (opcode.GetValue, holds Value to ∷ holds Right map ∷ holds Value subscript ∷ holds Skip skip ∷ [])
+data_row (on_data.AddValue map subscript from) = (opcode.AddValue, holds Right map ∷ holds Value subscript ∷ holds Value from ∷ [])
 
 abbrev pub row : Instr → Opcode × List Operand
 row (instr.Local i) = local_row i

@@ -1,7 +1,7 @@
 //! Decodes items and types. Each function returns a value and the bytes after it.
 
 ghost use Rattle.std.specs.Prelude.{◌≡◌, ◌≤◌, IfOk};
-ghost use Rattle.tw_binary.specs.Reading.{Gives, byte_at, register_at, wide_at, number_at, exactly_at, kind_at, mode_at, scalar_at, version_at, container_in, type_at, as_is};
+ghost use Rattle.tw_binary.specs.Reading.{Gives, byte_at, register_at, wide_at, number_at, exactly_at, kind_at, mode_at, scalar_at, version_at, container_in, leaf_at, map_from, map_in, type_at, values_at, as_is};
 ghost use Rattle.tw_types.specs.DataType.{depth_of, scalar_type};
 
 use crate::fault::{FaultNo, Stop};
@@ -81,6 +81,7 @@ pub fn version_of(bytes: &[u8]) -> Result<(Version, &[u8]), Stop>
         [] => Err(Stop::missing()),
         [1, rest @ ..] => Ok((Version::One, rest)),
         [2, rest @ ..] => Ok((Version::Two, rest)),
+        [4, rest @ ..] => Ok((Version::Four, rest)),
         _ => Err(Stop::wrong(FaultNo::Version, bytes)),
     }
 }
@@ -126,9 +127,10 @@ pub fn scalar_of(bytes: &[u8]) -> Result<(Scalar, &[u8]), Stop>
     }
 }
 
-/// Decodes a type without containers.
+/// Decodes a type that is a scalar.
 pub fn scalar_type_of(bytes: &[u8]) -> Result<(DataType, &[u8]), Stop>
-    ensures { Gives (λ x. (x.0, x.1.now)) result (as_is scalar_type scalar_at bytes.now) }
+    ensures reads { Gives (λ x. (x.0, x.1.now)) result (as_is scalar_type scalar_at bytes.now) }
+    ensures flat { IfOk result (λ x. depth_of x.0 ≡ 0) }
 {
     let (scalar, rest) = scalar_of(bytes)?;
     Ok((DataType::from(scalar), rest))
@@ -142,9 +144,72 @@ fn container_of(version: Version, code: u8) -> Option<Scalar>
         3 => Some(Scalar::Int),
         4 => match version {
             Version::One => None,
-            Version::Two => Some(Scalar::Text),
+            Version::Two | Version::Four => Some(Scalar::Text),
         },
         _ => None,
+    }
+}
+
+/// Returns the type of the subscripts if this byte begins a map of the version.
+fn map_of(version: Version, code: u8) -> Option<Scalar>
+    ensures { result ≡ map_in version code }
+{
+    match version {
+        Version::One | Version::Two => None,
+        Version::Four => match code {
+            5 => Some(Scalar::Int),
+            6 => Some(Scalar::Text),
+            _ => None,
+        },
+    }
+}
+
+/// Decodes the type of a map's values; none is sums'.
+#[tactic(auto, unfolding(crate::specs::Reading::values_at))]
+fn values_of(bytes: &[u8]) -> Result<(Option<Scalar>, &[u8]), Stop>
+    ensures { Gives (λ x. (x.0, x.1.now)) result (values_at bytes.now) }
+{
+    match bytes {
+        [] => Err(Stop::missing()),
+        [1, rest @ ..] => Ok((Some(Scalar::Int), rest)),
+        [2, rest @ ..] => Ok((Some(Scalar::Text), rest)),
+        [3, rest @ ..] => Ok((None, rest)),
+        _ => Err(Stop::wrong(FaultNo::Unknown, bytes)),
+    }
+}
+
+/// Returns the type of maps with such subscripts and values, or of sums.
+fn map_from(by: Scalar, values: Option<Scalar>) -> DataType
+    ensures is { result ≡ map_from by values }
+    ensures flat { depth_of result ≡ 0 }
+{
+    match values {
+        Some(scalar) => DataType::map(by, scalar),
+        None => DataType::sums(by),
+    }
+}
+
+/// Decodes a map's type from the bytes after its first.
+fn map_after(by: Scalar, bytes: &[u8]) -> Result<(DataType, &[u8]), Stop>
+    ensures reads { Gives (λ x. (x.0, x.1.now)) result (as_is (map_from by) values_at bytes.now) }
+    ensures flat { IfOk result (λ x. depth_of x.0 ≡ 0) }
+{
+    let (values, rest) = values_of(bytes)?;
+    Ok((map_from(by, values), rest))
+}
+
+/// Decodes a type without containers: a scalar or a map.
+#[tactic(auto, using(crate::proofs::Types::no_leaf))]
+fn leaf_of(version: Version, bytes: &[u8]) -> Result<(DataType, &[u8]), Stop>
+    ensures reads { Gives (λ x. (x.0, x.1.now)) result (leaf_at version bytes.now) }
+    ensures flat { IfOk result (λ x. depth_of x.0 ≡ 0) }
+{
+    let Some((code, rest)) = bytes.split_first() else {
+        return Err(Stop::missing());
+    };
+    match map_of(version, *code) {
+        Some(by) => map_after(by, rest),
+        None => scalar_type_of(bytes),
     }
 }
 
@@ -159,7 +224,7 @@ pub fn type_of(version: Version, room: u8, bytes: &[u8]) -> Result<(DataType, &[
         return Err(Stop::missing());
     };
     let Some(by) = container_of(version, *code) else {
-        return scalar_type_of(bytes);
+        return leaf_of(version, bytes);
     };
     if room == 0 {
         return Err(Stop::wrong(FaultNo::Nesting, bytes));

@@ -16,5 +16,5 @@ mod writing;
 
 pub use fault::{Fault, FaultNo};
 pub use reading::decode;
-pub use theorems::keeps_version_one;
+pub use theorems::{keeps_version_one, keeps_version_two};
 pub use writing::encode;

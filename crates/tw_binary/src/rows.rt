@@ -6,7 +6,7 @@ ghost use Rattle.tw_code.specs.declared.instr.Priority.TheVariants.{Computed, Co
 ghost use Rattle.tw_code.specs.declared.version.Version.{Version};
 ghost use Rattle.tw_code.specs.declared.version.Version.TheVariants.{One};
 ghost use Rattle.tw_binary.specs.Reading.{Gives, args_at, as_is, byte_at, contents_at, instr_at, made_at, number_at, register_at, skip_at, target_at, text_at, type_at, wide_at};
-ghost use Rattle.tw_binary.specs.Shapes.{AreThreeAndSkip, AreTwo, AreTwoAndSkip, made_of_three_and_skip, made_of_two, made_of_two_and_skip};
+ghost use Rattle.tw_binary.specs.Shapes.{AreThree, AreThreeAndSkip, AreTwo, AreTwoAndSkip, made_of_three, made_of_three_and_skip, made_of_two, made_of_two_and_skip};
 ghost use Rattle.tw_code.specs.format.Table.{action_of, forms_of, row_of};
 
 use crate::actions::{args_of, target_of};
@@ -115,6 +115,13 @@ fn two_and_skip<'a>(bytes: &mut &'a [u8]) -> Result<(u8, u8, u16), Stop>
     Ok((register(bytes)?, register(bytes)?, skip(bytes)?))
 }
 
+/// Decodes three registers.
+fn three<'a>(bytes: &mut &'a [u8]) -> Result<(u8, u8, u8), Stop>
+    ensures { Gives (λ x. ((x.0, (x.1, (x.2, tt))), bytes.new.now)) result (contents_at One (Value ∷ Value ∷ Value ∷ []) bytes.old.now) }
+{
+    Ok((register(bytes)?, register(bytes)?, register(bytes)?))
+}
+
 /// Decodes three registers and a skip.
 fn three_and_skip<'a>(bytes: &mut &'a [u8]) -> Result<(u8, u8, u8, u16), Stop>
     ensures { Gives (λ x. ((x.0, (x.1, (x.2, (x.3, tt)))), bytes.new.now)) result (contents_at One (Value ∷ Value ∷ Value ∷ Skip ∷ []) bytes.old.now) }
@@ -180,6 +187,27 @@ fn decode_two_and_skip<'a>(opcode: Opcode, bytes: &mut &'a [u8]) -> Result<Instr
     Ok(instr_of_two_and_skip(opcode, first, second, skip))
 }
 
+/// Returns an instruction of three registers.
+#[rattlefmt::skip]
+fn instr_of_three(opcode: Opcode, first: u8, second: u8, third: u8) -> Instr
+    requires { AreThree (forms_of opcode) }
+    ensures { result ≡ made_of_three (row_of opcode) (first, (second, (third, tt))) }
+{
+    match opcode {
+        Opcode::AddValue => Instr::Data(DataInstr::AddValue { map: first, subscript: second, from: third }),
+        _ => unreachable!(),
+    }
+}
+
+/// Decodes three registers, and returns the instruction of them.
+fn decode_three<'a>(opcode: Opcode, bytes: &mut &'a [u8]) -> Result<Instr, Stop>
+    requires { AreThree (forms_of opcode) }
+    ensures { (version : Version) → Gives (λ x. (x, bytes.new.now)) result (made_at version (row_of opcode) bytes.old.now) }
+{
+    let (first, second, third) = three(bytes)?;
+    Ok(instr_of_three(opcode, first, second, third))
+}
+
 /// Returns an instruction of three registers and a skip.
 #[rattlefmt::skip]
 fn instr_of_three_and_skip(opcode: Opcode, first: u8, second: u8, third: u8, skip: u16) -> Instr
@@ -199,6 +227,8 @@ fn instr_of_three_and_skip(opcode: Opcode, first: u8, second: u8, third: u8, ski
         Opcode::InsertByText => Instr::Data(DataInstr::Insert { by: Scalar::Text, container: first, subscript: second, member: third, skip }),
         Opcode::LookByText => Instr::Data(DataInstr::Look { by: Scalar::Text, member: first, container: second, subscript: third, skip }),
         Opcode::SubscriptAtByText => Instr::Data(DataInstr::SubscriptAt { by: Scalar::Text, to: first, container: second, index: third, skip }),
+        Opcode::InsertValue => Instr::Data(DataInstr::InsertValue { map: first, subscript: second, from: third, skip }),
+        Opcode::GetValue => Instr::Data(DataInstr::GetValue { to: first, map: second, subscript: third, skip }),
         _ => unreachable!(),
     }
 }
@@ -260,8 +290,10 @@ fn operands_of<'a>(alloc: Global, version: Version, opcode: Opcode, bytes: &mut 
         Opcode::Copy | Opcode::Length | Opcode::Show | Opcode::Store | Opcode::Get | Opcode::Size | Opcode::CopyRead | Opcode::CopyWrite =>
             decode_two(opcode, bytes),
         Opcode::ReadInt | Opcode::JumpEqual | Opcode::JumpLess => decode_two_and_skip(opcode, bytes),
+        Opcode::AddValue => decode_three(opcode, bytes),
         Opcode::Add | Opcode::Subtract | Opcode::Multiply | Opcode::Divide | Opcode::Remainder | Opcode::Concatenate | Opcode::Insert | Opcode::Look |
-            Opcode::SubscriptAt | Opcode::InsertByText | Opcode::LookByText | Opcode::SubscriptAtByText => decode_three_and_skip(opcode, bytes),
+            Opcode::SubscriptAt | Opcode::InsertByText | Opcode::LookByText | Opcode::SubscriptAtByText | Opcode::InsertValue | Opcode::GetValue =>
+            decode_three_and_skip(opcode, bytes),
     }
 }
 

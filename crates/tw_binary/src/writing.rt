@@ -5,8 +5,8 @@ ghost use Rattle.std.specs.List.{concat, flat_map};
 ghost use Rattle.tw_code.specs.format.Program.{IsInstr, IsList, IsOperand, IsProcedure, IsTarget};
 ghost use Rattle.tw_code.specs.format.Sink.{AreOperands, seen};
 ghost use Rattle.tw_code.specs.format.Table.{code_of};
-ghost use Rattle.tw_binary.specs.Spelling.{kind_code, mode_code, scalar_code, container_code, version_code, target_code, byte, wide, text_items, type_items, param_items, scalar_items, register_items, operand_items, instr_items, counted_items, procedure_items, spelling};
-ghost use Rattle.tw_types.specs.DataType.{is_container_by};
+ghost use Rattle.tw_binary.specs.Spelling.{kind_code, mode_code, scalar_code, container_code, leaf_items, map_code, version_code, target_code, byte, wide, text_items, type_items, param_items, scalar_items, register_items, operand_items, instr_items, counted_items, procedure_items, spelling};
+ghost use Rattle.tw_types.specs.DataType.{has_sums, is_container_by};
 ghost use Rattle.tw_types.specs.declared.data_type.Scalar.TheVariants.{Int, Text};
 
 use std::alloc::{AllocError, Global};
@@ -59,6 +59,7 @@ fn code_of_version(version: Version) -> u8
     match version {
         Version::One => 1,
         Version::Two => 2,
+        Version::Four => 4,
     }
 }
 
@@ -81,10 +82,38 @@ fn put_type(out: &mut Vec<u8>, ty: DataType) -> Result<(), AllocError>
             out.push(code_of_container(ty))?;
             put_type(out, element)
         }
-        None => {
-            out.push(code_of_scalar(ty.scalar()))?;
-            Ok(())
-        }
+        None => put_leaf(out, ty),
+    }
+}
+
+/// Returns the byte with which a map's encoding begins.
+fn code_of_map(by: Scalar) -> u8
+    ensures { result ≡ map_code by }
+{
+    match by {
+        Scalar::Int => 5,
+        Scalar::Text => 6,
+    }
+}
+
+/// Returns the byte of a map's values, or of its sums.
+fn code_of_values(ty: DataType) -> u8
+    ensures { result ≡ (if has_sums ty.map then 3 else scalar_code ty.scalar) }
+{
+    if ty.has_sums() {
+        3
+    } else {
+        code_of_scalar(ty.scalar())
+    }
+}
+
+/// Encodes a type without containers: a scalar, or a map.
+fn put_leaf(out: &mut Vec<u8>, ty: DataType) -> Result<(), AllocError>
+    ensures { OnOk result (out.new.items ≡ out.old.items ++ concat (leaf_items ty.map ty.scalar)) }
+{
+    match ty.map_by() {
+        Some(by) => out.extend_from_slice(&[code_of_map(by), code_of_values(ty)]),
+        None => out.extend_from_slice(&[code_of_scalar(ty.scalar())]),
     }
 }
 

@@ -1,10 +1,10 @@
 -- The register checks of diagnostics are the verifier's.
 use Rattle.std.specs.Option.{option_map_or}
-use Rattle.std.proofs.Common.{◌≡◌, ℕ, Bool, true, false, ◌&&◌, ◌||◌, not, cond, List, [], ◌∷◌, ◌++◌, map, Option, Some, None, is_some, refl, ap}
+use Rattle.std.proofs.Common.{◌≡◌, ℕ, Bool, true, false, ◌&&◌, ◌||◌, not, cond, List, [], ◌∷◌, ◌++◌, map, Option, Some, None, is_some, refl, ap, ◌∙◌}
 use Rattle.tw_diagnostics.proofs.ReasonNames.{Scalar, Typing, has_type, is_met_by, member_type, right_scalar, slice_get, checks_alike, checks_args, checks_data, checks_local, checks_priority, checks_right, checks_value, asks_args, asks_data, asks_local, asks_priority, asks_value, right_fits_param, question_of, right_at, slice_set}
 use Rattle.tw_types.specs.declared.param.Param.{Param}
 use Rattle.tw_types.specs.declared.data_type.Scalar.TheVariants.{Int, Text}
-use Rattle.tw_types.specs.DataType.{element_of, same_scalar, same_type}
+use Rattle.tw_types.specs.DataType.{element_of, map_by, same_scalar, same_type}
 use Rattle.tw_types.specs.Mode.{is_read, is_val}
 use Rattle.tw_types.specs.Nesting.{NestedScalar}
 use Rattle.tw_code.specs.declared.instr.DataInstr.{DataInstr}
@@ -14,9 +14,10 @@ use Rattle.tw_code.specs.declared.instr.LocalInstr.TheVariants as local
 use Rattle.tw_code.specs.declared.instr.Priority.{Priority}
 use Rattle.tw_code.specs.declared.instr.Priority.TheVariants.{Constant, Computed}
 use Rattle.tw_code.specs.accepting.Question.{Question, passes}
-use Rattle.tw_code.specs.accepting.Typing.{asks_alike, asks_value_of, reads_closed_scalar, reads_member_of, writes_container_by, writes_scalar}
+use Rattle.tw_code.specs.accepting.Typing.{asks_alike, asks_entry_of, asks_value_of, reads_closed_map, reads_closed_scalar, reads_member_of, suits_subscripts, writes_container_by, writes_map, writes_scalar, writes_sums}
 use Rattle.tw_code.specs.machine.Rights.{RightType}
 use Rattle.tw_diagnostics.specs.declared.requirement.Requirement.TheVariants.{ReadOf}
+use Rattle.tw_diagnostics.specs.RegisterCheck.{right_subscripts}
 use Rattle.tw_diagnostics.specs.Same.{RegisterChecksAgree}
 
 -- ---- a check's one condition is the verifier's
@@ -77,6 +78,30 @@ same_value_of : (registers : List Scalar) (register : ℕ) (test : RightType →
 same_value_of registers register test right =
     ap (λ (met : Bool). (4, passes test right) ∷ (1, is_some (slice_get registers register)) ∷ (2, not (passes test right) || met) ∷ []) (of_right (has_type registers register) right)
 
+-- the type of a register, and that of a map's subscripts
+suits_same : (registers : List Scalar) (register : ℕ) (right : Option RightType)
+    → passes (has_type registers register) (right_subscripts right) ≡ passes (λ (r : RightType). passes (λ declared. suits_subscripts declared r.ty) (slice_get registers register)) right
+unfolding suits_subscripts
+suits_same registers register None = refl
+suits_same registers register (Some r) = by (map_by r.ty) (slice_get registers register)
+  where
+    by : (o declared : Option Scalar) → passes (λ (ty : Scalar). passes (λ d. same_scalar d ty) declared) o ≡ passes (λ (d : Scalar). option_map_or (same_scalar d) o false) declared
+    by None None = refl
+    by None (Some d) = refl
+    by (Some own) None = refl
+    by (Some own) (Some d) = refl
+
+same_entry_of : (registers : List Scalar) (subscript register : ℕ) (test : RightType → Bool) (right : Option RightType)
+    → (4, passes test right) ∷ (1, is_some (slice_get registers subscript)) ∷ (1, is_some (slice_get registers register))
+    ∷ (2, not (passes test right) || passes (has_type registers subscript) (right_subscripts right))
+    ∷ (2, not (passes test right) || passes (has_type registers register) (right_scalar right)) ∷ [] ≡ asks_entry_of registers subscript register test right
+same_entry_of registers subscript register test right =
+    ap (λ (met : Bool). (4, passes test right) ∷ (1, is_some (slice_get registers subscript)) ∷ (1, is_some (slice_get registers register))
+    ∷ (2, not (passes test right) || met) ∷ (2, not (passes test right) || passes (has_type registers register) (right_scalar right)) ∷ []) (suits_same registers subscript right)
+    ∙ ap (λ (met : Bool). (4, passes test right) ∷ (1, is_some (slice_get registers subscript)) ∷ (1, is_some (slice_get registers register))
+    ∷ (2, not (passes test right) || passes (λ (r : RightType). passes (λ declared. suits_subscripts declared r.ty) (slice_get registers subscript)) right) ∷ (2, not (passes test right) || met) ∷ [])
+    (of_right (has_type registers register) right)
+
 same_data : (registers : List Scalar) (i : DataInstr) (typing : Typing) → map question_of (checks_data registers i typing) ≡ asks_data registers i typing
 same_data registers (on_data.New write read ty) typing = refl
 same_data registers (on_data.Store datum from) typing = same_value_of registers from writes_scalar (right_at typing datum)
@@ -86,6 +111,9 @@ same_data registers (on_data.Insert by container subscript member skip) typing =
 same_data registers (on_data.Look by member container subscript skip) typing = refl
 same_data registers (on_data.Size to container) typing = refl
 same_data registers (on_data.SubscriptAt by to container index skip) typing = refl
+same_data registers (on_data.InsertValue map subscript from skip) typing = same_entry_of registers subscript from writes_map (right_at typing map)
+same_data registers (on_data.AddValue map subscript from) typing = same_entry_of registers subscript from writes_sums (right_at typing map)
+same_data registers (on_data.GetValue to map subscript skip) typing = same_entry_of registers subscript to reads_closed_map (right_at typing map)
 same_data registers (on_data.CopyRead to from) typing = refl
 same_data registers (on_data.CopyWrite to from) typing = refl
 same_data registers (on_data.DropRead right) typing = refl

@@ -1,17 +1,21 @@
 -- A line continues word by word exactly if some statement continues so.
-use Rattle.std.proofs.Common.{◌≡◌, ◌+◌, ◌&&◌, ℕ, zero, suc, Bool, true, false, not, cond, List, [], ◌∷◌, drop, length, Option, None, Some, Ok, Err, refl, sym, ap, ◌∙◌, add-one}
+use Rattle.std.proofs.Common.{◌≡◌, ◌+◌, ◌&&◌, ◌||◌, ℕ, zero, suc, Bool, true, false, not, cond, List, [], ◌∷◌, drop, length, Option, None, Some, Result, Ok, Err, refl, sym, ap, ◌∙◌, add-one}
 use Rattle.std.specs.Cmp.{second_so}
-use Rattle.tw_diagnostics.proofs.ReasonNames.{Bare, Form, Limit, Operand, Quoted, Version, Word, after_operand, each, ends_at, form_at_place, go_on, goal, goes, has_form, is_quoted, line_in, line_of, literal, more, nat_lt, natural, number, only_if, operand_in, right, slice_get, target, type_in, value}
+use Rattle.tw_diagnostics.proofs.ReasonNames.{Bare, Form, Limit, Operand, Quoted, Scalar, TokenError, Version, Word, after_operand, as_is, each, ends_at, form_at_place, go_on, goal, goes, has_form, is_quoted, is_sum, line_in, line_of, literal, map_in, more, nat_lt, natural, number, only_if, operand_in, right, slice_get, target, type_in, value}
 use Rattle.std.specs.Borrow.{Bor}
-use Rattle.tw_types.specs.DataType.{scalar_type}
+use Rattle.tw_types.specs.DataType.{is_scalar, map_of, scalar_type, sums_of}
 use Rattle.tw_code.specs.declared.form.Form.{Form as OperandForm}
 use Rattle.tw_code.specs.declared.form.Form.TheVariants as form
+use Rattle.tw_asm.specs.declared.gathering.Begun.{Begun}
+use Rattle.tw_asm.specs.declared.gathering.Begun.TheVariants as so_far
+use Rattle.tw_asm.specs.reading.Lines.{before, type_from, typed, whole_type}
 use Rattle.tw_asm.specs.reading.Operands.{container_in, goal_in, literal_in, name_in, natural_in, scalar_in}
 use Rattle.tw_lexer.specs.Names.{is_name}
 use Rattle.tw_diagnostics.specs.declared.step.Read.{Read}
 use Rattle.tw_diagnostics.specs.declared.step.Read.TheVariants as read
-use Rattle.tw_diagnostics.proofs.Classes.{Class, class_of, container, mode, other, scalar}
-use Rattle.tw_diagnostics.proofs.Forms.{all_form, and_false, and_true, form_as_is, form_both, form_contained, form_each, form_few}
+use Rattle.tw_diagnostics.proofs.Classes.{Class, a_map, class_of, container, mode, other, scalar, sums}
+use Rattle.tw_diagnostics.proofs.ParamsGo.{is_scalar_form, scalar_container}
+use Rattle.tw_diagnostics.proofs.Forms.{all_form, and_false, and_true, form_both, form_contained, form_each, form_few}
 
 pub untrue : false ≡ true → ⊥
 untrue e = cc
@@ -26,20 +30,93 @@ abbrev pub is_end : List Word → Bool
 is_end [] = true
 is_end (w ∷ ws) = false
 
--- one word more before the rest of a type
-pub type_more : (version : Version) (w : Word) (ws : List Word) → has_form (type_in version (w ∷ ws)) ≡ cond (has_form (scalar_in w)) (is_end ws) (has_form (container_in version w) && has_form (type_in version ws))
-type_more version w [] = form_as_is scalar_type (scalar_in w) ∙ by (has_form (scalar_in w)) (has_form (container_in version w))
+abbrev is_nothing : Begun → Bool
+is_nothing so_far.Nothing = true
+is_nothing so_far.Sum = false
+is_nothing (so_far.Type ty) = false
+
+-- returns whether it may be after the word of a map
+abbrev in_map : Begun → Bool
+in_map so_far.Nothing = false
+in_map so_far.Sum = true
+in_map (so_far.Type ty) = is_scalar_form ty
+
+-- one word more before the rest of a type, by what it is as a scalar's word, a container's, a map's and that of sums
+abbrev typed_by : Result Scalar TokenError → Result Scalar TokenError → Result Scalar TokenError → Bool → Begun → Begun
+typed_by s c m u so_far.Nothing = cond u so_far.Sum (so_far.Type (as_is scalar_type s))
+typed_by s c m u so_far.Sum = so_far.Type (as_is sums_of m)
+typed_by s c m u (so_far.Type ty) = so_far.Type (before c m ty)
+
+TypeBy : Result Scalar TokenError → Result Scalar TokenError → Result Scalar TokenError → Bool → Begun → Type 0
+TypeBy s c m u b =
+    (has_form (whole_type (typed_by s c m u b)) ≡ cond (has_form s) (is_nothing b) (cond (has_form m) (in_map b) (has_form c && has_form (whole_type b))))
+    × (in_map (typed_by s c m u b) ≡ ((has_form s || u) && is_nothing b))
+
+by_scalar : (s : Scalar) (b : Begun) → TypeBy (Ok s) (Err Form) (Err Form) false b
+unfolding TypeBy
+by_scalar s so_far.Nothing = (refl, refl)
+by_scalar s so_far.Sum = (refl, refl)
+by_scalar s (so_far.Type ty) = (refl, refl)
+
+by_container : (by : Scalar) (b : Begun) → TypeBy (Err Form) (Ok by) (Err Form) false b
+unfolding TypeBy
+by_container by so_far.Nothing = (refl, refl)
+by_container by so_far.Sum = (refl, refl)
+by_container by (so_far.Type ty) = (form_contained (Ok by) ty, scalar_container by ty)
+
+by_map : (by : Scalar) (b : Begun) → TypeBy (Err Form) (Err Form) (Ok by) false b
+unfolding TypeBy
+by_map by so_far.Nothing = (refl, refl)
+by_map by so_far.Sum = (refl, refl)
+by_map by (so_far.Type (Ok ty)) = at (is_scalar ty)
   where
-    by : (b c : Bool) → b ≡ cond b true (c && false)
-    by true c = refl
-    by false c = sym (and_false c)
-type_more version w (x ∷ ws) = form_contained (container_in version w) (type_in version (x ∷ ws)) ∙ by (class_of version w)
+    at : (b : Bool) → (has_form (cond b (Ok (map_of by ty.scalar)) (Err Form)) ≡ b) × (is_scalar_form (cond b (Ok (map_of by ty.scalar)) (Err Form)) ≡ false)
+    at true = (refl, refl)
+    at false = (refl, refl)
+by_map by (so_far.Type (Err e)) = (refl, refl)
+
+by_sums : (b : Begun) → TypeBy (Err Form) (Err Form) (Err Form) true b
+unfolding TypeBy
+by_sums so_far.Nothing = (refl, refl)
+by_sums so_far.Sum = (refl, refl)
+by_sums (so_far.Type ty) = (refl, refl)
+
+by_other : (b : Begun) → TypeBy (Err Form) (Err Form) (Err Form) false b
+unfolding TypeBy
+by_other so_far.Nothing = (refl, refl)
+by_other so_far.Sum = (refl, refl)
+by_other (so_far.Type ty) = (refl, refl)
+
+type_by : (version : Version) (w : Word) (b : Begun) → Class version w → TypeBy (scalar_in w) (container_in version w) (map_in version w) (is_sum w) b
+type_by version w b (scalar s e f g h i) = rw (e, f, g, h) (by_scalar s b)
+type_by version w b (container by e f g h i) = rw (e, f, g, h) (by_container by b)
+type_by version w b (a_map by e f g h i) = rw (e, f, g, h) (by_map by b)
+type_by version w b (sums e f g h i) = rw (e, f, g, h) (by_sums b)
+type_by version w b (mode m e f g h i) = rw (e, f, g, h) (by_other b)
+type_by version w b (other e f g h i) = rw (e, f, g, h) (by_other b)
+
+-- the type, and what may be after the word of a map
+type_more : (version : Version) (w : Word) (b : Begun)
+    → (has_form (whole_type (typed version w b)) ≡ cond (has_form (scalar_in w)) (is_nothing b) (cond (has_form (map_in version w)) (in_map b) (has_form (container_in version w) && has_form (whole_type b))))
+    × (in_map (typed version w b) ≡ ((has_form (scalar_in w) || is_sum w) && is_nothing b))
+unfolding TypeBy
+type_more version w so_far.Nothing = type_by version w so_far.Nothing (class_of version w)
+type_more version w so_far.Sum = type_by version w so_far.Sum (class_of version w)
+type_more version w (so_far.Type ty) = type_by version w (so_far.Type ty) (class_of version w)
+
+-- nothing is read only of no words
+nothing_end : (version : Version) (ws : List Word) → is_nothing (type_from version ws) ≡ is_end ws
+nothing_end version [] = refl
+nothing_end version (w ∷ ws) = by (type_from version ws)
   where
-    by : Class version w → (has_form (container_in version w) && has_form (type_in version (x ∷ ws))) ≡ cond (has_form (scalar_in w)) false (has_form (container_in version w) && has_form (type_in version (x ∷ ws)))
-    by (scalar s e f g) = rw (e, f) refl
-    by (container b e f g) = rw (e, f) refl
-    by (mode m e f g) = rw (e, f) refl
-    by (other e f g) = rw (e, f) refl
+    last : (u : Bool) → is_nothing (cond u so_far.Sum (so_far.Type (as_is scalar_type (scalar_in w)))) ≡ false
+    last true = refl
+    last false = refl
+
+    by : (b : Begun) → is_nothing (typed version w b) ≡ false
+    by so_far.Nothing = last (is_sum w)
+    by so_far.Sum = refl
+    by (so_far.Type ty) = refl
 
 -- ---- operands of one word
 
@@ -103,9 +180,10 @@ pub tail_lasts : (f : OperandForm) (fs : List OperandForm) → lasts (f ∷ fs) 
 tail_lasts f [] l = refl
 tail_lasts f (g ∷ fs) l = second_so (not (is_last_form f)) (lasts (g ∷ fs)) l
 
-type_on : (s c : Bool) (a b : Read) (g : Read → Bool) → go_on (cond s (Some a) (only_if c b)) g ≡ cond s (g a) (c && g b)
-type_on true c a b g = refl
-type_on false c a b g = on_if c b g
+type_on : (s m c : Bool) (ended values inside : Read) (g : Read → Bool) → go_on (cond s (Some ended) (cond m (Some values) (only_if c inside))) g ≡ cond s (g ended) (cond m (g values) (c && g inside))
+type_on true m c ended values inside g = refl
+type_on false true c ended values inside g = refl
+type_on false false c ended values inside g = on_if c inside g
 
 module _ (version : Version) (name : Bor (List ℕ)) where
   abbrev at : ℕ → Read
@@ -143,14 +221,26 @@ module _ (version : Version) (name : Bor (List ℕ)) where
         ∙ sym (is w ws)
         ∙ sym (goes_due k (f ∷ fs) cut (w ∷ ws))
 
+    -- a type, and the rest of one after the word of a map
+    type_goes_on : (k : ℕ) → drop k forms ≡ form.TypeOf ∷ [] → (ws : List Word) → (has_form (type_in version ws) ≡ goes version (at k) ws) × (in_map (type_from version ws) ≡ goes version (read.MapOperand name (k + 1)) ws)
+    type_goes_on k cut [] = (sym (goes_due k (form.TypeOf ∷ []) cut []), refl)
+    type_goes_on k cut (w ∷ ws) =
+        let rest = type_goes_on k cut ws in
+        let more = type_more version w (type_from version ws) in
+        let end = nothing_end version ws ∙ end_goes (k + 1) (next_cut k form.TypeOf [] cut) ws in (
+          more.0
+              ∙ ap (λ (b : Bool). cond (has_form (scalar_in w)) b (cond (has_form (map_in version w)) (in_map (type_from version ws)) (has_form (container_in version w) && has_form (type_in version ws)))) end
+              ∙ ap (λ (b : Bool). cond (has_form (scalar_in w)) (goes version (at (k + 1)) ws) (cond (has_form (map_in version w)) b (has_form (container_in version w) && has_form (type_in version ws)))) rest.1
+              ∙ ap (λ (b : Bool). cond (has_form (scalar_in w)) (goes version (at (k + 1)) ws) (cond (has_form (map_in version w)) (goes version (read.MapOperand name (k + 1)) ws) (has_form (container_in version w) && b))) rest.0
+              ∙ sym (type_on (has_form (scalar_in w)) (has_form (map_in version w)) (has_form (container_in version w)) (at (k + 1)) (read.MapOperand name (k + 1)) (at k) (λ next. goes version next ws))
+              ∙ sym (goes_due k (form.TypeOf ∷ []) cut (w ∷ ws)),
+          more.1
+              ∙ ap (λ (b : Bool). (has_form (scalar_in w) || is_sum w) && b) end
+              ∙ sym (on_if (has_form (scalar_in w) || is_sum w) (at (k + 1)) (λ next. goes version next ws)),
+        )
+
     type_goes : (k : ℕ) → drop k forms ≡ form.TypeOf ∷ [] → (ws : List Word) → has_form (type_in version ws) ≡ goes version (at k) ws
-    type_goes k cut [] = sym (goes_due k (form.TypeOf ∷ []) cut [])
-    type_goes k cut (w ∷ ws) =
-        type_more version w ws
-        ∙ ap (λ (b : Bool). cond (has_form (scalar_in w)) b (has_form (container_in version w) && has_form (type_in version ws))) (end_goes (k + 1) (next_cut k form.TypeOf [] cut) ws)
-        ∙ ap (λ (b : Bool). cond (has_form (scalar_in w)) (goes version (at (k + 1)) ws) (has_form (container_in version w) && b)) (type_goes k cut ws)
-        ∙ sym (type_on (has_form (scalar_in w)) (has_form (container_in version w)) (at (k + 1)) (at k) (λ next. goes version next ws))
-        ∙ sym (goes_due k (form.TypeOf ∷ []) cut (w ∷ ws))
+    type_goes k cut ws = (type_goes_on k cut ws).0
 
     args_go : (k : ℕ) → drop k forms ≡ form.Args ∷ [] → (ws : List Word) → all_form (natural_in 0 15) ws ≡ goes version (at k) ws
     args_go k cut [] = sym (goes_due k (form.Args ∷ []) cut [])

@@ -3,7 +3,7 @@ use Rattle.std.proofs.Common.{◌≡◌, ◌≢◌, ◌+◌, ℕ, suc, Bool, tru
 use Rattle.tw_diagnostics.proofs.ReasonNames.{AnyShortName, Bare, Code, Head, IsLine, IsRead, Label, LineSays, LinesSay, OfVersion, Quoted, Registers, Say, ParserState, SpellParts, Spells, Statement, Version, Word, after_line, at_start, before_colon, broken_no_line, bytes_eq, flat_map, line_once, opcode_in, seen, situation, situation_from, version_by}
 use Rattle.std.proofs.lemmas.Slice.Eq.{bytes_eq-Decides}
 use Rattle.tw_code.specs.declared.opcode.Opcode.{Opcode}
-use Rattle.tw_code.specs.format.Program.{IsWithin}
+use Rattle.tw_asm.specs.Statement.{IsVersionNumber}
 use Rattle.tw_code.specs.format.Table.{row, word_of}
 use Rattle.tw_lexer.specs.Number.{SpellsDigits}
 use Rattle.tw_lexer.specs.declared.word.Word as words
@@ -20,7 +20,7 @@ use Rattle.tw_diagnostics.specs.declared.parser_state.ParserState as declared
 -- ---- the first word of a statement
 
 abbrev pub IsFirst : Version → Statement → Word → List Word → Type 0
-IsFirst version (OfVersion number) w ws = (w ≡ Bare (codes "version")) × ((text : List ℕ) × SpellsDigits number text × (ws ≡ Bare text ∷ [])) × IsWithin 1 2 number
+IsFirst version (OfVersion number) w ws = (w ≡ Bare (codes "version")) × ((text : List ℕ) × SpellsDigits number text × (ws ≡ Bare text ∷ [])) × IsVersionNumber number
 IsFirst version (Head kind params) w ws = w ≡ Bare (codes "proc")
 IsFirst version (Registers registers) w ws = w ≡ Bare (codes "regs")
 IsFirst version (Label name) w ws = w ≡ Bare (name ++ codes ":")
@@ -65,7 +65,7 @@ no_code : {Z : Type 0} (version : Version) (first other : List ℕ) (i : (word :
 no_code version first other (word, o, is, found) e none = absurd (none_some o (sym none ∙ (ap (opcode_in version) (sym e ∙ bare_is first word is) ∙ found)))
 
 module _ (version : Version) (first : List ℕ) (ws : List Word) where
-  pub version_role : (v : Version) → first ≡ codes "version" → ((number : ℕ) (text : List ℕ) → ws ≡ Bare text ∷ [] → SpellsDigits number text → IsWithin 1 2 number → v ≡ version_by number) → SaysRole version first ws (says.Version v)
+  pub version_role : (v : Version) → first ≡ codes "version" → ((number : ℕ) (text : List ℕ) → ws ≡ Bare text ∷ [] → SpellsDigits number text → IsVersionNumber number → v ≡ version_by number) → SaysRole version first ws (says.Version v)
   version_role v e is statement say = by statement (first_said version statement (Bare first) ws say)
     where
       by : (s : Statement) → IsFirst version s (Bare first) ws → says.Version v ≡ says_of (Some s)

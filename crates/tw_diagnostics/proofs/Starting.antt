@@ -14,7 +14,7 @@ use Rattle.tw_code.specs.format.Table.{a_row, forms_in, forms_of, opcode_in}
 use Rattle.tw_asm.specs.declared.statement.First.{First}
 use Rattle.tw_asm.specs.declared.statement.First.TheVariants as first
 use Rattle.tw_lexer.specs.Names.{before_colon}
-use Rattle.tw_asm.specs.reading.Lines.{body_in, code_read, draft_in, each, ended, few, goal, head_in, head_read, kind_in, label_in, label_line, label_read, line_in, line_of, named_in, params_from, registers_in, registers_read, row_by, statement_in, version_in, version_read}
+use Rattle.tw_asm.specs.reading.Lines.{body_in, code_read, draft_in, each, ended, few, goal, head_in, head_read, kind_in, label_in, label_line, label_read, line_in, line_of, named_in, params_from, registers_in, registers_read, row_by, statement_in, version_in, version_known, version_read}
 use Rattle.tw_lexer.specs.Digits.{as_is, digits_in, signed_in}
 use Rattle.tw_asm.specs.reading.Operands.{both, name_in, natural_in, number_in, register_in, scalar_in}
 use Rattle.tw_lexer.proofs.Colons.{before}
@@ -49,8 +49,8 @@ registers_go version ws = form_as_is registers_read (few 16 (each scalar_in ws))
 version_goes : (version : Version) (ws : List Word) → has_form (version_in ws) ≡ goes version read.Version ws
 version_goes version [] = refl
 version_goes version (w ∷ []) =
-    form_as_is version_read (natural_in 1 2 w) ∙ sym (and_true (has_form (natural_in 1 2 w))) ∙ sym (on_if (has_form (natural_in 1 2 w)) read.Whole (λ next. goes version next []))
-version_goes version (w ∷ x ∷ ws) = sym (and_false (has_form (natural_in 1 2 w))) ∙ sym (on_if (has_form (natural_in 1 2 w)) read.Whole (λ next. goes version next (x ∷ ws)))
+    form_as_is version_read (version_known (natural_in 1 4 w)) ∙ sym (and_true (has_form (version_known (natural_in 1 4 w)))) ∙ sym (on_if (has_form (version_known (natural_in 1 4 w))) read.Whole (λ next. goes version next []))
+version_goes version (w ∷ x ∷ ws) = sym (and_false (has_form (version_known (natural_in 1 4 w)))) ∙ sym (on_if (has_form (version_known (natural_in 1 4 w))) read.Whole (λ next. goes version next (x ∷ ws)))
 
 -- ---- instructions and labels
 
@@ -135,7 +135,7 @@ skip_fits : (version : Version) → has_form (line_in goal (Bare (codes "+0") �
 unfolding digits_in
 skip_fits version = refl
 
-version_fits : has_form (natural_in 1 2 (Bare (codes "1"))) ≡ true
+version_fits : has_form (version_known (natural_in 1 4 (Bare (codes "1")))) ≡ true
 unfolding digits_in
 version_fits = refl
 
@@ -179,10 +179,12 @@ operands_end version name k (Some o) e =
 
 pub can_end : (version : Version) (r : Read) → CanEnd version r
 can_end version (read.Operands name k) = operands_end version name k (opcode_in version name.now) refl
-can_end version read.Version = (Bare (codes "1") ∷ [], on_if (has_form (natural_in 1 2 (Bare (codes "1")))) read.Whole (λ next. goes version next []) ∙ ap (λ (b : Bool). b && true) version_fits, (tt, tt))
+can_end version (read.MapOperand name k) = let (ws, goes_on, fine) = operands_end version name k (opcode_in version name.now) refl in (Bare (codes "int") ∷ ws, goes_on, (tt, fine))
+can_end version read.Version = (Bare (codes "1") ∷ [], on_if (has_form (version_known (natural_in 1 4 (Bare (codes "1"))))) read.Whole (λ next. goes version next []) ∙ ap (λ (b : Bool). b && true) version_fits, (tt, tt))
 can_end version read.Head = (Bare (codes "leaf") ∷ [], refl, (tt, tt))
 can_end version read.Params = ([], refl, tt)
 can_end version read.RightMode = (Bare (codes "int") ∷ [], refl, (tt, tt))
+can_end version read.RightMap = (Bare (codes "int") ∷ [], refl, (tt, tt))
 can_end version read.Val = (Bare (codes "int") ∷ [], refl, (tt, tt))
 can_end version read.Registers = ([], refl, tt)
 can_end version read.Whole = ([], refl, tt)

@@ -35,15 +35,17 @@ due_text due.Version = codes "a version's number"
 due_text due.Kind = codes "control or leaf"
 due_text due.Param = codes "a mode (val, closed, ref or write)"
 due_text due.ParamType = codes "a type"
+due_text due.Values = codes "int, text or sum"
 due_text due.ParamScalar = codes "int or text"
 due_text due.Register = codes "int or text"
 
 abbrev pub due_limit : Due → List ℕ
 due_limit (due.Operand form) = operand_limit form
-due_limit due.Version = codes "1 or 2"
+due_limit due.Version = codes "1, 2 or 4"
 due_limit due.Kind = codes "one word"
 due_limit due.Param = codes "8 parameters"
 due_limit due.ParamType = codes "3 containers"
+due_limit due.Values = codes "one word"
 due_limit due.ParamScalar = codes "one word"
 due_limit due.Register = codes "16 registers"
 

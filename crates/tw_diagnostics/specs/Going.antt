@@ -1,5 +1,5 @@
 -- Progress in a line, word by word: whether some statement continues so, limits aside. No public clause reaches this file.
-use Rattle.std.specs.Prelude.{◌+◌, ℕ, Bool, true, false, if◌then◌else◌, List, [], ◌∷◌, codes, Option, Some, None, Result, Ok, Err, slice_get}
+use Rattle.std.specs.Prelude.{◌+◌, ℕ, Bool, true, false, ◌||◌, if◌then◌else◌, List, [], ◌∷◌, codes, Option, Some, None, Result, Ok, Err, slice_get}
 use Rattle.std.specs.Borrow.{Bor}
 use Rattle.std.specs.Option.{option_and_then}
 use Rattle.std.specs.Str.{bytes_eq}
@@ -12,8 +12,8 @@ use Rattle.tw_code.specs.format.Table.{forms_of, opcode_in}
 use Rattle.tw_lexer.specs.Words.{Word, Bare, Quoted}
 use Rattle.tw_lexer.specs.declared.numbers.TokenError.{TokenError}
 use Rattle.tw_lexer.specs.declared.numbers.TokenError.TheVariants as flaw
-use Rattle.tw_asm.specs.reading.Lines.{kind_in}
-use Rattle.tw_asm.specs.reading.Operands.{container_in, goal_in, mode_in, natural_in, number_in, register_in, scalar_in, target_in}
+use Rattle.tw_asm.specs.reading.Lines.{kind_in, version_known}
+use Rattle.tw_asm.specs.reading.Operands.{container_in, goal_in, is_sum, map_in, mode_in, natural_in, number_in, register_in, scalar_in, target_in}
 use Rattle.tw_diagnostics.specs.declared.step.Read.{Read}
 use Rattle.tw_diagnostics.specs.declared.step.Read.TheVariants as read
 
@@ -51,12 +51,19 @@ form_at_place version name place = option_and_then (λ o. slice_get (forms_of o)
 abbrev pub only_if : Bool → Read → Option Read
 only_if b next = if b then Some next else None
 
-abbrev pub after_type : Version → Word → Read → Read → Option Read
-after_type version w inside whole = if has_form (scalar_in w) then Some whole else only_if (has_form (container_in version w)) inside
+abbrev pub after_type : Version → Word → Read → Read → Read → Option Read
+after_type version w inside values whole =
+    if has_form (scalar_in w) then Some whole else
+    if has_form (map_in version w) then Some values else
+    only_if (has_form (container_in version w)) inside
+
+-- after a map's word
+abbrev pub after_map : Word → Read → Option Read
+after_map w whole = only_if (has_form (scalar_in w) || is_sum w) whole
 
 abbrev pub after_operand : Version → Bor (List ℕ) → ℕ → Word → Option Form → Option Read
 after_operand version name place w None = None
-after_operand version name place w (Some form.TypeOf) = after_type version w (read.Operands name place) (read.Operands name (place + 1))
+after_operand version name place w (Some form.TypeOf) = after_type version w (read.Operands name place) (read.MapOperand name (place + 1)) (read.Operands name (place + 1))
 after_operand version name place w (Some form.Args) = only_if (has_form (natural_in 0 15 w)) (read.Operands name place)
 after_operand version name place w (Some f) = only_if (is_operand f w) (read.Operands name (place + 1))
 
@@ -70,10 +77,12 @@ after_mode (Ok Write) = Some read.RightMode
 -- returns what has been read with this word
 abbrev pub after : Version → Read → Word → Option Read
 after version (read.Operands name place) w = after_operand version name place w (form_at_place version name.now place)
-after version read.Version w = only_if (has_form (natural_in 1 2 w)) read.Whole
+after version (read.MapOperand name next) w = after_map w (read.Operands name next)
+after version read.Version w = only_if (has_form (version_known (natural_in 1 4 w))) read.Whole
 after version read.Head w = only_if (has_form (kind_in w)) read.Params
 after version read.Params w = after_mode (mode_in w)
-after version read.RightMode w = after_type version w read.RightMode read.Params
+after version read.RightMode w = after_type version w read.RightMode read.RightMap read.Params
+after version read.RightMap w = after_map w read.Params
 after version read.Val w = only_if (has_form (scalar_in w)) read.Params
 after version read.Registers w = only_if (has_form (scalar_in w)) read.Registers
 after version read.Whole w = None
@@ -87,10 +96,12 @@ ends_at (Some f) = false
 
 abbrev pub may_end : Version → Read → Bool
 may_end version (read.Operands name place) = ends_at (form_at_place version name.now place)
+may_end version (read.MapOperand name next) = false
 may_end version read.Version = false
 may_end version read.Head = false
 may_end version read.Params = true
 may_end version read.RightMode = false
+may_end version read.RightMap = false
 may_end version read.Val = false
 may_end version read.Registers = true
 may_end version read.Whole = true

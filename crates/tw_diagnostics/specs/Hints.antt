@@ -8,7 +8,7 @@ use Rattle.tw_code.specs.declared.form.Form.TheVariants as form
 use Rattle.tw_code.specs.declared.opcode.Opcode.{Opcode}
 use Rattle.tw_code.specs.declared.opcode.TheConstants.{OPCODES}
 use Rattle.tw_code.specs.declared.version.Version.{Version}
-use Rattle.tw_code.specs.declared.version.Version.TheVariants.{Two}
+use Rattle.tw_code.specs.declared.version.Version.TheVariants.{Two, Four}
 use Rattle.tw_code.specs.format.Table.{has_opcode, opcode_in, word_of}
 use Rattle.tw_diagnostics.specs.declared.due.Due.{Due}
 use Rattle.tw_diagnostics.specs.declared.due.Due.TheVariants as due
@@ -62,9 +62,11 @@ abbrev pub capitals_hint : Version → List ℕ → List ℕ
 capitals_hint version word =
     if bytes_eq word (codes "JGT") then note_text (codes "JLT with its operands exchanged is this") else opcode_text (opcode_near version word)
 
--- returns the hint where an instruction may be: the word is one of version 2, or like one of this version
+-- returns the hint where an instruction may be: the word is one of a later version, or like one of this version
 abbrev pub instruction_hint : Version → List ℕ → List ℕ
-instruction_hint version word = if is_some (opcode_in Two word) then note_text (codes "version 2 has it") else capitals_hint version (map to_ascii_uppercase word)
+instruction_hint version word =
+    if is_some (opcode_in Two word) then note_text (codes "version 2 has it") else
+    if is_some (opcode_in Four word) then note_text (codes "version 4 has it") else capitals_hint version (map to_ascii_uppercase word)
 
 -- returns whether a comment begins so in other languages
 abbrev pub is_comment_sign : List ℕ → Bool
@@ -95,9 +97,15 @@ container_hint word = near_text (codes "cont") word (near_text (codes "tcont") w
 abbrev pub known_hint : List ℕ → List ℕ
 known_hint word = scalar_hint word (container_hint word)
 
--- returns the hint for a type; version 1 has no container by texts
+-- returns whether it is a word of maps
+abbrev pub is_map_word : List ℕ → Bool
+is_map_word word = bytes_eq word (codes "map") || (bytes_eq word (codes "tmap") || bytes_eq word (codes "sum"))
+
+-- returns the hint for a type; version 1 has no container by texts, and only version 4 has maps
 abbrev pub type_hint : List ℕ → List ℕ
-type_hint word = if bytes_eq word (codes "tcont") then note_text (codes "version 2 has it") else known_hint word
+type_hint word =
+    if bytes_eq word (codes "tcont") then note_text (codes "version 2 has it") else
+    if is_map_word word then note_text (codes "version 4 has it") else known_hint word
 
 -- returns whether a word begins like a number
 abbrev pub begins_number : List ℕ → Bool
@@ -120,6 +128,7 @@ due_hint due.Version word = []
 due_hint due.Kind word = near_text (codes "control") word (near_text (codes "leaf") word [])
 due_hint due.Param word = near_text (codes "val") word (near_text (codes "closed") word (near_text (codes "ref") word (near_text (codes "write") word [])))
 due_hint due.ParamType word = type_hint word
+due_hint due.Values word = scalar_hint word (near_text (codes "sum") word [])
 due_hint due.ParamScalar word = scalar_hint word []
 due_hint due.Register word = scalar_hint word []
 

@@ -8,7 +8,7 @@ use Rattle.tw_types.specs.declared.data_type.Scalar.{Scalar}
 use Rattle.tw_types.specs.declared.data_type.Scalar.TheVariants as scalar
 use Rattle.tw_types.specs.declared.param.Mode.TheVariants.{Closed}
 use Rattle.tw_types.specs.declared.param.Param.{Param}
-use Rattle.tw_types.specs.DataType.{element_of, same_scalar, same_type}
+use Rattle.tw_types.specs.DataType.{element_of, map_by, same_scalar, same_type}
 use Rattle.tw_types.specs.Mode.{is_val}
 use Rattle.tw_code.specs.declared.instr.Action.{Action}
 use Rattle.tw_code.specs.declared.instr.DataInstr.{DataInstr}
@@ -21,7 +21,7 @@ use Rattle.tw_code.specs.declared.instr.Priority.{Priority}
 use Rattle.tw_code.specs.declared.instr.Priority.TheVariants.{Constant, Computed}
 use Rattle.tw_code.specs.declared.procedure.Procedure.{Procedure}
 use Rattle.tw_code.specs.accepting.Question.{Question, passes}
-use Rattle.tw_code.specs.accepting.Typing.{right_fits_param, reads, reads_closed_container, reads_closed_container_by, reads_closed_scalar, value_types, writes, writes_container_by, writes_scalar}
+use Rattle.tw_code.specs.accepting.Typing.{right_fits_param, reads, reads_closed_by, reads_closed_container, reads_closed_container_by, reads_closed_map, reads_closed_scalar, value_types, writes, writes_container_by, writes_map, writes_scalar, writes_sums}
 use Rattle.tw_code.specs.machine.Arguments.{params_of}
 use Rattle.tw_code.specs.machine.Rights.{RightType, Typing, right_at}
 use Rattle.tw_diagnostics.specs.declared.register_check.RegisterCheck.{RegisterCheck}
@@ -46,6 +46,10 @@ accepts (wanted.WriteScalar ty) right = writes_scalar right
 accepts (wanted.ClosedScalar ty) right = reads_closed_scalar right
 accepts (wanted.WriteContainer by) right = writes_container_by by right
 accepts (wanted.ClosedContainer by) right = reads_closed_container_by by right
+accepts (wanted.ClosedSubscripts by) right = reads_closed_by by right
+accepts (wanted.WriteMap by ty) right = writes_map right
+accepts (wanted.WriteSums by) right = writes_sums right
+accepts (wanted.ClosedMap by ty) right = reads_closed_map right
 accepts wanted.AnyClosedContainer right = reads_closed_container right
 accepts wanted.AnyWrite right = writes right
 accepts wanted.AnyRead right = reads right
@@ -133,6 +137,18 @@ checks_value_of registers register typing datum want =
     holds 4 typing datum want ∷ is_declared registers register (right_scalar (right_at typing datum))
     ∷ if_needed (is_met_by want (right_at typing datum)) (is_of registers register (right_scalar (right_at typing datum))) ∷ []
 
+-- returns the type of a map's subscripts
+abbrev pub right_subscripts : Option RightType → Option Scalar
+right_subscripts right = option_and_then (λ r. map_by r.ty) right
+
+-- checks that the one register has such a right, and the others the types of its map's subscripts and values
+abbrev pub checks_entry_of : List Scalar → ℕ → ℕ → Typing → ℕ → Requirement → List RegisterCheck
+checks_entry_of registers subscript register typing datum want =
+    holds 4 typing datum want
+    ∷ is_declared registers subscript (right_subscripts (right_at typing datum)) ∷ is_declared registers register (right_scalar (right_at typing datum))
+    ∷ if_needed (is_met_by want (right_at typing datum)) (is_of registers subscript (right_subscripts (right_at typing datum)))
+    ∷ if_needed (is_met_by want (right_at typing datum)) (is_of registers register (right_scalar (right_at typing datum))) ∷ []
+
 abbrev pub checks_container_write : Typing → ℕ → List RegisterCheck
 checks_container_write typing register = holds 4 typing register wanted.AnyWrite ∷ holds 15 typing register wanted.AnyContainerWrite ∷ []
 
@@ -169,7 +185,12 @@ checks_data registers (on_data.Insert by container subscript member skip) typing
 checks_data registers (on_data.Look by member container subscript skip) typing =
     holds 3 typing member wanted.Empty ∷ holds 4 typing container (wanted.ClosedContainer by) ∷ checks_value registers subscript by
 checks_data registers (on_data.Size to container) typing = holds 4 typing container wanted.AnyClosedContainer ∷ checks_value registers to scalar.Int
-checks_data registers (on_data.SubscriptAt by to container index skip) typing = holds 4 typing container (wanted.ClosedContainer by) ∷ checks_two registers to by index scalar.Int
+checks_data registers (on_data.SubscriptAt by to container index skip) typing = holds 4 typing container (wanted.ClosedSubscripts by) ∷ checks_two registers to by index scalar.Int
+checks_data registers (on_data.InsertValue map subscript from skip) typing =
+    checks_entry_of registers subscript from typing map (wanted.WriteMap (slice_get registers subscript) (slice_get registers from))
+checks_data registers (on_data.AddValue map subscript from) typing = checks_entry_of registers subscript from typing map (wanted.WriteSums (slice_get registers subscript))
+checks_data registers (on_data.GetValue to map subscript skip) typing =
+    checks_entry_of registers subscript to typing map (wanted.ClosedMap (slice_get registers subscript) (slice_get registers to))
 checks_data registers (on_data.CopyRead to from) typing = holds 3 typing to wanted.Empty ∷ holds 4 typing from wanted.AnyRead ∷ []
 checks_data registers (on_data.CopyWrite to from) typing = holds 3 typing to wanted.Empty ∷ checks_container_write typing from
 checks_data registers (on_data.DropRead right) typing = holds 4 typing right wanted.AnyRead ∷ []

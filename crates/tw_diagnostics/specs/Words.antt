@@ -6,7 +6,7 @@ use Rattle.tw_types.specs.declared.data_type.Scalar.{Scalar}
 use Rattle.tw_types.specs.declared.param.Mode.{Mode}
 use Rattle.tw_types.specs.declared.param.Mode.TheVariants.{Val, Closed, Ref, Write}
 use Rattle.tw_types.specs.declared.param.Param.{Param}
-use Rattle.tw_asm.specs.Parts.{container_word, mode_word, scalar_word, type_words}
+use Rattle.tw_asm.specs.Parts.{container_word, map_word, mode_word, scalar_word, type_words}
 use Rattle.tw_code.specs.machine.Rights.{RightType}
 use Rattle.tw_diagnostics.specs.RegisterCheck.{lacks_closing}
 use Rattle.tw_diagnostics.specs.declared.register_check.RegisterCheck.{RegisterCheck}
@@ -50,6 +50,16 @@ requirement_text waits Closed = if waits then codes "closed or ref" else codes "
 requirement_text waits Ref = codes "closed or ref"
 requirement_text waits Write = codes "write"
 
+-- returns the words of a map of these types, if they are known
+abbrev pub map_text : Option Scalar → Option Scalar → List ℕ
+map_text None ty = codes "map"
+map_text (Some by) None = codes "map"
+map_text (Some by) (Some ty) = map_word by ++ (codes " " ++ scalar_word ty)
+
+abbrev pub sums_text : Option Scalar → List ℕ
+sums_text None = codes "map"
+sums_text (Some by) = map_word by ++ codes " sum"
+
 abbrev pub wanted_text : Requirement → List ℕ
 wanted_text wanted.AnyScalar = codes "int or text"
 wanted_text (wanted.Scalar ty) = scalar_word ty
@@ -59,6 +69,10 @@ wanted_text (wanted.WriteScalar ty) = codes "write " ++ scalar_text ty
 wanted_text (wanted.ClosedScalar ty) = codes "closed " ++ scalar_text ty
 wanted_text (wanted.WriteContainer by) = codes "write " ++ container_word by
 wanted_text (wanted.ClosedContainer by) = codes "closed " ++ container_word by
+wanted_text (wanted.ClosedSubscripts by) = codes "closed " ++ container_word by
+wanted_text (wanted.WriteMap by ty) = codes "write " ++ map_text by ty
+wanted_text (wanted.WriteSums by) = codes "write " ++ sums_text by
+wanted_text (wanted.ClosedMap by ty) = codes "closed " ++ map_text by ty
 wanted_text wanted.AnyClosedContainer = codes "closed cont or tcont"
 wanted_text wanted.AnyWrite = codes "write of a container"
 wanted_text wanted.AnyContainerWrite = codes "write of a container"

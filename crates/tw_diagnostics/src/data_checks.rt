@@ -2,7 +2,7 @@
 
 ghost use Rattle.std.specs.Prelude.{◌≡◌, ◌<◌};
 ghost use Rattle.tw_code.specs.format.Program.{IsDataInstr};
-ghost use Rattle.tw_diagnostics.specs.RegisterCheck.{checks_data, checks_member, checks_value_of, first_unmet, member_type, right_scalar};
+ghost use Rattle.tw_diagnostics.specs.RegisterCheck.{checks_data, checks_entry_of, checks_member, checks_value_of, first_unmet, member_type, right_scalar, right_subscripts};
 
 use crate::local_checks::first_of;
 use crate::register_check::*;
@@ -44,6 +44,43 @@ fn value_of(
     )
 }
 
+fn right_subscripts(right: Option<RightType>) -> Option<Scalar>
+    ensures { result ≡ right_subscripts right }
+{
+    match right {
+        Some(right) => right.ty().map_by(),
+        None => None,
+    }
+}
+
+/// Returns the first unmet check of an instruction on a map: a right of the required kind, and registers of the map's types.
+fn entry_of(
+    number: u8,
+    registers: &[Scalar],
+    subscript: u8,
+    register: u8,
+    typing: &Typing,
+    datum: u8,
+    wanted: Requirement,
+) -> Option<RegisterCheck>
+    requires { datum < 16 }
+    ensures { result ≡ first_unmet number (checks_entry_of registers.now subscript register typing.now datum wanted) }
+{
+    let met = wanted.is_met_by(typing.right_at(datum));
+    let by = right_subscripts(typing.right_at(datum));
+    let ty = right_scalar(typing.right_at(datum));
+    first_of(
+        number,
+        &[
+            holds(4, typing, datum, wanted),
+            is_declared(registers, subscript, by),
+            is_declared(registers, register, ty),
+            if_needed(met, is_of(registers, subscript, by)),
+            if_needed(met, is_of(registers, register, ty)),
+        ],
+    )
+}
+
 fn member_type(right: Option<RightType>) -> Option<DataType>
     ensures { result ≡ member_type right }
 {
@@ -75,7 +112,10 @@ pub(crate) fn unmet_by_data(number: u8, registers: &[Scalar], instr: DataInstr, 
         DataInstr::Insert { by, container, subscript, member: inner, .. } => first_of(number, &[holds(4, typing, container, Requirement::WriteContainer(by)), member(typing, container, inner), is_declared(registers, subscript, Some(by)), is_of(registers, subscript, Some(by))]),
         DataInstr::Look { by, member, container, subscript, .. } => first_of(number, &[holds(3, typing, member, Requirement::Empty), holds(4, typing, container, Requirement::ClosedContainer(by)), is_declared(registers, subscript, Some(by)), is_of(registers, subscript, Some(by))]),
         DataInstr::Size { to, container } => first_of(number, &[holds(4, typing, container, Requirement::AnyClosedContainer), is_declared(registers, to, Some(Scalar::Int)), is_of(registers, to, Some(Scalar::Int))]),
-        DataInstr::SubscriptAt { by, to, container, index, .. } => first_of(number, &[holds(4, typing, container, Requirement::ClosedContainer(by)), is_declared(registers, to, Some(by)), is_of(registers, to, Some(by)), is_declared(registers, index, Some(Scalar::Int)), is_of(registers, index, Some(Scalar::Int))]),
+        DataInstr::SubscriptAt { by, to, container, index, .. } => first_of(number, &[holds(4, typing, container, Requirement::ClosedSubscripts(by)), is_declared(registers, to, Some(by)), is_of(registers, to, Some(by)), is_declared(registers, index, Some(Scalar::Int)), is_of(registers, index, Some(Scalar::Int))]),
+        DataInstr::InsertValue { map, subscript, from, .. } => entry_of(number, registers, subscript, from, typing, map, Requirement::WriteMap(declared(registers, subscript), declared(registers, from))),
+        DataInstr::AddValue { map, subscript, from } => entry_of(number, registers, subscript, from, typing, map, Requirement::WriteSums(declared(registers, subscript))),
+        DataInstr::GetValue { to, map, subscript, .. } => entry_of(number, registers, subscript, to, typing, map, Requirement::ClosedMap(declared(registers, subscript), declared(registers, to))),
         DataInstr::CopyRead { to, from } => first_of(number, &[holds(3, typing, to, Requirement::Empty), holds(4, typing, from, Requirement::AnyRead)]),
         DataInstr::CopyWrite { to, from } => first_of(number, &[holds(3, typing, to, Requirement::Empty), holds(4, typing, from, Requirement::AnyWrite), holds(15, typing, from, Requirement::AnyContainerWrite)]),
         DataInstr::DropRead { right } => first_of(number, &[holds(4, typing, right, Requirement::AnyRead)]),

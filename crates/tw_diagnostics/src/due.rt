@@ -18,6 +18,8 @@ pub(crate) enum Due {
     Param,
     /// The rest of a right parameter's type.
     ParamType,
+    /// The type of a map's values.
+    Values,
     /// The type of a parameter that is a value.
     ParamScalar,
     /// The type of a value register.
@@ -69,6 +71,7 @@ impl Due {
             Due::Kind => "control or leaf",
             Due::Param => "a mode (val, closed, ref or write)",
             Due::ParamType => "a type",
+            Due::Values => "int, text or sum",
             Due::ParamScalar | Due::Register => "int or text",
         }
     }
@@ -79,8 +82,8 @@ impl Due {
     {
         match self {
             Due::Operand(form) => operand_limit(form),
-            Due::Version => "1 or 2",
-            Due::Kind | Due::ParamScalar => "one word",
+            Due::Version => "1, 2 or 4",
+            Due::Kind | Due::Values | Due::ParamScalar => "one word",
             Due::Param => "8 parameters",
             Due::ParamType => "3 containers",
             Due::Register => "16 registers",

@@ -1,7 +1,7 @@
 //! Hints: which word was meant by one that can't be where it is.
 
 ghost use Rattle.std.specs.Prelude.{◌≡◌, ◌++◌, IfOk, OnOk, drop, take};
-ghost use Rattle.tw_diagnostics.specs.Hints.{begins_number, capitals_hint, container_hint, due_hint, first_hint, hint_text, instruction_hint, is_comment_sign, is_near, is_one_edit, is_swapped, known_hint, meant_text, near_text, opcode_near, opcode_text, operand_hint, scalar_hint, stage_hint, type_hint, value_hint, word_hint};
+ghost use Rattle.tw_diagnostics.specs.Hints.{begins_number, capitals_hint, container_hint, due_hint, first_hint, hint_text, instruction_hint, is_comment_sign, is_map_word, is_near, is_one_edit, is_swapped, known_hint, meant_text, near_text, opcode_near, opcode_text, operand_hint, scalar_hint, stage_hint, type_hint, value_hint, word_hint};
 ghost use Rattle.tw_diagnostics.specs.declared.due.Due.TheVariants as dues;
 
 use crate::due::Due;
@@ -109,6 +109,9 @@ fn instruction_hint(alloc: Global, version: Version, word: &[u8]) -> Result<Hint
     if opcode_in(Version::Two, word).is_some() {
         return Ok(Hint::Note("version 2 has it"));
     }
+    if opcode_in(Version::Four, word).is_some() {
+        return Ok(Hint::Note("version 4 has it"));
+    }
     let capitals = word.to_ascii_uppercase(alloc)?;
     Ok(capitals_hint(version, &capitals))
 }
@@ -160,6 +163,12 @@ fn scalar_hint(word: &[u8], other: Hint) -> Hint
     near_or("int", word, near_or("text", word, other))
 }
 
+fn values_hint(word: &[u8]) -> Hint
+    ensures { hint_text result ≡ due_hint dues.Values word.now }
+{
+    scalar_hint(word, near_or("sum", word, Hint::Nothing))
+}
+
 fn container_hint(word: &[u8]) -> Hint
     ensures { hint_text result ≡ container_hint word.now }
 {
@@ -172,11 +181,20 @@ fn known_hint(word: &[u8]) -> Hint
     scalar_hint(word, container_hint(word))
 }
 
+/// Returns whether it is a word of maps.
+fn is_map_word(word: &[u8]) -> bool
+    ensures { result ≡ is_map_word word.now }
+{
+    word == b"map".as_slice() || (word == b"tmap".as_slice() || word == b"sum".as_slice())
+}
+
 fn type_hint(word: &[u8]) -> Hint
     ensures { hint_text result ≡ type_hint word.now }
 {
     if word == b"tcont".as_slice() {
         Hint::Note("version 2 has it")
+    } else if is_map_word(word) {
+        Hint::Note("version 4 has it")
     } else {
         known_hint(word)
     }
@@ -235,6 +253,7 @@ fn small_hint(due: Due, word: &[u8]) -> Hint
         Due::Kind => kind_hint(word),
         Due::Param => mode_hint(word),
         Due::ParamType => type_hint(word),
+        Due::Values => values_hint(word),
         Due::ParamScalar | Due::Register => scalar_hint(word, Hint::Nothing),
     }
 }

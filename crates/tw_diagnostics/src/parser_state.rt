@@ -2,12 +2,11 @@
 
 ghost use Rattle.std.specs.Prelude.{◌≡◌, ◌+◌, ◌++◌, [], ◌∷◌, ℕ, List, Option, None, Some, IfOk, MatchOption, length, map};
 ghost use Rattle.std.specs.Str.Lines.{lines};
-ghost use Rattle.tw_code.specs.format.Program.{IsWithin};
 ghost use Rattle.tw_lexer.specs.Number.{SpellsDigits};
 ghost use Rattle.tw_lexer.specs.Seen.{seen};
 ghost use Rattle.tw_lexer.specs.Words.{Bare};
 ghost use Rattle.tw_asm.specs.Fault.{LineSays, LinesSay, ParserState as Standing, at_start, situation};
-ghost use Rattle.tw_asm.specs.Statement.{Say, Statement, version_by};
+ghost use Rattle.tw_asm.specs.Statement.{IsVersionNumber, Say, Statement, version_by};
 ghost use Rattle.tw_code.specs.declared.version.Version.{Version as AVersion};
 ghost use Rattle.tw_diagnostics.specs.LineRole.{HasNoHead, IsFirstHead, advanced, is_head, says_of, situation_of, stage_after, stage_text, version_after};
 
@@ -65,18 +64,18 @@ pub(crate) struct ParserState {
 fn version_by(number: u64) -> Version
     ensures { result ≡ version_by number }
 {
-    if number == 2 {
-        Version::Two
-    } else {
-        Version::One
+    match number {
+        4 => Version::Four,
+        2 => Version::Two,
+        _ => Version::One,
     }
 }
 
-/// Returns the version with this number, 1 or 2.
+/// Returns the version with this number, 1, 2 or 4.
 fn version_in(text: &[u8]) -> Version
-    ensures { (number : ℕ) → SpellsDigits number text.now → IsWithin 1 2 number → result ≡ version_by number }
+    ensures { (number : ℕ) → SpellsDigits number text.now → IsVersionNumber number → result ≡ version_by number }
 {
-    match digits(text, 1, 2) {
+    match digits(text, 1, 4) {
         Ok(number) => version_by(number),
         Err(_) => Version::One,
     }
@@ -84,7 +83,7 @@ fn version_in(text: &[u8]) -> Version
 
 /// Returns the version with the number after `version`.
 fn version_after(others: &[Word<'_>]) -> Version
-    ensures { (number : ℕ) (text : List ℕ) → map seen others.now ≡ Bare text ∷ [] → SpellsDigits number text → IsWithin 1 2 number → result ≡ version_by number }
+    ensures { (number : ℕ) (text : List ℕ) → map seen others.now ≡ Bare text ∷ [] → SpellsDigits number text → IsVersionNumber number → result ≡ version_by number }
 {
     match others {
         [] => Version::One,

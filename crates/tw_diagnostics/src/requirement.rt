@@ -4,9 +4,9 @@ ghost use Rattle.std.specs.Prelude.{◌≡◌, ◌++◌, OnOk, codes};
 ghost use Rattle.tw_code.specs.accepting.Typing.{reads, right_fits_param, writes_scalar};
 ghost use Rattle.tw_types.specs.declared.param.Mode.TheVariants.{Closed};
 ghost use Rattle.tw_diagnostics.specs.RegisterCheck.{accepts, is_met_by, lacks_closing};
-ghost use Rattle.tw_diagnostics.specs.Words.{requirement_text, scalar_text, type_text, wanted_text};
+ghost use Rattle.tw_diagnostics.specs.Words.{map_text, requirement_text, scalar_text, sums_text, type_text, wanted_text};
 
-use crate::rights::{container_word, put_type, scalar_word};
+use crate::rights::{container_word, map_word, put_type, scalar_word};
 use std::alloc::AllocError;
 use tw_lexer::{put, put_both};
 use tw_types::{DataType, Mode, Param, Scalar};
@@ -27,6 +27,14 @@ pub(crate) enum Requirement {
     WriteContainer(Scalar),
     /// A right on a closed container with such subscripts.
     ClosedContainer(Scalar),
+    /// A right on a closed container or map with such subscripts.
+    ClosedSubscripts(Scalar),
+    /// A right to write a map from such subscripts to such values, but none of sums; of these types, if they are known.
+    WriteMap(Option<Scalar>, Option<Scalar>),
+    /// A right to write a map of sums; with such subscripts, if they are known.
+    WriteSums(Option<Scalar>),
+    /// A right on a closed map; of these types, if they are known.
+    ClosedMap(Option<Scalar>, Option<Scalar>),
     AnyClosedContainer,
     AnyWrite,
     AnyContainerWrite,
@@ -74,6 +82,12 @@ impl Requirement {
             Requirement::ClosedScalar(_) => mode == Mode::Closed && ty.is_scalar(),
             Requirement::WriteContainer(by) => mode.is_write() && ty.is_container_by(*by),
             Requirement::ClosedContainer(by) => mode == Mode::Closed && ty.is_container_by(*by),
+            Requirement::ClosedSubscripts(by) => mode == Mode::Closed && ty.has_subscripts_by(*by),
+            Requirement::WriteMap(_, _) => mode.is_write() && ty.is_plain_map(),
+            Requirement::WriteSums(_) => {
+                mode.is_write() && (ty.is_sums() && ty.scalar() == Scalar::Int)
+            }
+            Requirement::ClosedMap(_, _) => mode == Mode::Closed && ty.is_map(),
             Requirement::AnyClosedContainer => mode == Mode::Closed && !ty.is_scalar(),
             Requirement::AnyWrite => mode.is_write(),
             Requirement::AnyRead => reads(right),
@@ -92,6 +106,8 @@ impl Requirement {
         match self {
             Requirement::ClosedScalar(_) => ty.is_scalar(),
             Requirement::ClosedContainer(by) => ty.is_container_by(*by),
+            Requirement::ClosedSubscripts(by) => ty.has_subscripts_by(*by),
+            Requirement::ClosedMap(_, _) => ty.is_map(),
             Requirement::AnyClosedContainer => !ty.is_scalar(),
             Requirement::AnyRead => true,
             Requirement::ReadOf(Some(of)) => ty == *of,
@@ -103,6 +119,7 @@ impl Requirement {
                 false,
             Requirement::WriteScalar(_) | Requirement::WriteContainer(_) | Requirement::AnyWrite =>
                 false,
+            Requirement::WriteMap(_, _) | Requirement::WriteSums(_) => false,
         }
     }
 
@@ -155,6 +172,41 @@ fn put_of_type(out: &mut Vec<u8>, front: &str, ty: DataType) -> Result<(), Alloc
     put_type(out, ty)
 }
 
+/// Adds a right's mode, and a map of these types, if they are known.
+#[tactic(auto, using(crate::proofs::Types::two_more))]
+fn put_map(
+    out: &mut Vec<u8>,
+    front: &str,
+    by: Option<Scalar>,
+    ty: Option<Scalar>,
+) -> Result<(), AllocError>
+    ensures { OnOk result (out.new.items ≡ out.old.items ++ (front.now ++ map_text by ty)) }
+{
+    put(out, front)?;
+    match by {
+        None => put(out, "map"),
+        Some(by) => match ty {
+            None => put(out, "map"),
+            Some(ty) => {
+                put_both(out, map_word(by), " ")?;
+                put(out, scalar_word(ty))
+            }
+        },
+    }
+}
+
+/// Adds a right to write a map of sums with such subscripts, if they are known.
+#[tactic(auto, using(crate::proofs::Types::two_more))]
+fn put_sums(out: &mut Vec<u8>, by: Option<Scalar>) -> Result<(), AllocError>
+    ensures { OnOk result (out.new.items ≡ out.old.items ++ (codes "write " ++ sums_text by)) }
+{
+    put(out, "write ")?;
+    match by {
+        None => put(out, "map"),
+        Some(by) => put_both(out, map_word(by), " sum"),
+    }
+}
+
 /// Adds what is required of a register.
 fn put_requirement(out: &mut Vec<u8>, wanted: Requirement) -> Result<(), AllocError>
     ensures { OnOk result (out.new.items ≡ out.old.items ++ wanted_text wanted) }
@@ -168,6 +220,10 @@ fn put_requirement(out: &mut Vec<u8>, wanted: Requirement) -> Result<(), AllocEr
         Requirement::ClosedScalar(ty) => put_both(out, "closed ", scalar_text(ty)),
         Requirement::WriteContainer(by) => put_both(out, "write ", container_word(by)),
         Requirement::ClosedContainer(by) => put_both(out, "closed ", container_word(by)),
+        Requirement::ClosedSubscripts(by) => put_both(out, "closed ", container_word(by)),
+        Requirement::WriteMap(by, ty) => put_map(out, "write ", by, ty),
+        Requirement::WriteSums(by) => put_sums(out, by),
+        Requirement::ClosedMap(by, ty) => put_map(out, "closed ", by, ty),
         Requirement::AnyClosedContainer => put(out, "closed cont or tcont"),
         Requirement::AnyWrite => put(out, "write of a container"),
         Requirement::AnyContainerWrite => put(out, "write of a container"),

@@ -1,8 +1,9 @@
 //! Text for what registers hold.
 
 ghost use Rattle.std.specs.Prelude.{◌≡◌, ◌++◌, OnOk, if◌then◌else◌};
-ghost use Rattle.tw_asm.specs.Parts.{container_word, mode_word, scalar_word};
-ghost use Rattle.tw_types.specs.DataType.{is_container_by};
+ghost use Rattle.std.specs.List.{join_with_byte};
+ghost use Rattle.tw_asm.specs.Parts.{container_word, leaf_words, map_word, mode_word, scalar_word, sum_word};
+ghost use Rattle.tw_types.specs.DataType.{has_sums, is_container_by};
 ghost use Rattle.tw_types.specs.declared.data_type.Scalar.TheVariants.{Int, Text};
 ghost use Rattle.tw_diagnostics.specs.Words.{param_text, right_text, type_text};
 
@@ -41,6 +42,52 @@ pub(crate) fn container_word(by: Scalar) -> &'static str
     }
 }
 
+/// Returns the word for a map with such subscripts.
+pub(crate) fn map_word(by: Scalar) -> &'static str
+    ensures { result.now ≡ map_word by }
+{
+    match by {
+        Scalar::Int => "map",
+        Scalar::Text => "tmap",
+    }
+}
+
+/// Returns the word for a map's sums. There are none of texts.
+fn sum_word(scalar: Scalar) -> &'static str
+    ensures { result.now ≡ sum_word scalar }
+{
+    match scalar {
+        Scalar::Int => "sum",
+        Scalar::Text => "texts",
+    }
+}
+
+/// Returns the word of a map's values, or of its sums.
+fn word_of_values(ty: DataType) -> &'static str
+    ensures { result.now ≡ (if has_sums ty.map then sum_word ty.scalar else scalar_word ty.scalar) }
+{
+    if ty.has_sums() {
+        sum_word(ty.scalar())
+    } else {
+        scalar_word(ty.scalar())
+    }
+}
+
+/// Adds the words of a type without containers.
+#[tactic(auto, using(crate::proofs::Types::more_type))]
+fn put_leaf(out: &mut Vec<u8>, ty: DataType) -> Result<(), AllocError>
+    ensures { OnOk result (out.new.items ≡ out.old.items ++ join_with_byte 32 (leaf_words ty.map ty.scalar)) }
+{
+    match ty.map_by() {
+        Some(by) => {
+            put(out, map_word(by))?;
+            put(out, " ")?;
+            put(out, word_of_values(ty))
+        }
+        None => put(out, scalar_word(ty.scalar())),
+    }
+}
+
 /// Returns the type of a container's subscripts.
 fn outermost(ty: DataType) -> Scalar
     ensures { result ≡ (if is_container_by Text ty then Text else Int) }
@@ -63,7 +110,7 @@ pub fn put_type(out: &mut Vec<u8>, ty: DataType) -> Result<(), AllocError>
             put(out, " ")?;
             put_type(out, element)
         }
-        None => put(out, scalar_word(ty.scalar())),
+        None => put_leaf(out, ty),
     }
 }
 

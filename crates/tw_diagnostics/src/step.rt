@@ -2,13 +2,13 @@
 
 ghost use Rattle.std.specs.Prelude.{◌≡◌, ◌<◌, IfSome, option_map};
 ghost use Rattle.tw_lexer.specs.Seen.{seen};
-ghost use Rattle.tw_diagnostics.specs.Going.{after, after_mode, after_operand, after_type, ends_at, first_read, may_end, only_if};
+ghost use Rattle.tw_diagnostics.specs.Going.{after, after_map, after_mode, after_operand, after_type, ends_at, first_read, may_end, only_if};
 ghost use Rattle.tw_diagnostics.specs.declared.words.Ask.TheVariants as asked;
 ghost use Rattle.tw_diagnostics.specs.declared.step.Read.TheVariants as read;
 
 use crate::due::Due;
 use crate::words::{Ask, is_natural, is_operand};
-use tw_asm::{container_of, kind_of, mode_of, scalar_of};
+use tw_asm::{container_of, is_sum, kind_of, map_of, mode_of, scalar_of, version_number};
 use tw_code::{Form, Version, form_at};
 use tw_lexer::{TokenError, Word};
 use tw_types::Mode;
@@ -18,6 +18,8 @@ use tw_types::Mode;
 pub(crate) enum Read<'a> {
     /// The name of an instruction, and this many of its operands; a label, which has none, counts as a name.
     Operands(&'a [u8], usize),
+    /// The containers and the map's word of a type; with its last word, as many operands.
+    MapOperand(&'a [u8], usize),
     /// `version`.
     Version,
     /// `proc`.
@@ -26,6 +28,8 @@ pub(crate) enum Read<'a> {
     Params,
     /// The mode of a right, and containers around its type.
     RightMode,
+    /// The mode of a right, the containers around its type, and a map's word.
+    RightMap,
     /// `val`.
     Val,
     /// `regs`, and types.
@@ -84,6 +88,7 @@ impl<'a> LineProgress<'a> {
                 Some(form) => Some(Due::Operand(form)),
                 None => None,
             },
+            Read::MapOperand(_, _) | Read::RightMap => Some(Due::Values),
             Read::Version => Some(Due::Version),
             Read::Head => Some(Due::Kind),
             Read::Params => Some(Due::Param),
@@ -102,6 +107,7 @@ impl<'a> LineProgress<'a> {
             Read::Operands(name, place) => ends_at(form_at(version, name, place)),
             Read::Params | Read::Registers | Read::Whole => true,
             Read::Version | Read::Head | Read::RightMode | Read::Val => false,
+            Read::MapOperand(_, _) | Read::RightMap => false,
         }
     }
 
@@ -160,21 +166,31 @@ impl<'a> LineProgress<'a> {
         }
     }
 
-    /// Returns the progress after one more word of a type. If the word ends the type, `whole` has been read.
+    /// Returns the progress after one more word of a type. If the word is a map's, `values` has been read, and if it ends the type, `whole`.
     fn after_type(
         self,
         ask: Ask,
         version: Version,
         word: &Word<'_>,
+        values: Read<'a>,
         whole: Read<'a>,
     ) -> Option<LineProgress<'a>>
-        ensures { ask ≡ asked.Form → option_map (λ a. a.read) result ≡ after_type version (seen word.now) self.entry.read whole.entry }
+        ensures { ask ≡ asked.Form → option_map (λ a. a.read) result ≡ after_type version (seen word.now) self.entry.read values.entry whole.entry }
     {
         if ask.takes(scalar_of(word)) {
             Some(self.with(whole))
+        } else if ask.takes(map_of(version, word)) {
+            Some(self.with(values))
         } else {
             self.deeper(ask, ask.takes(container_of(version, word)))
         }
+    }
+
+    /// Returns the progress after the word of a map's values.
+    fn after_map(self, ask: Ask, word: &Word<'_>, whole: Read<'a>) -> Option<LineProgress<'a>>
+        ensures { ask ≡ asked.Form → option_map (λ a. a.read) result ≡ after_map (seen word.now) whole.entry }
+    {
+        self.only_if(ask.takes(scalar_of(word)) || is_sum(word), whole)
     }
 
     fn after_operand(
@@ -193,7 +209,9 @@ impl<'a> LineProgress<'a> {
         match form {
             None => None,
             Some(Form::TypeOf) => {
-                self.after_type(ask, version, word, Read::Operands(name, place + 1))
+                let next = place + 1;
+                let values = Read::MapOperand(name, next);
+                self.after_type(ask, version, word, values, Read::Operands(name, next))
             }
             Some(Form::Args) => self.one_more(ask, 8, is_natural(ask, 0, 15, word), self.read),
             Some(form) => {
@@ -221,10 +239,12 @@ impl<'a> LineProgress<'a> {
     {
         match self.read {
             Read::Operands(name, place) => self.after_operand(ask, version, name, place, form_at(version, name, place), word),
-            Read::Version => self.only_if(is_natural(ask, 1, 2, word), Read::Whole),
+            Read::MapOperand(name, next) => self.after_map(ask, word, Read::Operands(name, next)),
+            Read::Version => self.only_if(ask.takes(version_number(word)), Read::Whole),
             Read::Head => self.only_if(ask.takes(kind_of(word)), Read::Params),
             Read::Params => self.after_mode(ask, mode_of(word)),
-            Read::RightMode => self.after_type(ask, version, word, Read::Params),
+            Read::RightMode => self.after_type(ask, version, word, Read::RightMap, Read::Params),
+            Read::RightMap => self.after_map(ask, word, Read::Params),
             Read::Val => self.only_if(ask.takes(scalar_of(word)), Read::Params),
             Read::Registers => self.one_more(ask, 16, ask.takes(scalar_of(word)), self.read),
             Read::Whole => None,

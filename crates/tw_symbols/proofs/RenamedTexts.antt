@@ -9,7 +9,7 @@ use Rattle.tw_lexer.specs.Digits.{digits_in}
 use Rattle.tw_code.specs.format.Table.{forms_of, opcode_in, opcode_of}
 use Rattle.tw_code.specs.declared.opcode.Opcode.{Opcode}
 use Rattle.tw_code.specs.declared.opcode.Opcode.TheVariants as opcode
-use Rattle.tw_code.specs.declared.version.Version.TheVariants.{Two}
+use Rattle.tw_code.specs.declared.version.Version.TheVariants.{Four}
 use Rattle.tw_symbols.proofs.TextNames.{TokenError, Line, Names, Procedures, Rejection, Said, and_then, asked_by, at_number, ended, flat_map, head_says, is_name, is_names_line, known, line_rest, line_words, lines_say, made_say, no_names, pieces, procedures_of, taken_says, with_line, with_lines, with_register, words_say}
 use Rattle.tw_symbols.specs.Meanings.{Head}
 use Rattle.tw_symbols.specs.LineExpansion.{line_says, banks_at, banks_of, body_says, callee, constant_says, instruction_says, is_empty, let_says, made_word, makes, named, only_names, registers_say, with_word, word_says}
@@ -90,6 +90,9 @@ kind_of opcode.LookByText = inl (λ a b. refl)
 kind_of opcode.SubscriptAtByText = inl (λ a b. refl)
 kind_of opcode.RuleComputed = inr (refl, λ a. (_, refl))
 kind_of opcode.PutComputed = inr (refl, λ a. (_, refl))
+kind_of opcode.InsertValue = inl (λ a b. refl)
+kind_of opcode.GetValue = inl (λ a b. refl)
+kind_of opcode.AddValue = inl (λ a b. refl)
 
 cut : (k : ℕ) (f : List ℕ → List ℕ) (ws : List (List ℕ)) (E : List Expected) → (take k (map f (take k ws) ++ renamed_words f E (drop k ws)) ≡ map f (take k ws)) × (drop k (map f (take k ws) ++ renamed_words f E (drop k ws)) ≡ renamed_words f E (drop k ws))
 cut zero f ws E = (refl, refl)
@@ -209,7 +212,7 @@ module _ (f : List ℕ → List ℕ) (is : IsTextRenaming f) where
   body_kept p n front None ws more are said e = ap (λ (xs : List (List ℕ)). body_says (rp f is p) (rn f is n) None front xs) are ∙ nothing_kept n _ said e
   body_kept p n front (Some o) ws more are said e = instruction_kept p n o front (flat_map pieces ws) (flat_map pieces more) said are e
 
-  none_so_called : opcode_in Two (codes "names") ≡ None
+  none_so_called : opcode_in Four (codes "names") ≡ None
   unfolding opcode_of
   none_so_called = refl
 
@@ -232,7 +235,7 @@ module _ (f : List ℕ → List ℕ) (is : IsTextRenaming f) where
       (cond (bytes_eq first (codes "let")) (only_names front (let_says q m first xs))
       (cond (bytes_eq first (codes "proc")) (head_says q number m (front ++ first) (flat_map pieces xs))
       (cond (bytes_eq first (codes "regs")) (registers_say q m (front ++ first) (flat_map pieces xs))
-      (body_says q m (opcode_in Two first) (front ++ first) xs))))
+      (body_says q m (opcode_in Four first) (front ++ first) xs))))
 
   line_kept : (p : Procedures) (number : ℕ) (n : Names) (front : List ℕ) (ws others : List (List ℕ)) → AreLineWords f p n front ws others → Goes (line_says p number n front ws) (line_says (rp f is p) number (rn f is n) front others)
   unfolding line_says
@@ -251,7 +254,7 @@ module _ (f : List ℕ → List ℕ) (is : IsTextRenaming f) where
       (λ k. let last = if_false _ _ (bytes_eq first (codes "proc")) other k in
       share Goes (bytes_eq first (codes "regs")) _ _ _ _
       (λ g said e. ap (registers_say (rp f is p) (rn f is n) (front ++ first)) (if_true _ _ (bytes_eq first (codes "regs")) last g) ∙ registers_kept f is p n (front ++ first) (flat_map pieces ws) said e)
-      (λ g. body_kept p n (front ++ first) (opcode_in Two first) ws more (if_false _ _ (bytes_eq first (codes "regs")) last g))))))))
+      (λ g. body_kept p n (front ++ first) (opcode_in Four first) ws more (if_false _ _ (bytes_eq first (codes "regs")) last g))))))))
 
   taken_kept : (p : Procedures) (number : ℕ) (n : Names) (front : List ℕ) (line other : Line) → IsRenamedLine f p n front line other → Goes (taken_says p number n front line) (taken_says (rp f is p) number (rn f is n) front other)
   taken_kept p number n front line other (rest, are) said e =

@@ -8,7 +8,7 @@ use Rattle.std.specs.Str.{bytes_eq}
 use Rattle.tw_lexer.specs.Names.{before_colon}
 use Rattle.tw_code.specs.format.Table.{opcode_in, forms_of}
 use Rattle.tw_code.specs.declared.opcode.Opcode.{Opcode}
-use Rattle.tw_code.specs.declared.version.Version.TheVariants.{Two}
+use Rattle.tw_code.specs.declared.version.Version.TheVariants.{Four}
 use Rattle.tw_symbols.specs.LineExpansion.{Said, asked_by, at_head, banks_of, begins, begins_first, followed_by, body_says, constant_says, counted, fitting, has_colon, head_says, instruction_says, is_listed_word, is_names_line, is_unnamed, let_says, line_says, number_of, list_name, list_says, made_one, made_say, made_word, makes, name_before, name_says, named, number_in, only_names, parameters, procedure_name, register_of, registers_say, expands, value_after, value_types, with_word, word_says, words_say}
 use Rattle.tw_symbols.specs.declared.meaning.Expected.{Expected}
 use Rattle.tw_symbols.specs.declared.meaning.Expected.TheVariants as asked
@@ -286,4 +286,4 @@ module _ (Q : List ℕ → Type 0) (kept : IsKept Q) where
       (either (SaysKept Q front) (bytes_eq first (codes "let")) _ _ (only_more names front (let_says p names first ws) h (let_types p names first ws))
       (either (SaysKept Q front) (bytes_eq first (codes "proc")) _ _ (after_first front first _ k.0 (head_kept p number names (front ++ first) (flat_map pieces ws) (pieces_kept ws k.1)))
       (either (SaysKept Q front) (bytes_eq first (codes "regs")) _ _ (after_first front first _ k.0 (registers_kept p names (front ++ first) (flat_map pieces ws) h (pieces_kept ws k.1)))
-      (after_first front first _ k.0 (body_kept p names (opcode_in Two first) (front ++ first) ws h k.1))))))
+      (after_first front first _ k.0 (body_kept p names (opcode_in Four first) (front ++ first) ws h k.1))))))

@@ -12,7 +12,7 @@ use Rattle.tw_code.specs.declared.form.Form.{Form}
 use Rattle.tw_code.specs.declared.form.Form.TheVariants as form
 use Rattle.tw_code.specs.declared.opcode.Opcode.{Opcode}
 use Rattle.tw_code.specs.declared.opcode.Opcode.TheVariants as opcode
-use Rattle.tw_code.specs.declared.version.Version.TheVariants.{Two}
+use Rattle.tw_code.specs.declared.version.Version.TheVariants.{Four}
 use Rattle.tw_symbols.specs.Lines.{begins_quoted, pieces}
 use Rattle.tw_symbols.specs.Meanings.{TokenError, Head, Names, Procedures, and_then, is_name, known, may_name, meaning, refused, with_constant, with_listed, with_register}
 use Rattle.tw_symbols.specs.declared.meaning.Expected.{Expected}
@@ -204,10 +204,14 @@ list_name procedures names values rights word [] b = refused no.Form word
 list_name procedures names values rights word name None = refused no.Form word
 list_name procedures names values rights word name (Some b) = with_listed procedures names name b (number_in b values rights)
 
+-- returns whether a word is one of the types of maps
+abbrev pub is_map_word : List ℕ → Bool
+is_map_word word = bytes_eq word (codes "map") || (bytes_eq word (codes "tmap") || bytes_eq word (codes "sum"))
+
 -- returns whether a word is a mode, or a word of a type
 abbrev pub is_listed_word : List ℕ → Bool
 is_listed_word word =
-    is_some (bank_of_mode word) || (bytes_eq word (codes "int") || (bytes_eq word (codes "text") || (bytes_eq word (codes "cont") || bytes_eq word (codes "tcont"))))
+    is_some (bank_of_mode word) || (bytes_eq word (codes "int") || (bytes_eq word (codes "text") || (bytes_eq word (codes "cont") || (bytes_eq word (codes "tcont") || is_map_word word))))
 
 -- returns whether a word that isn't quoted contains a `:`
 abbrev pub has_colon : List ℕ → Bool
@@ -303,4 +307,4 @@ line_says procedures number names front (first ∷ words) =
     if bytes_eq first (codes "let") then only_names front (let_says procedures names first words) else
     if bytes_eq first (codes "proc") then head_says procedures number names (front ++ first) (flat_map pieces words) else
     if bytes_eq first (codes "regs") then registers_say procedures names (front ++ first) (flat_map pieces words) else
-    body_says procedures names (opcode_in Two first) (front ++ first) words
+    body_says procedures names (opcode_in Four first) (front ++ first) words

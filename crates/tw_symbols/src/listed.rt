@@ -4,7 +4,7 @@ ghost use Rattle.std.specs.Prelude.{◌≡◌, ◌≤◌, ◌^◌, IfOk, OnOk, f
 ghost use Rattle.std.specs.Option.{option_map};
 ghost use Rattle.tw_symbols.specs.Answers.{Gives, SaysAfter};
 ghost use Rattle.tw_lexer.specs.Names.{before_colon};
-ghost use Rattle.tw_symbols.specs.LineExpansion.{at_head, begins, followed_by, begins_at, begins_first, has_colon, head_says, is_listed_word, is_unnamed, list_name, list_says, name_before, name_says, number_in, registers_say, unnamed_says};
+ghost use Rattle.tw_symbols.specs.LineExpansion.{at_head, begins, followed_by, begins_at, begins_first, has_colon, head_says, is_listed_word, is_map_word, is_unnamed, list_name, list_says, name_before, name_says, number_in, registers_say, unnamed_says};
 ghost use Rattle.tw_symbols.specs.Meanings.{Names as Known};
 ghost use Rattle.tw_symbols.specs.Seen.{now, seen_names, seen_procedures, texts};
 
@@ -52,6 +52,13 @@ fn number_in(bank: Bank, values: usize, rights: usize) -> usize
     }
 }
 
+/// Returns whether a word is one of the types of maps.
+fn is_map_word(word: &[u8]) -> bool
+    ensures { result ≡ is_map_word word.now }
+{
+    word == b"map".as_slice() || word == b"tmap".as_slice() || word == b"sum".as_slice()
+}
+
 /// Returns whether a word is a mode, or a word of a type.
 fn is_listed_word(word: &[u8]) -> bool
     ensures { result ≡ is_listed_word word.now }
@@ -61,6 +68,7 @@ fn is_listed_word(word: &[u8]) -> bool
         || word == b"text".as_slice()
         || word == b"cont".as_slice()
         || word == b"tcont".as_slice()
+        || is_map_word(word)
 }
 
 /// Returns whether a word that isn't quoted contains a `:`.

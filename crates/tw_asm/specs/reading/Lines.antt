@@ -1,5 +1,5 @@
 -- Reading the words after a first word.
-use Rattle.std.specs.Prelude.{◌≡◌, ℕ, ℤ, List, [], ◌∷◌, ◌++◌, length, codes, Option, Some, None, Result, Ok, Err, nat_lt, if◌then◌else◌}
+use Rattle.std.specs.Prelude.{◌≡◌, ℕ, ℤ, List, [], ◌∷◌, ◌++◌, length, codes, Option, Some, None, Result, Ok, Err, nat_lt, Bool, true, false, ◌==◌, if◌then◌else◌}
 use Rattle.std.specs.Str.{bytes_eq}
 use Rattle.tw_code.specs.declared.form.Form.{Form as OperandForm}
 use Rattle.tw_code.specs.declared.form.Form.TheVariants as form
@@ -15,12 +15,14 @@ use Rattle.tw_asm.specs.Statement as said
 use Rattle.tw_asm.specs.declared.statement.Unlinked.{Unlinked}
 use Rattle.tw_lexer.specs.declared.numbers.TokenError.{TokenError}
 use Rattle.tw_lexer.specs.declared.numbers.TokenError.TheVariants.{Form, Limit}
+use Rattle.tw_asm.specs.declared.gathering.Begun.{Begun}
+use Rattle.tw_asm.specs.declared.gathering.Begun.TheVariants as so_far
 use Rattle.tw_asm.specs.declared.rejection.Rejection.{Rejection}
 use Rattle.tw_asm.specs.declared.rejection.Rejection.TheVariants as rejection
-use Rattle.tw_asm.specs.reading.Operands.{both, natural_in, register_in, number_in, literal_in, target_in, name_in, Goal, goal_in, scalar_in, container_in, mode_in}
+use Rattle.tw_asm.specs.reading.Operands.{both, natural_in, register_in, number_in, literal_in, target_in, name_in, Goal, goal_in, scalar_in, container_in, is_sum, map_in, mode_in}
 use Rattle.tw_lexer.specs.Digits.{as_is}
 use Rattle.tw_lexer.specs.Names.{before_colon}
-use Rattle.tw_types.specs.DataType.{container_of, depth_of, is_scalar, scalar_type}
+use Rattle.tw_types.specs.DataType.{container_of, depth_of, is_scalar, map_of, scalar_type, sums_of}
 use Rattle.tw_types.specs.Nesting.{NestedScalar}
 use Rattle.tw_types.specs.declared.actor.Kind.{Kind}
 use Rattle.tw_types.specs.declared.actor.Kind.TheVariants.{Control, Leaf}
@@ -58,39 +60,58 @@ around (Err e) = Err e
 abbrev pub contained : Result Scalar TokenError → Result NestedScalar TokenError → Result NestedScalar TokenError
 contained by ty = around (both by ty)
 
--- reads the last word of a type, or a word before a type
-abbrev pub typed : Version → Word → Option (Result NestedScalar TokenError) → Result NestedScalar TokenError
-typed version w None = as_is scalar_type (scalar_in w)
-typed version w (Some ty) = contained (container_in version w) ty
+-- returns the type of maps whose values are of this scalar type
+abbrev pub mapped : Scalar → Result NestedScalar TokenError → Result NestedScalar TokenError
+mapped by (Ok ty) = if is_scalar ty then Ok (map_of by ty.scalar) else Err Form
+mapped by (Err e) = Err Form
 
-abbrev pub type_from : Version → List Word → Option (Result NestedScalar TokenError)
-type_from version [] = None
-type_from version (w ∷ ws) = Some (typed version w (type_from version ws))
+-- returns the type that a word makes of the type after it
+abbrev pub before : Result Scalar TokenError → Result Scalar TokenError → Result NestedScalar TokenError → Result NestedScalar TokenError
+before (Ok by) map ty = contained (Ok by) ty
+before (Err e) (Ok by) ty = mapped by ty
+before (Err e) (Err f) ty = Err Form
 
--- reads a scalar, and the containers before it
+-- reads the last word of a type, or a word before others of the type
+abbrev pub typed : Version → Word → Begun → Begun
+typed version w so_far.Nothing = if is_sum w then so_far.Sum else so_far.Type (as_is scalar_type (scalar_in w))
+typed version w so_far.Sum = so_far.Type (as_is sums_of (map_in version w))
+typed version w (so_far.Type ty) = so_far.Type (before (container_in version w) (map_in version w) ty)
+
+abbrev pub type_from : Version → List Word → Begun
+type_from version [] = so_far.Nothing
+type_from version (w ∷ ws) = typed version w (type_from version ws)
+
+-- returns the type, unless words are missing
+abbrev pub whole_type : Begun → Result NestedScalar TokenError
+whole_type so_far.Nothing = Err Form
+whole_type so_far.Sum = Err Form
+whole_type (so_far.Type ty) = ty
+
+-- reads a scalar or a map, and the containers before it
 abbrev pub type_in : Version → List Word → Result NestedScalar TokenError
-type_in version ws = whole (type_from version ws)
-  where
-    whole : Option (Result NestedScalar TokenError) → Result NestedScalar TokenError
-    whole None = Err Form
-    whole (Some ty) = ty
+type_in version ws = whole_type (type_from version ws)
 
 -- the parameters, and a type before them whose mode comes next
 pub record Params : Type 0 where
   pub whole : Result (List Param) TokenError
-  pub begun : Option (Result NestedScalar TokenError)
+  pub begun : Begun
 
 abbrev pub no_params : Params
-no_params = record { whole = Ok []; begun = None }
+no_params = record { whole = Ok []; begun = so_far.Nothing }
 
 abbrev pub broken : Params
-broken = record { whole = Err Form; begun = None }
+broken = record { whole = Err Form; begun = so_far.Nothing }
 
-abbrev pub begins : Result (List Param) TokenError → Result Scalar TokenError → Params
-begins whole (Ok scalar) = record { whole = whole; begun = Some (Ok (scalar_type scalar)) }
-begins whole (Err e) = broken
+-- continues with a type, or is broken without one
+abbrev pub with_type : Result (List Param) TokenError → Result NestedScalar TokenError → Params
+with_type whole (Ok ty) = record { whole = whole; begun = so_far.Type (Ok ty) }
+with_type whole (Err e) = broken
 
--- returns the type, unless a container has mode `val`
+abbrev pub begins : Result (List Param) TokenError → Bool → Result Scalar TokenError → Params
+begins whole true r = record { whole = whole; begun = so_far.Sum }
+begins whole false r = with_type whole (as_is scalar_type r)
+
+-- returns the type, unless a container or a map has mode `val`
 abbrev pub under : Mode → Result NestedScalar TokenError → Result NestedScalar TokenError
 under Val (Ok ty) = if is_scalar ty then Ok ty else Err Form
 under Val (Err e) = Err Form
@@ -106,20 +127,22 @@ abbrev pub put_first : {A : Type 0} → Result A TokenError → Result (List A) 
 put_first item items = as_is (λ x. x.0 ∷ x.1) (both item items)
 
 abbrev pub ends : Result (List Param) TokenError → Result NestedScalar TokenError → Result Mode TokenError → Params
-ends whole ty (Ok mode) = record { whole = put_first (as_is (param_of mode) (under mode ty)) whole; begun = None }
+ends whole ty (Ok mode) = record { whole = put_first (as_is (param_of mode) (under mode ty)) whole; begun = so_far.Nothing }
 ends whole ty (Err e) = broken
 
-abbrev pub goes_on : Result (List Param) TokenError → Result NestedScalar TokenError → Result Scalar TokenError → Result Mode TokenError → Params
-goes_on whole ty (Ok by) mode = record { whole = whole; begun = Some (contained (Ok by) ty) }
-goes_on whole ty (Err e) mode = ends whole ty mode
+abbrev pub goes_on : Result (List Param) TokenError → Result NestedScalar TokenError → Result Scalar TokenError → Result Scalar TokenError → Result Mode TokenError → Params
+goes_on whole ty (Ok by) map mode = record { whole = whole; begun = so_far.Type (contained (Ok by) ty) }
+goes_on whole ty (Err e) (Ok by) mode = with_type whole (mapped by ty)
+goes_on whole ty (Err e) (Err f) mode = ends whole ty mode
 
 -- reads a word before the others
 abbrev pub taken : Version → Word → Params → Params
 taken version w params = by params.whole params.begun
   where
-    by : Result (List Param) TokenError → Option (Result NestedScalar TokenError) → Params
-    by whole None = begins whole (scalar_in w)
-    by whole (Some ty) = goes_on whole ty (container_in version w) (mode_in w)
+    by : Result (List Param) TokenError → Begun → Params
+    by whole so_far.Nothing = begins whole (is_sum w) (scalar_in w)
+    by whole so_far.Sum = with_type whole (as_is sums_of (map_in version w))
+    by whole (so_far.Type ty) = goes_on whole ty (container_in version w) (map_in version w) (mode_in w)
 
 abbrev pub params_from : Version → List Word → Params
 params_from version [] = no_params
@@ -129,9 +152,10 @@ params_from version (w ∷ ws) = taken version w (params_from version ws)
 abbrev pub ended : Params → Result (List Param) TokenError
 ended params = by params.begun
   where
-    by : Option (Result NestedScalar TokenError) → Result (List Param) TokenError
-    by None = params.whole
-    by (Some ty) = Err Form
+    by : Begun → Result (List Param) TokenError
+    by so_far.Nothing = params.whole
+    by so_far.Sum = Err Form
+    by (so_far.Type ty) = Err Form
 
 -- ---- operands
 
@@ -248,9 +272,14 @@ draft_in version o ws = draft_by (row_of version o) ws
 abbrev pub version_read : ℕ → Read
 version_read n = record { statement = said.OfVersion (said.version_number (said.version_by n)); goal = None }
 
+-- returns the number of a version; there is no version 3
+abbrev pub version_known : Result ℕ TokenError → Result ℕ TokenError
+version_known (Ok n) = if n == 3 then Err Limit else Ok n
+version_known (Err e) = Err e
+
 abbrev pub version_in : List Word → Result Read TokenError
 version_in [] = Err Form
-version_in (w ∷ []) = as_is version_read (natural_in 1 2 w)
+version_in (w ∷ []) = as_is version_read (version_known (natural_in 1 4 w))
 version_in (w ∷ x ∷ ws) = Err Form
 
 abbrev pub kind_in : Word → Result Kind TokenError

@@ -1,12 +1,12 @@
 -- Reading one word, or its error.
-use Rattle.std.specs.Prelude.{ℕ, ℤ, List, [], ◌∷◌, length, codes, Option, Some, None, Result, Ok, Err, nat_lt, ◌==◌, if◌then◌else◌}
+use Rattle.std.specs.Prelude.{ℕ, ℤ, List, [], ◌∷◌, length, codes, Option, Some, None, Result, Ok, Err, nat_lt, ◌==◌, if◌then◌else◌, Bool, false}
 use Rattle.std.specs.Str.{bytes_eq}
 use Rattle.tw_code.specs.declared.version.Version.{Version}
-use Rattle.tw_code.specs.declared.version.Version.TheVariants.{One, Two}
+use Rattle.tw_code.specs.declared.version.Version.TheVariants.{One, Two, Four}
 use Rattle.tw_lexer.specs.Words.{Word, Bare, Quoted}
 use Rattle.tw_lexer.specs.Digits.{as_is, digits_in, signed_in}
 use Rattle.tw_lexer.specs.Names.{is_name}
-use Rattle.tw_asm.specs.Parts.{container_word, mode_word, scalar_word}
+use Rattle.tw_asm.specs.Parts.{container_word, map_word, mode_word, scalar_word, sum_word}
 use Rattle.tw_lexer.specs.declared.numbers.TokenError.{TokenError}
 use Rattle.tw_lexer.specs.declared.numbers.TokenError.TheVariants.{Form, Limit}
 use Rattle.tw_types.specs.declared.data_type.Scalar.{Scalar}
@@ -77,6 +77,7 @@ scalar_in (Quoted text) = Err Form
 abbrev pub text_container : Version → Result Scalar TokenError
 text_container One = Err Form
 text_container Two = Ok scalar.Text
+text_container Four = Ok scalar.Text
 
 -- reads the word of a container, as the type of its subscripts
 abbrev pub container_in : Version → Word → Result Scalar TokenError
@@ -85,6 +86,21 @@ container_in version (Bare text) =
     if bytes_eq text (container_word scalar.Text) then text_container version else
     Err Form
 container_in version (Quoted text) = Err Form
+
+-- reads the word of a map, as the type of its subscripts
+abbrev pub map_in : Version → Word → Result Scalar TokenError
+map_in One w = Err Form
+map_in Two w = Err Form
+map_in Four (Bare text) =
+    if bytes_eq text (map_word scalar.Int) then Ok scalar.Int else
+    if bytes_eq text (map_word scalar.Text) then Ok scalar.Text else
+    Err Form
+map_in Four (Quoted text) = Err Form
+
+-- returns whether it is the word of a map's sums
+abbrev pub is_sum : Word → Bool
+is_sum (Bare text) = bytes_eq text (sum_word scalar.Int)
+is_sum (Quoted text) = false
 
 abbrev pub mode_in : Word → Result Mode TokenError
 mode_in (Bare text) =

@@ -17,6 +17,9 @@ Two = ℕ × (ℕ × Unit {0})
 abbrev pub TwoAndGoal : Type 0
 TwoAndGoal = ℕ × (ℕ × Goal)
 
+abbrev pub Three : Type 0
+Three = ℕ × (ℕ × (ℕ × Unit {0}))
+
 abbrev pub ThreeAndGoal : Type 0
 ThreeAndGoal = ℕ × (ℕ × (ℕ × Goal))
 
@@ -33,9 +36,15 @@ abbrev pub AreTwoAndSkip : List Form → Type 0
 AreTwoAndSkip (Value ∷ Value ∷ Skip ∷ []) = Unit {0}
 AreTwoAndSkip forms = ⊥
 
+-- holds of three registers
+abbrev pub AreThree : List Form → Type 0
+AreThree (Right ∷ Value ∷ Value ∷ []) = Unit {0}
+AreThree forms = ⊥
+
 -- holds of three registers and a skip
 abbrev pub AreThreeAndSkip : List Form → Type 0
 AreThreeAndSkip (Value ∷ Value ∷ Value ∷ Skip ∷ []) = Unit {0}
+AreThreeAndSkip (Right ∷ Value ∷ Value ∷ Skip ∷ []) = Unit {0}
 AreThreeAndSkip (Right ∷ Value ∷ Right ∷ Skip ∷ []) = Unit {0}
 AreThreeAndSkip (Right ∷ Right ∷ Value ∷ Skip ∷ []) = Unit {0}
 AreThreeAndSkip (Value ∷ Right ∷ Value ∷ Skip ∷ []) = Unit {0}
@@ -49,13 +58,19 @@ two_in (Value ∷ Right ∷ []) ws = line_in (more value (more right nothing)) w
 two_in (Right ∷ Right ∷ []) ws = line_in (more right (more right nothing)) ws
 two_in forms ws = Err error.Form
 
--- reads three registers of these banks, and a goal
-abbrev pub three_in : List Form → List Word → Result ThreeAndGoal TokenError
-three_in (Value ∷ Value ∷ Value ∷ Skip ∷ []) ws = line_in (more value (more value (more value goal))) ws
-three_in (Right ∷ Value ∷ Right ∷ Skip ∷ []) ws = line_in (more right (more value (more right goal))) ws
-three_in (Right ∷ Right ∷ Value ∷ Skip ∷ []) ws = line_in (more right (more right (more value goal))) ws
-three_in (Value ∷ Right ∷ Value ∷ Skip ∷ []) ws = line_in (more value (more right (more value goal))) ws
+-- reads three registers of these banks
+abbrev pub three_in : List Form → List Word → Result Three TokenError
+three_in (Right ∷ Value ∷ Value ∷ []) ws = line_in (more right (more value (more value nothing))) ws
 three_in forms ws = Err error.Form
+
+-- reads three registers of these banks, and a goal
+abbrev pub three_with_goal : List Form → List Word → Result ThreeAndGoal TokenError
+three_with_goal (Right ∷ Value ∷ Value ∷ Skip ∷ []) ws = line_in (more right (more value (more value goal))) ws
+three_with_goal (Value ∷ Value ∷ Value ∷ Skip ∷ []) ws = line_in (more value (more value (more value goal))) ws
+three_with_goal (Right ∷ Value ∷ Right ∷ Skip ∷ []) ws = line_in (more right (more value (more right goal))) ws
+three_with_goal (Right ∷ Right ∷ Value ∷ Skip ∷ []) ws = line_in (more right (more right (more value goal))) ws
+three_with_goal (Value ∷ Right ∷ Value ∷ Skip ∷ []) ws = line_in (more value (more right (more value goal))) ws
+three_with_goal forms ws = Err error.Form
 
 -- returns the instruction of a row whose operands are two registers
 abbrev pub made_of_two : Row → ℕ → ℕ → Instr
@@ -70,9 +85,15 @@ abbrev pub made_of_two_and_skip : Row → ℕ → ℕ → ℕ → Instr
 made_of_two_and_skip (a_row code (Value ∷ Value ∷ Skip ∷ []) make) a b skip = make (a, (b, (skip, tt)))
 made_of_two_and_skip row a b skip = Ret
 
+-- returns the instruction of a row whose operands are three registers
+abbrev pub made_of_three : Row → ℕ → ℕ → ℕ → Instr
+made_of_three (a_row code (Right ∷ Value ∷ Value ∷ []) make) a b c = make (a, (b, (c, tt)))
+made_of_three row a b c = Ret
+
 -- returns the instruction of a row whose operands are three registers and a skip
 abbrev pub made_of_three_and_skip : Row → ℕ → ℕ → ℕ → ℕ → Instr
 made_of_three_and_skip (a_row code (Value ∷ Value ∷ Value ∷ Skip ∷ []) make) a b c skip = make (a, (b, (c, (skip, tt))))
+made_of_three_and_skip (a_row code (Right ∷ Value ∷ Value ∷ Skip ∷ []) make) a b c skip = make (a, (b, (c, (skip, tt))))
 made_of_three_and_skip (a_row code (Right ∷ Value ∷ Right ∷ Skip ∷ []) make) a b c skip = make (a, (b, (c, (skip, tt))))
 made_of_three_and_skip (a_row code (Right ∷ Right ∷ Value ∷ Skip ∷ []) make) a b c skip = make (a, (b, (c, (skip, tt))))
 made_of_three_and_skip (a_row code (Value ∷ Right ∷ Value ∷ Skip ∷ []) make) a b c skip = make (a, (b, (c, (skip, tt))))

@@ -1,13 +1,13 @@
 use Rattle.std.proofs.Common.{rules, ◌≡◌, ◌∙◌, ◌<◌, ◌-◌, ap, sym, Some, None}
 use Rattle.tw_types.specs.DataType.{container_of}
 use Rattle.tw_binary.specs.Reading.{container_in, type_at}
-use Rattle.tw_binary.proofs.Types.{begins_container, begins_scalar, fails_within, inside, made, too_deep}
+use Rattle.tw_binary.proofs.Types.{begins_container, begins_leaf, fails_within, inside, made, too_deep}
 use Rattle.tw_binary.proofs.items.+type_of.Goals as goal
 
 pub returns-in_default-container_of-clause-reads : goal.returns-in_default-container_of-clause-reads
 returns-in_default-container_of-clause-reads t c =
-    let scalar : container_in c.args.version c.in-Some.code.now ≡ None = search rules in
-    rw (begins_scalar _ c.args.room _ _ _ c.in-Some.ensures.cases.0 scalar) c.scalar_type_of.ensures
+    let leaf : container_in c.args.version c.in-Some.code.now ≡ None = search rules in
+    rw (begins_leaf _ c.args.room _ _ _ c.in-Some.ensures.cases.0 leaf) c.leaf_of.ensures.reads
 
 pub returns-then-room-eq0-clause-reads : goal.returns-then-room-eq0-clause-reads
 returns-then-room-eq0-clause-reads t c =

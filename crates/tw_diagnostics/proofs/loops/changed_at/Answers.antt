@@ -1,4 +1,4 @@
-use Rattle.std.proofs.Common.{◌+◌, ℕ, subst, length, arith}
+use Rattle.std.proofs.Common.{◌+◌, ℕ, subst, arith}
 use Rattle.std.proofs.lemmas.List.{length-map}
 use Rattle.std.proofs.lemmas.Option.{slice_get_within}
 use Rattle.tw_code.specs.accepting.Flow.{flow_of, flows}
