@@ -14,10 +14,10 @@ use Rattle.serde_json.specs.Written.{has_float, items_have_float, members_have_f
 use Rattle.tw_types.specs.declared.pending.Link.{Link}
 use Rattle.tw_types.specs.declared.value.Value.{Value}
 use Rattle.tw_types.specs.declared.value.Value.TheVariants as value
-use Rattle.tw_types.specs.Store.{Content, Unset, Set, Contains, Datum, Data}
+use Rattle.tw_types.specs.Store.{Content, Unset, Set, Contains, Maps, Datum, Data}
 use Rattle.tw_types.specs.StoreCalls.{value_in}
 use Rattle.tw_types.specs.ValueOrder.{Subscript}
-use Rattle.tw_json_output.specs.Outputs.{content_json, datum_json, datum_kind, key_of, kinds_json, members_json, output_json, outputs_json, scalar_json, value_json, with_members}
+use Rattle.tw_json_output.specs.Outputs.{content_json, datum_json, datum_kind, key_of, kinds_json, members_json, output_json, outputs_json, scalar_json, value_json, with_members, with_values}
 use Rattle.tw_json_output.specs.Texts.{explanation_json, lines_json, printed_json, whole_json, with_code, with_status, without_feed}
 use Rattle.tw_json_output.specs.declared.text_object.Printed.{Printed}
 use Rattle.tw_json_output.specs.declared.text_object.Printed.TheVariants.{Digits, Listing, Plain, Text}
@@ -89,10 +89,15 @@ members live ms (e ∷ es) before =
     members live (json.put (key_of e.0) (datum_json (fin.get live e.1)) ms) es
     (one_more (key_of e.0) (datum_json (fin.get live e.1)) ms (valued (option_and_then (λ d. value_in d.content) (fin.get live e.1))) before)
 
+entries : (ms : json.Members) (es : List (Subscript × Value)) → members_have_float ms ≡ false → members_have_float (with_values ms es) ≡ false
+entries ms [] before = before
+entries ms (e ∷ es) before = entries (json.put (key_of e.0) (scalar_json e.1) ms) es (one_more (key_of e.0) (scalar_json e.1) ms (scalar e.1) before)
+
 content : (live : Data) (c : Content) → has_float (content_json live c) ≡ false
 content live Unset = refl
 content live (Set v) = scalar v
 content live (Contains ms) = members live json.no_members (fin.entries ms) refl
+content live (Maps vs) = entries json.no_members (fin.entries vs) refl
 
 output : (live : Data) (x : Option Datum) → has_float (output_json live x) ≡ false
 output live None = refl

@@ -1,16 +1,17 @@
--- Outputs as JSON values: an integer is a number, a text a string, and a container an object of its members.
-use Rattle.std.specs.Prelude.{ℕ, Bool, true, false, List, [], ◌∷◌, codes, map, Option, Some, None}
+-- Outputs as JSON values: an integer is a number, a text a string, and a container or a map an object of its members or values.
+use Rattle.std.specs.Prelude.{ℕ, Bool, true, false, if◌then◌else◌, List, [], ◌∷◌, codes, map, Option, Some, None}
 use Rattle.std.specs.FinMap as fin
 use Rattle.std.specs.Fmt.{signed_decimal}
 use Rattle.std.specs.Option.{option_and_then}
 use Rattle.serde_json.specs.Data as json
 use Rattle.serde_json.specs.Find.{of_integer}
-use Rattle.tw_types.specs.DataType.{is_container_by}
+use Rattle.tw_types.specs.DataType.{has_sums, is_container_by, is_map_by}
 use Rattle.tw_types.specs.declared.data_type.Scalar.{Scalar}
 use Rattle.tw_types.specs.declared.data_type.Scalar.TheVariants as scalar
 use Rattle.tw_types.specs.declared.value.Value.{Value}
 use Rattle.tw_types.specs.declared.value.Value.TheVariants as value
-use Rattle.tw_types.specs.Store.{Content, Unset, Set, Contains, Datum, Data, is_closed}
+use Rattle.tw_types.specs.Nesting.{NestedScalar}
+use Rattle.tw_types.specs.Store.{Content, Unset, Set, Contains, Maps, Datum, Data, is_closed}
 use Rattle.tw_types.specs.StoreCalls.{members_in, value_in}
 use Rattle.tw_types.specs.ValueOrder.{Subscript}
 
@@ -40,10 +41,20 @@ with_members live members (e ∷ es) = with_members live (json.put (key_of e.0) 
 abbrev pub members_json : Data → List (Subscript × ℕ) → json.Members
 members_json live members = with_members live json.no_members members
 
+-- adds values to an object, one after the other
+abbrev pub with_values : json.Members → List (Subscript × Value) → json.Members
+with_values members [] = members
+with_values members (e ∷ es) = with_values (json.put (key_of e.0) (scalar_json e.1) members) es
+
+-- returns the values of a map, each by its subscript
+abbrev pub values_json : List (Subscript × Value) → json.Members
+values_json es = with_values json.no_members es
+
 abbrev pub content_json : Data → Content → json.Data
 content_json live Unset = json.null
 content_json live (Set v) = scalar_json v
 content_json live (Contains members) = json.object (members_json live (fin.entries members))
+content_json live (Maps values) = json.object (values_json (fin.entries values))
 
 -- returns an output's value; null if it is unset or was freed
 abbrev pub output_json : Data → Option Datum → json.Data
@@ -65,11 +76,31 @@ container_kind true scalar.Int true = codes "tcont int closed"
 container_kind true scalar.Text false = codes "tcont text open"
 container_kind true scalar.Text true = codes "tcont text closed"
 
+-- returns the kind of a map, by the type of its values; none is sums'
+abbrev pub map_kind : Bool → Option Scalar → Bool → List ℕ
+map_kind false None false = codes "map sum open"
+map_kind false None true = codes "map sum closed"
+map_kind false (Some scalar.Int) false = codes "map int open"
+map_kind false (Some scalar.Int) true = codes "map int closed"
+map_kind false (Some scalar.Text) false = codes "map text open"
+map_kind false (Some scalar.Text) true = codes "map text closed"
+map_kind true None false = codes "tmap sum open"
+map_kind true None true = codes "tmap sum closed"
+map_kind true (Some scalar.Int) false = codes "tmap int open"
+map_kind true (Some scalar.Int) true = codes "tmap int closed"
+map_kind true (Some scalar.Text) false = codes "tmap text open"
+map_kind true (Some scalar.Text) true = codes "tmap text closed"
+
+-- returns the type of a map's values, or none for sums
+abbrev pub values_of : NestedScalar → Option Scalar
+values_of ty = if has_sums ty.map then None else Some ty.scalar
+
 abbrev pub content_kind : Datum → Content → List ℕ
 content_kind x Unset = codes "unset"
 content_kind x (Set (value.Int n)) = codes "int"
 content_kind x (Set (value.Text text)) = codes "text"
 content_kind x (Contains members) = container_kind (is_container_by scalar.Text x.ty) x.ty.scalar (is_closed x)
+content_kind x (Maps values) = map_kind (is_map_by scalar.Text x.ty) (values_of x.ty) (is_closed x)
 
 abbrev pub datum_kind : Option Datum → List ℕ
 datum_kind None = codes "gone"

@@ -1,16 +1,17 @@
-//! JSON values of outputs, with the members of containers.
+//! JSON values of outputs, with the members of containers and the values of maps.
 
-ghost use Rattle.std.specs.Prelude.{◌≡◌, ◌++◌, IfOk, OnOk, map};
+ghost use Rattle.std.specs.Prelude.{◌≡◌, ◌++◌, IfOk, OnOk, map, true};
 ghost use Rattle.std.specs.FinMap.{entries, get};
 ghost use Rattle.serde_json.specs.Data.{object};
 ghost use Rattle.serde_json.specs.View.{members_view, view};
-ghost use Rattle.tw_types.specs.StoreCalls.{members_in};
-ghost use Rattle.tw_json_output.specs.Outputs.{members_json, output_json, outputs_json};
+ghost use Rattle.tw_types.specs.StoreCalls.{entries_in, members_in};
+ghost use Rattle.tw_datum.specs.Kept.{has_entries};
+ghost use Rattle.tw_json_output.specs.Outputs.{members_json, output_json, outputs_json, values_json};
 
 use crate::values::{datum_value, key_of, scalar_value};
 use serde_json::{Map, Value as Json};
 use std::alloc::{AllocError, Global};
-use tw_datum::Datum;
+use tw_datum::{Datum, Member};
 use tw_report::ReportSource;
 use tw_types::DatumId;
 
@@ -35,7 +36,24 @@ fn members_value<T: ReportSource>(
     Ok(Json::Object(members))
 }
 
-/// Returns the value of an output: a scalar's value, an object of a container's members, or `null`.
+/// Returns the object of a map's values.
+fn values_value<M: Member>(alloc: Global, map: &Datum<M>) -> Result<Json, AllocError>
+    requires { has_entries map.now.datum.content ≡ true }
+    ensures { IfOk result (λ v. view v ≡ object (values_json (entries (entries_in map.now.datum.content)))) }
+{
+    let mut values = Map::new(alloc);
+    for index in 0..map.count() {
+        let Some(entry) = map.nth_value(index) else {
+            unreachable!();
+        };
+        let key = key_of(alloc, &entry.0)?;
+        let value = scalar_value(alloc, &entry.1)?;
+        serde_json::put(&mut values, alloc, key.as_str(), value)?;
+    }
+    Ok(Json::Object(values))
+}
+
+/// Returns the value of an output: a scalar's value, an object of a container's members or of a map's values, or `null`.
 fn output_value<T: ReportSource>(alloc: Global, shown: &T, id: DatumId) -> Result<Json, AllocError>
     ensures { IfOk result (λ v. view v ≡ output_json (T.live shown.now) (get (T.live shown.now) id)) }
 {
@@ -47,6 +65,9 @@ fn output_value<T: ReportSource>(alloc: Global, shown: &T, id: DatumId) -> Resul
     }
     if datum.is_unset() {
         return Ok(Json::Null);
+    }
+    if datum.is_map() {
+        return values_value(alloc, datum);
     }
     members_value(alloc, shown, datum)
 }

@@ -1,12 +1,16 @@
--- Appending one more output, and one more member.
-use Rattle.std.proofs.Common.{◌≡◌, ◌<◌, ◌+◌, ℕ, suc, List, [], ◌∷◌, ◌++◌, length, take, get_or, sym, ap, ◌∙◌, arith, append_assoc, Option, Some, None, ◌≤◌, refl, option_map}
+-- Appending one more output, one more member and one more value.
+use Rattle.std.proofs.Common.{◌≡◌, ◌<◌, ◌+◌, ℕ, suc, true, false, List, [], ◌∷◌, ◌++◌, length, take, get_or, sym, ap, ◌∙◌, arith, append_assoc, Option, Some, None, ◌≤◌, refl, option_map}
 use Rattle.std.specs.Prelude.{slice_get}
 use Rattle.std.proofs.lemmas.List.{append-nil, flat_map_more, length-take, take_all, take_more}
 use Rattle.std.proofs.lemmas.Option.{slice_get-get_or, slice_get_within}
 use Rattle.std.specs.FinMap as fin
-use Rattle.tw_types.specs.Store.{Data, Datum, Members}
+use Rattle.tw_types.specs.Store.{Content, Contains, Data, Datum, Maps, Members, Set, Unset, Values}
+use Rattle.tw_types.specs.StoreCalls.{count_in, entries_in as values_in}
+use Rattle.tw_types.specs.declared.value.Value.{Value}
 use Rattle.tw_types.specs.ValueOrder.{Subscript}
-use Rattle.tw_report.specs.Report.{member_line, member_lines, output_text, output_texts}
+use Rattle.tw_report.specs.Report.{member_line, member_lines, output_text, output_texts, value_line, value_lines}
+use Rattle.tw_datum.specs.Kept.{has_entries}
+use Rattle.tw_datum.proofs.Members.{no_values_there}
 
 -- ---- outputs
 
@@ -77,3 +81,45 @@ is_there live members i count all lt none = by (fin.entries members) (omega (ari
 -- all have been added
 pub all_members : (live : Data) (members : Members) (i count : ℕ) (old out : List ℕ) → count ≡ fin.len members → count ≤ i → out ≡ old ++ member_lines live (take i (fin.entries members)) → out ≡ old ++ member_lines live (fin.entries members)
 all_members live members i count old out all le before = before ∙ ap (λ (ms : List (Subscript × ℕ)). old ++ member_lines live ms) (take_all i (fin.entries members) (omega (arith, all, le, fin.len-entries members)))
+
+-- ---- values
+
+pub same_entry : (x y : Subscript × Value) → ◌≡◌ {A = Option (Subscript × Value)} (Some x) (Some y) → x ≡ y
+same_entry x y e = cc
+
+-- the text with the line of value i appended, if the lines before it are there
+pub one_value_more : (es : List (Subscript × Value)) (i : ℕ) (e : Subscript × Value) (old out new : List ℕ) → Some e ≡ slice_get es i → out ≡ old ++ value_lines (take i es) → new ≡ out ++ value_line e
+    → new ≡ old ++ value_lines (take (i + 1) es)
+one_value_more es i e old out new at before made =
+    let lt : i < length es = slice_get_within es i e (sym at) in
+    let is : get_or es i e ≡ e = same_entry _ _ (sym (slice_get-get_or es i e lt) ∙ sym at) in
+    let one : take (i + 1) es ≡ take i es ++ e ∷ [] = take_more es i e lt ∙ ap (λ (x : Subscript × Value). take i es ++ x ∷ []) is in
+    made ∙ ap (λ (t : List ℕ). t ++ value_line e) before ∙ flat_map_more value_line old (take i es) e ∙ ap (λ (xs : List (Subscript × Value)). old ++ value_lines xs) (sym one)
+
+-- there is a value at each index below their number
+pub value_there : (values : Values) (i count : ℕ) → count ≡ fin.len values → i < count → None ≡ slice_get (fin.entries values) i → ⊥
+value_there values i count all lt none = by (fin.entries values) (omega (arith, lt, all, fin.len-entries values)) none
+  where
+    never : (x : Subscript × Value) → ◌≡◌ {A = Option (Subscript × Value)} None (Some x) → ⊥
+    never x e = cc
+
+    by : (es : List (Subscript × Value)) → i < length es → None ≡ slice_get es i → ⊥
+    by [] inside none = absurd (omega (arith, inside))
+    by (e ∷ es) inside none = never (get_or (e ∷ es) i e) (none ∙ slice_get-get_or (e ∷ es) i e inside)
+
+-- all have been added
+pub all_values : (values : Values) (i count : ℕ) (old out : List ℕ) → count ≡ fin.len values → count ≤ i → out ≡ old ++ value_lines (take i (fin.entries values)) → out ≡ old ++ value_lines (fin.entries values)
+all_values values i count old out all le before = before ∙ ap (λ (es : List (Subscript × Value)). old ++ value_lines es) (take_all i (fin.entries values) (omega (arith, all, le, fin.len-entries values)))
+
+-- a map's number of values, and no values of another datum
+pub count_of_map : (content : Content) → has_entries content ≡ true → count_in content ≡ fin.len (values_in content)
+count_of_map Unset e = cc
+count_of_map (Set v) e = cc
+count_of_map (Contains members) e = cc
+count_of_map (Maps values) e = refl
+
+pub none_without_map : (content : Content) → has_entries content ≡ false → fin.entries (values_in content) ≡ []
+none_without_map Unset e = no_values_there
+none_without_map (Set v) e = no_values_there
+none_without_map (Contains members) e = no_values_there
+none_without_map (Maps values) e = cc

@@ -1,16 +1,17 @@
--- The report of a state: a line for each output, followed by lines for the members of a container, and a line that says
+-- The report of a state: a line for each output, followed by lines for a container's members or a map's values, and a line that says
 -- how the run ended.
 use Rattle.std.specs.Prelude.{ℕ, suc, Bool, true, false, if◌then◌else◌, List, [], ◌∷◌, ◌++◌, codes, decimal, Option, Some, None, option_map, slice_get}
 use Rattle.std.specs.FinMap as fin
 use Rattle.std.specs.Fmt.{signed_decimal}
 use Rattle.std.specs.List.{flat_map}
-use Rattle.tw_types.specs.DataType.{is_container_by}
+use Rattle.tw_types.specs.DataType.{has_sums, is_container_by, is_map_by}
 use Rattle.tw_types.specs.Nesting.{NestedScalar}
 use Rattle.tw_types.specs.declared.data_type.Scalar.{Scalar}
 use Rattle.tw_types.specs.declared.data_type.Scalar.TheVariants as scalar
-use Rattle.tw_types.specs.Store.{Content, Unset, Set, Contains, Datum, Data, is_closed}
-use Rattle.tw_types.specs.StoreCalls.{members_in}
+use Rattle.tw_types.specs.Store.{Content, Unset, Set, Contains, Maps, Datum, Data, is_closed}
+use Rattle.tw_types.specs.StoreCalls.{entries_in as values_in, members_in}
 use Rattle.tw_types.specs.ValueOrder.{Subscript}
+use Rattle.tw_types.specs.declared.value.Value.{Value}
 use Rattle.tw_types.specs.declared.value.Value.TheVariants as value
 use Rattle.tw_lexer.specs.Quoted.{quoted}
 use Rattle.tw_types.specs.declared.ending.Ending.{Ending}
@@ -38,10 +39,22 @@ container_word ty = if is_container_by scalar.Text ty then codes "tcont " else c
 abbrev pub container_head : Datum → List ℕ
 container_head x = container_word x.ty ++ (scalar_word x.ty.scalar ++ closed_text (is_closed x))
 
+-- returns the kind of a map, by the type of its subscripts
+abbrev pub map_word : NestedScalar → List ℕ
+map_word ty = if is_map_by scalar.Text ty then codes "tmap " else codes "map "
+
+-- returns the type of a map's values, or that they are sums
+abbrev pub values_word : NestedScalar → List ℕ
+values_word ty = if has_sums ty.map then codes "sum" else scalar_word ty.scalar
+
+abbrev pub map_head : Datum → List ℕ
+map_head x = map_word x.ty ++ (values_word x.ty ++ closed_text (is_closed x))
+
 abbrev pub content_text : Datum → Content → List ℕ
 content_text x Unset = codes "unset"
 content_text x (Set value) = value_text value
 content_text x (Contains members) = container_head x ++ decimal (fin.len members)
+content_text x (Maps values) = map_head x ++ decimal (fin.len values)
 
 -- returns the content of a datum, or that it was freed
 abbrev pub datum_text : Option Datum → List ℕ
@@ -68,13 +81,25 @@ abbrev pub entries_in : Option Datum → List (Subscript × ℕ)
 entries_in None = []
 entries_in (Some x) = fin.entries (members_in x.content)
 
+-- returns the line of a map's value
+abbrev pub value_line : Subscript × Value → List ℕ
+value_line e = codes "  at " ++ (subscript_text e.0 ++ (codes " " ++ (value_text e.1 ++ codes "\n")))
+
+abbrev pub value_lines : List (Subscript × Value) → List ℕ
+value_lines es = flat_map value_line es
+
+-- returns the values of a datum, by rising subscripts
+abbrev pub values_of : Option Datum → List (Subscript × Value)
+values_of None = []
+values_of (Some x) = fin.entries (values_in x.content)
+
 -- returns the member of a container with `index` smaller subscripts: its subscript, and its datum if that is live
 abbrev pub member_shown : Data → Datum → ℕ → Option (Subscript × Option Datum)
 member_shown live container index = option_map (λ e. (e.0, fin.get live e.1)) (slice_get (entries_in (Some container)) index)
 
--- returns the line of an output, and those of its members
+-- returns the line of an output, and those of its members or values
 abbrev pub output_text : Data → ℕ → Option Datum → List ℕ
-output_text live k x = output_line k x ++ member_lines live (entries_in x)
+output_text live k x = output_line k x ++ (member_lines live (entries_in x) ++ value_lines (values_of x))
 
 -- returns the outputs from number k on
 abbrev pub output_texts : Data → ℕ → List ℕ → List ℕ

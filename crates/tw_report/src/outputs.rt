@@ -1,10 +1,11 @@
-//! Writes outputs, with the members of containers.
+//! Writes outputs, with the members of containers and the values of maps.
 
-ghost use Rattle.std.specs.Prelude.{◌≡◌, ◌++◌, OnOk, option_map};
+ghost use Rattle.std.specs.Prelude.{◌≡◌, ◌++◌, OnOk, if◌then◌else◌, option_map};
 ghost use Rattle.std.specs.Option.{option_copied};
 ghost use Rattle.std.specs.FinMap.{entries, get};
-ghost use Rattle.tw_types.specs.StoreCalls.{members_in};
-ghost use Rattle.tw_report.specs.Report.{closed_text, container_head, container_word, datum_text, member_line, member_lines, output_line, output_text, report, scalar_word, subscript_text};
+ghost use Rattle.tw_types.specs.StoreCalls.{entries_in, members_in};
+ghost use Rattle.tw_datum.specs.Kept.{has_entries};
+ghost use Rattle.tw_report.specs.Report.{closed_text, container_head, container_word, datum_text, map_head, map_word, member_line, member_lines, output_line, output_text, report, scalar_word, subscript_text, value_line, value_lines, values_word};
 
 use crate::lines::{put, put_numbered, put_value};
 use crate::report_source::ReportSource;
@@ -34,6 +35,28 @@ fn container_word(ty: DataType) -> &'static str
     }
 }
 
+/// Returns the word of a map's type, which depends on the type of its subscripts, and a blank.
+fn map_word(ty: DataType) -> &'static str
+    ensures { result.now ≡ map_word ty }
+{
+    if ty.is_map_by(Scalar::Text) {
+        "tmap "
+    } else {
+        "map "
+    }
+}
+
+/// Returns the word of a map's values, or of its sums.
+fn values_word(ty: DataType) -> &'static str
+    ensures { result.now ≡ values_word ty }
+{
+    if ty.has_sums() {
+        "sum"
+    } else {
+        scalar_word(ty.scalar())
+    }
+}
+
 fn closed_text(closed: bool) -> &'static str
     ensures { result.now ≡ closed_text closed }
 {
@@ -47,6 +70,27 @@ fn put_container_head<M: Member>(out: &mut Vec<u8>, datum: &Datum<M>) -> Result<
     put(out, container_word(datum.ty()))?;
     put(out, scalar_word(datum.ty().scalar()))?;
     put(out, closed_text(datum.closed()))
+}
+
+/// Appends the type of a map, and whether it is closed.
+fn put_map_head<M: Member>(out: &mut Vec<u8>, datum: &Datum<M>) -> Result<(), AllocError>
+    ensures { OnOk result (out.new.items ≡ out.old.items ++ map_head datum.now.datum) }
+{
+    put(out, map_word(datum.ty()))?;
+    put(out, values_word(datum.ty()))?;
+    put(out, closed_text(datum.closed()))
+}
+
+/// Appends the type of a container or a map, and whether it is closed.
+fn put_head<M: Member>(out: &mut Vec<u8>, datum: &Datum<M>) -> Result<(), AllocError>
+    ensures { OnOk result (out.new.items ≡ out.old.items
+        ++ (if has_entries datum.now.datum.content then map_head datum.now.datum else container_head datum.now.datum)) }
+{
+    if datum.is_map() {
+        put_map_head(out, datum)
+    } else {
+        put_container_head(out, datum)
+    }
 }
 
 /// Appends the content of a datum, or `gone` if it was freed.
@@ -66,8 +110,8 @@ fn put_datum<M: Member>(
     if datum.is_unset() {
         return put(out, "unset");
     }
-    put_container_head(out, datum)?;
-    put_decimal(alloc, out, datum.len())
+    put_head(out, datum)?;
+    put_decimal(alloc, out, datum.count())
 }
 
 /// Appends the line of an output: its number, and its datum or `gone`.
@@ -131,7 +175,42 @@ fn put_member_lines<T: ReportSource>(
     Ok(())
 }
 
-/// Appends the line of an output, and those of its members.
+/// Appends the line of a map's value.
+fn put_value_line(
+    alloc: Global,
+    out: &mut Vec<u8>,
+    entry: &(Value, Value),
+) -> Result<(), AllocError>
+    ensures { OnOk result (out.new.items ≡ out.old.items ++ value_line entry.now) }
+{
+    put(out, "  at ")?;
+    put_subscript(alloc, out, &entry.0)?;
+    put(out, " ")?;
+    put_value(alloc, out, &entry.1)?;
+    put(out, "\n")
+}
+
+/// Appends the lines of a map's values, in the order of their subscripts: `index` counts the smaller ones.
+fn put_value_lines<M: Member>(
+    alloc: Global,
+    out: &mut Vec<u8>,
+    map: &Datum<M>,
+) -> Result<(), AllocError>
+    ensures { OnOk result (out.new.items ≡ out.old.items ++ value_lines (entries (entries_in map.now.datum.content))) }
+{
+    if !map.is_map() {
+        return Ok(());
+    }
+    for index in 0..map.count() {
+        let Some(entry) = map.nth_value(index) else {
+            unreachable!();
+        };
+        put_value_line(alloc, out, entry)?;
+    }
+    Ok(())
+}
+
+/// Appends the line of an output, and those of its members or values.
 fn put_output<T: ReportSource>(
     alloc: Global,
     out: &mut Vec<u8>,
@@ -145,7 +224,10 @@ fn put_output<T: ReportSource>(
     let datum = source.datum(id);
     put_output_line(alloc, out, number, datum)?;
     match datum {
-        Some(datum) => put_member_lines(alloc, out, source, datum),
+        Some(datum) => {
+            put_member_lines(alloc, out, source, datum)?;
+            put_value_lines(alloc, out, datum)
+        }
         None => Ok(()),
     }
 }

@@ -8,7 +8,7 @@ use Rattle.tw_types.specs.declared.event.Event.{Event}
 use Rattle.tw_types.specs.declared.event.Event.TheVariants.{Take, Local, Call, End, Ask, Deliver, Release}
 use Rattle.tw_types.specs.Store.{Datum as StoredDatum, is_closed}
 use Rattle.tw_code.specs.declared.instr.DataInstr.{DataInstr}
-use Rattle.tw_code.specs.declared.instr.DataInstr.TheVariants.{New, Store, Get, Insert, Look, Size, SubscriptAt, CopyRead, CopyWrite, DropRead, DropWrite}
+use Rattle.tw_code.specs.declared.instr.DataInstr.TheVariants.{New, Store, Get, Insert, Look, Size, SubscriptAt, InsertValue, AddValue, GetValue, CopyRead, CopyWrite, DropRead, DropWrite}
 use Rattle.tw_code.specs.declared.instr.Instr.{Instr}
 use Rattle.tw_code.specs.declared.instr.Instr.TheVariants as instr
 use Rattle.tw_code.specs.declared.procedure.Procedure.{Procedure}
@@ -59,6 +59,9 @@ written (Insert by container subscript member skip) = Some container
 written (Look by member container subscript skip) = None
 written (Size to container) = None
 written (SubscriptAt by to container index skip) = None
+written (InsertValue map subscript from skip) = Some map
+written (AddValue map subscript from) = Some map
+written (GetValue to map subscript skip) = None
 written (CopyRead to from) = None
 written (CopyWrite to from) = None
 written (DropRead right) = None

@@ -81,9 +81,11 @@ fn written(instr: &DataInstr) -> Option<u8>
     match *instr {
         DataInstr::Store { datum, .. } => Some(datum),
         DataInstr::Insert { container, .. } => Some(container),
+        DataInstr::InsertValue { map, .. } | DataInstr::AddValue { map, .. } => Some(map),
         DataInstr::DropWrite { right } => Some(right),
         DataInstr::New { .. } | DataInstr::Get { .. } | DataInstr::Look { .. } => None,
         DataInstr::Size { .. } | DataInstr::SubscriptAt { .. } => None,
+        DataInstr::GetValue { .. } => None,
         DataInstr::CopyRead { .. } | DataInstr::CopyWrite { .. } | DataInstr::DropRead { .. } =>
             None,
     }
