@@ -148,7 +148,7 @@ pub numbers_fit : (rows : List Row) (layout : ActorCounts) (most : ℕ) (s : Eve
 numbers_fit rows layout most s actors is shown = rw (actors.0, actors.1, actors.2, sym is, shown.0, shown.1) refl
 
 pub caps_fit : (rows : List Row) (caps : Caps) → HasCaps rows caps → option_faults cap_options rows ≡ []
-caps_fit rows caps capped = rw (capped.0, capped.1, capped.2, capped.3, capped.4) refl
+caps_fit rows caps capped = rw (capped.0, capped.1, capped.2, capped.3, capped.4, capped.5) refl
 
 -- a wrong cap is wrong with `run`, if the other options are right
 pub caps_refused : (rows : List Row) (layout : ActorCounts) (most : ℕ) (s : EventRange) → HasActors rows layout → Some most ≡ number_of limit rows → HasStretch rows s → option_faults cap_options rows ≡ ValueValidation ∷ [] → run_faults rows ≡ ValueValidation ∷ []
@@ -167,7 +167,7 @@ no_check_caps rows most is e =
     ap (λ (k : Kinds). or_else k (bounds_faults rows)) (same ∙ e)
 
 check_fits : (rows : List Row) (most : ℕ) (caps : Caps) → Some most ≡ number_of limit rows → HasCaps rows caps → option_faults check_options rows ≡ []
-check_fits rows most caps is capped = rw (sym is, capped.0, capped.1, capped.2, capped.3, capped.4) refl
+check_fits rows most caps is capped = rw (sym is, capped.0, capped.1, capped.2, capped.3, capped.4, capped.5) refl
 
 -- the rest is whose bounds are printed
 pub only_bounds : (rows : List Row) (most : ℕ) (caps : Caps) → Some most ≡ number_of limit rows → HasCaps rows caps → check_faults rows ≡ bounds_faults rows
@@ -175,7 +175,7 @@ only_bounds rows most caps is capped = ap (λ (k : Kinds). or_else k (bounds_fau
 
 pub given_check_is : (rows : List Row) (most : ℕ) (caps : Caps) (whose : BoundsOf) → HasCaps rows caps → Some whose ≡ given_bounds rows
     → record { places = given_places rows; bounds = whose; limit = named_limit rows; event_order = given_event_order rows; caps = caps; form = given_form rows } ≡ given_check rows
-given_check_is rows most caps whose capped is = rw (sym is, capped.0, capped.1, capped.2, capped.3, capped.4) refl
+given_check_is rows most caps whose capped is = rw (sym is, capped.0, capped.1, capped.2, capped.3, capped.4, capped.5) refl
 
 pub wrong_bounds : (rows : List Row) → None ≡ given_bounds rows → bounds_faults rows ≡ ValueValidation ∷ []
 wrong_bounds rows e = ap (λ (o : Option BoundsOf). cond (is_some o) [] (ValueValidation ∷ [])) (sym e)

@@ -1,12 +1,12 @@
 -- The requests that arguments make, and why they are rejected.
-use Rattle.std.specs.Prelude.{◌≡◌, ◌||◌, ◌&&◌, ℕ, Bool, true, not, List, [], ◌∷◌, Option, Some, None, codes, bytes_eq, if◌then◌else◌, is_some, nat_lt, unwrap_or}
+use Rattle.std.specs.Prelude.{◌≡◌, ◌||◌, ◌&&◌, ℕ, Bool, not, List, [], ◌∷◌, Option, Some, None, codes, bytes_eq, if◌then◌else◌, is_some, nat_lt, unwrap_or}
 use Rattle.clap.specs.Kinds.{or_else}
 use Rattle.clap.specs.Walk.{is_empty}
 use Rattle.clap.specs.Words.{Kinds, Row, Text, all_of, fault_of, first_of, subcommand_of}
 use Rattle.clap.specs.declared.error.ErrorKind.TheVariants.{ArgumentConflict}
 use Rattle.tw_types.specs.Layout.{ActorCounts}
 use Rattle.tw_inputs.specs.InputWords.{AreSpelled, IsRefusedWord, RefusedWord}
-use Rattle.tw_cli.specs.Options.{actor_options, ExplainOrder, explaining, given_actors, given_assembly, given_disassembly, given_form, each, event_order, events, first_shown, in_turn, inputs, inputs_json, bounds_faults, cap_options, check_options, given_caps, given_check, given_seconds, given_seed, checking, is_given, jobs, json, last_shown, limit, number_options, option_faults, picture, seconds, seed, given_source, stats, stretch_options, given_range, requested, trace}
+use Rattle.tw_cli.specs.Options.{actor_options, ExplainOrder, explaining, given_actors, given_assembly, given_disassembly, given_form, each, event_order, first_shown, in_turn, inputs, inputs_json, bounds_faults, cap_options, check_options, given_caps, given_check, given_seconds, given_seed, checking, is_given, jobs, json, last_shown, limit, number_options, option_faults, picture, seconds, seed, given_source, stats, stretch_options, given_range, requested, trace}
 use Rattle.tw_cli.specs.Rows.{command_line}
 use Rattle.tw_cli.specs.Explanations.{IsMeaningOf, number_faults, number_word}
 use Rattle.tw_order.specs.declared.runs.Answer.{Answer}

@@ -86,9 +86,12 @@ most_bytes = record { name = codes "most-bytes"; most = greatest_cap; default = 
 abbrev pub most_budget : NumberOption
 most_budget = record { name = codes "most-budget"; most = greatest_cap; default = greatest_cap }
 
+abbrev pub most_members : NumberOption
+most_members = record { name = codes "most-members"; most = greatest_cap; default = greatest_cap }
+
 -- the options of `run` and `check` for caps
 abbrev pub cap_options : List NumberOption
-cap_options = most_tasks ∷ most_instructions ∷ most_data ∷ most_bytes ∷ most_budget ∷ []
+cap_options = most_tasks ∷ most_instructions ∷ most_data ∷ most_bytes ∷ most_budget ∷ most_members ∷ []
 
 -- the option of `run` with `--each`: how many threads answer the lines
 abbrev pub jobs : NumberOption
@@ -261,17 +264,19 @@ given_range rows = stretch (requested first_shown rows) (requested last_shown ro
 abbrev pub HasCaps : List Row → Caps → Type 0
 HasCaps rows caps =
     (number_of most_tasks rows ≡ Some caps.tasks) × (number_of most_instructions rows ≡ Some caps.instructions) × (number_of most_data rows ≡ Some caps.«data»)
-    × (number_of most_bytes rows ≡ Some caps.bytes) × (number_of most_budget rows ≡ Some caps.budget)
+    × (number_of most_bytes rows ≡ Some caps.bytes) × (number_of most_budget rows ≡ Some caps.budget) × (number_of most_members rows ≡ Some caps.members)
 
-abbrev pub capped : ℕ → ℕ → ℕ → ℕ → ℕ → Caps
-capped tasks instructions new_data bytes budget = record { tasks = tasks; instructions = instructions; «data» = new_data; bytes = bytes; budget = budget }
+abbrev pub capped : ℕ → ℕ → ℕ → ℕ → ℕ → ℕ → Caps
+capped tasks instructions new_data bytes budget members =
+    record { tasks = tasks; instructions = instructions; «data» = new_data; bytes = bytes; budget = budget; members = members }
 
 -- the caps without options
 abbrev pub uncapped : Caps
-uncapped = capped greatest_cap greatest_cap greatest_cap greatest_cap greatest_cap
+uncapped = capped greatest_cap greatest_cap greatest_cap greatest_cap greatest_cap greatest_cap
 
 abbrev pub given_caps : List Row → Caps
-given_caps rows = capped (requested most_tasks rows) (requested most_instructions rows) (requested most_data rows) (requested most_bytes rows) (requested most_budget rows)
+given_caps rows =
+    capped (requested most_tasks rows) (requested most_instructions rows) (requested most_data rows) (requested most_bytes rows) (requested most_budget rows) (requested most_members rows)
 
 -- returns whose bounds the value of `--bounds` requests; none if it is neither `main` nor `all`
 abbrev pub bounds_in : Text → Option BoundsOf

@@ -20,11 +20,13 @@ pub(crate) fn caps_given(matches: &ArgMatches<'_>) -> Option<Caps>
     let data = number_given(matches, "most-data", u64::MAX, u64::MAX)?;
     let bytes = number_given(matches, "most-bytes", u64::MAX, u64::MAX)?;
     let budget = number_given(matches, "most-budget", u64::MAX, u64::MAX)?;
+    let members = number_given(matches, "most-members", u64::MAX, u64::MAX)?;
     Some(Caps {
         tasks,
         instructions,
         data,
         bytes,
         budget,
+        members,
     })
 }

@@ -4,9 +4,9 @@ use crate::help::{
     ASM, BOUNDS_HELP, CHECK, CommandHelp, DISASM, EACH_HELP, ENGINES_HELP, EVENTS_HELP, EXPLAIN,
     FROM_HELP, IN_TURN_HELP, INPUT_HELP, INPUTS_HELP, INPUTS_JSON_HELP, JOBS_HELP, JSON_HELP,
     LIMIT_HELP, MOST_BUDGET_HELP, MOST_BYTES_HELP, MOST_DATA_HELP, MOST_INSTRUCTIONS_HELP,
-    MOST_TASKS_HELP, NAMES_HELP, NUMBER_HELP, ORDER_HELP, PICTURE, PICTURE_HELP, PLACES_HELP,
-    PLAIN_HELP, QUIET_HELP, REPLAY, RUN, SECONDS_HELP, SEED_HELP, SERVERS_HELP, STATS_HELP,
-    TEXT_HELP, TO_HELP, TRACE_HELP, WORKERS_HELP,
+    MOST_MEMBERS_HELP, MOST_TASKS_HELP, NAMES_HELP, NUMBER_HELP, ORDER_HELP, PICTURE, PICTURE_HELP,
+    PLACES_HELP, PLAIN_HELP, QUIET_HELP, REPLAY, RUN, SECONDS_HELP, SEED_HELP, SERVERS_HELP,
+    STATS_HELP, TEXT_HELP, TO_HELP, TRACE_HELP, WORKERS_HELP,
 };
 
 /// How an argument is given.
@@ -69,6 +69,7 @@ pub const COMMANDS: [CommandRow<'static>; 7] = [
         ArgumentRow { form: ArgumentForm::Value, name: "most-data", help: MOST_DATA_HELP },
         ArgumentRow { form: ArgumentForm::Value, name: "most-bytes", help: MOST_BYTES_HELP },
         ArgumentRow { form: ArgumentForm::Value, name: "most-budget", help: MOST_BUDGET_HELP },
+        ArgumentRow { form: ArgumentForm::Value, name: "most-members", help: MOST_MEMBERS_HELP },
     ] },
     CommandRow { name: "run", reads_program: true, help: RUN, arguments: &[
         ArgumentRow { form: ArgumentForm::Value, name: "engines", help: ENGINES_HELP },
@@ -89,6 +90,7 @@ pub const COMMANDS: [CommandRow<'static>; 7] = [
         ArgumentRow { form: ArgumentForm::Value, name: "most-data", help: MOST_DATA_HELP },
         ArgumentRow { form: ArgumentForm::Value, name: "most-bytes", help: MOST_BYTES_HELP },
         ArgumentRow { form: ArgumentForm::Value, name: "most-budget", help: MOST_BUDGET_HELP },
+        ArgumentRow { form: ArgumentForm::Value, name: "most-members", help: MOST_MEMBERS_HELP },
         ArgumentRow { form: ArgumentForm::Flag, name: "in-turn", help: IN_TURN_HELP },
         ArgumentRow { form: ArgumentForm::Value, name: "seed", help: SEED_HELP },
         ArgumentRow { form: ArgumentForm::Value, name: "seconds", help: SECONDS_HELP },

@@ -11,7 +11,7 @@ pub(crate) struct CommandHelp<'a> {
 }
 
 /// The program's version, which the newest section of CHANGELOG.md names.
-pub(crate) const VERSION: &str = "0.23";
+pub(crate) const VERSION: &str = "0.24";
 
 pub(crate) const ABOUT: &str = "Assembles, checks and runs dataflow programs of the task host.";
 
@@ -50,13 +50,13 @@ If the program is accepted, a line for each procedure says how many instructions
 line how many engines and workers its targets need.
 With --bounds, more lines bound what a whole run does, whatever its inputs and actors: `bound tasks 9`, and likewise
 instructions, data, members, rules, bytes and events; `over` is more than 1,000,000,000,000. Members and bytes are those that
-containers and texts hold at any time, beyond the inputs. Such a run ends within its bound of events. If calls lead back to
+containers, maps and texts hold at any time, beyond the inputs. Such a run ends within its bound of events. If calls lead back to
 their procedure there are no bounds, and a line names one such call. With --bounds=all, a line for each procedure bounds what a
 task of it does with all tasks that it leads to. With --limit, lines such as `limited tasks 100` bound what a run with at most
 that number of events does; they also hold if there are no other bounds.
-With --most-tasks, --most-instructions, --most-data, --most-bytes or --most-budget, a program is rejected as O07 if its bound is
-larger, or that by --limit if it is smaller; a line for each names the bound. No bound, or `over`, is larger than any number but
-the last.
+With --most-tasks, --most-instructions, --most-data, --most-bytes, --most-budget or --most-members, a program is rejected as O07
+if its bound is larger, or that by --limit if it is smaller; a line for each names the bound. No bound, or `over`, is larger than
+any number but the last.
 With --order a last line is `order same` if the text rules out that outputs depend on the order of events, or else names the
 first insertion that may show the order, such as `order may show in procedure 1 at place 3`.
 With --places a listing of the program precedes these lines. It is that of `tw disasm --places`, or for text input has the
@@ -75,10 +75,10 @@ line, such as `at line 17: STORE d0 v0`, and by a diagnostic: the word, what was
 register, what it holds and what is required; or how many inputs are required, or which one doesn't fit its parameter. A
 circle of rules that wait for one another is followed by the lines that made them.
 The inputs are the arguments after the command, one for each input of main, in order. Examples: int:-7, text:abc,
-ints:1=7,5=-3, texts:1=\"abc\",2=\"\", tints:\"a\"=1 and ttexts:\"a\"=\"b\". The subscripts of a container rise, and it may have no
-members. Between quotes \\\", \\\\, \\n and \\x with two hex digits are escapes.
+ints:1=7,5=-3, texts:1=\"abc\",2=\"\", tints:\"a\"=1 and ttexts:\"a\"=\"b\". The subscripts of a container or a map rise, and it may
+be empty. Between quotes \\\", \\\\, \\n and \\x with two hex digits are escapes.
 With --each the lines after the line `inputs` are JSON arrays, and the program, read once, runs in one thread on each. An input
-is a number, a string or an object of members by subscript: [39, \"abc\", {\"1\": 7}]. Each line that isn't blank is answered
+is a number, a string or an object of members by subscript: [39, \"abc\", {\"1\": 7}]; a map may be an array, too. Each line that isn't blank is answered
 by one line, in order: the object of --json, with the line's number as `line`. With --jobs N, N threads answer parts of the lines.
 With --inputs-json all that follows the line `inputs` is one such array, which may have several lines, with the inputs of one run.
 With --inputs the inputs are read instead: after the program a line `inputs`, then one input a line, up to a line `end` or the
@@ -86,9 +86,9 @@ end. An input is its whole line; empty lines are skipped. No input is an argumen
 and --each DATA the lines after `inputs` are those of a file; - is standard input.
 Options may come before, after or between the inputs. --trace, --in-turn, --stats, --picture, --quiet, --text, --inputs,
 --inputs-json and --each take no value; the others take a number in decimal digits.
-With --most-tasks, --most-instructions, --most-data, --most-bytes or --most-budget, a program is rejected before it runs, as O07,
-if its bound and that by --limit are larger; see `tw check --help`. So a run that begins stays below.
-The report has a line for each output, then one for each member if it is a container, and ends with how the run ended.
+With --most-tasks, --most-instructions, --most-data, --most-bytes, --most-budget or --most-members, a program is rejected before
+it runs, as O07, if its bound and that by --limit are larger; see `tw check --help`. So a run that begins stays below.
+The report has a line for each output, then one for each member of a container or value of a map, and ends with how the run ended.
 With --trace the trace precedes the report: a line `events`, a line for each event, in order, and a line `end`. The program's
 hex text, a line end and this output can be piped into `tw replay`, with the same inputs, engines, servers and workers.
 Each engine, server and worker is a thread. With --in-turn there is one thread, in which the engines, then the servers, then
@@ -175,6 +175,9 @@ pub(crate) const MOST_BYTES_HELP: &str =
     "Reject a program whose run may hold texts of more bytes, beyond inputs and outputs";
 
 pub(crate) const MOST_BUDGET_HELP: &str = "Reject a program with a larger budget of one task";
+
+pub(crate) const MOST_MEMBERS_HELP: &str =
+    "Reject a program whose run may hold more members and values of maps, beyond the inputs";
 
 pub(crate) const TRACE_HELP: &str =
     "Write the trace before the report: a line `events`, a line for each event, a line `end`";

@@ -30,10 +30,10 @@ pub fn commands_are_taken()
     ensures all_bounds { (word_faults (codes "check" ∷ codes "--bounds=all" ∷ codes "--limit" ∷ codes "9" ∷ []) ≡ [])
         × (asked_by_words (codes "check" ∷ codes "--bounds=all" ∷ codes "--limit" ∷ codes "9" ∷ []) ≡ Checks Hex (record (checking Hidden OfEach) { limit = Some 9 })) }
     ensures check_caps { (word_faults (codes "check" ∷ codes "--most-tasks" ∷ codes "9" ∷ []) ≡ [])
-        × (asked_by_words (codes "check" ∷ codes "--most-tasks" ∷ codes "9" ∷ []) ≡ Checks Hex (record (checking Hidden NoBounds) { caps = capped 9 18446744073709551615 18446744073709551615 18446744073709551615 18446744073709551615 })) }
+        × (asked_by_words (codes "check" ∷ codes "--most-tasks" ∷ codes "9" ∷ []) ≡ Checks Hex (record (checking Hidden NoBounds) { caps = capped 9 18446744073709551615 18446744073709551615 18446744073709551615 18446744073709551615 18446744073709551615 })) }
     ensures run_caps { (word_faults (codes "run" ∷ codes "--most-instructions=7" ∷ codes "--most-budget" ∷ codes "8" ∷ []) ≡ [])
         × (asked_by_words (codes "run" ∷ codes "--most-instructions=7" ∷ codes "--most-budget" ∷ codes "8" ∷ [])
-        ≡ Runs Hex written.Report (actors 1 1 1) (capped 18446744073709551615 7 18446744073709551615 18446744073709551615 8) 10000 false false None None (Some [])) }
+        ≡ Runs Hex written.Report (actors 1 1 1) (capped 18446744073709551615 7 18446744073709551615 18446744073709551615 8 18446744073709551615) 10000 false false None None (Some [])) }
     ensures run { (word_faults (codes "run" ∷ []) ≡ [])
         × (asked_by_words (codes "run" ∷ []) ≡ Runs Hex written.Report (actors 1 1 1) uncapped 10000 false false None None (Some [])) }
     ensures inputs { (word_faults (codes "run" ∷ codes "int:7" ∷ codes "text:a" ∷ []) ≡ [])

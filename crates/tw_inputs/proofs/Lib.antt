@@ -2,3 +2,4 @@ pub mod Members
 pub mod InputReading
 pub mod InputTheorems
 pub mod Seen
+pub mod Listed

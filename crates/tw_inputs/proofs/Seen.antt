@@ -32,12 +32,13 @@ none_among [] k lt e = absurd (omega (arith, lt))
 none_among (x ∷ xs) zero lt e = absurd cc
 none_among (x ∷ xs) (suc k) lt e = none_among xs k (omega (arith, lt)) e
 
+-- a list of values has no absent one
+pub no_none : {X : Type 0} (xs : List X) → Contains (map Some xs) None → ⊥
+no_none xs (k, lt, e) = none_among xs k (omega (arith, lt, length-map xs Some)) e
+
 -- members are none where one of them is
 pub no_members : {K V : Type 0} (order : K → K → Ordering) (key : List ℕ → Option K) (value : Json → Option V) (ms : Members) (es : List (K × V)) → NoMembers key value ms → AreMembers order key value ms es → ⊥
-no_members order key value ms es none (read, is, ordered, sorted) = by (subst (λ (l : List (Option _)). Contains l None) (sym is) none)
-  where
-    by : Contains (map Some read) None → ⊥
-    by (k, lt, e) = none_among read k (omega (arith, lt, length-map read Some)) e
+no_members order key value ms es none (read, is, ordered, sorted) = no_none read (subst (λ (l : List (Option _)). Contains l None) (sym is) none)
 
 -- a place without a value
 pub none_found : {X Y : Type 0} (f : X → Option Y) (xs : List X) (k : ℕ) (d : X) → k < length xs → f (get_or xs k d) ≡ None → Contains (map f xs) None

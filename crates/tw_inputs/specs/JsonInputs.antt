@@ -1,5 +1,6 @@
--- The inputs of a program as a JSON array: an integer is a number, a text a string, and a container an object of its members by subscript.
-use Rattle.std.specs.Prelude.{◌≡◌, ℕ, ℤ, suc, Bool, true, false, List, [], ◌∷◌, ◌++◌, codes, decimal, map, length, Option, Some, None, option_map, slice_get}
+-- The inputs of a program as a JSON array: an integer is a number, a text a string, and a container or a map an object of its members or values by
+-- subscript. An array of values is a map whose subscripts are 0 and the integers after it.
+use Rattle.std.specs.Prelude.{◌≡◌, ℕ, ℤ, pos, suc, Bool, true, false, List, [], ◌∷◌, ◌++◌, codes, decimal, map, length, Option, Some, None, option_map, slice_get}
 use Rattle.std.specs.List.{Contains}
 use Rattle.std.specs.Cmp.Lexicographic.{slice_cmp}
 use Rattle.std.specs.List.Sorted.{IsPermutation, IsSortedByKey}
@@ -13,7 +14,7 @@ use Rattle.json.specs.Lex.{tokens}
 use Rattle.json.specs.Value.{items_of, value_view}
 use Rattle.json.specs.declared.value.Value.{Value}
 use Rattle.std.specs.Borrow.{Bor}
-use Rattle.tw_types.specs.DataType.{is_container_by, scalar_type}
+use Rattle.tw_types.specs.DataType.{has_subscripts_by, is_map_by, scalar_type}
 use Rattle.tw_types.specs.Nesting.{NestedScalar}
 use Rattle.tw_types.specs.declared.data_type.Scalar.{Scalar}
 use Rattle.tw_types.specs.declared.data_type.Scalar.TheVariants as scalar
@@ -71,15 +72,25 @@ IsContainer false scalar.Text ms given = (es : List (ℤ × List ℕ)) × AreMem
 IsContainer true scalar.Int ms given = (es : List (List ℕ × ℤ)) × AreMembers (slice_cmp nat_cmp) Some int_json ms es × (given ≡ input.IntsByText es)
 IsContainer true scalar.Text ms given = (es : List (List ℕ × List ℕ)) × AreMembers (slice_cmp nat_cmp) Some as_str ms es × (given ≡ input.TextsByText es)
 
--- holds for the input that a JSON value is. The parameter's type decides only which container an object is: whether it is the input's type is
--- compared when the program is opened.
+-- returns what an array has at the subscripts from `n` on: nothing for an item that is no such value
+abbrev pub numbered : {V : Type 0} → (Json → Option V) → ℕ → List Json → List (Option (ℤ × V))
+numbered value n [] = []
+numbered value n (j ∷ js) = option_map (λ v. (pos n, v)) (value j) ∷ numbered value (suc n) js
+
+-- holds for the map with int subscripts that an array is, by the type of its values
+abbrev pub IsListed : Scalar → List Json → Input → Type 0
+IsListed scalar.Int js given = (es : List (ℤ × ℤ)) × (map Some es ≡ numbered int_json 0 js) × (given ≡ input.Ints es)
+IsListed scalar.Text js given = (es : List (ℤ × List ℕ)) × (map Some es ≡ numbered as_str 0 js) × (given ≡ input.Texts es)
+
+-- holds for the input that a JSON value is. The parameter's type decides only which container an object is, and whether an array is a map: whether
+-- it is the input's type is compared when the program is opened.
 abbrev pub IsInput : NestedScalar → Json → Input → Type 0
 IsInput ty null given = ⊥
 IsInput ty (boolean b) given = ⊥
 IsInput ty (number s) given = (n : ℤ) × (int_in s ≡ Some n) × (given ≡ input.Int n)
 IsInput ty (string s) given = given ≡ input.Text s
-IsInput ty (array js) given = ⊥
-IsInput ty (object ms) given = IsContainer (is_container_by scalar.Text ty) ty.scalar ms given
+IsInput ty (array items) given = (js : List Json) × (items ≡ items_of js) × (is_map_by scalar.Int ty ≡ true) × IsListed ty.scalar js given
+IsInput ty (object ms) given = IsContainer (has_subscripts_by scalar.Text ty) ty.scalar ms given
 
 -- ---- all inputs
 

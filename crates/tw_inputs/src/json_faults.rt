@@ -43,9 +43,9 @@ fn offset_of(text: &str, place: Place, scratch: &mut Scratch) -> Result<usize, A
     }
 }
 
-/// Says which members an object has for a container of this type.
+/// Says which members an object has for a container or a map of this type.
 fn members_text(ty: DataType) -> &'static str {
-    match (ty.is_container_by(Scalar::Text), ty.scalar()) {
+    match (ty.has_subscripts_by(Scalar::Text), ty.scalar()) {
         (false, Scalar::Int) => "expected members such as \"1\": 7",
         (false, Scalar::Text) => "expected members such as \"1\": \"text\"",
         (true, Scalar::Int) => "expected members such as \"key\": 7",
@@ -53,10 +53,20 @@ fn members_text(ty: DataType) -> &'static str {
     }
 }
 
+/// Says which items an array has for a map of this type, or that there should be no array.
+fn items_text(ty: DataType) -> &'static str {
+    match (ty.is_map_by(Scalar::Int), ty.scalar()) {
+        (true, Scalar::Int) => "expected items such as 7",
+        (true, Scalar::Text) => "expected items such as \"text\"",
+        (false, _) => "expected an integer, a string or an object",
+    }
+}
+
 /// Says what an item should be, by how it begins.
 fn item_text(ty: DataType, begins: Option<u8>) -> &'static str {
     match begins {
         Some(b'{') => members_text(ty),
+        Some(b'[') => items_text(ty),
         Some(b'-' | b'0'..=b'9') => "expected an integer of 64 bits, without point and exponent",
         _ => "expected an integer, a string or an object",
     }

@@ -1,7 +1,7 @@
 //! Reads one input by its parameter's type.
 
 ghost use Rattle.std.specs.Prelude.{◌≡◌, IfOk, MatchOption, option_map};
-ghost use Rattle.tw_types.specs.DataType.{is_container_by};
+ghost use Rattle.tw_types.specs.DataType.{has_subscripts_by};
 ghost use Rattle.tw_types.specs.declared.data_type.Scalar.{Scalar as ScalarType};
 ghost use Rattle.tw_types.specs.declared.data_type.Scalar.TheVariants as scalar;
 ghost use Rattle.tw_types.specs.declared.input.Input.{Input as GivenInput};
@@ -9,6 +9,7 @@ ghost use Rattle.tw_types.specs.declared.input.Input.TheVariants.{Int};
 ghost use Rattle.json.specs.Value.{members_view, value_view};
 ghost use Rattle.tw_inputs.specs.JsonInputs.{IsContainer, IsInput, int_in};
 
+use crate::json_list::listed;
 use crate::json_members::members;
 use crate::json_parts::{int_in, text_of};
 use json::Value as Json;
@@ -67,8 +68,14 @@ pub fn input_of(alloc: Global, ty: DataType, value: &Json<'_>) -> Result<Option<
         Json::Number(digits) => Ok(int_of(digits)),
         Json::String(text) => Ok(Some(Input::Text(text_of(alloc, text)?))),
         Json::Object(object) => {
-            container_of(alloc, ty.is_container_by(Scalar::Text), ty.scalar(), object)
+            container_of(
+                alloc,
+                ty.has_subscripts_by(Scalar::Text),
+                ty.scalar(),
+                object,
+            )
         }
+        Json::Array(items) if ty.is_map_by(Scalar::Int) => listed(alloc, ty.scalar(), items),
         Json::Null | Json::Bool(_) | Json::Array(_) => Ok(None),
     }
 }

@@ -4,6 +4,7 @@
 mod json_faults;
 mod json_inputs;
 mod json_item;
+mod json_list;
 mod json_members;
 mod json_parts;
 mod lists;

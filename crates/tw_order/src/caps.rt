@@ -13,6 +13,8 @@ pub struct Caps {
     pub bytes: u64,
     /// Instructions of one task.
     pub budget: u64,
+    /// Members and values of maps that the store holds at any time, beyond those of the inputs.
+    pub members: u64,
 }
 
 impl Caps {
@@ -23,5 +25,6 @@ impl Caps {
         data: u64::MAX,
         bytes: u64::MAX,
         budget: u64::MAX,
+        members: u64::MAX,
     };
 }

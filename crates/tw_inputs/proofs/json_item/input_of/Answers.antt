@@ -1,12 +1,15 @@
-use Rattle.std.proofs.Common.{◌≡◌, ◌∙◌, Bool, Option, ap, subst, sym}
+use Rattle.std.proofs.Common.{◌≡◌, ◌∙◌, Bool, true, Option, ap, map, subst, sym}
 use Rattle.std.specs.Prelude.{MatchOption}
 use Rattle.std.proofs.lemmas.Result.{IfOk-weaker}
-use Rattle.json.specs.Json.{Json, number, object}
-use Rattle.json.specs.Value.{members_view, value_view}
-use Rattle.json.proofs.Trees.{view-Object}
+use Rattle.json.specs.Json.{Json, array, number, object}
+use Rattle.json.specs.Value.{items_of, members_view, value_view}
+use Rattle.json.proofs.Trees.{view-Array, view-Object}
+use Rattle.tw_types.specs.DataType.{is_map_by}
 use Rattle.tw_types.specs.declared.data_type.Scalar.{Scalar}
+use Rattle.tw_types.specs.declared.data_type.Scalar.TheVariants as scalar
 use Rattle.tw_types.specs.declared.input.Input.{Input}
-use Rattle.tw_inputs.specs.JsonInputs.{IsContainer, IsInput}
+use Rattle.tw_inputs.specs.JsonInputs.{IsContainer, IsInput, IsListed}
+use Rattle.tw_inputs.proofs.Listed.{list_read}
 use Rattle.tw_inputs.proofs.Seen.{number_read, view_number}
 use Rattle.tw_inputs.proofs.json_item.input_of.Goals as goal
 
@@ -26,6 +29,19 @@ returns-in-Object c =
     IfOk-weaker _ _ _
     (λ read h.
     subst (λ (j : Json). Reads (IsInput ty j) read) (sym is)
-    (subst (λ (b : Bool). Reads (IsContainer b ty.scalar ms) read) c.is_container_by.ensures
-    (subst (λ (s : Scalar). Reads (IsContainer c.is_container_by.result s ms) read) c.scalar.ensures
-    (subst (λ (l : _). Reads (IsContainer c.is_container_by.result c.scalar.result (members_view l)) read) c.deref.ensures.value h)))) c.container_of.ensures
+    (subst (λ (b : Bool). Reads (IsContainer b ty.scalar ms) read) c.has_subscripts_by.ensures
+    (subst (λ (s : Scalar). Reads (IsContainer c.has_subscripts_by.result s ms) read) c.scalar.ensures
+    (subst (λ (l : _). Reads (IsContainer c.has_subscripts_by.result c.scalar.result (members_view l)) read) c.deref.ensures.value h)))) c.container_of.ensures
+
+pub returns-in-Array : goal.returns-in-Array
+returns-in-Array c =
+    let ty = c.args.ty in
+    let js = map value_view c.in-Array.items.items in
+    let is : value_view c.args.value.now ≡ array (items_of js) = ap value_view c.in-Array.is ∙ view-Array c.in-Array.items in
+    let by : is_map_by scalar.Int ty ≡ true = sym c.is_map_by.ensures ∙ c.if-is_map_by.true in
+    IfOk-weaker _ _ _
+    (λ read h.
+    subst (λ (j : Json). Reads (IsInput ty j) read) (sym is)
+    (list_read ty js read by
+    (subst (λ (s : Scalar). Reads (IsListed s js) read) c.scalar-in-Array.ensures
+    (subst (λ (l : _). Reads (IsListed c.scalar-in-Array.result (map value_view l)) read) c.deref-in-Array.ensures.value h)))) c.listed.ensures
