@@ -4,7 +4,7 @@ use Rattle.std.proofs.Common.{◌≡◌, suc, take, ◌+◌, ◌++◌, ◌||◌,
 use Rattle.std.specs.Prelude.{if◌then◌else◌}
 use Rattle.std.proofs.lemmas.List.{append-nil, length-append, map-append}
 use Rattle.std.specs.Io.KnownBytes.{Consumes, IsAtEnd, Keeps}
-use Rattle.tw_program_output.specs.Input.{most_bytes}
+use Rattle.tw_source.specs.Input.{most_bytes}
 use Rattle.tw_each.specs.Answers.{Way}
 use Rattle.tw_each.specs.Stream.{Adds, AnswersAll, AnswersLast, AreWritten, IsAt, Stops, TakesChunk, begun_line, ended_lines, kept, lines_in, parts_of}
 use Rattle.tw_each.specs.declared.stream.AnsweredLines.{AnsweredLines}

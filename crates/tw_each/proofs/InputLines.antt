@@ -3,7 +3,7 @@ use Rattle.std.proofs.Common.{◌≡◌, ◌++◌, ◌||◌, ℕ, Bool, true, fa
 use Rattle.std.proofs.lemmas.List.{append-nil}
 use Rattle.std.specs.Str.{bytes_eq}
 use Rattle.clap.specs.Words.{Text}
-use Rattle.tw_program_output.specs.Inputs.{before_inputs, after_inputs}
+use Rattle.tw_source.specs.Inputs.{before_inputs, after_inputs}
 use Rattle.tw_each.specs.InputLines.{Parts, after_line, after_lines, parts}
 use Rattle.tw_each.specs.Reply.{has_inputs}
 

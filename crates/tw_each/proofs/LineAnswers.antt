@@ -1,7 +1,7 @@
 -- The answers to lines, one more after the others.
 use Rattle.std.proofs.Common.{◌≡◌, ◌+◌, ◌<◌, ◌++◌, ◌||◌, ◌∙◌, ℕ, Bool, Bor, true, false, List, [], ◌∷◌, IsUtf8, arith, ap, append_assoc, get_or, inl, inr, length, map, nat_lt, refl, subst, sym, take}
 use Rattle.std.proofs.lemmas.List.{append-nil, length-map, length-take-le, map-append, take_more}
-use Rattle.tw_program_output.specs.Input.{most_bytes}
+use Rattle.tw_source.specs.Input.{most_bytes}
 use Rattle.tw_each.specs.Answers.{AreAnswers, IsAnswer, IsFullLine, IsLine, IsShortLine, Way, is_blank, numbered, other_bytes, too_long, unread_line}
 
 -- ---- one line

@@ -2,7 +2,7 @@
 use Rattle.std.proofs.Common.{◌≡◌, ◌+◌, ◌==◌, ◌++◌, ◌∙◌, ℕ, zero, suc, Bool, true, false, List, [], ◌∷◌, ap, cond, refl, take}
 use Rattle.std.proofs.lemmas.List.{append-nil}
 use Rattle.std.specs.List.{onto_first}
-use Rattle.tw_program_output.specs.Input.{most_bytes}
+use Rattle.tw_source.specs.Input.{most_bytes}
 use Rattle.tw_each.specs.Stream.{begun_line, but_last, ended_lines, kept, last_of, parts_of}
 
 -- ---- parts, and those of more bytes

@@ -5,11 +5,11 @@ use Rattle.std.specs.Str.Lines.{lines}
 use Rattle.tw_code.specs.format.Program.{Versioned}
 use Rattle.tw_order.specs.declared.order.Source.{Source}
 use Rattle.tw_order.specs.declared.runs.EachOrder.{EachOrder}
-use Rattle.tw_program_output.specs.Inputs.{after_inputs, before_inputs}
-use Rattle.tw_program_output.specs.Program.{Spells, source_text}
-use Rattle.tw_program_output.specs.Reply.{Reply, reply}
-use Rattle.tw_program_output.specs.declared.close.Close.TheVariants.{CommandLine}
-use Rattle.tw_program_output.specs.declared.reply.Reply.{Reply as MadeReply}
+use Rattle.tw_source.specs.Inputs.{after_inputs, before_inputs}
+use Rattle.tw_source.specs.Program.{Spells, source_text}
+use Rattle.tw_source.specs.Reply.{Reply, reply}
+use Rattle.tw_source.specs.declared.close.Close.TheVariants.{CommandLine}
+use Rattle.tw_source.specs.declared.reply.Reply.{Reply as MadeReply}
 use Rattle.tw_verify.specs.Typed.{TypedProgram}
 use Rattle.tw_each.specs.Answers.{AreAnswers, Way}
 use Rattle.tw_each.specs.Ready.{IsEachInput, IsReady, IsReadyText, IsRejectedText}

@@ -5,7 +5,7 @@ use Rattle.std.proofs.lemmas.Bool.Decides.{when_true}
 use Rattle.std.proofs.lemmas.Bool.{cases_lt, lt-ltb}
 use Rattle.std.proofs.lemmas.List.{append-nil, length-take-le, take_all}
 use Rattle.std.specs.Io.KnownBytes.{Appends, Consumes, IsAtEnd, Keeps}
-use Rattle.tw_program_output.specs.Input.{most_bytes}
+use Rattle.tw_source.specs.Input.{most_bytes}
 use Rattle.tw_each.specs.Answers.{IsLine, IsShortLine, Way, numbered, too_long, unread_line}
 use Rattle.tw_each.specs.Stream.{Adds, AreSomeWritten, AreWritten, Stops, kept}
 use Rattle.tw_each.specs.declared.stream.AnsweredLines.{AnsweredLines}

@@ -18,14 +18,14 @@ use Rattle.tw_in_turn.specs.declared.run.InTurnResult.TheVariants as result
 use Rattle.tw_inputs.specs.JsonInputs.{AreInputsIn, HasFaultAt, IsFaultText}
 use Rattle.tw_inputs.specs.declared.json_inputs.Place.{Place}
 use Rattle.tw_json_output.specs.Run.{json_line}
-use Rattle.tw_program_output.specs.Input.{is_gap_byte, most_bytes}
+use Rattle.tw_source.specs.Input.{is_gap_byte, most_bytes}
 use Rattle.tw_program_output.specs.ErrorJson.{error_json}
-use Rattle.tw_program_output.specs.Failure.{coded, failed, failed_with}
-use Rattle.tw_program_output.specs.Inputs.{unreadable}
-use Rattle.tw_program_output.specs.declared.failure.Failure.{Failure}
-use Rattle.tw_program_output.specs.declared.failure.Position.{Position}
-use Rattle.tw_program_output.specs.declared.failure.Position.TheVariants.{Nowhere}
-use Rattle.tw_program_output.specs.Source.{text_of}
+use Rattle.tw_source.specs.Failure.{coded, failed, failed_with}
+use Rattle.tw_source.specs.Inputs.{unreadable}
+use Rattle.tw_source.specs.declared.failure.Failure.{Failure}
+use Rattle.tw_source.specs.declared.failure.Position.{Position}
+use Rattle.tw_source.specs.declared.failure.Position.TheVariants.{Nowhere}
+use Rattle.tw_source.specs.Source.{text_of}
 use Rattle.tw_replay_output.specs.Opening.{AreOpeningDetails}
 use Rattle.tw_run_output.specs.Json.{IsEndLine}
 use Rattle.tw_each.specs.declared.answer.EachRun.{EachRun}

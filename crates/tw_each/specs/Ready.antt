@@ -6,12 +6,12 @@ use Rattle.tw_code.specs.declared.procedure.Procedure.{Procedure}
 use Rattle.tw_code.specs.format.Program.{Versioned}
 use Rattle.tw_order.specs.declared.order.Source.{Source}
 use Rattle.tw_order.specs.declared.runs.EachOrder.{EachOrder}
-use Rattle.tw_program_output.specs.Failure.{coded, failed}
-use Rattle.tw_program_output.specs.Inputs.{after_inputs, before_inputs}
-use Rattle.tw_program_output.specs.Program.{Spells, source_text}
-use Rattle.tw_program_output.specs.Reply.{Reply, reply}
-use Rattle.tw_program_output.specs.declared.close.Close.TheVariants.{CommandLine}
-use Rattle.tw_program_output.specs.declared.failure.Position.TheVariants as position
+use Rattle.tw_source.specs.Failure.{coded, failed}
+use Rattle.tw_source.specs.Inputs.{after_inputs, before_inputs}
+use Rattle.tw_source.specs.Program.{Spells, source_text}
+use Rattle.tw_source.specs.Reply.{Reply, reply}
+use Rattle.tw_source.specs.declared.close.Close.TheVariants.{CommandLine}
+use Rattle.tw_source.specs.declared.failure.Position.TheVariants as position
 use Rattle.tw_each.specs.declared.reply.Ready.{Ready}
 use Rattle.tw_each.specs.declared.reply.Ready.TheVariants as ready
 use Rattle.tw_each.specs.declared.together.EachInput.{EachInput}

@@ -14,14 +14,14 @@ use Rattle.tw_json_output.specs.Run.{json_line}
 use Rattle.tw_program_output.specs.Admission.{AreExcessLines, StaysWithinCaps, has_cap}
 use Rattle.tw_program_output.specs.Check.{IsRefused}
 use Rattle.tw_program_output.specs.ErrorJson.{error_json}
-use Rattle.tw_program_output.specs.Failure.{coded, failed, failed_with, uncoded}
-use Rattle.tw_program_output.specs.declared.failure.Position.TheVariants as position
-use Rattle.tw_program_output.specs.Inputs.{after_inputs, before_inputs}
-use Rattle.tw_program_output.specs.Program.{AreParseErrorDetails, Spells, SpellsNone, failure_of, source_text}
-use Rattle.tw_program_output.specs.Reply.{Reply, reply}
-use Rattle.tw_program_output.specs.declared.close.Close.{Close}
-use Rattle.tw_program_output.specs.declared.close.Close.TheVariants.{CommandLine, Refused, Success}
-use Rattle.tw_program_output.specs.declared.program.NoProgram.{NoProgram}
+use Rattle.tw_source.specs.Failure.{coded, failed, failed_with, uncoded}
+use Rattle.tw_source.specs.declared.failure.Position.TheVariants as position
+use Rattle.tw_source.specs.Inputs.{after_inputs, before_inputs}
+use Rattle.tw_source.specs.Program.{AreParseErrorDetails, Spells, SpellsNone, failure_of, source_text}
+use Rattle.tw_source.specs.Reply.{Reply, reply}
+use Rattle.tw_source.specs.declared.close.Close.{Close}
+use Rattle.tw_source.specs.declared.close.Close.TheVariants.{CommandLine, Refused, Success}
+use Rattle.tw_source.specs.declared.program.NoProgram.{NoProgram}
 use Rattle.tw_each.specs.Answers.{AreAnswers, Way, too_long}
 
 -- returns an error's reply as a JSON object

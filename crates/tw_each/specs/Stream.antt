@@ -6,9 +6,9 @@ use Rattle.tw_code.specs.declared.procedure.Procedure.{Procedure}
 use Rattle.tw_code.specs.format.Program.{Versioned}
 use Rattle.tw_order.specs.declared.runs.EachOrder.{EachOrder}
 use Rattle.tw_order.specs.declared.order.Source.{Source}
-use Rattle.tw_program_output.specs.Input.{most_bytes}
-use Rattle.tw_program_output.specs.Program.{Spells, source_text}
-use Rattle.tw_program_output.specs.Reply.{Reply, reply}
+use Rattle.tw_source.specs.Input.{most_bytes}
+use Rattle.tw_source.specs.Program.{Spells, source_text}
+use Rattle.tw_source.specs.Reply.{Reply, reply}
 use Rattle.tw_verify.specs.Typed.{TypedProgram}
 use Rattle.tw_each.specs.Answers.{AreAnswers, Way}
 use Rattle.tw_each.specs.Reply.{IsAdmitted, IsNoProgram, IsRejected, too_long_reply, way_of}

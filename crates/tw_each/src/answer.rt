@@ -18,9 +18,10 @@ use tw_code::main_params;
 use tw_in_turn::{InTurnResult, StoppableResult};
 use tw_inputs::{NoInputs, Place, Scratch, fault_text, read_inputs};
 use tw_pool::{Closing, Final, History, OpenError};
-use tw_program_output::{Failure, SourceText, error_line, failed_reply, unreadable_reply};
+use tw_program_output::error_line;
 use tw_replay_output::inputs_refused_reply;
 use tw_run_output::end_line;
+use tw_source::{Failure, SourceText, failed_reply, unreadable_reply};
 use tw_types::{Input, Layout, Param};
 use tw_verify::Verified;
 

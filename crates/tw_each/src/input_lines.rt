@@ -2,7 +2,7 @@
 
 ghost use Rattle.std.specs.Prelude.{◌≡◌, ◌++◌, ◌∷◌, [], List, map, IfOk, OnOk, true, false};
 ghost use Rattle.std.specs.Str.Lines.{lines};
-ghost use Rattle.tw_program_output.specs.Inputs.{after_inputs, before_inputs};
+ghost use Rattle.tw_source.specs.Inputs.{after_inputs, before_inputs};
 ghost use Rattle.tw_each.specs.InputLines.{after_in, after_line, seen};
 ghost use Rattle.tw_each.specs.Reply.{has_inputs};
 

@@ -1,7 +1,7 @@
 //! The answers to all lines, in their order.
 
 ghost use Rattle.std.specs.Prelude.{◌≡◌, ◌+◌, ◌^◌, ◌<◌, ◌++◌, List, ℕ, IfOk, length, map};
-ghost use Rattle.tw_program_output.specs.Input.{is_gap_byte};
+ghost use Rattle.tw_source.specs.Input.{is_gap_byte};
 ghost use Rattle.tw_each.specs.Answers.{AreAnswers, IsLine, IsShortLine, is_blank, other_bytes as other_bytes_is, too_long as too_long_is, way};
 
 use crate::answer::{EachRun, put_answer, put_unread};
@@ -9,7 +9,7 @@ use crate::line_count::LineCount;
 use crate::runs_line::RunsLine;
 use std::alloc::{AllocError, Global};
 use tw_inputs::Scratch;
-use tw_program_output::{Failure, Position};
+use tw_source::{Failure, Position};
 
 /// The maximum number of bytes of a line.
 pub(crate) const MOST_BYTES: usize = 16_777_216;

@@ -3,9 +3,9 @@
 ghost use Rattle.std.specs.Prelude.{◌≡◌, ◌≢◌, IfOk, List, ℕ, Option};
 ghost use Rattle.tw_order.specs.declared.order.Source.{Source as ReadAs};
 ghost use Rattle.tw_code.specs.accepting.WellTyped.{IsAccepted};
-ghost use Rattle.tw_program_output.specs.Program.{SpellsNone};
-ghost use Rattle.tw_program_output.specs.Reply.{reply};
-ghost use Rattle.tw_program_output.specs.Source.{MayBeSource, text_of};
+ghost use Rattle.tw_source.specs.Program.{SpellsNone};
+ghost use Rattle.tw_source.specs.Reply.{reply};
+ghost use Rattle.tw_source.specs.Source.{MayBeSource, text_of};
 ghost use Rattle.tw_each.specs.Answers.{way};
 ghost use Rattle.tw_each.specs.Ready.{IsReady, IsReadyText};
 ghost use Rattle.tw_each.specs.Reply.{IsNoProgram, close_of, json_reply, way_of, too_long_reply as too_long_reply_is};
@@ -15,9 +15,10 @@ use crate::lines::too_long;
 use std::alloc::{AllocError, Global};
 use tw_code::Program;
 use tw_order::{EachOrder, Places, Source};
-use tw_program_output::{
-    Close, Failure, NoProgram, Position, ReadProgram, Reply, SourceText, error_line, excess_reply,
-    excess_text, failed_reply, parse_error_reply, read_program, rejection_reply,
+use tw_program_output::{error_line, excess_reply, excess_text, rejection_reply};
+use tw_source::{
+    Close, Failure, NoProgram, Position, ReadProgram, Reply, SourceText, failed_reply,
+    parse_error_reply, read_program,
 };
 use tw_verify::{Verified, VerifyError, verify};
 

@@ -1,6 +1,6 @@
 //! The answers of a program to lines that are read.
 
-ghost use Rattle.tw_program_output.specs.Source.{MayBeSource, text_of};
+ghost use Rattle.tw_source.specs.Source.{MayBeSource, text_of};
 ghost use Rattle.tw_each.specs.Stream.{Streams, StreamsProgram};
 
 use crate::lines::MOST_BYTES;
@@ -13,7 +13,7 @@ use std::thread::Threads;
 use std::time::Clock;
 use tw_code::Program;
 use tw_order::{EachOrder, Source};
-use tw_program_output::{ReadProgram, Reply, SourceText, read_program};
+use tw_source::{ReadProgram, Reply, SourceText, read_program};
 
 /// The end of a program that is run on lines.
 #[derive(Drop)]

@@ -1,7 +1,7 @@
 //! The reply to a program and lines of inputs that are read together.
 
 ghost use Rattle.std.specs.Prelude.{◌≡◌, IfOk, map};
-ghost use Rattle.tw_program_output.specs.Reply.{reply};
+ghost use Rattle.tw_source.specs.Reply.{reply};
 ghost use Rattle.tw_each.specs.Ready.{IsEachInput, IsTextInput};
 ghost use Rattle.tw_each.specs.Reply.{RepliesByEach, RepliesByParts, close_of as close_of_is};
 
@@ -15,7 +15,7 @@ use std::alloc::{AllocError, Global};
 use std::thread::Threads;
 use std::time::Clock;
 use tw_order::{EachOrder, Source};
-use tw_program_output::{Close, Reply, fixed_reply, not_utf8_reply};
+use tw_source::{Close, Reply, fixed_reply, not_utf8_reply};
 
 /// A program with lines of inputs, or the reply to what is none.
 #[derive(Drop)]

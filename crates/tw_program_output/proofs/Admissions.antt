@@ -10,7 +10,7 @@ use Rattle.tw_order.specs.Orders.{greatest_cap}
 use Rattle.tw_bounds.specs.declared.bound.Bound.{Bound}
 use Rattle.tw_bounds.specs.declared.bound.Bound.TheVariants.{AtMost, Over, Endless}
 use Rattle.tw_bounds.specs.declared.limited.LimitedBounds.{LimitedBounds}
-use Rattle.tw_bounds.specs.Contents.{bytes_held}
+use Rattle.tw_bounds.specs.Contents.{bytes_held, members_held}
 use Rattle.tw_bounds.specs.Least.{LeastRuns}
 use Rattle.tw_bounds.specs.Limited.{IsLargestBudget}
 use Rattle.tw_bounds.specs.Runs.{instructions_in, tasks_in}
@@ -76,14 +76,17 @@ module _ (program : List Procedure) (limit : Option ℕ) (caps : Caps) where
       let d = excess (codes "data") bounds.«data» caps.«data» in
       let y = excess (codes "bytes") bounds.bytes caps.bytes in
       let b = excess (codes "budget") (AtMost budget) caps.budget in
+      let m = excess (codes "members") bounds.members caps.members in
       let no_t = first_none t _ none in
       let rest = second_none t _ none in
       let no_i = first_none i _ rest in
       let last = second_none i _ rest in
       let no_d = first_none d _ last in
       let end = second_none d _ last in
-      let no_y = first_none y b end in
-      let no_b = second_none y b end in
+      let no_y = first_none y _ end in
+      let others = second_none y _ end in
+      let no_b = first_none b m others in
+      let no_m = second_none b m others in
       record {
         runs = λ inputs layout events s given short e.
             let w = least.within inputs layout events s given short e in
@@ -92,6 +95,7 @@ module _ (program : List Procedure) (limit : Option ℕ) (caps : Caps) where
               instructions = within_cap (λ m. instructions_in events ≤ m) (λ n m le h. omega arith) (codes "instructions") bounds.instructions caps.instructions no_i w.instructions;
               new_data = within_cap (λ m. s.store.next ≤ (opening program inputs).store.next + m) (λ n m le h. omega arith) (codes "data") bounds.«data» caps.«data» no_d w.new_data;
               bytes = within_cap (λ m. bytes_held s.store ≤ bytes_held (opening program inputs).store + m) (λ n m le h. omega arith) (codes "bytes") bounds.bytes caps.bytes no_y w.bytes;
+              members = within_cap (λ x. members_held s.store ≤ members_held (opening program inputs).store + x) (λ n x le h. omega arith) (codes "members") bounds.members caps.members no_m w.members;
             };
         budgets = λ given k p n here is.
             let most : n ≤ budget = largest.each k p n (slice_get_within program k p here) here is in
@@ -103,13 +107,15 @@ module _ (program : List Procedure) (limit : Option ℕ) (caps : Caps) where
       let tasks = both_false _ _ none in
       let instructions = both_false _ _ tasks.1 in
       let new_data = both_false _ _ instructions.1 in
-      let others = both_false _ _ new_data.1 in
+      let bytes = both_false _ _ new_data.1 in
+      let others = both_false _ _ bytes.1 in
       record {
         runs = λ inputs layout events s given short e. record {
           tasks = λ is. absurd (isnt_given caps.tasks tasks.0 is);
           instructions = λ is. absurd (isnt_given caps.instructions instructions.0 is);
           new_data = λ is. absurd (isnt_given caps.«data» new_data.0 is);
-          bytes = λ is. absurd (isnt_given caps.bytes others.0 is);
+          bytes = λ is. absurd (isnt_given caps.bytes bytes.0 is);
+          members = λ is. absurd (isnt_given caps.members others.1 is);
         };
-        budgets = λ is k p n here b. absurd (isnt_given caps.budget others.1 is);
+        budgets = λ is k p n here b. absurd (isnt_given caps.budget others.0 is);
       }

@@ -11,8 +11,8 @@ use Rattle.tw_bounds.specs.Circles.{IsCircle}
 use Rattle.tw_bounds.specs.declared.circles.Circle.{Circle}
 use Rattle.tw_copies.specs.Copies.{IsAt}
 use Rattle.tw_copies.specs.declared.check.CopyInsertion.{CopyInsertion}
-use Rattle.tw_program_output.specs.Source.{MayBeSource, MayBeSourceAt}
-use Rattle.tw_program_output.specs.declared.source.SourceText.{SourceText}
+use Rattle.tw_source.specs.Source.{MayBeSource, MayBeSourceAt}
+use Rattle.tw_source.specs.declared.source.SourceText.{SourceText}
 
 some_there : (program : List Procedure) (k place : ℕ) (p : Procedure) (i : Instr) → slice_get program k ≡ Some p → slice_get p.code place ≡ Some i → instr_at program k place ≡ None → ⊥
 some_there program k place p i here there none =

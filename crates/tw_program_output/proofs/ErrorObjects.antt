@@ -7,11 +7,11 @@ use Rattle.serde_json.specs.Written.{has_float, members_have_float}
 use Rattle.tw_json_output.proofs.Floats.{one_more, strings, with_one}
 use Rattle.tw_json_output.specs.Texts.{lines_json, whole_json}
 use Rattle.tw_program_output.specs.ErrorJson.{error_members, failure_members, listed_members, with_code, with_line, with_number, with_position}
-use Rattle.tw_program_output.specs.Failure.{code_text}
-use Rattle.tw_program_output.specs.declared.failure.ErrorCode.{ErrorCode}
-use Rattle.tw_program_output.specs.declared.failure.Failure.{Failure}
-use Rattle.tw_program_output.specs.declared.failure.Position.{Position}
-use Rattle.tw_program_output.specs.declared.failure.Position.TheVariants as position
+use Rattle.tw_source.specs.Failure.{code_text}
+use Rattle.tw_source.specs.declared.failure.ErrorCode.{ErrorCode}
+use Rattle.tw_source.specs.declared.failure.Failure.{Failure}
+use Rattle.tw_source.specs.declared.failure.Position.{Position}
+use Rattle.tw_source.specs.declared.failure.Position.TheVariants as position
 
 coded : (code : Option ErrorCode) (ms : json.Members) → members_have_float ms ≡ false → members_have_float (with_code code ms) ≡ false
 coded None ms before = before

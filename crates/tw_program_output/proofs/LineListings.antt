@@ -16,10 +16,10 @@ use Rattle.tw_diagnostics.specs.declared.parser_state.LineRole.{LineRole}
 use Rattle.tw_diagnostics.specs.declared.parser_state.LineRole.TheVariants as says
 use Rattle.tw_program_output.specs.Listing.{beside, place_column, rights_text}
 use Rattle.tw_diagnostics.proofs.Saying.{split_last}
-use Rattle.tw_program_output.specs.declared.source.SourceText.{SourceText}
+use Rattle.tw_source.specs.declared.source.SourceText.{SourceText}
 use Rattle.tw_program_output.specs.declared.text_listing.Counts.{Counts}
 use Rattle.tw_program_output.proofs.Places.{main_there}
-use Rattle.tw_program_output.proofs.Sources.{said_length, some_origin}
+use Rattle.tw_source.proofs.Sources.{said_length, some_origin}
 
 -- what lines say, and one line more
 said_more : (names : ℕ → ℕ → List ℕ) (typings : Typings) (number : ℕ) (s : ParserState) (ls : List (List ℕ)) (line : List ℕ) (before : List (Option Statement)) (x : Option Statement) → length before ≡ length ls

@@ -8,7 +8,7 @@ use Rattle.std.specs.Option.{option_and_then, option_map}
 use Rattle.tw_code.specs.accepting.Flow.{flow_of, flows}
 use Rattle.tw_code.specs.accepting.Structure.{structure_rejection}
 use Rattle.tw_code.specs.accepting.WellTyped.{IsFirstRejection, IsProcedureRejection}
-use Rattle.tw_program_output.specs.declared.source.SourceText.{SourceText}
+use Rattle.tw_source.specs.declared.source.SourceText.{SourceText}
 
 none_some : {X Z : Type 0} {x : X} → None ≡ Some x → Z
 none_some e = absurd cc

@@ -13,15 +13,15 @@ use Rattle.tw_code.specs.machine.State.{State}
 use Rattle.tw_bounds.specs.declared.bound.Bound.{Bound}
 use Rattle.tw_bounds.specs.declared.bound.Bound.TheVariants.{AtMost, Over, Endless}
 use Rattle.tw_bounds.specs.declared.limited.LimitedBounds.{LimitedBounds}
-use Rattle.tw_bounds.specs.Contents.{bytes_held}
+use Rattle.tw_bounds.specs.Contents.{bytes_held, members_held}
 use Rattle.tw_bounds.specs.Least.{AreLeastBounds, IsShort}
 use Rattle.tw_bounds.specs.Limited.{IsLargestBudget}
 use Rattle.tw_bounds.specs.Runs.{instructions_in, tasks_in}
 use Rattle.tw_order.specs.declared.caps.Caps.{Caps}
 use Rattle.tw_order.specs.Orders.{greatest_cap}
-use Rattle.tw_program_output.specs.Failure.{coded, failed_with}
-use Rattle.tw_program_output.specs.declared.failure.Position.TheVariants as position
-use Rattle.tw_program_output.specs.Reply.{Reply}
+use Rattle.tw_source.specs.Failure.{coded, failed_with}
+use Rattle.tw_source.specs.declared.failure.Position.TheVariants as position
+use Rattle.tw_source.specs.Reply.{Reply}
 
 -- holds for a bound up to the cap; no bound, or one over the largest, is within the greatest cap alone
 abbrev pub is_within : Bound → ℕ → Bool
@@ -48,10 +48,13 @@ excess_lines caps bounds budget =
     ++ (excess (codes "instructions") bounds.instructions caps.instructions
     ++ (excess (codes "data") bounds.«data» caps.«data»
     ++ (excess (codes "bytes") bounds.bytes caps.bytes
-    ++ excess (codes "budget") (AtMost budget) caps.budget)))
+    ++ (excess (codes "budget") (AtMost budget) caps.budget
+    ++ excess (codes "members") bounds.members caps.members))))
 
 abbrev pub has_cap : Caps → Bool
-has_cap caps = nat_lt caps.tasks greatest_cap || (nat_lt caps.instructions greatest_cap || (nat_lt caps.«data» greatest_cap || (nat_lt caps.bytes greatest_cap || nat_lt caps.budget greatest_cap)))
+has_cap caps =
+    nat_lt caps.tasks greatest_cap || (nat_lt caps.instructions greatest_cap || (nat_lt caps.«data» greatest_cap || (nat_lt caps.bytes greatest_cap
+    || (nat_lt caps.budget greatest_cap || nat_lt caps.members greatest_cap))))
 
 -- holds for the lines for the program's bounds above the caps, if there is a cap
 abbrev pub AreExcessLines : Bool → List Procedure → Option ℕ → Caps → List ℕ → Type 0
@@ -67,6 +70,7 @@ pub record IsRunWithinCaps (program : List Procedure) (caps : Caps) (inputs : Li
   pub instructions : caps.instructions < greatest_cap → instructions_in events ≤ caps.instructions
   pub new_data : caps.«data» < greatest_cap → s.store.next ≤ (opening program inputs).store.next + caps.«data»
   pub bytes : caps.bytes < greatest_cap → bytes_held s.store ≤ bytes_held (opening program inputs).store + caps.bytes
+  pub members : caps.members < greatest_cap → members_held s.store ≤ members_held (opening program inputs).store + caps.members
 
 -- with any inputs and layout, each run that the limit allows is within the caps, and so is each budget
 pub record StaysWithinCaps (program : List Procedure) (limit : Option ℕ) (caps : Caps) : Type 0 where

@@ -15,7 +15,7 @@ use Rattle.tw_order.specs.declared.check.BoundsOf.{BoundsOf}
 use Rattle.tw_order.specs.declared.check.BoundsOf.TheVariants.{NoBounds, OfMain, OfEach}
 use Rattle.tw_order.specs.declared.check.CheckOrder.{CheckOrder}
 use Rattle.tw_symbols.specs.Symbols.{AreSymbols, bracketed, name_at}
-use Rattle.tw_program_output.specs.Text.{IsPlaceText}
+use Rattle.tw_source.specs.Text.{IsPlaceText}
 use Rattle.tw_program_output.specs.declared.bound_rows.BoundRow.{BoundRow}
 
 abbrev pub bound_text : Option Bound → List ℕ

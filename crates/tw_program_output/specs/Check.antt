@@ -17,13 +17,13 @@ use Rattle.tw_symbols.specs.Symbols.{AreSymbols, bracketed, name_at}
 use Rattle.tw_program_output.specs.Admission.{RepliesIfAdmitted}
 use Rattle.tw_program_output.specs.Bounds.{MayPrintBounds}
 use Rattle.tw_program_output.specs.EventOrder.{MayPrintOrder}
-use Rattle.tw_program_output.specs.Failure.{coded, failed_after}
-use Rattle.tw_program_output.specs.declared.failure.Failure.{Failure}
-use Rattle.tw_program_output.specs.declared.failure.Position.TheVariants as position
+use Rattle.tw_source.specs.Failure.{coded, failed_after}
+use Rattle.tw_source.specs.declared.failure.Failure.{Failure}
+use Rattle.tw_source.specs.declared.failure.Position.TheVariants as position
 use Rattle.tw_program_output.specs.Listing.{IsListing, IsRefusedListing}
-use Rattle.tw_program_output.specs.Reply.{Reply, reply}
-use Rattle.tw_program_output.specs.Text.{AreDetailsOf}
-use Rattle.tw_program_output.specs.declared.close.Close.TheVariants.{Success}
+use Rattle.tw_source.specs.Reply.{Reply, reply}
+use Rattle.tw_source.specs.Text.{AreDetailsOf}
+use Rattle.tw_source.specs.declared.close.Close.TheVariants.{Success}
 use Rattle.tw_verify.specs.Rejection.{verify_error_code}
 use Rattle.tw_verify.specs.declared.rejection.VerifyError.{VerifyError}
 

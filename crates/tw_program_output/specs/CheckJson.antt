@@ -29,7 +29,7 @@ use Rattle.tw_program_output.specs.Bounds.{limit_rows, run_rows}
 use Rattle.tw_copies.specs.declared.check.CopyInsertion.{CopyInsertion}
 use Rattle.tw_program_output.specs.EventOrder.{MayBeChecked, count_json, with_order}
 use Rattle.tw_code.specs.machine.Opening.{main_params}
-use Rattle.tw_program_output.specs.Examples.{example_lines}
+use Rattle.tw_source.specs.Examples.{example_lines}
 use Rattle.tw_program_output.specs.Listing.{IsListing}
 use Rattle.tw_program_output.specs.declared.bounds_json.FoundBounds.{FoundBounds}
 use Rattle.tw_symbols.specs.Symbols.{AreSymbols, name_at}

@@ -2,14 +2,14 @@
 use Rattle.std.specs.Prelude.{ℕ, List, codes, drop, take, Option, Some, None}
 use Rattle.serde_json.specs.Data as json
 use Rattle.tw_json_output.specs.Texts.{lines_json, whole_json, with_status}
-use Rattle.tw_program_output.specs.Failure.{code_text, uncoded}
-use Rattle.tw_program_output.specs.Reply.{Reply}
-use Rattle.tw_program_output.specs.declared.close.Close.{Close}
-use Rattle.tw_program_output.specs.declared.close.Close.TheVariants.{CommandLine, Limit, Refused, Stuck, Success, Trapped, Unreadable}
-use Rattle.tw_program_output.specs.declared.failure.ErrorCode.{ErrorCode}
-use Rattle.tw_program_output.specs.declared.failure.Failure.{Failure}
-use Rattle.tw_program_output.specs.declared.failure.Position.{Position}
-use Rattle.tw_program_output.specs.declared.failure.Position.TheVariants as position
+use Rattle.tw_source.specs.Failure.{code_text, uncoded}
+use Rattle.tw_source.specs.Reply.{Reply}
+use Rattle.tw_source.specs.declared.close.Close.{Close}
+use Rattle.tw_source.specs.declared.close.Close.TheVariants.{CommandLine, Limit, Refused, Stuck, Success, Trapped, Unreadable}
+use Rattle.tw_source.specs.declared.failure.ErrorCode.{ErrorCode}
+use Rattle.tw_source.specs.declared.failure.Failure.{Failure}
+use Rattle.tw_source.specs.declared.failure.Position.{Position}
+use Rattle.tw_source.specs.declared.failure.Position.TheVariants as position
 
 -- ---- the value
 

@@ -6,7 +6,7 @@ use Rattle.tw_copies.specs.Copies.{IsFirstCopyInsertion}
 use Rattle.tw_copies.specs.declared.check.CopyInsertion.{CopyInsertion}
 use Rattle.tw_order.specs.declared.check.EventOrder.{EventOrder}
 use Rattle.tw_order.specs.declared.check.EventOrder.TheVariants.{Ignored, Checked}
-use Rattle.tw_program_output.specs.Text.{IsPlaceText}
+use Rattle.tw_source.specs.Text.{IsPlaceText}
 
 -- ---- lines
 

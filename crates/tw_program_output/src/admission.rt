@@ -2,16 +2,15 @@
 
 ghost use Rattle.std.specs.Prelude.{◌≡◌, ◌++◌, [], true, IfOk, OnOk};
 ghost use Rattle.tw_program_output.specs.Admission.{AreExcessLines, StaysWithinCaps, excess, excess_bound, excess_line, excess_lines, has_cap, is_within};
-ghost use Rattle.tw_program_output.specs.Failure.{coded, failed_with};
-ghost use Rattle.tw_program_output.specs.Reply.{reply};
-ghost use Rattle.tw_program_output.specs.declared.failure.Position.TheVariants as position;
+ghost use Rattle.tw_source.specs.Failure.{coded, failed_with};
+ghost use Rattle.tw_source.specs.Reply.{reply};
+ghost use Rattle.tw_source.specs.declared.failure.Position.TheVariants as position;
 
-use crate::failure::{Failure, Position, put_failure_line};
-use crate::reply::{Reply, refused_by};
 use std::alloc::{AllocError, Global};
 use tw_bounds::{Bound, LimitedBounds, largest_budget, least_bounds};
 use tw_lexer::{put, put_numbered};
 use tw_order::{Caps, EventLimit};
+use tw_source::{Failure, Position, Reply, put_failure_line, refused_by};
 use tw_verify::Verified;
 
 /// Returns whether a bound is at most a cap.
@@ -89,7 +88,8 @@ fn put_excess_lines(
     )?;
     put_excess(alloc, out, "data", bounds.data, caps.data)?;
     put_excess(alloc, out, "bytes", bounds.bytes, caps.bytes)?;
-    put_excess(alloc, out, "budget", Bound::AtMost(budget), caps.budget)
+    put_excess(alloc, out, "budget", Bound::AtMost(budget), caps.budget)?;
+    put_excess(alloc, out, "members", bounds.members, caps.members)
 }
 
 /// Returns whether a cap is given.
@@ -101,6 +101,7 @@ fn has_cap(caps: Caps) -> bool
         || caps.data < u64::MAX
         || caps.bytes < u64::MAX
         || caps.budget < u64::MAX
+        || caps.members < u64::MAX
 }
 
 /// Returns the limit as a number of events.

@@ -3,22 +3,22 @@
 ghost use Rattle.std.specs.Prelude.{◌≡◌, IfOk};
 ghost use Rattle.tw_asm.specs.Fault.{fault_number};
 ghost use Rattle.tw_order.specs.declared.order.Source.TheVariants.{Assembly};
-ghost use Rattle.tw_program_output.specs.Failure.{coded, failed};
-ghost use Rattle.tw_program_output.specs.Program.{IsWritten, RepliesByAssembling, RepliesBySource, RepliesByText};
-ghost use Rattle.tw_program_output.specs.Reply.{reply};
-ghost use Rattle.tw_program_output.specs.declared.failure.Position.TheVariants as position;
+ghost use Rattle.tw_source.specs.Failure.{coded, failed};
+ghost use Rattle.tw_program_output.specs.Assembled.{IsWritten, RepliesByAssembling, RepliesByText};
+ghost use Rattle.tw_source.specs.Program.{RepliesBySource};
+ghost use Rattle.tw_source.specs.Reply.{reply};
+ghost use Rattle.tw_source.specs.declared.failure.Position.TheVariants as position;
 
-use crate::close::Close;
-use crate::failure::{Failure, Position};
-use crate::names::plain_reply;
-use crate::program::{parse_error_reply, read_program};
-use crate::reply::{Reply, failed_reply, not_utf8_reply};
 use std::alloc::{AllocError, Global};
 use tw_asm::{AsmFault, assemble};
 use tw_binary::encode;
 use tw_code::Program;
 use tw_lexer::put;
 use tw_order::{Assembling, Source};
+use tw_source::{
+    Close, Failure, Position, Reply, failed_reply, not_utf8_reply, parse_error_reply, plain_reply,
+    read_program,
+};
 
 /// Returns a program as hex digits, in one line.
 fn hex_reply(alloc: Global, program: &Program) -> Result<Reply, AllocError>

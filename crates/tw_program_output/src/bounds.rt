@@ -6,15 +6,15 @@ ghost use Rattle.tw_code.specs.declared.procedure.Procedure.{Procedure};
 ghost use Rattle.tw_bounds.specs.Circles.{IsCircle};
 ghost use Rattle.tw_bounds.specs.Reports.{AreRunBounds};
 ghost use Rattle.tw_program_output.specs.Bounds.{IsBoundsText, IsCircleText, IsEachBoundsText, IsLimitedText, IsTextOf, IsWhyEndless, MayPrintBounds, bound_row, bound_rows, bound_text, circle_line, named, requested_limit, row_text};
-ghost use Rattle.tw_program_output.specs.Source.{MayBeSource, text_of};
+ghost use Rattle.tw_source.specs.Source.{MayBeSource, text_of};
 ghost use Rattle.tw_symbols.specs.Symbols.{name_at};
 
 use crate::bound_rows::{BoundRow, limit_rows, run_rows};
-use crate::source::{SourceText, put_place_line, symbols_of};
 use std::alloc::{AllocError, Global};
 use tw_bounds::{Bound, Circle, RunBounds, circle_of_calls, limited_bounds, run_bounds};
 use tw_lexer::{put, put_both, put_decimal, put_numbered};
 use tw_order::{BoundsOf, CheckOrder, EventLimit};
+use tw_source::{SourceText, put_place_line, symbols_of};
 use tw_symbols::Symbols;
 use tw_verify::Verified;
 

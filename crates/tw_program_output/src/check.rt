@@ -3,27 +3,27 @@
 ghost use Rattle.std.specs.Prelude.{◌≡◌, ◌++◌, ℕ, List, IfOk, OnOk, decimal};
 ghost use Rattle.tw_code.specs.accepting.WellTyped.{IsFirstRejection};
 ghost use Rattle.tw_program_output.specs.Check.{AreProcedureLines, IsCheckText, IsChecked, IsRefused, IsInForm, IsPrintedByCheck, RepliesByCheck, IsListedBefore, kind_text, needs_line, procedure_line, rejection};
-ghost use Rattle.tw_program_output.specs.Failure.{after};
+ghost use Rattle.tw_source.specs.Failure.{after};
 ghost use Rattle.tw_order.specs.declared.form.Places.TheVariants.{Shown};
 ghost use Rattle.tw_symbols.specs.Symbols.{name_at};
 ghost use Rattle.tw_program_output.specs.Listing.{IsListing, IsRefusedListing};
-ghost use Rattle.tw_program_output.specs.Reply.{reply};
-ghost use Rattle.tw_program_output.specs.Source.{MayBeSource, text_of};
+ghost use Rattle.tw_source.specs.Reply.{reply};
+ghost use Rattle.tw_source.specs.Source.{MayBeSource, text_of};
 ghost use Rattle.tw_verify.specs.Rejection.{verify_error_code};
 
 use crate::admission::{excess_reply, excess_text};
 use crate::bounds::put_requested_bounds;
 use crate::check_json::check_line;
-use crate::close::Close;
 use crate::event_order::put_requested_order;
-use crate::failure::{Failure, Position, put_failure_line};
 use crate::listing::{refused_text, typed_text};
-use crate::reply::{Reply, refused_by};
-use crate::source::{SourceText, put_rejection_details, symbols_of};
 use crate::text_listing::{accepted_lines, refused_lines};
 use std::alloc::{AllocError, Global};
 use tw_lexer::{put, put_numbered};
 use tw_order::{CheckOrder, Form, Places};
+use tw_source::{
+    Close, Failure, Position, Reply, SourceText, put_failure_line, put_rejection_details,
+    refused_by, symbols_of,
+};
 use tw_symbols::Symbols;
 use tw_types::Kind;
 use tw_verify::{Refused, Verified};

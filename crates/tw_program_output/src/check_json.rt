@@ -3,19 +3,18 @@
 ghost use Rattle.std.specs.Prelude.{◌≡◌, IfOk, OnOk, map, option_map};
 ghost use Rattle.serde_json.specs.View.{members_view, view};
 ghost use Rattle.tw_program_output.specs.CheckJson.{AreProcedureObjects, IsCheckLine, MayBeListed, bounds_in, check_members, each_bounds, kind_word, needs_json, needs_members, procedure_json, procedure_members, with_listing, with_name, with_own_bounds};
-ghost use Rattle.tw_program_output.specs.Source.{MayBeSource, text_of};
+ghost use Rattle.tw_source.specs.Source.{MayBeSource, text_of};
 
 use crate::bounds_json::{FoundBounds, bounds_value, found_bounds, put_found};
 use crate::check::accepted_listing;
 use crate::event_order::{order_answer, put_order_value};
-use crate::examples::example_lines;
-use crate::source::{SourceText, symbols_of};
 use serde_json::{Map, Value as Json};
 use std::alloc::{AllocError, Global};
 use tw_code::main_params;
 use tw_copies::CopyInsertion;
 use tw_json_output::{line_of, lines_value, members_with, text_value};
 use tw_order::{BoundsOf, CheckOrder, Places};
+use tw_source::{SourceText, example_lines, symbols_of};
 use tw_symbols::Symbols;
 use tw_types::Kind;
 use tw_verify::Verified;

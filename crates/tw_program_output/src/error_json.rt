@@ -5,14 +5,12 @@ ghost use Rattle.serde_json.specs.Data.{object};
 ghost use Rattle.serde_json.specs.View.{members_view, view};
 ghost use Rattle.tw_json_output.specs.Run.{json_line};
 ghost use Rattle.tw_program_output.specs.ErrorJson.{error_json, error_members, error_status, failure_in, failure_members, listed_error_json, listed_members, or_uncoded, with_code, with_line, with_number, with_position};
-ghost use Rattle.tw_program_output.specs.Reply.{reply};
+ghost use Rattle.tw_source.specs.Reply.{reply};
 
-use crate::close::Close;
-use crate::failure::{ErrorCode, Failure, Position, put_code};
-use crate::reply::Reply;
 use serde_json::{Map, Value as Json};
 use std::alloc::{AllocError, Global};
 use tw_json_output::{line_of, lines_value, members_with, text_value};
+use tw_source::{Close, ErrorCode, Failure, Position, Reply, put_code};
 
 /// Returns the error with which a session ends, if it ends with one.
 pub fn failure_in(close: Close) -> Option<Failure>

@@ -6,15 +6,15 @@ ghost use Rattle.tw_code.specs.declared.instr.Instr.{Instr};
 ghost use Rattle.tw_code.specs.declared.procedure.Procedure.{Procedure};
 ghost use Rattle.tw_copies.specs.Copies.{IsAt};
 ghost use Rattle.tw_program_output.specs.EventOrder.{IsOrderText, MayBeChecked, MayPrintOrder, insertion_line, insertion_members, order_json, with_order};
-ghost use Rattle.tw_program_output.specs.Source.{MayBeSource, text_of};
-ghost use Rattle.tw_program_output.specs.Text.{IsPlaceText};
+ghost use Rattle.tw_source.specs.Source.{MayBeSource, text_of};
+ghost use Rattle.tw_source.specs.Text.{IsPlaceText};
 
-use crate::source::{SourceText, put_place_line};
 use serde_json::{Map, Value as Json};
 use std::alloc::{AllocError, Global};
 use tw_copies::{CopyInsertion, first_copy_insertion};
 use tw_lexer::{put, put_numbered};
 use tw_order::EventOrder;
+use tw_source::{SourceText, put_place_line};
 use tw_verify::Verified;
 
 /// Adds the line of an insertion that may show the order.

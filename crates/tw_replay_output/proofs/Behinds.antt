@@ -15,14 +15,14 @@ use Rattle.tw_machine.specs.declared.rejection.OpenError.TheVariants as opening
 use Rattle.std.specs.Prelude.{Bool, MatchBool, codes, false, true}
 use Rattle.tw_types.specs.Cause.{cause_number}
 use Rattle.tw_code.specs.machine.Inputs.{has_fitting_inputs, has_input_count}
-use Rattle.tw_program_output.specs.Failure.{code_text, failure_line, position_text}
-use Rattle.tw_program_output.specs.declared.failure.Failure.{Failure}
-use Rattle.tw_program_output.specs.declared.failure.Position.TheVariants as position
+use Rattle.tw_source.specs.Failure.{code_text, failure_line, position_text}
+use Rattle.tw_source.specs.declared.failure.Failure.{Failure}
+use Rattle.tw_source.specs.declared.failure.Position.TheVariants as position
 use Rattle.tw_replay_output.specs.Opening.{AreOpeningDetails, PrintsInputs, PrintsUnfit, count_line}
 use Rattle.tw_replay_output.specs.Replay.{ByOutcome, IsAnswer, IsNumbered, AreRejectionDetails, AreReportDetails, after_event, close_of, played, played_from}
-use Rattle.tw_program_output.specs.declared.source.SourceText.{SourceText}
-use Rattle.tw_program_output.specs.declared.close.Close.{Close}
-use Rattle.tw_program_output.specs.declared.close.Close.TheVariants as close
+use Rattle.tw_source.specs.declared.source.SourceText.{SourceText}
+use Rattle.tw_source.specs.declared.close.Close.{Close}
+use Rattle.tw_source.specs.declared.close.Close.TheVariants as close
 
 -- ---- a program that isn't opened
 

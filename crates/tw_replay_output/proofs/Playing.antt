@@ -18,7 +18,7 @@ use Rattle.tw_timeline.specs.declared.timeline_builder.TimelineBuilder.{Timeline
 use Rattle.tw_timeline.specs.History.{HasFew, IsTrail}
 use Rattle.tw_timeline.proofs.History.{trail_length}
 use Rattle.tw_report.specs.Events.{IsEvent}
-use Rattle.tw_program_output.specs.declared.failure.Position.TheVariants as position
+use Rattle.tw_source.specs.declared.failure.Position.TheVariants as position
 use Rattle.tw_replay_output.specs.Replay.{ByOutcome, IsAnswered, IsPicture, IsReplayed, OpensOr, after_event, opened, played, played_from, state_reply}
 use Rattle.tw_replay_output.proofs.Behinds.{IsUnopened}
 

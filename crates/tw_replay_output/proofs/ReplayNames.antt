@@ -13,21 +13,21 @@ pub use Rattle.tw_code.specs.format.Program.{Versioned}
 pub use Rattle.tw_code.specs.machine.Bounds.{AreBelow, opening_bound, size_of}
 pub use Rattle.tw_code.specs.machine.Machine.{run, step}
 pub use Rattle.tw_code.specs.machine.State.{Frame, State}
-pub use Rattle.tw_program_output.specs.declared.close.Close.TheVariants.{Refused, Trapped}
-pub use Rattle.tw_program_output.specs.declared.reply.Reply.{Reply}
+pub use Rattle.tw_source.specs.declared.close.Close.TheVariants.{Refused, Trapped}
+pub use Rattle.tw_source.specs.declared.reply.Reply.{Reply}
 pub use Rattle.tw_asm.specs.Origins.{ComesFrom, instr_at}
 pub use Rattle.tw_machine.specs.Opening.{IsFirstError, open_error_code, rejection_of}
 pub use Rattle.tw_machine.specs.PlainView.{PlainView}
 pub use Rattle.tw_symbols.specs.Expansion.{ExpandsTo}
 pub use Rattle.tw_replay_output.specs.Circle.{DoesRule, AreEndingDetails, IsMade, Start, PrintRules, PrintsCircle, PrintsRule, reached_from, rule_line, rule_text}
 pub use Rattle.tw_replay_output.specs.Counted.{AreShort, IsCounting, IsShort}
-pub use Rattle.tw_program_output.specs.Failure.{coded, failed, failed_with, uncoded}
-pub use Rattle.tw_program_output.specs.declared.failure.Position.{Position}
-pub use Rattle.tw_program_output.specs.Program.{RepliesBySource, source_text}
+pub use Rattle.tw_source.specs.Failure.{coded, failed, failed_with, uncoded}
+pub use Rattle.tw_source.specs.declared.failure.Position.{Position}
+pub use Rattle.tw_source.specs.Program.{RepliesBySource, source_text}
 pub use Rattle.tw_replay_output.specs.Replay.{AreBudgets, AreKnownBudgets, IsAnswer, AreAnswerDetails, IsAnswered, IsCounted, IsNumbered, RepliesByHistory, RepliesByLines, close_of, opened, played, played_from, start_of, state_reply}
-pub use Rattle.tw_program_output.specs.Reply.{Reply as Spoken, reply}
-pub use Rattle.tw_program_output.specs.Source.{IsSource, IsSpelled, MayBeSource, plain_of, text_of}
+pub use Rattle.tw_source.specs.Reply.{Reply as Spoken, reply}
+pub use Rattle.tw_source.specs.Source.{IsSource, IsSpelled, MayBeSource, plain_of, text_of}
 pub use Rattle.tw_replay_output.specs.Stuck.{AreMade, ClosesBy, IsMadeSo, IsOpened, IsStartOf, IsUndrawn, IsUnmade, MayPrintCircle, rule_by, rule_done, rule_in}
-pub use Rattle.tw_program_output.specs.Text.{IsLineOf, text_line}
+pub use Rattle.tw_source.specs.Text.{IsLineOf, text_line}
 pub use Rattle.tw_report.specs.Lines.{not_enabled_line, trap_line}
 pub use Rattle.tw_stats.specs.Kept.{IsComing, IsFirst, IsSmall, IsTally, rules_in}

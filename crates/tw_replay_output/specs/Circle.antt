@@ -21,7 +21,7 @@ use Rattle.tw_code.specs.machine.Pending.{circle}
 use Rattle.tw_code.specs.machine.State.{Frame, State}
 use Rattle.tw_symbols.specs.Expansion.{ExpandsTo}
 use Rattle.tw_symbols.specs.Symbols.{AreNames, bracketed, name_at}
-use Rattle.tw_program_output.specs.Text.{IsLineOf, text_line}
+use Rattle.tw_source.specs.Text.{IsLineOf, text_line}
 
 -- ---- who made a rule
 

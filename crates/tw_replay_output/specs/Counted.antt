@@ -10,7 +10,7 @@ use Rattle.tw_stats.specs.Kept.{IsTally}
 use Rattle.tw_replay_output.specs.declared.numbers.Counting.{Counting}
 use Rattle.tw_replay_output.specs.declared.numbers.Counting.TheVariants.{Made, Stopped}
 use Rattle.tw_replay_output.specs.Replay.{ByOutcome, played_from}
-use Rattle.tw_program_output.specs.Reply.{reply}
+use Rattle.tw_source.specs.Reply.{reply}
 
 -- holds if the event executes no more instructions than a task may
 abbrev pub IsShort : Event → Type 0

@@ -36,17 +36,17 @@ use Rattle.tw_timeline.specs.Xml.{xml_text}
 use Rattle.tw_symbols.specs.Symbols.{AreSymbols}
 use Rattle.tw_report.specs.History.{AreParts, IsTraceOf, lines_in}
 use Rattle.tw_report.specs.Lines.{history_line, not_enabled_line, trap_line}
-use Rattle.tw_program_output.specs.Failure.{coded, failed_with, uncoded}
-use Rattle.tw_program_output.specs.declared.failure.Position.{Position}
-use Rattle.tw_program_output.specs.declared.failure.Position.TheVariants as position
+use Rattle.tw_source.specs.Failure.{coded, failed_with, uncoded}
+use Rattle.tw_source.specs.declared.failure.Position.{Position}
+use Rattle.tw_source.specs.declared.failure.Position.TheVariants as position
 use Rattle.tw_report.specs.Report.{state_report}
 use Rattle.tw_stats.specs.Text.{AreNumbers}
 use Rattle.tw_replay_output.specs.Circle.{AreEndingDetails, Start, reached_from}
 use Rattle.tw_replay_output.specs.Opening.{AreOpeningDetails}
-use Rattle.tw_program_output.specs.Reply.{Reply, reply}
-use Rattle.tw_program_output.specs.Text.{RepliesByUtf8}
-use Rattle.tw_program_output.specs.declared.close.Close.{Close}
-use Rattle.tw_program_output.specs.declared.close.Close.TheVariants.{Success, Refused, Stuck, Trapped}
+use Rattle.tw_source.specs.Reply.{Reply, reply}
+use Rattle.tw_source.specs.Text.{RepliesByUtf8}
+use Rattle.tw_source.specs.declared.close.Close.{Close}
+use Rattle.tw_source.specs.declared.close.Close.TheVariants.{Success, Refused, Stuck, Trapped}
 
 -- ---- the events
 

@@ -22,10 +22,10 @@ use Rattle.tw_machine.specs.PlainView.{PlainView}
 use Rattle.tw_replay_output.specs.Circle.{IsMade, Start}
 use Rattle.tw_replay_output.specs.Counted.{AreShort}
 use Rattle.tw_replay_output.specs.Replay.{ByOutcome, close_of}
-use Rattle.tw_program_output.specs.Source.{IsSource}
-use Rattle.tw_program_output.specs.declared.source.SourceText.{SourceText}
-use Rattle.tw_program_output.specs.declared.close.Close.{Close}
-use Rattle.tw_program_output.specs.declared.close.Close.TheVariants.{Stuck}
+use Rattle.tw_source.specs.Source.{IsSource}
+use Rattle.tw_source.specs.declared.source.SourceText.{SourceText}
+use Rattle.tw_source.specs.declared.close.Close.{Close}
+use Rattle.tw_source.specs.declared.close.Close.TheVariants.{Stuck}
 use Rattle.tw_replay_output.specs.declared.stuck.Made.{Made}
 use Rattle.tw_replay_output.specs.declared.stuck.Lookup.{Lookup}
 use Rattle.tw_symbols.specs.Symbols.{AreNames}

@@ -7,13 +7,13 @@ ghost use Rattle.tw_machine.specs.PlainView.{PlainView};
 ghost use Rattle.tw_timeline.specs.History.{HasFew, IsOpening, IsTrail};
 ghost use Rattle.tw_replay_output.specs.Counted.{AreShort};
 ghost use Rattle.tw_replay_output.specs.Replay.{IsDrawn, IsPicture};
-ghost use Rattle.tw_program_output.specs.Reply.{reply};
+ghost use Rattle.tw_source.specs.Reply.{reply};
 
 use crate::replay::{close_of, stopped_reply};
 use std::alloc::{AllocError, Global};
 use tw_machine::Plain;
 use tw_order::EventRange;
-use tw_program_output::Reply;
+use tw_source::Reply;
 use tw_symbols::Symbols;
 use tw_timeline::{Settings, TimelineBuilder, timeline};
 use tw_types::Event;

@@ -10,15 +10,15 @@ ghost use Rattle.tw_machine.specs.PlainView.{PlainView};
 ghost use Rattle.tw_stats.specs.Kept.{IsFirst, IsTally};
 ghost use Rattle.tw_replay_output.specs.Counted.{AreShort, IsCounting};
 ghost use Rattle.tw_replay_output.specs.Replay.{AreBudgets, AreKnownBudgets, ByOutcome, IsCounted, IsNumbered, after_event};
-ghost use Rattle.tw_program_output.specs.Reply.{Reply as AReply, reply};
-ghost use Rattle.tw_program_output.specs.declared.reply.Reply.{Reply as StoppedReply};
+ghost use Rattle.tw_source.specs.Reply.{Reply as AReply, reply};
+ghost use Rattle.tw_source.specs.declared.reply.Reply.{Reply as StoppedReply};
 
 use crate::replay::{close_of, stopped_reply};
 use std::alloc::{AllocError, Global};
 use tw_code::Program;
 use tw_machine::{Plain, Stopped};
-use tw_program_output::Reply;
 use tw_report::report_state;
+use tw_source::Reply;
 use tw_stats::StatsBuilder;
 use tw_symbols::Symbols;
 use tw_types::Event;

@@ -1,26 +1,28 @@
 //! Finds why a program isn't opened with these inputs.
 
 ghost use Rattle.std.specs.Prelude.{◌≡◌, ◌<◌, ◌+◌, ◌++◌, ℕ, List, IfOk, MatchOption, OnOk, Some, codes, decimal, false, length, slice_get, take, true};
+ghost use Rattle.tw_types.specs.DataType.{is_map};
 ghost use Rattle.tw_types.specs.Given.{given_by, members_by};
 ghost use Rattle.tw_code.specs.machine.Inputs.{has_fitting_inputs, input_params, rises};
 ghost use Rattle.tw_code.specs.machine.Opening.{main_params};
 ghost use Rattle.tw_diagnostics.specs.Words.{type_text};
-ghost use Rattle.tw_replay_output.specs.Opening.{AreOpeningDetails, PrintsInputs, PrintsUnfit, count_line, counts_line, excess_text, has_twice, has_twice_after, members_text, such_text, type_given, unfit_text};
-ghost use Rattle.tw_program_output.specs.Examples.{example_word};
-ghost use Rattle.tw_program_output.specs.Failure.{coded, failed_with};
-ghost use Rattle.tw_program_output.specs.Reply.{reply};
-ghost use Rattle.tw_program_output.specs.Source.{text_of};
+ghost use Rattle.tw_replay_output.specs.Opening.{AreOpeningDetails, PrintsInputs, PrintsUnfit, count_line, counts_line, excess_text, has_twice, has_twice_after, many_given, members_text, such_text, type_given, unfit_text};
+ghost use Rattle.tw_source.specs.Examples.{example_word};
+ghost use Rattle.tw_source.specs.Failure.{coded, failed_with};
+ghost use Rattle.tw_source.specs.Reply.{reply};
+ghost use Rattle.tw_source.specs.Source.{text_of};
 
 use std::alloc::{AllocError, Global};
 use tw_code::{
-    MAX_MEMBERS, Procedure, has_fitting_inputs, has_input_count, input_count, main_params, rises,
+    MAX_ENTRIES, MAX_MEMBERS, Procedure, has_fitting_inputs, has_input_count, input_count,
+    main_params, rises,
 };
 use tw_diagnostics::put_type;
-use tw_program_output::{
+use tw_report::{put, put_numbered};
+use tw_source::{
     Failure, Position, Reply, SourceText, example_word, put_examples, put_failure_line, refused_by,
 };
-use tw_report::{put, put_numbered};
-use tw_types::{AsValue, DataType, Input, Param};
+use tw_types::{AsValue, DataType, Input, Param, Scalar};
 
 /// Returns the parameter of the input after `index` others.
 fn input_param(program: &[Procedure], index: usize) -> Option<Param>
@@ -76,17 +78,31 @@ fn put_count_line(
     put_counts(alloc, out, inputs.len(), main_params(program))
 }
 
-/// Returns the type of an input. There always is one.
-fn type_given(input: &Input) -> Option<DataType>
-    ensures { result ≡ Some (type_given (given_by input.now)) }
+/// Returns the type of members with these subscripts, for a parameter of type `asked`: a map if that is one, else a container. There always
+/// is one.
+fn many_given(asked: DataType, by: Scalar, scalar: Scalar) -> Option<DataType>
+    ensures { result ≡ Some (many_given asked by scalar) }
+{
+    if !asked.is_map() {
+        DataType::from(scalar).container(by)
+    } else if asked.has_sums() && scalar == Scalar::Int {
+        Some(DataType::sums(by))
+    } else {
+        Some(DataType::map(by, scalar))
+    }
+}
+
+/// Returns the type of an input for a parameter of type `asked`. There always is one.
+fn type_given(asked: DataType, input: &Input) -> Option<DataType>
+    ensures { result ≡ Some (type_given asked (given_by input.now)) }
 {
     match input {
         Input::Int(_) => Some(DataType::int()),
         Input::Text(_) => Some(DataType::text()),
-        Input::Ints(_) => DataType::int().cont(),
-        Input::Texts(_) => DataType::text().cont(),
-        Input::IntsByText(_) => DataType::int().tcont(),
-        Input::TextsByText(_) => DataType::text().tcont(),
+        Input::Ints(_) => many_given(asked, Scalar::Int, Scalar::Int),
+        Input::Texts(_) => many_given(asked, Scalar::Int, Scalar::Text),
+        Input::IntsByText(_) => many_given(asked, Scalar::Text, Scalar::Int),
+        Input::TextsByText(_) => many_given(asked, Scalar::Text, Scalar::Text),
     }
 }
 
@@ -114,11 +130,13 @@ fn has_twice<K: AsValue, V: AsValue>(members: &[(K, V)]) -> bool
     }
 }
 
-/// Returns the limit that members exceed.
-fn members_text<K: AsValue, V: AsValue>(members: &[(K, V)]) -> &'static str
-    ensures { result.now ≡ members_text (members_by K.value V.value members.now) }
+/// Returns the limit that the members of a container or the values of a map exceed.
+fn members_text<K: AsValue, V: AsValue>(asked: DataType, members: &[(K, V)]) -> &'static str
+    ensures { result.now ≡ members_text (is_map asked) (members_by K.value V.value members.now) }
 {
-    if members.len() > MAX_MEMBERS {
+    if asked.is_map() && members.len() > MAX_ENTRIES {
+        " has more than 100000 values\n"
+    } else if !asked.is_map() && members.len() > MAX_MEMBERS {
         " has more than 1000 members\n"
     } else if rises(members) {
         " has a text of more than 4096 bytes\n"
@@ -130,15 +148,15 @@ fn members_text<K: AsValue, V: AsValue>(members: &[(K, V)]) -> &'static str
 }
 
 /// Returns the limit that is exceeded by an input of its parameter's type.
-fn excess_text(input: &Input) -> &'static str
-    ensures { result.now ≡ excess_text (given_by input.now) }
+fn excess_text(asked: DataType, input: &Input) -> &'static str
+    ensures { result.now ≡ excess_text (is_map asked) (given_by input.now) }
 {
     match input {
         Input::Int(_) | Input::Text(_) => " is a text of more than 4096 bytes\n",
-        Input::Ints(members) => members_text(members.as_slice()),
-        Input::Texts(members) => members_text(members.as_slice()),
-        Input::IntsByText(members) => members_text(members.as_slice()),
-        Input::TextsByText(members) => members_text(members.as_slice()),
+        Input::Ints(members) => members_text(asked, members.as_slice()),
+        Input::Texts(members) => members_text(asked, members.as_slice()),
+        Input::IntsByText(members) => members_text(asked, members.as_slice()),
+        Input::TextsByText(members) => members_text(asked, members.as_slice()),
     }
 }
 
@@ -159,10 +177,10 @@ fn put_types(out: &mut Vec<u8>, given: DataType, asked: DataType) -> Result<(), 
 fn put_unfit_text(out: &mut Vec<u8>, asked: DataType, input: &Input) -> Result<(), AllocError>
     ensures { OnOk result (out.new.items ≡ out.old.items ++ unfit_text asked (given_by input.now)) }
 {
-    match type_given(input) {
+    match type_given(asked, input) {
         Some(given) => {
             if asked == given {
-                put(out, excess_text(input))
+                put(out, excess_text(asked, input))
             } else {
                 put_types(out, given, asked)
             }

@@ -12,15 +12,15 @@ ghost use Rattle.tw_types.specs.Outcome.{Outcome};
 ghost use Rattle.std.specs.Str.Lines.{lines};
 ghost use Rattle.tw_order.specs.Orders.{replay_with};
 ghost use Rattle.tw_replay_output.specs.Counted.{AreShort};
-ghost use Rattle.tw_program_output.specs.Inputs.{RepliesByInputs, RepliesByWords, before_inputs, after_inputs, words_in};
-ghost use Rattle.tw_program_output.specs.Failure.{coded, uncoded};
-ghost use Rattle.tw_program_output.specs.declared.failure.Position.TheVariants as position;
-ghost use Rattle.tw_program_output.specs.Program.{RepliesBySource, source_text};
-ghost use Rattle.tw_program_output.specs.Source.{MayBeSource, text_of};
+ghost use Rattle.tw_source.specs.Inputs.{RepliesByInputs, RepliesByWords, before_inputs, after_inputs, words_in};
+ghost use Rattle.tw_source.specs.Failure.{coded, uncoded};
+ghost use Rattle.tw_source.specs.declared.failure.Position.TheVariants as position;
+ghost use Rattle.tw_source.specs.Program.{RepliesBySource, source_text};
+ghost use Rattle.tw_source.specs.Source.{MayBeSource, text_of};
 ghost use Rattle.tw_stats.specs.Kept.{IsFirst};
 ghost use Rattle.tw_order.specs.declared.runs.Answer.TheVariants.{Numbers};
 ghost use Rattle.tw_replay_output.specs.Replay.{AreKnownBudgets, ByOutcome, IsAnswer, IsReplayed, RepliesByHistory, RepliesByLines, after_event, close_of, played_from, state_reply};
-ghost use Rattle.tw_program_output.specs.Reply.{Reply as AReply, reply};
+ghost use Rattle.tw_source.specs.Reply.{Reply as AReply, reply};
 
 use crate::drawn::draw;
 use crate::numbers::{Budgeted, counted_reply, with_budgets};
@@ -31,13 +31,13 @@ use tw_code::Program;
 use tw_inputs::inputs_of;
 use tw_machine::{Plain, Stopped};
 use tw_order::{Answer, ReplayOptions, ReplayOrder, Source};
-use tw_program_output::{
-    Close, Failure, Position, ReadProgram, Reply, SourceText, input_parts, not_utf8_reply,
-    parse_error_reply, read_program, refused_by, refused_words_reply, symbols_of,
-};
 use tw_report::{
     HistoryFault, cut_history, put_history_line, put_not_enabled_line, put_trap_line, read_history,
     report_state,
+};
+use tw_source::{
+    Close, Failure, Position, ReadProgram, Reply, SourceText, input_parts, not_utf8_reply,
+    parse_error_reply, read_program, refused_by, refused_words_reply, symbols_of,
 };
 use tw_symbols::Symbols;
 use tw_types::{Cause, Ending, Event};

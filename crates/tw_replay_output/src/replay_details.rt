@@ -6,11 +6,11 @@ ghost use Rattle.tw_code.specs.format.Program.{Versioned};
 ghost use Rattle.tw_code.specs.machine.Ending.{ending};
 ghost use Rattle.tw_code.specs.machine.State.{State};
 ghost use Rattle.tw_machine.specs.Opening.{open_error_code, rejection_of};
-ghost use Rattle.tw_program_output.specs.Failure.{coded, failed_with};
+ghost use Rattle.tw_source.specs.Failure.{coded, failed_with};
 ghost use Rattle.tw_replay_output.specs.Circle.{AreEndingDetails, Start, reached_from};
 ghost use Rattle.tw_replay_output.specs.Replay.{ByOutcome, IsAnswer, AreAnswerDetails, IsAnswered, AreRejectionDetails, AreReportDetails, opened, start_of};
-ghost use Rattle.tw_program_output.specs.Reply.{reply};
-ghost use Rattle.tw_program_output.specs.Source.{MayBeSource, text_of};
+ghost use Rattle.tw_source.specs.Reply.{reply};
+ghost use Rattle.tw_source.specs.Source.{MayBeSource, text_of};
 ghost use Rattle.tw_replay_output.specs.Stuck.{CanPrintCircle, ClosesBy, IsStartOf, IsUndrawn, MayPrintCircle};
 ghost use Rattle.tw_symbols.specs.Symbols.{AreSymbols};
 ghost use Rattle.tw_replay_output.specs.Counted.{AreShort};
@@ -20,7 +20,7 @@ use crate::stuck::put_stuck;
 use std::alloc::{AllocError, Global};
 use tw_machine::{OpenError, OpenRefused};
 use tw_order::{Answer, ReplayOrder};
-use tw_program_output::{Close, Position, Reply, SourceText, failed_reply};
+use tw_source::{Close, Position, Reply, SourceText, failed_reply};
 use tw_types::Event;
 
 /// Returns the reply to a program that isn't opened.

@@ -3,7 +3,7 @@
 ghost use Rattle.std.specs.Prelude.{◌≡◌, ◌≤◌, IfOk, length, string_bytes};
 ghost use Rattle.tw_bounds.specs.Runs.{instructions_by, instructions_in};
 ghost use Rattle.tw_code.specs.machine.Bounds.{AreBelow, opening_bound};
-ghost use Rattle.tw_program_output.specs.Reply.{reply};
+ghost use Rattle.tw_source.specs.Reply.{reply};
 ghost use Rattle.tw_replay_output.specs.Counted.{AreShort};
 ghost use Rattle.tw_replay_output.specs.Replay.{IsShownState, pending_of, shown_state, state_line, status_of};
 ghost use Rattle.tw_stats.specs.Kept.{IsFirst};
@@ -13,8 +13,8 @@ use crate::replay::close_of;
 use std::alloc::{AllocError, Global};
 use tw_json_output::{RunEnd, RunNumbers, run_line};
 use tw_machine::Plain;
-use tw_program_output::Reply;
 use tw_report::circle_state;
+use tw_source::Reply;
 use tw_types::{Ending, Event};
 
 /// Returns the word for the end of a trace.

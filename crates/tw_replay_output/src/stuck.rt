@@ -11,15 +11,15 @@ ghost use Rattle.tw_instr.specs.Attempts.{IsStopped};
 ghost use Rattle.tw_replay_output.specs.Circle.{Start, PrintRules, PrintsCircle, PrintsRule, reached_from, rule_line, rule_text};
 ghost use Rattle.tw_replay_output.specs.Replay.{ByOutcome};
 ghost use Rattle.tw_symbols.specs.Symbols.{name_at};
-ghost use Rattle.tw_program_output.specs.Source.{IsSource};
+ghost use Rattle.tw_source.specs.Source.{IsSource};
 ghost use Rattle.tw_replay_output.specs.Stuck.{AreMade, CanPrintCircle, IsLookup, IsMadeSo, IsOpened, IsStartOf, IsUnmade, rule_by, rule_done, rule_in};
 
 use std::alloc::{AllocError, Global};
 use tw_asm::{FaultNo, assemble};
 use tw_code::{Instr, Program};
 use tw_machine::{Frame, OpenError, Plain, Stopped};
-use tw_program_output::{SourceText, TextLines, line_in, put_text_line};
 use tw_report::{circle_state, put, put_numbered};
+use tw_source::{SourceText, TextLines, line_in, put_text_line};
 use tw_symbols::Symbols;
 use tw_types::{Actor, Event, Input, Layout, Link, RuleNo};
 

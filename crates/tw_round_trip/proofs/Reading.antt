@@ -14,5 +14,5 @@ use Rattle.tw_round_trip.proofs.Numbers.{events_small, opened_few}
 pub all_read_back : (program : List Procedure) (typings : Typings) → IsProgram program → AreRight program typings → TracesAreReadBack program
 all_read_back program typings is are inputs layout events s rest given laid short e =
     trace_read events rest
-    (events_small program typings is are layout laid events 8192 (opening program inputs) s (opened_held program typings is are inputs given) (opened_few program inputs)
+    (events_small program typings is are layout laid events 131072 (opening program inputs) s (opened_held program typings is are inputs given) (opened_few program inputs)
     (opening_is_small program inputs is given).numbers (omega (arith, short)) e)

@@ -26,8 +26,8 @@ use Rattle.tw_machine.specs.Opening.{rejection_of}
 use Rattle.tw_order.specs.declared.runs.Answer.TheVariants as replayed
 use Rattle.tw_order.specs.declared.runs.RunAnswer.TheVariants as run_answer
 use Rattle.tw_order.specs.declared.runs.RunOrder.{RunOrder}
-use Rattle.tw_program_output.specs.Reply.{Reply, reply}
-use Rattle.tw_program_output.specs.declared.close.Close.{Close}
+use Rattle.tw_source.specs.Reply.{Reply, reply}
+use Rattle.tw_source.specs.declared.close.Close.{Close}
 use Rattle.tw_report.specs.Report.{report, ending_lines}
 use Rattle.tw_report.proofs.Histories.{one_history}
 use Rattle.tw_replay_output.specs.Circle.{AreEndingDetails}

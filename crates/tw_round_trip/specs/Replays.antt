@@ -17,7 +17,7 @@ use Rattle.tw_order.specs.declared.runs.Answer.TheVariants.{Report}
 use Rattle.tw_order.specs.declared.runs.ReplayOrder.{ReplayOrder}
 use Rattle.tw_order.specs.declared.runs.RunAnswer.TheVariants as run
 use Rattle.tw_order.specs.declared.runs.RunOrder.{RunOrder}
-use Rattle.tw_program_output.specs.Reply.{Reply, reply}
+use Rattle.tw_source.specs.Reply.{Reply, reply}
 use Rattle.tw_replay_output.specs.Replay.{RepliesByLines}
 use Rattle.tw_run_output.specs.Run.{AreRunDetails, IsRunText, close_of}
 use Rattle.tw_round_trip.specs.Traces.{trace_lines}

@@ -9,7 +9,7 @@ pub use Rattle.tw_code.specs.machine.State.{State}
 pub use Rattle.tw_machine.specs.Opening.{rejection_of}
 pub use Rattle.tw_machine.specs.PlainView.{PlainView}
 pub use Rattle.tw_replay_output.specs.Counted.{AreShort}
-pub use Rattle.tw_program_output.specs.Source.{text_of}
+pub use Rattle.tw_source.specs.Source.{text_of}
 pub use Rattle.tw_run_output.specs.Run.{begins, start_of}
 pub use Rattle.tw_types.specs.Outcome.{Went}
 pub use Rattle.tw_types.specs.declared.event.Event.{Event}

@@ -28,8 +28,8 @@ use Rattle.tw_report.specs.Events.{event_line}
 use Rattle.tw_run_output.specs.Ends.{end_report}
 use Rattle.tw_run_output.specs.Json.{members_of, run_line}
 use Rattle.tw_run_output.specs.EventOrder.{IsOrderText, order_line}
-use Rattle.tw_program_output.specs.declared.close.Close.{Close}
-use Rattle.tw_program_output.specs.declared.close.Close.TheVariants as close
+use Rattle.tw_source.specs.declared.close.Close.{Close}
+use Rattle.tw_source.specs.declared.close.Close.TheVariants as close
 use Rattle.tw_replay_output.specs.Circle.{Start, PrintsCircle}
 use Rattle.tw_replay_output.specs.Replay.{AreBudgets}
 

@@ -14,10 +14,10 @@ ghost use Rattle.tw_run_output.specs.Ends.{IsReportAs};
 ghost use Rattle.tw_run_output.specs.EventOrder.{order_line};
 ghost use Rattle.tw_run_output.specs.Json.{AreEndMembers, IsEndLine};
 ghost use Rattle.tw_run_output.specs.Over.{Goes, IsRunOver};
-ghost use Rattle.tw_program_output.specs.Reply.{reply};
+ghost use Rattle.tw_source.specs.Reply.{reply};
 ghost use Rattle.tw_run_output.specs.Run.{AreRunNumbers, AreRunDetails, IsRunPicture, IsRunText, begins, close_of, limit_details, trace_text};
 ghost use Rattle.tw_symbols.specs.Symbols.{AreSymbols};
-ghost use Rattle.tw_program_output.specs.Source.{MayBeSource, text_of};
+ghost use Rattle.tw_source.specs.Source.{MayBeSource, text_of};
 
 use crate::end_report::report_as;
 use crate::event_order::{order_line, put_order};
@@ -28,9 +28,9 @@ use tw_code::Program;
 use tw_machine::Plain;
 use tw_order::{EventRange, RunAnswer, RunOrder};
 use tw_pool::{Closing, Final, History};
-use tw_program_output::{Close, Reply, SourceText, symbols_of};
 use tw_replay_output::{Counting, budgets_of, count, draw, put_bytes};
 use tw_report::{put, put_event_line, put_numbered};
+use tw_source::{Close, Reply, SourceText, symbols_of};
 use tw_types::Event;
 use tw_verify::Verified;
 

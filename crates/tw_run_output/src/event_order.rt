@@ -7,7 +7,7 @@ ghost use Rattle.tw_code.specs.declared.procedure.Procedure.{Procedure};
 ghost use Rattle.tw_code.specs.machine.Inputs.{AreInputsOf};
 ghost use Rattle.tw_copies.specs.declared.check.CopyInsertion.{CopyInsertion as Insertion};
 ghost use Rattle.tw_certificate.specs.FirstContest.{IsFirstContest, MayBeInsertion};
-ghost use Rattle.tw_program_output.specs.Source.{MayBeSource, text_of};
+ghost use Rattle.tw_source.specs.Source.{MayBeSource, text_of};
 ghost use Rattle.tw_run_output.specs.EventOrder.{IsOrderText, calm_line, end_order_json, is_cut, order_line};
 ghost use Rattle.tw_run_output.specs.Json.{AreEndMembers};
 ghost use Rattle.tw_run_output.specs.Over.{Goes};
@@ -21,8 +21,9 @@ use tw_copies::CopyInsertion;
 use tw_json_output::line_of;
 use tw_order::RunOrder;
 use tw_pool::{Closing, Final, History};
-use tw_program_output::{SourceText, order_value, put_insertion};
+use tw_program_output::{order_value, put_insertion};
 use tw_report::put;
+use tw_source::SourceText;
 use tw_verify::Verified;
 
 /// Returns whether the run was ended before it ended by itself.

@@ -7,15 +7,15 @@ ghost use Rattle.tw_code.specs.machine.Pending.{circle};
 ghost use Rattle.tw_code.specs.machine.State.{State};
 ghost use Rattle.tw_replay_output.specs.Circle.{PrintsCircle, reached_from};
 ghost use Rattle.tw_run_output.specs.Run.{AreClosingDetails, AreRunDetails, start_of};
-ghost use Rattle.tw_program_output.specs.Source.{text_of};
+ghost use Rattle.tw_source.specs.Source.{text_of};
 ghost use Rattle.tw_replay_output.specs.Stuck.{CanPrintCircle, MayPrintCircle};
 
 use crate::ended::events_of;
 use std::alloc::{AllocError, Global};
 use tw_order::{RunAnswer, RunOrder};
 use tw_pool::{Closing, History};
-use tw_program_output::SourceText;
 use tw_replay_output::put_stuck;
+use tw_source::SourceText;
 
 /// Adds the lines of the circle of rules in which a run is stuck.
 fn put_circle_details(

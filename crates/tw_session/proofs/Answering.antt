@@ -5,13 +5,13 @@ use Rattle.clap.specs.Words.{Kinds, Text}
 use Rattle.tw_cli.specs.CommandLine.{Asked, Explains, IsRefusedInput}
 use Rattle.tw_cli.proofs.Requests.{never_refused, not_refused, one_refused}
 use Rattle.tw_inputs.specs.InputWords.{RefusedWord}
-use Rattle.tw_program_output.specs.Inputs.{PrintsInputWord}
-use Rattle.tw_program_output.specs.Reply.{Reply, reply}
+use Rattle.tw_source.specs.Inputs.{PrintsInputWord}
+use Rattle.tw_source.specs.Reply.{Reply, reply}
 use Rattle.tw_cli.specs.Options.{ExplainOrder}
 use Rattle.tw_session.specs.Session.{AnswersWords, MayAnswer, RefusesWords, PrintsMeaning}
 use Rattle.tw_session.specs.Status.{ComesOfReply}
-use Rattle.tw_program_output.specs.declared.reply.Reply.{Reply as MadeReply}
-use Rattle.tw_program_output.specs.declared.close.Close.{Close}
+use Rattle.tw_source.specs.declared.reply.Reply.{Reply as MadeReply}
+use Rattle.tw_source.specs.declared.close.Close.{Close}
 use Rattle.tw_session.specs.declared.status.Status.{Status}
 use Rattle.tw_session.specs.declared.status.Status.TheVariants.{Ended, NoMemory, ReadFailed, WriteFailed}
 

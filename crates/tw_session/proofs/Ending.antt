@@ -7,8 +7,8 @@ use Rattle.tw_each.specs.Reply.{close_of}
 use Rattle.tw_each.specs.Stream.{BreaksFirst, IsRejection, RunsOnLines, Streams}
 use Rattle.tw_each.specs.declared.stream.StreamError.TheVariants as stream
 use Rattle.tw_each.specs.declared.streamed.Streamed.TheVariants.{Answered, Rejected}
-use Rattle.tw_program_output.specs.Reply.{Reply, reply}
-use Rattle.tw_program_output.specs.declared.reply.Reply.{Reply as MadeReply}
+use Rattle.tw_source.specs.Reply.{Reply, reply}
+use Rattle.tw_source.specs.declared.reply.Reply.{Reply as MadeReply}
 use Rattle.tw_session.specs.Each.{EndsEach}
 use Rattle.tw_session.specs.Status.{ComesOfReply}
 use Rattle.tw_session.specs.declared.status.Status.{Status}

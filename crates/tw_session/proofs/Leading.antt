@@ -3,7 +3,7 @@ use Rattle.std.proofs.Common.{◌≡◌, ◌∙◌, Option, subst, true}
 use Rattle.tw_session.proofs.SessionNames.{Action, Comes, IsActionInTurn, IsRunOf, Leads, OrderAction, Ordered, ProgramAction, Reply, RunOrder, RunWithJson, reply}
 use Rattle.tw_order.specs.InTurn.{IsProgramInTurn}
 use Rattle.tw_session.specs.declared.order.OrderAction.TheVariants as step
-use Rattle.tw_program_output.specs.declared.source.SourceText.{SourceText}
+use Rattle.tw_source.specs.declared.source.SourceText.{SourceText}
 use Rattle.tw_session.specs.declared.programs.ProgramAction.TheVariants as answered
 
 pub leads_on : (A B : RunOrder → Type 0) (source : Option SourceText) (P Q : Reply → Type 0) → ((run : RunOrder) → A run → B run) → ((r : Reply) → P r → Q r) → (a : ProgramAction) → Leads A source P a → Leads B source Q a

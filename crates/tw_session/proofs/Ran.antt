@@ -25,8 +25,8 @@ use Rattle.tw_run_output.specs.Ends.{IsReportAs, end_report}
 use Rattle.tw_run_output.specs.Json.{IsEndLine, members_of, run_line}
 use Rattle.tw_run_output.specs.Over.{IsRunOver}
 use Rattle.tw_run_output.specs.Run.{AreRunDetails, IsRunText, close_of, trace_text}
-use Rattle.tw_program_output.specs.Reply.{reply}
-use Rattle.tw_program_output.specs.declared.reply.Reply.{Reply as MadeReply}
+use Rattle.tw_source.specs.Reply.{reply}
+use Rattle.tw_source.specs.declared.reply.Reply.{Reply as MadeReply}
 use Rattle.tw_session.specs.Run.{EndsSo, IsAtEnd, IsOrdered, IsRun, RepliesByRun, run_as}
 
 -- from how the run has ended by itself, whether it was stopped, and whether the number of events is at its limit

@@ -6,9 +6,9 @@ pub use Rattle.tw_order.specs.declared.order.Order.{Order}
 pub use Rattle.tw_order.specs.declared.order.ProgramOrder.TheVariants.{Verified}
 pub use Rattle.tw_order.specs.declared.runs.RunOrder.{RunOrder}
 pub use Rattle.tw_order.specs.declared.order.VerifiedOrder.TheVariants.{Run}
-pub use Rattle.tw_program_output.specs.Program.{RepliesBySource, source_text}
-pub use Rattle.tw_program_output.specs.Reply.{Reply, reply}
-pub use Rattle.tw_program_output.specs.Source.{text_of}
+pub use Rattle.tw_source.specs.Program.{RepliesBySource, source_text}
+pub use Rattle.tw_source.specs.Reply.{Reply, reply}
+pub use Rattle.tw_source.specs.Source.{text_of}
 pub use Rattle.tw_session.specs.ProgramAction.{Comes, IsActionInTurn, IsRunOf, Leads, RepliesByAction}
 pub use Rattle.tw_session.specs.Session.{AnswersWords, MayAnswer, MayReply, MayReplyText, RepliesByInput, RepliesByProgram}
 pub use Rattle.tw_session.specs.declared.json_run.Action.{Action}

@@ -8,7 +8,7 @@ use Rattle.tw_order.specs.declared.order.Source.{Source}
 use Rattle.tw_each.specs.Reply.{close_of}
 use Rattle.tw_each.specs.Stream.{BreaksFirst, IsRejection, RunsOnLines}
 use Rattle.tw_each.specs.declared.stream.StreamError.TheVariants as stream
-use Rattle.tw_program_output.specs.Reply.{reply}
+use Rattle.tw_source.specs.Reply.{reply}
 use Rattle.tw_session.specs.Session.{MayAnswer}
 use Rattle.tw_session.specs.Status.{ComesOfReply}
 use Rattle.tw_session.specs.declared.status.Status.{Status}

@@ -24,9 +24,9 @@ use Rattle.tw_json_output.specs.declared.text_object.Printed.TheVariants as prin
 use Rattle.tw_json_output.specs.Run.{json_line}
 use Rattle.tw_json_output.specs.Texts.{explanation_json, printed_json}
 use Rattle.tw_program_output.specs.ErrorJson.{error_json, failure_in, listed_error_json}
-use Rattle.tw_program_output.specs.Reply.{Reply, reply}
-use Rattle.tw_program_output.specs.declared.close.Close.{Close}
-use Rattle.tw_program_output.specs.declared.close.Close.TheVariants as close
+use Rattle.tw_source.specs.Reply.{Reply, reply}
+use Rattle.tw_source.specs.declared.close.Close.{Close}
+use Rattle.tw_source.specs.declared.close.Close.TheVariants as close
 use Rattle.tw_session.specs.declared.json.Rendering.{Rendering}
 use Rattle.tw_session.specs.declared.json.Rendering.TheVariants.{Plain, Errors, ListedErrors, Whole}
 

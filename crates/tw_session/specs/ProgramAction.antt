@@ -16,12 +16,12 @@ use Rattle.tw_session.specs.declared.order.OrderAction.{OrderAction}
 use Rattle.tw_session.specs.declared.order.OrderAction.TheVariants as step
 use Rattle.tw_session.specs.declared.programs.ProgramAction.{ProgramAction}
 use Rattle.tw_session.specs.declared.programs.ProgramAction.TheVariants as answered
-use Rattle.tw_program_output.specs.Program.{RepliesBySource, source_text}
-use Rattle.tw_program_output.specs.Reply.{Reply, reply}
+use Rattle.tw_source.specs.Program.{RepliesBySource, source_text}
+use Rattle.tw_source.specs.Reply.{Reply, reply}
 use Rattle.tw_session.specs.Run.{RepliesByOpening}
 use Rattle.tw_session.specs.Session.{PrintsFault, RepliesByJsonRun, RepliesByProgram}
-use Rattle.tw_program_output.specs.Source.{MayBeSource, text_of}
-use Rattle.tw_program_output.specs.declared.source.SourceText.{SourceText}
+use Rattle.tw_source.specs.Source.{MayBeSource, text_of}
+use Rattle.tw_source.specs.declared.source.SourceText.{SourceText}
 
 -- holds for a reply that satisfies `Answers`; or for the run of such an order, if all replies of its program satisfy `Answers`. `source` is the text
 -- from which the program was read, if any.

@@ -8,10 +8,10 @@ ghost use Rattle.tw_code.specs.machine.Inputs.{AreInputsOf};
 ghost use Rattle.tw_in_turn.specs.InTurn.{IsLeft};
 ghost use Rattle.tw_in_turn.specs.Stopping.{IsLeftIf};
 ghost use Rattle.tw_pool.specs.Openings.{opened};
-ghost use Rattle.tw_program_output.specs.Reply.{reply};
+ghost use Rattle.tw_source.specs.Reply.{reply};
 ghost use Rattle.tw_session.specs.Run.{RepliesByOpening, RepliesByRun};
 ghost use Rattle.tw_session.specs.Session.{AnswersWords, MayReply};
-ghost use Rattle.tw_program_output.specs.Source.{MayBeSource, text_of};
+ghost use Rattle.tw_source.specs.Source.{MayBeSource, text_of};
 
 use crate::input::looked_at;
 use crate::order::reply_in_turn;
@@ -23,8 +23,8 @@ use tw_cli::read_order;
 use tw_in_turn::{InTurnResult, StoppableResult, run_in_turn, run_timed};
 use tw_order::{Order, RunOrder};
 use tw_pool::Closing;
-use tw_program_output::{Reply, SourceText};
 use tw_run_output::ended_reply;
+use tw_source::{Reply, SourceText};
 use tw_verify::Verified;
 
 /// Returns the reply of a run that ended.

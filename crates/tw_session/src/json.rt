@@ -3,7 +3,7 @@
 ghost use Rattle.std.specs.Prelude.{◌≡◌, IfOk, string_bytes};
 ghost use Rattle.tw_json_output.specs.Run.{json_line};
 ghost use Rattle.tw_program_output.specs.ErrorJson.{error_json, listed_error_json};
-ghost use Rattle.tw_program_output.specs.Reply.{reply};
+ghost use Rattle.tw_source.specs.Reply.{reply};
 ghost use Rattle.tw_session.specs.Json.{assembled_as, checked_as, disassembled_as, error_reply, explained_reply, in_form, in_json, inputs_rendering, is_error, output_reply, program_rendering, rendering_of, replayed_as, run_as_json, verified_rendering};
 
 use std::alloc::{AllocError, Global};
@@ -12,7 +12,8 @@ use tw_json_output::{Printed, explanation_line, printed_line};
 use tw_order::{
     Answer, Assembling, Form, InputsOrder, Order, Places, ProgramOrder, RunAnswer, VerifiedOrder,
 };
-use tw_program_output::{Close, Reply, error_line, failure_in, listed_error_line};
+use tw_program_output::{error_line, failure_in, listed_error_line};
+use tw_source::{Close, Reply};
 
 /// The form that a reply's text takes.
 #[derive(Clone, Copy)]

@@ -3,8 +3,8 @@
 ghost use Rattle.std.specs.Prelude.{◌≡◌, IfOk, string_bytes, true};
 ghost use Rattle.std.specs.Str.Lines.{lines};
 ghost use Rattle.tw_order.specs.declared.order.InputsOrder.TheVariants.{ToRunJson};
-ghost use Rattle.tw_program_output.specs.Reply.{reply};
-ghost use Rattle.tw_program_output.specs.Source.{MayBeSource, text_of};
+ghost use Rattle.tw_source.specs.Reply.{reply};
+ghost use Rattle.tw_source.specs.Source.{MayBeSource, text_of};
 ghost use Rattle.tw_session.specs.ProgramAction.{AreGiven, Comes, IsRunOf, Leads, RepliesByAction};
 ghost use Rattle.tw_session.specs.Session.{PrintsFault, RepliesByJson, RepliesByJsonRun, RepliesWithInputs};
 
@@ -15,7 +15,7 @@ use tw_code::{Program, main_params};
 use tw_each::line_parts;
 use tw_inputs::{NoInputs, Place, Scratch, fault_text, read_inputs};
 use tw_order::{ProgramOrder, RunOptions, Source, VerifiedOrder};
-use tw_program_output::{Reply, SourceText, not_utf8_reply, unreadable_reply};
+use tw_source::{Reply, SourceText, not_utf8_reply, unreadable_reply};
 use tw_types::{Input, Items, Param};
 
 /// A run with the inputs that a JSON text has.

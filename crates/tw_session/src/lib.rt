@@ -28,5 +28,5 @@ pub use standard_error::{complain, is_quiet};
 pub use status::Status;
 pub use streams::{InStream, OutStream};
 pub use tw_inputs::input_of;
-pub use tw_program_output::{Close, ErrorCode, Failure, Position, Reply};
+pub use tw_source::{Close, ErrorCode, Failure, Position, Reply};
 pub use tw_workers::{Gate, NoGate, Progress, SoFar};

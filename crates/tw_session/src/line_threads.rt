@@ -4,7 +4,7 @@ ghost use Rattle.std.specs.Prelude.{IfOk};
 ghost use Rattle.std.specs.Thread.{IsSync};
 ghost use Rattle.tw_each.specs.Reply.{RepliesByEach};
 ghost use Rattle.tw_order.specs.declared.order.Order.TheVariants.{Each};
-ghost use Rattle.tw_program_output.specs.Reply.{reply};
+ghost use Rattle.tw_source.specs.Reply.{reply};
 ghost use Rattle.tw_session.specs.Session.{MayReplyText};
 
 use crate::input::MOST_BYTES;
@@ -15,7 +15,7 @@ use std::thread::{Threads, join};
 use std::time::Clock;
 use tw_each::{LineCount, LineThreads, each_reply, too_long_reply};
 use tw_order::{EachOrder, Source};
-use tw_program_output::Reply;
+use tw_source::Reply;
 use tw_workers::Gate;
 
 /// Answers the lines while the observer monitors them. Without a thread for it, it is called after the last one.

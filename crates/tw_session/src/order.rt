@@ -8,11 +8,11 @@ ghost use Rattle.tw_order.specs.declared.order.InputsOrder.TheVariants.{ToRun};
 ghost use Rattle.tw_order.specs.declared.order.ProgramOrder.TheVariants as ordered;
 ghost use Rattle.tw_order.specs.declared.order.VerifiedOrder.TheVariants.{Run};
 ghost use Rattle.tw_session.specs.ProgramAction.{Comes, IsActionInTurn, RepliesByAction};
-ghost use Rattle.tw_program_output.specs.Inputs.{RepliesByWords, before_inputs, after_inputs, words_in};
-ghost use Rattle.tw_program_output.specs.Program.{RepliesBySource, source_text};
-ghost use Rattle.tw_program_output.specs.Reply.{reply};
+ghost use Rattle.tw_source.specs.Inputs.{RepliesByWords, before_inputs, after_inputs, words_in};
+ghost use Rattle.tw_source.specs.Program.{RepliesBySource, source_text};
+ghost use Rattle.tw_source.specs.Reply.{reply};
 ghost use Rattle.tw_session.specs.Run.{RepliesByOpening};
-ghost use Rattle.tw_program_output.specs.Source.{MayBeSource, text_of};
+ghost use Rattle.tw_source.specs.Source.{MayBeSource, text_of};
 ghost use Rattle.tw_session.specs.Session.{MayReply, MayReplyText, RepliesByInput, RepliesByProgram, RepliesWithInputs, excessive_reply as excessive_reply_is};
 
 use crate::in_turn::{reply_in_time, reply_single_threaded};
@@ -29,11 +29,12 @@ use std::time::Clock;
 use tw_each::{each_reply_in_turn, too_long_reply};
 use tw_inputs::inputs_of;
 use tw_order::{InputsOrder, Order, ProgramOrder, RunOptions, Source, VerifiedOrder};
-use tw_program_output::{
-    Failure, Position, ReadProgram, Reply, SourceText, assembled_reply, failed_reply, input_parts,
-    not_utf8_reply, parse_error_reply, read_program, refused_words_reply,
-};
+use tw_program_output::assembled_reply;
 use tw_replay_output::{replay_inputs_reply, replay_reply};
+use tw_source::{
+    Failure, Position, ReadProgram, Reply, SourceText, failed_reply, input_parts, not_utf8_reply,
+    parse_error_reply, read_program, refused_words_reply,
+};
 use tw_workers::Gate;
 
 /// A program to be read, and what to do with it.

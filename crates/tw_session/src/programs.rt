@@ -5,16 +5,14 @@ ghost use Rattle.tw_session.specs.ProgramAction.{Leads};
 ghost use Rattle.tw_session.specs.Session.{RepliesByAccepted, RepliesByProgram, RepliesByVerified, places_of};
 ghost use Rattle.tw_order.specs.declared.order.ProgramOrder.TheVariants as ordered;
 ghost use Rattle.tw_order.specs.declared.order.VerifiedOrder.TheVariants.{Run};
-ghost use Rattle.tw_program_output.specs.Source.{MayBeSource, text_of};
+ghost use Rattle.tw_source.specs.Source.{MayBeSource, text_of};
 ghost use Rattle.tw_code.specs.accepting.WellTyped.{IsAccepted};
 
 use std::alloc::{AllocError, Global};
 use tw_code::Program;
 use tw_order::{Places, ProgramOrder, RunOrder, VerifiedOrder};
-use tw_program_output::{
-    Close, Reply, SourceText, checked_reply, disassembled, excess_reply, excess_text,
-    rejection_reply,
-};
+use tw_program_output::{checked_reply, disassembled, excess_reply, excess_text, rejection_reply};
+use tw_source::{Close, Reply, SourceText};
 use tw_verify::{Verified, VerifyError, verify};
 
 /// An accepted program that is to be run, and its order.

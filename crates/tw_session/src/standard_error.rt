@@ -10,7 +10,7 @@ use crate::status::Status;
 use crate::streams::OutStream;
 use std::alloc::Global;
 use tw_cli::complaint;
-use tw_program_output::Close;
+use tw_source::Close;
 
 fn is_quiet_word(word: &String) -> bool
     ensures { result ≡ bytes_eq (string_bytes word.now) (codes "--quiet") }

@@ -8,13 +8,13 @@ use Rattle.tw_order.specs.declared.order.Source.{Source}
 use Rattle.tw_order.specs.declared.order.Source.TheVariants.{Hex, Assembly}
 use Rattle.tw_code.specs.declared.procedure.Procedure.{Procedure}
 use Rattle.tw_code.specs.format.Program.{Versioned}
-use Rattle.tw_program_output.specs.Program.{Spells, SpellsNone, source_text}
-use Rattle.tw_program_output.specs.Source.{MayBeSource, plain_of, text_of}
-use Rattle.tw_program_output.proofs.Sources.{comes_from}
-use Rattle.tw_program_output.specs.declared.program.NoProgram.{NoProgram}
-use Rattle.tw_program_output.specs.declared.program.NoProgram.TheVariants.{NotHex, NotUtf8, Bytes, Text, Named, NoMemory}
-use Rattle.tw_program_output.specs.declared.program.ReadProgram.{ReadProgram}
-use Rattle.tw_program_output.specs.declared.source.SourceText.{SourceText}
+use Rattle.tw_source.specs.Program.{Spells, SpellsNone, source_text}
+use Rattle.tw_source.specs.Source.{MayBeSource, plain_of, text_of}
+use Rattle.tw_source.proofs.Sources.{comes_from}
+use Rattle.tw_source.specs.declared.program.NoProgram.{NoProgram}
+use Rattle.tw_source.specs.declared.program.NoProgram.TheVariants.{NotHex, NotUtf8, Bytes, Text, Named, NoMemory}
+use Rattle.tw_source.specs.declared.program.ReadProgram.{ReadProgram}
+use Rattle.tw_source.specs.declared.source.SourceText.{SourceText}
 use Rattle.tw_symbols.specs.Expansion.{ExpandsTo}
 use Rattle.tw_code.specs.accepting.WellTyped.{IsFirstRejection}
 use Rattle.tw_verify.specs.Rejection.{verify_error_code}

@@ -4,7 +4,7 @@ use Rattle.std.specs.Str.Lines.{lines}
 use Rattle.std.specs.declared.alloc.AllocError.{AllocError}
 use Rattle.std.specs.declared.result.Result.{Result}
 use Rattle.tw_asm.specs.declared.fault.FaultNo.{FaultNo}
-use Rattle.tw_program_output.specs.Names.{is_same_line}
+use Rattle.tw_source.specs.Names.{is_same_line}
 use Rattle.tw_symbols.specs.Expansion.{ExpandsTo}
 use Rattle.tw_verdict.specs.Source.{IsTextWord, IsWordIn}
 

@@ -12,19 +12,19 @@ use Rattle.tw_code.specs.accepting.WellTyped.{IsAccepted, IsFirstRejection}
 use Rattle.tw_code.specs.declared.procedure.Procedure.{Procedure}
 use Rattle.tw_code.specs.format.Program.{Versioned}
 use Rattle.tw_diagnostics.specs.ErrorWord.{IsErrorWord}
-use Rattle.tw_program_output.specs.Names.{is_same_line}
-use Rattle.tw_program_output.specs.Program.{Spells, SpellsNone}
-use Rattle.tw_program_output.specs.Source.{plain_of}
-use Rattle.tw_program_output.specs.declared.source.SourceText.{SourceText}
-use Rattle.tw_program_output.specs.declared.program.NoProgram.{NoProgram}
-use Rattle.tw_program_output.specs.declared.program.NoProgram.TheVariants.{NotHex, NotUtf8, Bytes, Text, Named, NoMemory}
+use Rattle.tw_source.specs.Names.{is_same_line}
+use Rattle.tw_source.specs.Program.{Spells, SpellsNone}
+use Rattle.tw_source.specs.Source.{plain_of}
+use Rattle.tw_source.specs.declared.source.SourceText.{SourceText}
+use Rattle.tw_source.specs.declared.program.NoProgram.{NoProgram}
+use Rattle.tw_source.specs.declared.program.NoProgram.TheVariants.{NotHex, NotUtf8, Bytes, Text, Named, NoMemory}
 use Rattle.tw_symbols.specs.Answers.{name_number}
 use Rattle.tw_symbols.specs.Expansion.{ExpandsTo}
 use Rattle.tw_verify.specs.Rejection.{verify_error_code}
 use Rattle.tw_verify.specs.Typed.{TypedProgram}
 use Rattle.tw_verify.specs.declared.rejection.VerifyError.{VerifyError}
 use Rattle.tw_verify.specs.declared.rejection.VerifyError.TheVariants as error
-use Rattle.tw_program_output.specs.declared.program.ReadProgram.{ReadProgram}
+use Rattle.tw_source.specs.declared.program.ReadProgram.{ReadProgram}
 use Rattle.tw_verdict.specs.NamePlace.{IsNamePlace}
 use Rattle.tw_verdict.specs.Verdict.{accepted, fault, no_memory, rejection}
 use Rattle.tw_verdict.specs.declared.format.Format.{Format}

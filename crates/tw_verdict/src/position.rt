@@ -2,7 +2,7 @@
 
 ghost use Rattle.std.specs.Prelude.{◌≡◌, ◌-◌, IfOk, slice_get};
 ghost use Rattle.std.specs.Str.Lines.{lines};
-ghost use Rattle.tw_program_output.specs.Names.{is_same_line as is_same_line_is};
+ghost use Rattle.tw_source.specs.Names.{is_same_line as is_same_line_is};
 ghost use Rattle.tw_symbols.specs.Expansion.{ExpandsTo};
 ghost use Rattle.tw_verdict.specs.Source.{IsFaultWord, IsTextWord, IsWordIn};
 

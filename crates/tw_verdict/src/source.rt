@@ -2,7 +2,7 @@
 
 ghost use Rattle.std.specs.Prelude.{List, Some};
 ghost use Rattle.tw_code.specs.declared.procedure.Procedure.{Procedure};
-ghost use Rattle.tw_program_output.specs.Source.{MayBeSource};
+ghost use Rattle.tw_source.specs.Source.{MayBeSource};
 ghost use Rattle.tw_verdict.specs.Source.{IsErrorIn, IsLineIn, IsSourceAcceptance, IsSourceReading, format_of_source};
 
 use crate::bytes::read_bytes;
@@ -12,7 +12,7 @@ use crate::verdict::{accepted, refused_at};
 use std::alloc::Global;
 use tw_code::Program;
 use tw_order::Source;
-use tw_program_output::{ReadProgram, SourceText, read_program};
+use tw_source::{ReadProgram, SourceText, read_program};
 use tw_verify::{Refused, Verified, VerifyError, verify};
 
 /// Returns the line of the instruction at a place; 0 if there is no such instruction.

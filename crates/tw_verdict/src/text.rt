@@ -9,7 +9,7 @@ use crate::position::fault_word;
 use crate::verdict::{Verdict, fault_at, refused_at};
 use std::alloc::Global;
 use tw_asm::AsmFault;
-use tw_program_output::NoProgram;
+use tw_source::NoProgram;
 use tw_symbols::NameError;
 
 /// A verdict on a source, with the position of an error in a text.

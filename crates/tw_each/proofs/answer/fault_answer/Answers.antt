@@ -1,6 +1,6 @@
 use Rattle.std.proofs.Common.{◌∙◌, ap, refl}
 use Rattle.tw_program_output.specs.ErrorJson.{error_json}
-use Rattle.tw_program_output.specs.Reply.{Reply}
+use Rattle.tw_source.specs.Reply.{Reply}
 use Rattle.tw_json_output.specs.Run.{json_line}
 use Rattle.tw_each.proofs.answer.fault_answer.Goals as goal
 

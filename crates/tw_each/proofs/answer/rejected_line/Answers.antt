@@ -3,9 +3,9 @@ use Rattle.std.proofs.lemmas.Result.{IfOk-weaker}
 use Rattle.tw_code.specs.declared.procedure.Procedure.{Procedure}
 use Rattle.tw_json_output.specs.Run.{json_line}
 use Rattle.tw_program_output.specs.ErrorJson.{error_json}
-use Rattle.tw_program_output.specs.Failure.{coded, failed_with}
-use Rattle.tw_program_output.specs.Reply.{Reply}
-use Rattle.tw_program_output.specs.Source.{text_of}
+use Rattle.tw_source.specs.Failure.{coded, failed_with}
+use Rattle.tw_source.specs.Reply.{Reply}
+use Rattle.tw_source.specs.Source.{text_of}
 use Rattle.tw_replay_output.specs.Opening.{AreOpeningDetails}
 use Rattle.tw_each.specs.Answers.{IsRejectedLine, way}
 use Rattle.tw_each.proofs.answer.rejected_line.Goals as goal

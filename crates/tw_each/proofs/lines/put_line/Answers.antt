@@ -1,7 +1,7 @@
 use Rattle.std.proofs.Common.{◌++◌, ◌∙◌, ap}
 use Rattle.std.proofs.lemmas.Bool.{lt-ltb}
 use Rattle.std.proofs.lemmas.Result.{IfOk-weaker}
-use Rattle.tw_program_output.specs.declared.failure.Failure.{Failure}
+use Rattle.tw_source.specs.declared.failure.Failure.{Failure}
 use Rattle.tw_each.specs.Answers.{numbered, unread_line, way}
 use Rattle.tw_each.proofs.LineAnswers.{long_line}
 use Rattle.tw_each.proofs.lines.put_line.Goals as goal

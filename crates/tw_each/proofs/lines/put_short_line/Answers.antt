@@ -1,7 +1,7 @@
 use Rattle.std.proofs.Common.{◌++◌, ◌∙◌, [], ap, sym}
 use Rattle.std.proofs.lemmas.List.{append-nil}
 use Rattle.std.proofs.lemmas.Result.{IfOk-weaker}
-use Rattle.tw_program_output.specs.declared.failure.Failure.{Failure}
+use Rattle.tw_source.specs.declared.failure.Failure.{Failure}
 use Rattle.tw_each.specs.Answers.{numbered, unread_line, way}
 use Rattle.tw_each.proofs.LineAnswers.{blank_line, other_line, text_line}
 use Rattle.tw_each.proofs.lines.put_short_line.Goals as goal

@@ -6,8 +6,8 @@ use Rattle.tw_code.specs.format.Program.{Versioned}
 use Rattle.tw_verify.specs.Rejection.{verify_error_code}
 use Rattle.tw_order.specs.declared.form.Places.TheVariants.{Hidden}
 use Rattle.tw_program_output.specs.Check.{IsRefused}
-use Rattle.tw_program_output.specs.Reply.{reply}
-use Rattle.tw_program_output.specs.Source.{MayBeSource, text_of}
+use Rattle.tw_source.specs.Reply.{reply}
+use Rattle.tw_source.specs.Source.{MayBeSource, text_of}
 use Rattle.tw_each.specs.Ready.{IsReady}
 use Rattle.tw_each.proofs.reply.admit.Goals as goal
 

@@ -1,7 +1,7 @@
 use Rattle.std.proofs.Common.{◌==◌, ◌∙◌, ℕ, Some, ap, inl, refl, subst}
 use Rattle.tw_program_output.specs.Admission.{AreExcessLines, has_cap}
-use Rattle.tw_program_output.specs.Failure.{coded, failed_with}
-use Rattle.tw_program_output.specs.declared.failure.Position.TheVariants as position
+use Rattle.tw_source.specs.Failure.{coded, failed_with}
+use Rattle.tw_source.specs.declared.failure.Position.TheVariants as position
 use Rattle.tw_program_output.proofs.Admissions.{no_lines, some_lines}
 use Rattle.tw_each.specs.Reply.{json_reply}
 use Rattle.tw_each.proofs.reply.capped.Goals as goal

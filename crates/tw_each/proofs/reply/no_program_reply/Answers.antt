@@ -1,9 +1,9 @@
 use Rattle.std.proofs.Common.{◌≢◌}
 use Rattle.std.proofs.lemmas.Result.{IfOk-weaker}
 use Rattle.tw_order.specs.declared.order.Source.{Source}
-use Rattle.tw_program_output.specs.Program.{SpellsNone}
-use Rattle.tw_program_output.specs.Reply.{reply}
-use Rattle.tw_program_output.specs.declared.program.NoProgram.TheVariants.{NoMemory}
+use Rattle.tw_source.specs.Program.{SpellsNone}
+use Rattle.tw_source.specs.Reply.{reply}
+use Rattle.tw_source.specs.declared.program.NoProgram.TheVariants.{NoMemory}
 use Rattle.tw_each.specs.Reply.{IsNoProgram}
 use Rattle.tw_each.proofs.reply.no_program_reply.Goals as goal
 

@@ -1,5 +1,5 @@
 use Rattle.std.proofs.Common.{inr}
-use Rattle.tw_program_output.specs.Source.{text_of}
+use Rattle.tw_source.specs.Source.{text_of}
 use Rattle.tw_each.proofs.WholeReplies.{read_ready}
 use Rattle.tw_each.proofs.reply.ready_text.Goals as goal
 

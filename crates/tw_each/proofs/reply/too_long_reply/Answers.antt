@@ -1,7 +1,7 @@
 use Rattle.std.proofs.Common.{◌≡◌, ◌∙◌, ap}
 use Rattle.std.proofs.lemmas.Result.{IfOk-weaker}
-use Rattle.tw_program_output.specs.Failure.{failed}
-use Rattle.tw_program_output.specs.Reply.{reply}
+use Rattle.tw_source.specs.Failure.{failed}
+use Rattle.tw_source.specs.Reply.{reply}
 use Rattle.tw_each.specs.Reply.{json_reply, too_long_reply}
 use Rattle.tw_each.proofs.reply.too_long_reply.Goals as goal
 

@@ -1,7 +1,7 @@
 use Rattle.std.proofs.Common.{subst}
 use Rattle.std.proofs.lemmas.Result.{IfOk-weaker}
-use Rattle.tw_program_output.specs.Reply.{reply}
-use Rattle.tw_program_output.specs.declared.reply.Reply.{Reply}
+use Rattle.tw_source.specs.Reply.{reply}
+use Rattle.tw_source.specs.declared.reply.Reply.{Reply}
 use Rattle.tw_each.specs.Ready.{IsEachInput}
 use Rattle.tw_each.specs.Reply.{RepliesByEach}
 use Rattle.tw_each.specs.declared.together.EachInput.{EachInput}

@@ -1,6 +1,6 @@
 use Rattle.std.proofs.Common.{◌≡◌, ◌∙◌, Bor, ℕ, List, ap, map, subst}
-use Rattle.tw_program_output.specs.Reply.{reply}
-use Rattle.tw_program_output.specs.Source.{text_of}
+use Rattle.tw_source.specs.Reply.{reply}
+use Rattle.tw_source.specs.Source.{text_of}
 use Rattle.tw_each.specs.Answers.{AreAnswers, way}
 use Rattle.tw_each.specs.Ready.{IsReadyText}
 use Rattle.tw_each.specs.declared.reply.Ready.{Ready}

@@ -1,7 +1,7 @@
 use Rattle.std.proofs.Common.{inl}
-use Rattle.tw_program_output.specs.Program.{IsWritten}
+use Rattle.tw_program_output.specs.Assembled.{IsWritten}
 use Rattle.tw_program_output.proofs.ReplyNames.{Assembly, IfOk-weaker, RepliesBySource, Reply, reply}
-use Rattle.tw_program_output.proofs.Nones.{PrintsWhy, none_printed}
+use Rattle.tw_source.proofs.Nones.{PrintsWhy, none_printed}
 use Rattle.tw_program_output.proofs.assembled.named_reply.Goals as goal
 
 pub returns-in-Ok : goal.returns-in-Ok

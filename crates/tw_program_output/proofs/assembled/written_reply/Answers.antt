@@ -1,5 +1,5 @@
 use Rattle.std.proofs.Common.{List, ℕ, inr, subst}
-use Rattle.tw_program_output.specs.Program.{IsWritten, RepliesByText}
+use Rattle.tw_program_output.specs.Assembled.{IsWritten, RepliesByText}
 use Rattle.tw_program_output.proofs.ReplyNames.{IfOk-weaker, Reply, reply}
 use Rattle.tw_program_output.proofs.assembled.written_reply.Goals as goal
 

@@ -1,7 +1,7 @@
 use Rattle.std.proofs.Common.{◌≡◌, ◌==◌, ◌∙◌, ℕ, ap, inl, inr, refl}
 use Rattle.tw_program_output.specs.Check.{RepliesByCheck}
-use Rattle.tw_program_output.specs.Reply.{reply}
-use Rattle.tw_program_output.specs.declared.failure.Position.TheVariants as position
+use Rattle.tw_source.specs.Reply.{reply}
+use Rattle.tw_source.specs.declared.failure.Position.TheVariants as position
 use Rattle.tw_program_output.proofs.Admissions.{no_lines, some_lines}
 use Rattle.tw_program_output.proofs.ReplyNames.{IfOk-weaker, Reply, coded, failed_with, text_of}
 use Rattle.tw_program_output.proofs.check.checked_reply.Goals as goal

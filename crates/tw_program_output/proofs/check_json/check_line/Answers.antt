@@ -9,7 +9,7 @@ use Rattle.tw_code.specs.machine.Opening.{main_params}
 use Rattle.tw_json_output.specs.Run.{json_line}
 use Rattle.tw_json_output.specs.Texts.{lines_json}
 use Rattle.tw_program_output.specs.CheckJson.{check_members, inputs_json}
-use Rattle.tw_program_output.specs.Examples.{example_lines}
+use Rattle.tw_source.specs.Examples.{example_lines}
 use Rattle.tw_program_output.proofs.CheckObjects.{check_fine}
 use Rattle.tw_types.specs.declared.actor.Kind.TheVariants.{Control}
 use Rattle.tw_types.specs.declared.param.Param.{Param}

@@ -2,7 +2,7 @@ use Rattle.std.proofs.Common.{◌++◌, Option, codes, refl, subst, sym}
 use Rattle.tw_copies.specs.Copies.{IsFirstCopyInsertion}
 use Rattle.tw_copies.specs.declared.check.CopyInsertion.{CopyInsertion}
 use Rattle.tw_program_output.specs.EventOrder.{IsOrderLine, insertion_line}
-use Rattle.tw_program_output.specs.Source.{text_of}
+use Rattle.tw_source.specs.Source.{text_of}
 use Rattle.tw_program_output.proofs.ReplyNames.{on_ok_weaker}
 use Rattle.tw_program_output.proofs.event_order.put_order.Goals as goal
 

@@ -8,8 +8,8 @@ use Rattle.tw_code.proofs.Growth.{below_more}
 use Rattle.tw_machine.specs.PlainView.{PlainView}
 use Rattle.tw_timeline.specs.History.{IsTrail}
 use Rattle.tw_replay_output.specs.Replay.{IsDrawn, IsPicture, played_from}
-use Rattle.tw_program_output.specs.Reply.{reply}
-use Rattle.tw_program_output.specs.declared.reply.Reply.{Reply}
+use Rattle.tw_source.specs.Reply.{reply}
+use Rattle.tw_source.specs.declared.reply.Reply.{Reply}
 use Rattle.tw_replay_output.proofs.Playing.{all_run, by_went, event_small, few_taken, not_made, picture_of_all, run_on, stays_so, stepped, trail_on, went_on}
 use Rattle.tw_replay_output.proofs.drawn.draw.Goals as goal
 

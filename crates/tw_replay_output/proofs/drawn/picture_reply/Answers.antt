@@ -1,7 +1,7 @@
 use Rattle.std.proofs.Common.{◌∙◌, ℕ, List, ap}
 use Rattle.tw_replay_output.specs.Replay.{close_of}
-use Rattle.tw_program_output.specs.Reply.{reply}
-use Rattle.tw_program_output.specs.declared.close.Close.{Close}
+use Rattle.tw_source.specs.Reply.{reply}
+use Rattle.tw_source.specs.declared.close.Close.{Close}
 use Rattle.tw_timeline.specs.declared.places.Settings.{Settings}
 use Rattle.tw_timeline.specs.Timeline.{picture_of}
 use Rattle.tw_timeline.specs.Places.{between}

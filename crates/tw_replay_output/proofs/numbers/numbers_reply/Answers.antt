@@ -1,7 +1,7 @@
 use Rattle.std.proofs.Common.{◌++◌, ◌∙◌, ℕ, List, ap, subst}
 use Rattle.tw_replay_output.proofs.ReplayNames.{AreKnownBudgets, PlainView, close_of, reply}
 use Rattle.tw_report.specs.Report.{state_report}
-use Rattle.tw_program_output.specs.declared.close.Close.{Close}
+use Rattle.tw_source.specs.declared.close.Close.{Close}
 use Rattle.tw_replay_output.proofs.numbers.numbers_reply.Goals as goal
 
 pub returns : goal.returns

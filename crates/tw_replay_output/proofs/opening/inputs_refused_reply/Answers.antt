@@ -1,7 +1,7 @@
 use Rattle.std.proofs.Common.{◌≡◌, ◌++◌, ◌∙◌, List, ap, ℕ}
-use Rattle.tw_program_output.specs.Failure.{failure_line}
-use Rattle.tw_program_output.specs.declared.failure.Failure.{Failure}
-use Rattle.tw_program_output.specs.declared.failure.Position.TheVariants as position
+use Rattle.tw_source.specs.Failure.{failure_line}
+use Rattle.tw_source.specs.declared.failure.Failure.{Failure}
+use Rattle.tw_source.specs.declared.failure.Position.TheVariants as position
 use Rattle.tw_replay_output.proofs.ReplayNames.{Refused, coded, reply, text_of}
 use Rattle.tw_replay_output.proofs.Behinds.{same_first_line}
 use Rattle.tw_replay_output.proofs.opening.inputs_refused_reply.Goals as goal

@@ -1,4 +1,4 @@
-use Rattle.std.proofs.Common.{◌≡◌, ◌++◌, ◌∙◌, List, ap, append_assoc, codes, decimal, ℕ}
+use Rattle.std.proofs.Common.{◌++◌, ◌∙◌, List, ap, append_assoc, codes, decimal, ℕ}
 use Rattle.std.proofs.lemmas.Result.{on_ok_weaker}
 use Rattle.tw_diagnostics.proofs.Reasoning.{three_parts}
 use Rattle.tw_replay_output.specs.Opening.{such_text}

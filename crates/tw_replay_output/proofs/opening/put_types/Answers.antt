@@ -1,8 +1,8 @@
-use Rattle.std.proofs.Common.{◌≡◌, ◌++◌, ◌∙◌, List, ap, codes, ℕ}
+use Rattle.std.proofs.Common.{◌++◌, ◌∙◌, List, ap, codes, ℕ}
 use Rattle.std.proofs.lemmas.Result.{on_ok_weaker}
 use Rattle.tw_diagnostics.specs.Words.{type_text}
 use Rattle.tw_diagnostics.proofs.Reasoning.{three_parts}
-use Rattle.tw_program_output.specs.Examples.{example_word}
+use Rattle.tw_source.specs.Examples.{example_word}
 use Rattle.tw_replay_output.proofs.opening.put_types.Goals as goal
 
 pub returns : goal.returns

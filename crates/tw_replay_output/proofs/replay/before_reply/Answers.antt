@@ -2,7 +2,7 @@ use Rattle.std.proofs.Common.{List, ℕ, inl, inr, subst}
 use Rattle.tw_replay_output.proofs.ReplayNames.{IfOk-weaker, RepliesByLines, RepliesBySource, Reply, lines, reply, source_text}
 use Rattle.tw_order.specs.Orders.{replay_with}
 use Rattle.tw_report.specs.History.{lines_in}
-use Rattle.tw_program_output.specs.Inputs.{RepliesByWords, before_inputs, after_inputs, words_in}
+use Rattle.tw_source.specs.Inputs.{RepliesByWords, before_inputs, after_inputs, words_in}
 use Rattle.tw_replay_output.proofs.replay.before_reply.Goals as goal
 
 pub returns-in-Ok : goal.returns-in-Ok

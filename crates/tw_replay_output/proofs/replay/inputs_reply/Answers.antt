@@ -6,7 +6,7 @@ use Rattle.tw_inputs.specs.InputWords.{AreSpelled}
 use Rattle.tw_inputs.specs.WordErrors.{IsInputReason}
 use Rattle.tw_order.specs.declared.runs.ReplayOrder.{ReplayOrder}
 use Rattle.tw_report.specs.History.{lines_in}
-use Rattle.tw_program_output.specs.Inputs.{before_inputs, after_inputs, words_in}
+use Rattle.tw_source.specs.Inputs.{before_inputs, after_inputs, words_in}
 use Rattle.tw_replay_output.proofs.replay.inputs_reply.Goals as goal
 
 pub returns-in-Ok : goal.returns-in-Ok

@@ -1,7 +1,7 @@
 use Rattle.std.proofs.Common.{inl, inr}
 use Rattle.tw_replay_output.proofs.ReplayNames.{IfOk-weaker, RepliesByHistory, RepliesByLines, RepliesBySource, Reply, reply, source_text}
 use Rattle.tw_order.specs.Orders.{replay_with}
-use Rattle.tw_program_output.specs.Inputs.{RepliesByInputs}
+use Rattle.tw_source.specs.Inputs.{RepliesByInputs}
 use Rattle.tw_replay_output.proofs.replay.replay_inputs_reply.Goals as goal
 
 pub returns-in-Ok : goal.returns-in-Ok

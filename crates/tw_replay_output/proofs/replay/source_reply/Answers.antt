@@ -1,7 +1,7 @@
 use Rattle.std.proofs.Common.{List, Option, inl, subst, ℕ}
 use Rattle.tw_replay_output.proofs.ReplayNames.{IfOk-weaker, RepliesByLines, RepliesBySource, Reply, reply, source_text}
 use Rattle.tw_report.specs.History.{lines_in}
-use Rattle.tw_program_output.proofs.Nones.{PrintsWhy, none_printed}
+use Rattle.tw_source.proofs.Nones.{PrintsWhy, none_printed}
 use Rattle.tw_replay_output.proofs.replay.source_reply.Goals as goal
 
 pub returns-in-Ok : goal.returns-in-Ok

@@ -3,7 +3,7 @@ use Rattle.tw_types.specs.Cause.{cause_number}
 use Rattle.tw_instr.specs.Attempts.{IsStopped}
 use Rattle.tw_replay_output.specs.Replay.{ByOutcome, after_event}
 use Rattle.tw_replay_output.proofs.ReplayNames.{IfOk-weaker, NotEnabled, Outcome, Refused, Reply, State, Trap, Trapped, coded, not_enabled_line, reply, trap_line, uncoded}
-use Rattle.tw_program_output.specs.declared.failure.Position.TheVariants as position
+use Rattle.tw_source.specs.declared.failure.Position.TheVariants as position
 use Rattle.tw_replay_output.proofs.replay.stopped_reply.Goals as goal
 
 pub returns-in-NotEnabled : goal.returns-in-NotEnabled

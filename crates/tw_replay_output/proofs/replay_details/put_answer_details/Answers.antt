@@ -1,6 +1,6 @@
 use Rattle.std.proofs.Common.{Option, refl, subst, sym}
 use Rattle.tw_replay_output.proofs.ReplayNames.{AreAnswerDetails, MayPrintCircle, on_ok_weaker, reached_from, text_of}
-use Rattle.tw_program_output.specs.declared.source.SourceText.{SourceText}
+use Rattle.tw_source.specs.declared.source.SourceText.{SourceText}
 use Rattle.tw_replay_output.proofs.Behinds.{Adds}
 use Rattle.tw_replay_output.proofs.replay_details.put_answer_details.Goals as goal
 

@@ -1,7 +1,7 @@
 use Rattle.std.proofs.Common.{List, ℕ, subst, sym}
 use Rattle.tw_replay_output.proofs.ReplayNames.{IsSpelled, on_ok_weaker}
 use Rattle.tw_replay_output.proofs.Making.{same_program}
-use Rattle.tw_program_output.proofs.Faults.{fault_has}
+use Rattle.tw_source.proofs.Faults.{fault_has}
 use Rattle.tw_replay_output.proofs.stuck.put_stuck.Goals as goal
 
 pub returns-in-Ok : goal.returns-in-Ok

@@ -1,8 +1,8 @@
 use Rattle.std.proofs.Common.{◌≤◌, ◌++◌, ◌∙◌, ℕ, List, ap, append_assoc, arith, length, subst}
 use Rattle.tw_run_output.proofs.RunNames.{IsProgram, start_of, typings_of}
-use Rattle.tw_program_output.specs.Reply.{reply}
+use Rattle.tw_source.specs.Reply.{reply}
 use Rattle.tw_run_output.specs.Run.{trace_text}
-use Rattle.tw_program_output.specs.declared.close.Close.{Close}
+use Rattle.tw_source.specs.declared.close.Close.{Close}
 use Rattle.tw_replay_output.proofs.Behinds.{may_print_circle}
 use Rattle.tw_run_output.proofs.RunEvents.{opens, run_short}
 use Rattle.tw_run_output.proofs.ended.ended_reply.Goals as goal

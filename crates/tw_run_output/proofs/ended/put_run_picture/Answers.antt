@@ -4,7 +4,7 @@ use Rattle.tw_timeline.specs.History.{IsDrawing, IsOpening}
 use Rattle.tw_timeline.specs.declared.drawing.Drawing.{Drawing}
 use Rattle.tw_timeline.proofs.History.{opening_is}
 use Rattle.tw_replay_output.specs.Replay.{IsPicture, played_from}
-use Rattle.tw_program_output.specs.Reply.{Reply, reply}
+use Rattle.tw_source.specs.Reply.{Reply, reply}
 use Rattle.tw_run_output.proofs.RunEvents.{begun, goes_by, opens, other_version, run_short}
 use Rattle.tw_run_output.proofs.ended.put_run_picture.Goals as goal
 

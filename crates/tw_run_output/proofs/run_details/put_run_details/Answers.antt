@@ -2,7 +2,7 @@ use Rattle.std.proofs.Common.{Option, subst, sym}
 use Rattle.tw_run_output.proofs.RunNames.{on_ok_weaker, start_of, text_of}
 use Rattle.tw_run_output.specs.Run.{AreRunDetails}
 use Rattle.tw_replay_output.specs.Stuck.{MayPrintCircle}
-use Rattle.tw_program_output.specs.declared.source.SourceText.{SourceText}
+use Rattle.tw_source.specs.declared.source.SourceText.{SourceText}
 use Rattle.tw_replay_output.proofs.Behinds.{Adds}
 use Rattle.tw_run_output.proofs.Closings.{reported, run_drawn, run_json, run_order_json, run_printed}
 use Rattle.tw_run_output.proofs.run_details.put_run_details.Goals as goal

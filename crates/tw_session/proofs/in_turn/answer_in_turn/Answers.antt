@@ -1,7 +1,7 @@
 use Rattle.std.proofs.Common.{inl, map, string_bytes, subst, sym}
 use Rattle.tw_session.proofs.SessionNames.{AnswersWords, IfOk-weaker, IsInTurn, MayReply, Order, reply}
 use Rattle.clap.specs.Words.{Kinds}
-use Rattle.tw_program_output.specs.declared.reply.Reply.{Reply as MadeReply}
+use Rattle.tw_source.specs.declared.reply.Reply.{Reply as MadeReply}
 use Rattle.tw_cli.specs.CommandLine.{asked_by_words, word_faults}
 use Rattle.tw_cli.proofs.Turned.{asked_in_turn, reason_in_turn}
 use Rattle.tw_order.proofs.InTurns.{is_in_turn}

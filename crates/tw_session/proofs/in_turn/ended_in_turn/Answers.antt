@@ -3,7 +3,7 @@ use Rattle.tw_host.specs.Run.{run_of}
 use Rattle.tw_in_turn.specs.InTurn.{HasEnded, IsLeft}
 use Rattle.tw_in_turn.specs.declared.run.InTurnResult.{InTurnResult}
 use Rattle.tw_pool.specs.Openings.{opened}
-use Rattle.tw_program_output.specs.Source.{text_of}
+use Rattle.tw_source.specs.Source.{text_of}
 use Rattle.tw_session.proofs.Ran.{in_turn, over, replied}
 use Rattle.tw_session.proofs.in_turn.ended_in_turn.Goals as goal
 

@@ -4,7 +4,7 @@ use Rattle.tw_in_turn.specs.Stopping.{IsLeftIf}
 use Rattle.tw_in_turn.specs.declared.run.StoppableResult.{StoppableResult}
 use Rattle.tw_pool.specs.Openings.{opened}
 use Rattle.tw_pool.specs.declared.answer.Closing.TheVariants.{Stopped}
-use Rattle.tw_program_output.specs.Source.{text_of}
+use Rattle.tw_source.specs.Source.{text_of}
 use Rattle.tw_session.proofs.Ran.{IsEndOf, in_turn, over, replied, stopped_end}
 use Rattle.tw_session.proofs.in_turn.left_reply.Goals as goal
 

@@ -1,6 +1,6 @@
 use Rattle.std.proofs.Common.{ℕ, List, subst}
 use Rattle.tw_session.proofs.SessionNames.{IfOk-weaker, MayReply, reply}
-use Rattle.tw_program_output.specs.declared.reply.Reply.{Reply as MadeReply}
+use Rattle.tw_source.specs.declared.reply.Reply.{Reply as MadeReply}
 use Rattle.tw_session.proofs.Replies.{to_all}
 use Rattle.tw_session.proofs.in_turn.order_reply.Goals as goal
 

@@ -2,7 +2,7 @@ use Rattle.std.proofs.Common.{◌≡◌, ◌∙◌, ℕ, Bor, List, ap, codes, s
 use Rattle.tw_session.proofs.SessionNames.{RepliesBySource, source_text}
 use Rattle.std.specs.List.{join_by}
 use Rattle.std.specs.Str.Lines.{lines}
-use Rattle.tw_program_output.specs.Inputs.{after_inputs, before_inputs}
+use Rattle.tw_source.specs.Inputs.{after_inputs, before_inputs}
 use Rattle.tw_session.specs.Session.{RepliesByJsonRun, json_in}
 use Rattle.tw_session.proofs.JsonTexts.{lines_joined}
 use Rattle.tw_session.proofs.json_run.json_step.Goals as goal

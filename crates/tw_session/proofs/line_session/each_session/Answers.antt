@@ -1,6 +1,6 @@
 use Rattle.std.proofs.Common.{ℕ, List, [], inr, map, string_bytes}
 use Rattle.tw_cli.specs.CommandLine.{asked_by_words, word_faults}
-use Rattle.tw_program_output.specs.declared.reply.Reply.{Reply as MadeReply}
+use Rattle.tw_source.specs.declared.reply.Reply.{Reply as MadeReply}
 use Rattle.tw_session.specs.Session.{RefusesWords}
 use Rattle.tw_session.proofs.Answering.{comes_of, not_taken, taken}
 use Rattle.tw_session.proofs.SessionNames.{AnswersWords, IfOk-weaker, MayAnswer, reply}

@@ -1,7 +1,7 @@
 use Rattle.std.proofs.Common.{ℕ, List, inl, inr, subst}
 use Rattle.tw_order.specs.declared.order.Order.{Order}
 use Rattle.tw_cli.specs.CommandLine.{IsAsked}
-use Rattle.tw_program_output.specs.declared.reply.Reply.{Reply as MadeReply}
+use Rattle.tw_source.specs.declared.reply.Reply.{Reply as MadeReply}
 use Rattle.tw_session.specs.Each.{EndsEach}
 use Rattle.tw_session.proofs.Answering.{comes_of}
 use Rattle.tw_session.proofs.SessionNames.{IfOk-weaker, MayAnswer, MayReply, reply}

@@ -5,7 +5,7 @@ use Rattle.clap.specs.Words.{Text}
 use Rattle.tw_order.specs.Orders.{run_with}
 use Rattle.tw_inputs.specs.InputWords.{AreSpelled}
 use Rattle.tw_inputs.specs.WordErrors.{IsInputReason}
-use Rattle.tw_program_output.specs.Inputs.{before_inputs, after_inputs, words_in}
+use Rattle.tw_source.specs.Inputs.{before_inputs, after_inputs, words_in}
 use Rattle.tw_session.proofs.order.inputs_step.Goals as goal
 
 pub returns-in-Ok : goal.returns-in-Ok

@@ -1,5 +1,5 @@
 use Rattle.tw_session.proofs.SessionNames.{IfOk-weaker, reply}
-use Rattle.tw_program_output.specs.declared.reply.Reply.{Reply}
+use Rattle.tw_source.specs.declared.reply.Reply.{Reply}
 use Rattle.tw_session.proofs.Replies.{formed}
 use Rattle.tw_session.proofs.order.reply_to.Goals as goal
 

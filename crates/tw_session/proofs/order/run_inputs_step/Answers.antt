@@ -3,7 +3,7 @@ use Rattle.tw_session.proofs.SessionNames.{IfOk-weaker, RepliesByProgram, Replie
 use Rattle.std.specs.Str.Lines.{lines}
 use Rattle.tw_order.specs.Orders.{run_with}
 use Rattle.tw_order.specs.declared.order.InputsOrder.TheVariants.{ToRun}
-use Rattle.tw_program_output.specs.Inputs.{RepliesByWords, before_inputs, after_inputs, words_in}
+use Rattle.tw_source.specs.Inputs.{RepliesByWords, before_inputs, after_inputs, words_in}
 use Rattle.tw_session.specs.Session.{RepliesWithInputs}
 use Rattle.tw_session.proofs.Leading.{comes_on}
 use Rattle.tw_session.proofs.order.run_inputs_step.Goals as goal

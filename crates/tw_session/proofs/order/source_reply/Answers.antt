@@ -1,7 +1,7 @@
 use Rattle.std.proofs.Common.{List, ℕ, Option, inl, rules, subst}
 use Rattle.tw_session.proofs.SessionNames.{ProgramAction, IfOk-weaker, IsRunOf, Leads, RepliesByAction, RepliesBySource, reply, text_of, source_text}
-use Rattle.tw_program_output.specs.declared.reply.Reply.{Reply}
-use Rattle.tw_program_output.proofs.Nones.{PrintsWhy, none_printed}
+use Rattle.tw_source.specs.declared.reply.Reply.{Reply}
+use Rattle.tw_source.proofs.Nones.{PrintsWhy, none_printed}
 use Rattle.tw_session.proofs.order.source_reply.Goals as goal
 
 pub action_reply-requires : goal.action_reply-requires

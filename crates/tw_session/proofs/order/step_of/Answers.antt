@@ -1,6 +1,6 @@
 use Rattle.std.proofs.Common.{◌≤◌, length, refl, rules}
 use Rattle.tw_session.proofs.SessionNames.{IfOk-weaker, IsInTurn, MayReplyText, RepliesByInput}
-use Rattle.tw_program_output.specs.Input.{most_bytes}
+use Rattle.tw_source.specs.Input.{most_bytes}
 use Rattle.tw_session.proofs.Leading.{comes_on}
 use Rattle.tw_session.proofs.Replies.{within}
 use Rattle.tw_session.proofs.order.step_of.Goals as goal

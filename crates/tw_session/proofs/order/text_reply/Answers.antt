@@ -1,6 +1,6 @@
 use Rattle.std.proofs.Common.{List, ℕ, subst}
 use Rattle.tw_session.proofs.SessionNames.{Comes, IfOk-weaker, IsInTurn, MayReplyText, RepliesByAction, RepliesBySource, OrderAction, reply, source_text}
-use Rattle.tw_program_output.specs.declared.reply.Reply.{Reply}
+use Rattle.tw_source.specs.declared.reply.Reply.{Reply}
 use Rattle.tw_session.proofs.order.text_reply.Goals as goal
 
 pub returns-in-Request : goal.returns-in-Request

@@ -1,6 +1,6 @@
 use Rattle.std.proofs.Common.{◌==◌, ◌∙◌, ℕ, ap, inl, inr, refl}
-use Rattle.tw_program_output.specs.Failure.{coded, failed_with}
-use Rattle.tw_program_output.specs.declared.failure.Position.TheVariants as position
+use Rattle.tw_source.specs.Failure.{coded, failed_with}
+use Rattle.tw_source.specs.declared.failure.Position.TheVariants as position
 use Rattle.tw_program_output.proofs.Admissions.{no_lines, some_lines}
 use Rattle.tw_session.proofs.programs.admitted_run.Goals as goal
 

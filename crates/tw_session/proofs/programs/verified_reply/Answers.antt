@@ -7,7 +7,7 @@ use Rattle.tw_order.specs.declared.form.Places.{Places}
 use Rattle.tw_verify.specs.Rejection.{verify_error_code}
 use Rattle.tw_program_output.specs.Check.{IsRefused}
 use Rattle.tw_session.specs.Session.{RepliesByAccepted, RepliesByVerified}
-use Rattle.tw_program_output.specs.Source.{MayBeSource}
+use Rattle.tw_source.specs.Source.{MayBeSource}
 use Rattle.tw_session.proofs.Leading.{leads_on}
 use Rattle.tw_session.proofs.programs.verified_reply.Goals as goal
 

@@ -3,8 +3,8 @@ use Rattle.clap.specs.Words.{Kinds}
 use Rattle.tw_inputs.specs.InputWords.{refused_word}
 use Rattle.tw_cli.specs.Order.{HasReason}
 use Rattle.tw_cli.specs.declared.command.NoOrder.{NoOrder}
-use Rattle.tw_program_output.specs.Inputs.{PrintsInputWord}
-use Rattle.tw_program_output.specs.declared.reply.Reply.{Reply as MadeReply}
+use Rattle.tw_source.specs.Inputs.{PrintsInputWord}
+use Rattle.tw_source.specs.declared.reply.Reply.{Reply as MadeReply}
 use Rattle.tw_session.proofs.SessionNames.{AnswersWords, IfOk-weaker, reply}
 use Rattle.tw_session.proofs.shell.unordered_reply.Goals as goal
 

@@ -1,0 +1,8 @@
+pub mod InputLines
+pub mod Nones
+pub mod Sources
+pub mod Written
+pub mod NamedTexts
+pub mod Faults
+mod ReplyNames
+mod ExampleWords

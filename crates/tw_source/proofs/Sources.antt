@@ -1,0 +1,90 @@
+-- The line of a text that is printed.
+use Rattle.std.proofs.Common.{◌≡◌, ℕ, zero, suc, ◌+◌, ◌-◌, ◌<◌, true, false, List, [], ◌∷◌, ◌++◌, length, Option, Some, None, MatchOption, refl, subst, ap, ◌∙◌, arith}
+use Rattle.tw_source.proofs.ReplyNames.{AreOrigins, ComesFrom, ArePlaceDetails, AreTextDetails, LinesSay, Procedure, ParserState, ExpandsTo, after_line, at_place, at_start, instr_at, length-append, lines}
+use Rattle.std.specs.List.{slice_get}
+use Rattle.tw_asm.specs.Fault.{situation, situation_from}
+use Rattle.tw_asm.specs.Statement.{Statement, Code, Head, Label, OfVersion, Registers}
+use Rattle.tw_diagnostics.specs.LineRole.{HasNoHead, IsFirstHead, is_head, says_of}
+use Rattle.tw_symbols.proofs.LineByLine.{as_many}
+use Rattle.tw_verify.specs.declared.rejection.VerifyError.{VerifyError}
+use Rattle.tw_verify.specs.declared.rejection.VerifyError.TheVariants as rejection
+
+-- the lines are as many as their statements
+pub said_length : (number : ℕ) (s : ParserState) (ls : List (List ℕ)) (said : List (Option Statement)) → LinesSay number s ls said → length said ≡ length ls
+said_length number s [] [] h = refl
+said_length number s [] (x ∷ said) h = absurd h
+said_length number s (line ∷ ls) [] h = absurd h
+said_length number s (line ∷ ls) (x ∷ said) h = ap suc (said_length (number + 1) (after_line number x s) ls said h.1)
+
+none_past : {X : Type 0} (xs : List X) (k : ℕ) → slice_get xs k ≡ None → length xs < k + 1
+none_past [] k e = omega arith
+none_past (x ∷ xs) zero e = absurd cc
+none_past (x ∷ xs) (suc k) e = let h = none_past xs k e in omega (arith, h)
+
+-- the line is there
+pub line_there : (text plain : List ℕ) (procedure place number : ℕ) → ExpandsTo text plain → ComesFrom plain procedure place number → slice_get (lines text) (number - 1) ≡ None → ⊥
+line_there text plain procedure place number expands c none =
+    let past = none_past (lines text) (number - 1) none in
+    let all = said_length 1 at_start (lines plain) c.said c.say ∙ as_many text plain expands in
+    let long = ap length c.parts ∙ length-append c.before (Some (Code c.i) ∷ c.after) in
+    absurd (omega (arith, past, all, long, c.number_is))
+
+-- the line of an instruction at a place
+pub comes_from : (text : List ℕ) (program : List Procedure) (numbers : List (List ℕ)) (procedure place number : ℕ) → AreOrigins text program numbers → at_place numbers procedure place ≡ Some number
+    → ComesFrom text procedure place number
+comes_from text program numbers procedure place number o e =
+    subst (λ (x : Option ℕ). MatchOption x (instr_at program procedure place ≡ None) (ComesFrom text procedure place)) e (o procedure place)
+
+-- an instruction that is there comes from a line
+pub some_origin : (text : List ℕ) (program : List Procedure) (numbers : List (List ℕ)) (procedure place : ℕ) → AreOrigins text program numbers → (instr_at program procedure place ≡ None → ⊥)
+    → (number : ℕ) × ComesFrom text procedure place number
+some_origin text program numbers procedure place o there = by (at_place numbers procedure place) (o procedure place)
+  where
+    by : (x : Option ℕ) → MatchOption x (instr_at program procedure place ≡ None) (ComesFrom text procedure place) → (number : ℕ) × ComesFrom text procedure place number
+    by None h = absurd (there h)
+    by (Some number) h = (number, h)
+
+pub none_there : (program : List Procedure) (procedure place : ℕ) → program ≡ [] → (instr_at program procedure place ≡ None → ⊥) → ⊥
+none_there program procedure place none there = there (ap (λ (ps : List Procedure). instr_at ps procedure place) none)
+
+-- the line of the first head is there
+pub head_there : (text plain : List ℕ) (number : ℕ) → ExpandsTo text plain → IsFirstHead plain number → slice_get (lines text) (number - 1) ≡ None → ⊥
+head_there text plain number expands h none =
+    let past = none_past (lines text) (number - 1) none in
+    let all = said_length 1 at_start (lines plain) h.said h.say ∙ as_many text plain expands in
+    let long = ap length h.parts ∙ length-append h.before (Some (Head h.kind h.params) ∷ h.after) in
+    absurd (omega (arith, past, all, long, h.number_is))
+
+untrue : true ≡ false → ⊥
+untrue e = cc
+
+none_begun : (number : ℕ) (s : ParserState) (said : List (Option Statement)) → HasNoHead said → (situation_from number s said).procedures ≡ s.procedures
+none_begun number s [] h = refl
+none_begun number s (x ∷ said) h = none_begun (number + 1) (after_line number x s) said h.1 ∙ by x h.0
+  where
+    by : (y : Option Statement) → is_head (says_of y) ≡ false → (after_line number y s).procedures ≡ s.procedures
+    by None e = refl
+    by (Some (OfVersion version)) e = refl
+    by (Some (Head kind params)) e = absurd (untrue e)
+    by (Some (Registers registers)) e = refl
+    by (Some (Label name)) e = refl
+    by (Some (Code i)) e = refl
+
+front_none : (xs ys : List (Option Statement)) → HasNoHead (xs ++ ys) → HasNoHead xs
+front_none [] ys h = tt
+front_none (x ∷ xs) ys h = (h.0, front_none xs ys h.1)
+
+-- no procedure begins before a line if none begins at all
+front_no_procedure : (before after : List (Option Statement)) → HasNoHead (before ++ after) → (situation before).procedures ≡ 0
+front_no_procedure before after h = none_begun 1 at_start before (front_none before after h)
+
+-- a line before an instruction begins a procedure
+pub some_head : (text : List ℕ) (procedure place number : ℕ) (c : ComesFrom text procedure place number) → HasNoHead c.said → ⊥
+some_head text procedure place number c none =
+    let zero' = front_no_procedure c.before (Some (Code c.i) ∷ c.after) (subst HasNoHead c.parts none) in
+    absurd (omega (arith, zero', c.procedure_is))
+
+pub other_details : (text : List ℕ) (which : VerifyError) (program : List Procedure) (procedure place : ℕ) (at : Option ℕ) (more : List ℕ) → (which ≡ rejection.MainShape → ⊥)
+    → ArePlaceDetails text which program procedure place at more → AreTextDetails text which program procedure place at more
+other_details text rejection.MainShape program procedure place at more other h = absurd (other refl)
+other_details text which program procedure place at more other h = h

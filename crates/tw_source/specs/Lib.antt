@@ -1,0 +1,13 @@
+-- Programs and inputs that are read, and their errors. Replies are in Reply, errors in Failure, lines of a text in Text and symbolic assembly in Names.
+-- Program has the program that is read, Inputs the inputs, Examples words that encode such.
+pub mod Input
+pub mod Reply
+pub mod Failure
+pub mod Examples
+pub mod Program
+pub mod Names
+pub mod Text
+pub mod Inputs
+-- The model of what the code keeps of a text, and of lines with inputs.
+pub mod Source
+pub mod Parts

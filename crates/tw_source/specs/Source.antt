@@ -1,0 +1,44 @@
+-- The model of what the code keeps of a text next to its program.
+use Rattle.std.specs.Prelude.{◌≡◌, ℕ, List, Option, Some, None, IfSome, String, string_bytes}
+use Rattle.std.specs.declared.alloc.Global.{Global}
+use Rattle.tw_symbols.specs.Expansion.{ExpandsTo}
+use Rattle.tw_code.specs.declared.procedure.Procedure.{Procedure}
+use Rattle.tw_code.specs.declared.version.Version.{Version}
+use Rattle.tw_code.specs.format.Program.{IsProgram}
+use Rattle.tw_asm.specs.Origins.{AreOrigins, instr_at}
+use Rattle.tw_asm.specs.Spelling.{SpellsProgram}
+use Rattle.tw_source.specs.declared.source.SourceText.{SourceText}
+
+-- returns the text as it is written, if there is one
+abbrev pub text_of : Option SourceText → Option (List ℕ)
+text_of None = None
+text_of (Some source) = Some source.text.now
+
+-- returns the expanded text if there is one, else the text itself
+abbrev pub plain_or : List ℕ → Option (String Global) → List ℕ
+plain_or text None = text
+plain_or text (Some plain) = string_bytes plain
+
+-- returns the expanded text of a source
+abbrev pub plain_of : SourceText → List ℕ
+plain_of source = plain_or source.text.now source.plain
+
+-- holds if the text encodes a program of these procedures
+abbrev pub IsSpelled : List ℕ → List Procedure → Type 0
+IsSpelled text program = (version : Version) × SpellsProgram (record { version = version; procedures = program }) text
+
+-- holds if the text and the lines are those of the program
+abbrev pub IsSource : SourceText → List Procedure → Type 0
+IsSource source program =
+    IsProgram program × AreOrigins (plain_of source) program source.lines.procedures × IsSpelled (plain_of source) program × ExpandsTo source.text.now (plain_of source)
+
+abbrev pub MayBeSource : Option SourceText → List Procedure → Type 0
+MayBeSource source program = IfSome source (λ s. IsSource s program)
+
+-- holds if they are, and the program has an instruction at the place
+abbrev pub IsSourceAt : SourceText → List Procedure → ℕ → ℕ → Type 0
+IsSourceAt source program procedure place =
+    AreOrigins (plain_of source) program source.lines.procedures × (instr_at program procedure place ≡ None → ⊥) × ExpandsTo source.text.now (plain_of source)
+
+abbrev pub MayBeSourceAt : Option SourceText → List Procedure → ℕ → ℕ → Type 0
+MayBeSourceAt source program procedure place = IfSome source (λ s. IsSourceAt s program procedure place)

@@ -1,0 +1,83 @@
+//! Words that encode inputs of the types that main takes.
+
+ghost use Rattle.std.specs.Prelude.{◌≡◌, ◌++◌, IfOk, OnOk};
+ghost use Rattle.std.specs.List.{flat_map};
+ghost use Rattle.tw_source.specs.Examples.{container_word, example_lines, example_text, example_word, scalar_word};
+
+use std::alloc::{AllocError, Global};
+use tw_lexer::put;
+use tw_types::{DataType, Param, Scalar};
+
+fn scalar_word(scalar: Scalar) -> &'static str
+    ensures { result.now ≡ scalar_word scalar }
+{
+    match scalar {
+        Scalar::Int => "int:7",
+        Scalar::Text => "text:abc",
+    }
+}
+
+fn container_word(by_text: bool, scalar: Scalar) -> &'static str
+    ensures { result.now ≡ container_word by_text scalar }
+{
+    match (by_text, scalar) {
+        (false, Scalar::Int) => "ints:1=7",
+        (false, Scalar::Text) => "texts:1=\"abc\"",
+        (true, Scalar::Int) => "tints:\"key\"=7",
+        (true, Scalar::Text) => "ttexts:\"key\"=\"abc\"",
+    }
+}
+
+/// Returns a word that encodes an input of this type. No word encodes containers of containers.
+pub fn example_word(ty: DataType) -> &'static str
+    ensures { result.now ≡ example_word ty }
+{
+    if ty.is_scalar() {
+        scalar_word(ty.scalar())
+    } else if ty.is_flat() {
+        container_word(ty.has_subscripts_by(Scalar::Text), ty.scalar())
+    } else {
+        "(none)"
+    }
+}
+
+/// Adds a word for a parameter if it takes an input, between these two texts.
+fn put_example(
+    out: &mut Vec<u8>,
+    param: &Param,
+    before: &str,
+    after: &str,
+) -> Result<(), AllocError>
+    ensures { OnOk result (out.new.items ≡ out.old.items ++ example_text before.now after.now param.now) }
+{
+    if param.mode.is_write() {
+        return Ok(());
+    }
+    put(out, before)?;
+    put(out, example_word(param.ty))?;
+    put(out, after)
+}
+
+/// Adds a word for each parameter that takes an input, between these two texts.
+pub fn put_examples(
+    out: &mut Vec<u8>,
+    params: &[Param],
+    before: &str,
+    after: &str,
+) -> Result<(), AllocError>
+    ensures { OnOk result (out.new.items ≡ out.old.items ++ flat_map (example_text before.now after.now) params.now) }
+{
+    for param in params {
+        put_example(out, param, before, after)?;
+    }
+    Ok(())
+}
+
+/// Returns a line for each input that main takes: a word that encodes one.
+pub fn example_lines(alloc: Global, params: &[Param]) -> Result<Vec<u8>, AllocError>
+    ensures { IfOk result (λ text. text.items ≡ example_lines params.now) }
+{
+    let mut text = Vec::new(alloc);
+    put_examples(&mut text, params, "", "\n")?;
+    Ok(text)
+}

@@ -1,0 +1,25 @@
+//! Programs read from bytes, hex or assembly text, and the errors of such sources.
+#![tactic(auto)]
+
+mod close;
+mod digits;
+mod examples;
+mod failure;
+mod inputs;
+mod names;
+mod program;
+mod reply;
+mod source;
+mod text_lines;
+
+pub use close::Close;
+pub use examples::{example_lines, example_word, put_examples};
+pub use failure::{ErrorCode, Failure, Position, put_code, put_failure_line};
+pub use inputs::{input_parts, input_word_reply, refused_words_reply, unreadable_reply};
+pub use names::plain_reply;
+pub use program::{NoProgram, ReadProgram, parse_error_reply, read_program};
+pub use reply::{Reply, failed_reply, fixed_reply, not_utf8_reply, refused_by};
+pub use source::{
+    SourceText, line_in, put_place_line, put_rejection_details, put_text_line, symbols_of,
+};
+pub use text_lines::TextLines;

@@ -1,0 +1,243 @@
+//! Output about symbolic assembly and its expanded text.
+
+ghost use Rattle.std.specs.Prelude.{◌≡◌, ◌++◌, ◌-◌, ℕ, List, IfOk, OnOk, codes, option_map, slice_get};
+ghost use Rattle.std.specs.Str.Lines.{lines};
+ghost use Rattle.tw_diagnostics.specs.Diagnostics.{IsTextReason};
+ghost use Rattle.tw_symbols.specs.Answers.{seen_rejection};
+ghost use Rattle.tw_symbols.specs.Expansion.{IsFirstRejection, ExpandsTo};
+ghost use Rattle.tw_source.specs.Names.{AreFaultDetails, RepliesByPlain, expected_words, fixed_diagnostic, form_diagnostic, is_same_line, kind_diagnostic, kind_hint, line_text, name_details, name_diagnostic, binding_words, separator, written_text};
+ghost use Rattle.tw_lexer.specs.Shown.{shortened};
+ghost use Rattle.tw_source.specs.Reply.{reply};
+
+use crate::close::Close;
+use crate::failure::{Failure, Position, put_failure_line};
+use crate::reply::{Reply, fixed_reply, not_utf8_reply, refused_by};
+use std::alloc::{AllocError, Global};
+use tw_asm::AsmFault;
+use tw_diagnostics::put_text_diagnostic;
+use tw_lexer::{line_numbered, put, put_both, put_shortened};
+use tw_symbols::{Bank, Binding, Expected, NameError, NameNo, expanded_text};
+
+/// Adds the line with this number, shortened if it is long, if the text has one.
+fn put_line(out: &mut Vec<u8>, text: &str, number: usize) -> Result<(), AllocError>
+    ensures { OnOk result (out.new.items ≡ out.old.items ++ line_text (slice_get (lines text.now) (number - 1))) }
+{
+    match line_numbered(text, number) {
+        Some(line) => {
+            put_shortened(out, line.as_bytes())?;
+            put(out, "\n")
+        }
+        None => Ok(()),
+    }
+}
+
+fn binding_words(binding: Binding) -> &'static str
+    ensures { result.now ≡ binding_words binding }
+{
+    match binding {
+        Binding::Constant(_) => "a constant",
+        Binding::Register(Bank::Value, _, _) => "a value register",
+        Binding::Register(Bank::Right, _, _) => "a right register",
+        Binding::Procedure(_) => "a procedure",
+    }
+}
+
+fn expected_words(asked: Expected) -> &'static str
+    ensures { result.now ≡ expected_words asked }
+{
+    match asked {
+        Expected::Value | Expected::ValueArgument => "a value register",
+        Expected::Right | Expected::RightArgument => "a right register",
+        Expected::Number => "a number",
+        Expected::Procedure => "a procedure",
+        Expected::Nothing => "no name",
+    }
+}
+
+/// Returns how the mistake is usually mended, if it is a usual one.
+fn kind_hint(binding: Binding, asked: Expected) -> &'static str
+    ensures { result.now ≡ kind_hint binding asked }
+{
+    match (binding, asked) {
+        (Binding::Constant(_), Expected::Value | Expected::ValueArgument) => {
+            "; INT puts a constant into a register"
+        }
+        (Binding::Register(Bank::Value, _, _), Expected::Number) => "; a constant will do",
+        (Binding::Register(Bank::Right, _, _), Expected::Number) => {
+            "; a priority comes before the target, as in PUT NAME 0 any NAME"
+        }
+        (_, Expected::ValueArgument | Expected::RightArgument) => {
+            "; arguments are in the order of the parameters"
+        }
+        _ => "",
+    }
+}
+
+/// Adds what a name means, and what is required in its place.
+fn put_kind(out: &mut Vec<u8>, binding: Binding, asked: Expected) -> Result<(), AllocError>
+    ensures { OnOk result (out.new.items ≡ out.old.items ++ kind_diagnostic binding asked) }
+{
+    put_both(out, "it is ", binding_words(binding))?;
+    put_both(out, ", ", expected_words(asked))?;
+    put_both(out, " is required", kind_hint(binding, asked))
+}
+
+/// Says which form a line lacks, by the word at which it ends to have one.
+fn form_diagnostic(word: &[u8]) -> &'static str
+    ensures { result.now ≡ form_diagnostic word.now }
+{
+    if word.ends_with(b":") {
+        "needs a type after it, and in a line proc a mode before that: val, closed, ref or write"
+    } else if word.contains(&b':') {
+        "a blank follows the colon"
+    } else {
+        "expected const NAME = NUMBER, or let NAME = REGISTER; there are no expressions"
+    }
+}
+
+fn fixed_diagnostic(no: NameNo) -> &'static str
+    ensures { result.now ≡ fixed_diagnostic no }
+{
+    match no {
+        NameNo::NoName => "this can't be a name",
+        NameNo::Twice => "the name is taken",
+        NameNo::Listed => "its register has a name already; a procedure has one line regs",
+        NameNo::Unknown => "the name means nothing here",
+        NameNo::Limit => "there is no register left for it",
+        NameNo::Form | NameNo::Kind(_, _) | NameNo::NoMemory => "",
+    }
+}
+
+/// Adds what is wrong with a word.
+fn put_diagnostic(out: &mut Vec<u8>, word: &[u8], no: NameNo) -> Result<(), AllocError>
+    ensures { OnOk result (out.new.items ≡ out.old.items ++ name_diagnostic word.now no) }
+{
+    match no {
+        NameNo::Form => put(out, form_diagnostic(word)),
+        NameNo::Kind(binding, asked) => put_kind(out, binding, asked),
+        _ => put(out, fixed_diagnostic(no)),
+    }
+}
+
+/// Returns what is between a word and what is wrong with it. A word may have a colon at its end.
+fn separator(word: &[u8]) -> &'static str
+    ensures { result.now ≡ separator word.now }
+{
+    if word.ends_with(b":") { " " } else { ": " }
+}
+
+fn put_word_diagnostic(out: &mut Vec<u8>, word: &[u8], no: NameNo) -> Result<(), AllocError>
+    ensures { OnOk result (out.new.items ≡ out.old.items ++ (shortened word.now ++ (separator word.now ++ (name_diagnostic word.now no ++ codes "\n")))) }
+{
+    put_shortened(out, word)?;
+    put(out, separator(word))?;
+    put_diagnostic(out, word, no)?;
+    put(out, "\n")
+}
+
+/// Adds the rejected line as it was written, and what is wrong with which word of it.
+pub fn put_name_details(
+    out: &mut Vec<u8>,
+    text: &str,
+    rejection: NameError<'_>,
+) -> Result<(), AllocError>
+    ensures { OnOk result (out.new.items ≡ out.old.items ++ name_details text.now rejection.entry.no rejection.entry.line rejection.entry.word.now) }
+{
+    put_line(out, text, rejection.line)?;
+    put_word_diagnostic(out, rejection.word, rejection.no)
+}
+
+fn is_same_line(line: Option<&str>, other: Option<&str>) -> bool
+    ensures { result ≡ is_same_line (option_map (λ line. line.now) line.entry) (option_map (λ line. line.now) other.entry) }
+{
+    match line {
+        None => false,
+        Some(line) => match other {
+            None => false,
+            Some(other) => line == other,
+        },
+    }
+}
+
+/// Adds the line as it was written, unless it is the same as its expanded line.
+fn put_written(out: &mut Vec<u8>, text: &str, plain: &str, number: usize) -> Result<(), AllocError>
+    ensures { OnOk result (out.new.items ≡ out.old.items ++ written_text (slice_get (lines text.now) (number - 1)) (slice_get (lines plain.now) (number - 1))) }
+{
+    if is_same_line(line_numbered(text, number), line_numbered(plain, number)) {
+        return Ok(());
+    }
+    put_line(out, text, number)?;
+    put(out, "expands to: ")
+}
+
+/// Adds the line as it was written, and why its expanded line is rejected.
+fn put_written_fault(
+    alloc: Global,
+    out: &mut Vec<u8>,
+    text: &str,
+    plain: &str,
+    fault: AsmFault,
+) -> Result<(), AllocError>
+    ensures { OnOk result ((reason : List ℕ) × IsTextReason plain.now fault.no fault.line reason
+        × (out.new.items ≡ out.old.items ++ (written_text (slice_get (lines text.now) (fault.line - 1)) (slice_get (lines plain.now) (fault.line - 1)) ++ reason))) }
+{
+    put_written(out, text, plain, fault.line)?;
+    put_text_diagnostic(alloc, out, plain, fault)
+}
+
+/// Adds the line of a fault in the expanded text, with the line as it was written if there are names, and the reason.
+pub fn put_fault_details(
+    alloc: Global,
+    out: &mut Vec<u8>,
+    text: &str,
+    fault: AsmFault,
+) -> Result<(), AllocError>
+    ensures { OnOk result ((plain : List ℕ) → ExpandsTo text.now plain → (more : List ℕ) × AreFaultDetails text.now fault.no fault.line more × (out.new.items ≡ out.old.items ++ more)) }
+{
+    match expanded_text(alloc, text) {
+        Ok(None) => put_text_diagnostic(alloc, out, text, fault),
+        Ok(Some(plain)) => put_written_fault(alloc, out, text, &plain, fault),
+        Err(rejection) => match rejection.no {
+            NameNo::NoMemory => Err(AllocError),
+            _ => Ok(()),
+        },
+    }
+}
+
+/// Returns the reply to rejected symbolic assembly.
+fn named_reply(alloc: Global, text: &str, rejection: NameError<'_>) -> Result<Reply, AllocError>
+    ensures { IfOk result (λ r. IsFirstRejection text.now (seen_rejection rejection.entry) → RepliesByPlain text.now (reply r.text.items r.close)) }
+{
+    let failure = Failure::coded(b'N', rejection.no.number(), Position::Line(rejection.line));
+    let mut out = Vec::new(alloc);
+    put_failure_line(alloc, &mut out, failure)?;
+    put_name_details(&mut out, text, rejection)?;
+    Ok(refused_by(out, failure))
+}
+
+/// Returns the expanded text, or the first name error.
+fn text_plain_reply(alloc: Global, text: &str) -> Result<Reply, AllocError>
+    ensures { IfOk result (λ r. RepliesByPlain text.now (reply r.text.items r.close)) }
+{
+    match expanded_text(alloc, text) {
+        Ok(Some(plain)) => Ok(Reply {
+            text: plain.into_bytes(),
+            close: Close::Success,
+        }),
+        Ok(None) => fixed_reply(alloc, text, Close::Success),
+        Err(rejection) => match rejection.no {
+            NameNo::NoMemory => Err(AllocError),
+            _ => named_reply(alloc, text, rejection),
+        },
+    }
+}
+
+/// Like `text_plain_reply`, for bytes that may not be UTF-8.
+pub fn plain_reply(alloc: Global, input: &[u8]) -> Result<Reply, AllocError>
+    ensures { IfOk result (λ r. RepliesByPlain input.now (reply r.text.items r.close)) }
+{
+    match str::from_utf8(input) {
+        Ok(text) => text_plain_reply(alloc, text),
+        Err(_) => not_utf8_reply(alloc),
+    }
+}
