@@ -30,7 +30,7 @@ extern "C" {
 #endif
 
 /* The version: 1,000,000 times major, 1,000 times minor, and patch. The call returns that of the library. */
-#define YUGLEMIT_VERSION_NUMBER 23000
+#define YUGLEMIT_VERSION_NUMBER 24000
 uint32_t yuglemit_version(void);
 
 /* ---- Codes. A call returns 0 or the code of an error. No code is an exit status, a letter or a kind, and memory that runs out is one code. */
@@ -56,7 +56,8 @@ typedef enum yuglemit_code {
     YUGLEMIT_NO_ROOM = 226,        /* the buffer is shorter than the text */
     YUGLEMIT_NO_END = 227,         /* the run was stopped, or memory ran out, so it has no JSON line */
     YUGLEMIT_ONE_HANDLE = 228,     /* one handle is passed for two parameters */
-    YUGLEMIT_REJECTED = 229        /* the program isn't accepted; the verdict says why */
+    YUGLEMIT_REJECTED = 229,       /* the program isn't accepted; the verdict says why */
+    YUGLEMIT_NO_ORDER = 230        /* the run's options didn't ask for its order */
 } yuglemit_code;
 
 /* The rows of yuglemit_code: code, name, words. */
@@ -82,7 +83,8 @@ typedef enum yuglemit_code {
     ROW(NO_ROOM, "the buffer is shorter than the text") \
     ROW(NO_END, "the run was stopped or memory ran out, so it has no JSON line") \
     ROW(ONE_HANDLE, "one handle is passed for two parameters") \
-    ROW(REJECTED, "the program isn't accepted")
+    ROW(REJECTED, "the program isn't accepted") \
+    ROW(NO_ORDER, "the run's options didn't ask for its order")
 
 /* Return what a code says, and its name, as "NO_MEMORY". A code that this header doesn't know is "unknown code" and "UNKNOWN". */
 static inline const char *yuglemit_code_text(uint8_t code) {
@@ -131,7 +133,8 @@ typedef enum yuglemit_kind {
     YUGLEMIT_KIND_INT = 'i',
     YUGLEMIT_KIND_TEXT = 't',
     YUGLEMIT_KIND_UNSET = 'u',
-    YUGLEMIT_KIND_CONTAINER = 'c'
+    YUGLEMIT_KIND_CONTAINER = 'c',
+    YUGLEMIT_KIND_MAP = 'm'
 } yuglemit_kind;
 
 /* ---- Structs. Each begins with its size, and later versions add fields at the end. So begin it with its macro, as YUGLEMIT_OPTIONS, which sets
@@ -178,9 +181,10 @@ typedef struct yuglemit_bounds {
 #define YUGLEMIT_OVER (UINT64_MAX - 1)
 #define YUGLEMIT_NO_BOUND UINT64_MAX
 
-/* Whether the order of events may show in outputs, as `tw check --order` says it. If `may_show` is 0, all runs with the same inputs that end by
- * themselves end alike with the same outputs, in any layout and order. If it is 1, outputs may differ: the first insertion that may make them so is
- * at `place` in `procedure`. */
+/* Whether the order of events may show in outputs, as `tw check --order` says it of a program, and `tw run --order` of a run. If `may_show` is 0, all
+ * runs with the same inputs that end by themselves end alike with the same outputs, in any layout and order; after a run, like that one. If it is 1,
+ * outputs may differ: the first insertion that may make them so is at `place` in `procedure`. If it is 2, the run was cut off, and no insertion
+ * before may make them so; one after its last event may. */
 typedef struct yuglemit_order {
     size_t size;
     uint64_t may_show;
@@ -200,14 +204,15 @@ typedef struct yuglemit_procedure {
 typedef struct yuglemit_parameter {
     size_t size;
     uint64_t mode;         /* 'v' a value; 'c' a read right on a closed datum; 'r' a read right; 'w' a write right */
-    uint64_t depth;        /* the number of containers around the scalar */
-    uint64_t scalar;       /* 'i' an integer; 't' a text */
+    uint64_t depth;        /* the number of containers around the scalar or the map */
+    uint64_t scalar;       /* 'i' an integer; 't' a text; of a map, the type of its values: also 's', integers that are added up */
     uint64_t by;           /* the subscripts of the outermost container: 'i', 't', or 0 if there is none */
     uint64_t by_second;    /* likewise of the containers in it */
     uint64_t by_third;     /* and of those in these */
+    uint64_t map;          /* the subscripts of the map: 'i', 't', or 0 if there is none */
 } yuglemit_parameter;
 
-#define YUGLEMIT_PARAMETER {sizeof(yuglemit_parameter), 0, 0, 0, 0, 0, 0}
+#define YUGLEMIT_PARAMETER {sizeof(yuglemit_parameter), 0, 0, 0, 0, 0, 0, 0}
 
 /* How many actors a run needs at least. It always needs an engine and a server. */
 typedef struct yuglemit_needs {
@@ -224,9 +229,10 @@ typedef struct yuglemit_options {
     uint64_t servers;      /* 1 to 4 */
     uint64_t workers;      /* 1 to 16 */
     uint64_t seed;         /* decides the order of the turns, as `tw run --in-turn --seed`; 0: the actors take turns */
+    uint64_t order;        /* 1: yuglemit_report_order has the run's order. That takes the time and the memory of a replay, which no flag stops; 0: no */
 } yuglemit_options;
 
-#define YUGLEMIT_OPTIONS {sizeof(yuglemit_options), 10000, 1, 1, 1, 0}
+#define YUGLEMIT_OPTIONS {sizeof(yuglemit_options), 10000, 1, 1, 1, 0, 0}
 
 /* The most that a run may do: the options --most-tasks and so on of `tw run`, and two more. UINT64_MAX is no cap. */
 typedef struct yuglemit_caps {
@@ -250,24 +256,27 @@ typedef struct yuglemit_ending {
 
 #define YUGLEMIT_ENDING {sizeof(yuglemit_ending), 0, 0, 0}
 
-/* The meter of a run: how much it did, counted as the bounds of these names count. */
+/* The meter of a run: how much it did, and what its store held at the end. Events, tasks and instructions count as the bounds of these names do. */
 typedef struct yuglemit_meter {
     size_t size;
     uint64_t events;
     uint64_t tasks;        /* tasks that were taken, main's included */
     uint64_t instructions; /* instructions that were executed; UINT64_MAX if they were more */
+    uint64_t data;         /* data that were made, with inputs, outputs and the members of inputs; a map is one */
+    uint64_t members;      /* members and values of maps that the store held at the end, also in inputs and outputs */
+    uint64_t bytes;        /* bytes of the texts that it held then: values and subscripts */
 } yuglemit_meter;
 
-#define YUGLEMIT_METER {sizeof(yuglemit_meter), 0, 0, 0}
+#define YUGLEMIT_METER {sizeof(yuglemit_meter), 0, 0, 0, 0, 0, 0}
 
 /* A datum of a report. This struct and the next never change, since reports are read in arrays of them. */
 typedef struct yuglemit_item {
     int64_t number;        /* i: the integer */
-    size_t length;         /* t: the bytes of the text; c: the number of members */
+    size_t length;         /* t: the bytes of the text; c, m: the number of members or values */
     uint8_t kind;          /* a yuglemit_kind */
     uint8_t closed;        /* 1: it never changes again */
-    uint8_t scalar;        /* 'i' or 't': the type of the value or of the members */
-    uint8_t by;            /* c: 'i' or 't', the type of the subscripts */
+    uint8_t scalar;        /* 'i' or 't': the type of the value, of the members or of a map's values; 's' if those are sums, whose items are i */
+    uint8_t by;            /* c, m: 'i' or 't', the type of the subscripts */
 } yuglemit_item;
 
 typedef struct yuglemit_member { yuglemit_item subscript, value; } yuglemit_member;
@@ -569,6 +578,14 @@ static inline uint8_t yuglemit_report_meter(const yuglemit_report *report, yugle
     if (!yuglemit_raw_is_size(meter->size)) return YUGLEMIT_NO_SIZE;
     yuglemit_report same = *report;
     return yuglemit_raw_report_meter(&same, &meter->events, yuglemit_raw_count(meter->size));
+}
+
+/* Writes whether the order of events may show in the run's outputs. YUGLEMIT_NO_ORDER if the run's options have 0 for `order`; _NO_SIZE. */
+uint8_t yuglemit_raw_report_order(yuglemit_report *report, uint64_t *order, size_t count);
+static inline uint8_t yuglemit_report_order(const yuglemit_report *report, yuglemit_order *order) {
+    if (!yuglemit_raw_is_size(order->size)) return YUGLEMIT_NO_SIZE;
+    yuglemit_report same = *report;
+    return yuglemit_raw_report_order(&same, &order->may_show, yuglemit_raw_count(order->size));
 }
 
 /* Writes how many instructions the run executed; UINT64_MAX if they were more. */

@@ -74,6 +74,7 @@ static void free_all(handles *all) {
 static uint8_t run(handles *all) {
     yuglemit_options options = YUGLEMIT_OPTIONS;
     options.limit = LIMIT;
+    options.order = 1;
     yuglemit_caps caps = YUGLEMIT_CAPS;
     caps.tasks = UINT64_MAX - 1;
     return yuglemit_run_within(&all->program, &all->inputs, &options, &caps, &all->stop, &all->report);
@@ -117,6 +118,7 @@ static int make_all(handles *all) {
     if (all->report.at) {
         holds = holds && yuglemit_report_ending(&all->report, &ending) == 0 && is_memory(yuglemit_print_report(&all->report, &all->text));
         holds = holds && yuglemit_report_meter(&all->report, &meter) == 0 && meter.events == ending.events;
+        holds = holds && yuglemit_report_order(&all->report, &order) == 0;
         holds = holds && is_memory(yuglemit_print_trace(&all->report, &all->text));
         uint8_t code = yuglemit_print_json(&all->report, &all->text);
         holds = holds && (is_memory(code) || (code == YUGLEMIT_NO_END && ending.status == 5));
@@ -278,6 +280,7 @@ static uint8_t ask_report(int row, void *at) {
     yuglemit_report report = {at};
     yuglemit_ending ending = YUGLEMIT_ENDING;
     yuglemit_meter meter = YUGLEMIT_METER;
+    yuglemit_order order = YUGLEMIT_ORDER;
     yuglemit_item item;
     yuglemit_member member;
     yuglemit_text text = {NULL};
@@ -299,6 +302,7 @@ static uint8_t ask_report(int row, void *at) {
     case 11: return yuglemit_print_report(&report, &text);
     case 12: return yuglemit_print_trace(&report, &text);
     case 13: return yuglemit_print_json(&report, &text);
+    case 14: return yuglemit_report_order(&report, &order);
     default: return YUGLEMIT_DONE;
     }
 }
@@ -367,7 +371,7 @@ static void check_pairs(void) {
     for (int kind = 0; kind < KINDS; kind++) {
         void *at = each[kind];
         for (int row = 0; row < 10; row++) check(kind == OF_PROGRAM || ask_program(row, at) == YUGLEMIT_NO_PROGRAM, "it holds no program");
-        for (int row = 0; row < 14; row++) check(kind == OF_REPORT || ask_report(row, at) == YUGLEMIT_NO_REPORT, "it holds no report");
+        for (int row = 0; row < 15; row++) check(kind == OF_REPORT || ask_report(row, at) == YUGLEMIT_NO_REPORT, "it holds no report");
         for (int row = 0; row < 5; row++) check(kind == OF_CONTAINER || ask_container(row, at) == YUGLEMIT_NO_CONTAINER, "it holds no container");
         for (int row = 0; row < 5; row++) check(kind == EMPTY || kind == OF_INPUTS || ask_inputs(row, &all, at) == YUGLEMIT_NO_INPUTS, "it holds no inputs");
         for (int row = 0; row < 4; row++) check(kind == OF_STOP || (kind == EMPTY && row == 3) || ask_stop(row, &all, at) == YUGLEMIT_NO_STOP, "it holds no flag");

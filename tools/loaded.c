@@ -169,7 +169,7 @@ static void check_kinds(yuglemit_program *program) {
     yuglemit_inputs of_program = {share.at};
     yuglemit_report of_inputs = {inputs.at};
     yuglemit_ending ending = {sizeof ending, 1, 1, 1};
-    yuglemit_meter meter = {sizeof meter, 1, 1, 1};
+    yuglemit_meter meter = {sizeof meter, 1, 1, 1, 1, 1, 1};
     check(yuglemit_program_share(&of_report, &other) == YUGLEMIT_NO_PROGRAM && !other.at, "a report isn't shared");
     check(yuglemit_input_int(&of_program, 1) == YUGLEMIT_NO_INPUTS, "a program takes no input");
     check(yuglemit_report_ending(&of_inputs, &ending) == YUGLEMIT_NO_REPORT && ending.events == 1, "inputs have no ending");
@@ -351,6 +351,41 @@ static void check_order(void) {
     yuglemit_program_free(program);
 }
 
+/* The order of a run: two tasks insert at the two inputs by copies of one right, which is contested if they are one. */
+static void check_run_order(void) {
+    static const struct { int64_t second; uint64_t limit, may_show, procedure, place; } rows[] = {{2, LIMIT, 0, 0, 0}, {1, LIMIT, 1, 1, 2}, {1, 3, 2, 0, 0}};
+    const char *text = "proc control closed int closed int write cont int\nregs int int\nGET v0 d0\nGET v1 d1\nDROPR d0\nDROPR d1\nDUPW d3 d2\nPUT 1 0 any 2 0\nPUT 1 0 any 3 1\nRET\n"
+                       "proc leaf write cont int val int\nregs int\nNEW d1 d2 int\nSTORE d1 v0\nINS d0 v0 d2 +1\nJMP +1\nDROPR d2\nDROPW d0\nRET\n";
+    yuglemit_program program = {NULL};
+    yuglemit_stop none = {NULL};
+    yuglemit_report report = {NULL};
+    yuglemit_verdict verdict = YUGLEMIT_VERDICT;
+    yuglemit_options options = YUGLEMIT_OPTIONS;
+    struct { yuglemit_order order; uint64_t more; } large = {{sizeof large, 9, 9, 9}, 9};
+    yuglemit_order *order = &large.order;
+    check(yuglemit_report_order(&report, order) == YUGLEMIT_NO_REPORT && order->may_show == 9, "the order of no report");
+    check(yuglemit_load_source((const uint8_t *)text, strlen(text), 't', &program, &verdict) == 0, "a program with two tasks");
+    for (size_t k = 0; k < sizeof rows / sizeof *rows; k++) {
+        yuglemit_inputs inputs = {NULL};
+        options.limit = rows[k].limit;
+        yuglemit_input_int(&inputs, 1);
+        yuglemit_input_int(&inputs, rows[k].second);
+        options.order = 0;
+        check(yuglemit_run(&program, &inputs, &options, &none, &report) == 0, "a run without its order");
+        order->may_show = 9;
+        check(yuglemit_report_order(&report, order) == YUGLEMIT_NO_ORDER && order->may_show == 9, "it has none");
+        options.order = 1;
+        check(yuglemit_run(&program, &inputs, &options, &none, &report) == 0 && yuglemit_report_order(&report, order) == 0, "a run with its order");
+        check(order->may_show == rows[k].may_show && order->procedure == rows[k].procedure && order->place == rows[k].place, "which is this one");
+        yuglemit_inputs_free(inputs);
+    }
+    check(large.more == 9, "no number more");
+    order->size = sizeof *order - 1;
+    check(yuglemit_report_order(&report, order) == YUGLEMIT_NO_SIZE, "an order of a run of no size");
+    yuglemit_report_free(report);
+    yuglemit_program_free(program);
+}
+
 /* Which input doesn't fit. */
 static void check_unfit(yuglemit_program *program) {
     const char *text = "proc control closed int closed text closed int\nregs\nDROPR d0\nDROPR d1\nDROPR d2\nRET\n";
@@ -410,21 +445,34 @@ static void run_text(const char *text, yuglemit_inputs *inputs, yuglemit_report 
     yuglemit_program_free(program);
 }
 
+/* What a store holds at the end: a map from "ab" to a text of two bytes, and a container with "abc" at 7. Three data were made. */
+static void check_held(void) {
+    static const uint64_t held[] = {3, 2, 7};
+    yuglemit_inputs inputs = {NULL};
+    yuglemit_report report = {NULL};
+    yuglemit_meter meter = YUGLEMIT_METER;
+    run_text("version 4\nproc control write tmap text write cont text\nregs text text int\nTEXT v0 \"ab\"\nTEXT v1 \"\xc3\xa9\"\nMINS d0 v0 v1 +0\nNEW d2 d3 text\nTEXT v0 \"abc\"\n"
+             "STORE d2 v0\nINT v2 7\nINS d1 v2 d3 have\nJMP next\nhave:\nDROPR d3\nnext:\nDROPW d0\nDROPW d1\nRET\n", &inputs, &report);
+    check(yuglemit_report_meter(&report, &meter) == 0 && !memcmp(&meter.data, held, sizeof held), "data, members and bytes");
+    yuglemit_report_free(report);
+}
+
 /* What a run did: main's task makes 2 PUT and a RET, and each of the two tasks that it puts 2 INT and a RET. Main's events are Take, Call, Call and
  * End, those of a leaf Take, Local and End. As many numbers are written as there is room for. */
 static void check_meter(void) {
-    static const uint64_t did[] = {10, 3, 9};
+    check_held();
+    static const uint64_t did[] = {10, 3, 9, 0, 0, 0};
     struct { yuglemit_meter meter; uint64_t more[2]; } large = {YUGLEMIT_METER, {9, 9}};
     yuglemit_inputs inputs = {NULL};
     yuglemit_report report = {NULL};
     uint64_t *numbers = &large.meter.events;
     check(yuglemit_report_meter(&report, &large.meter) == YUGLEMIT_NO_REPORT && numbers[0] == 0, "no report, no meter");
     run_text("proc control\nregs\nPUT 1 0 any\nPUT 1 0 any\nRET\nproc leaf\nregs int\nINT v0 7\nINT v0 8\nRET\n", &inputs, &report);
-    for (size_t count = 0; count <= 5; count++) {
-        for (size_t k = 0; k < 5; k++) numbers[k] = 9;
+    for (size_t count = 0; count <= 8; count++) {
+        for (size_t k = 0; k < 8; k++) numbers[k] = 9;
         large.meter.size = 8 * (count + 1);
         check(yuglemit_report_meter(&report, &large.meter) == 0, "a meter of a size");
-        for (size_t k = 0; k < 5; k++) check(numbers[k] == (k < count && k < 3 ? did[k] : 9), "a number is written, or stays");
+        for (size_t k = 0; k < 8; k++) check(numbers[k] == (k < count && k < 6 ? did[k] : 9), "a number is written, or stays");
     }
     for (size_t size = 0; size < 8; size++) {
         large.meter.size = size;
@@ -633,7 +681,7 @@ static void check_codes(void) {
         check(is_known == (strcmp(text, "unknown code") != 0), "a code with a name has words");
         check(!is_known || code == 0 || code > 200, "no code is a letter, a kind or a status");
     }
-    check(known == 22 && !strcmp(yuglemit_code_name(YUGLEMIT_NO_MEMORY), "NO_MEMORY"), "the codes of the header");
+    check(known == 23 && !strcmp(yuglemit_code_name(YUGLEMIT_NO_MEMORY), "NO_MEMORY"), "the codes of the header");
 }
 
 /* The greatest length of a source. */
@@ -791,6 +839,7 @@ static void *check_all(void *unused) {
     check_caps(&program);
     check_more_caps();
     check_order();
+    check_run_order();
     check_unfit(&program);
     check_report(&program);
     check_meter();

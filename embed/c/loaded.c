@@ -125,7 +125,7 @@ static void print_text(const uint8_t *text, size_t length) {
 }
 
 static const char *type_name(uint8_t letter) {
-    return letter == 'i' ? "int" : "text";
+    return letter == 'i' ? "int" : letter == 's' ? "sum" : "text";
 }
 
 static void print_item(const yuglemit_item *item, const uint8_t *text) {
@@ -134,7 +134,9 @@ static void print_item(const yuglemit_item *item, const uint8_t *text) {
     case 't': fputs("text ", stdout); print_text(text, item->length); break;
     case 'u': fputs("unset", stdout); break;
     case 'c':
-        printf("%s %s %s %zu", item->by == 't' ? "tcont" : "cont", type_name(item->scalar), item->closed ? "closed" : "open", item->length);
+    case 'm':
+        printf("%s%s %s %s %zu", item->by == 't' ? "t" : "", item->kind == 'm' ? "map" : "cont", type_name(item->scalar),
+               item->closed ? "closed" : "open", item->length);
         break;
     default: fputs("gone", stdout);
     }
@@ -161,7 +163,7 @@ static void print_output(const yuglemit_report *report, size_t output) {
     printf("out %zu ", output);
     print_item(&item, text);
     putchar('\n');
-    for (size_t place = 0; item.kind == 'c' && place < item.length; place++) print_member(report, output, place);
+    for (size_t place = 0; (item.kind == 'c' || item.kind == 'm') && place < item.length; place++) print_member(report, output, place);
 }
 
 static int print_report(const yuglemit_report *report) {

@@ -29,6 +29,10 @@ std::string same(const std::string &type) {
 const char *const MEMBER = "version 2\nproc control\nregs text\nNEW d0 d1 tcont text\nDROPR d1\nNEW d2 d3 text\nSTORE d2 v0\nTINS d0 v0 d3 there\nJMP done\n"
                            "there:\nDROPR d3\ndone:\nDROPW d0\nRET\n";
 
+// Two tasks insert at two subscripts by copies of one right.
+const char *const COMPETING = "proc control closed int closed int write cont int\nregs int int\nGET v0 d0\nGET v1 d1\nDROPR d0\nDROPR d1\nDUPW d3 d2\nPUT 1 0 any 2 0\nPUT 1 0 any 3 1\nRET\n"
+                              "proc leaf write cont int val int\nregs int\nNEW d1 d2 int\nSTORE d1 v0\nINS d0 v0 d2 +1\nJMP +1\nDROPR d2\nDROPW d0\nRET\n";
+
 const char *const ENDLESS = "proc control\nregs int int\nINT v1 1\nREPEAT 5\nREPEAT 1000\nADD v0 v0 v1 no\nno:\nEND\nEND\nPUT 0 0 any\nRET\n";
 
 std::string examples;  // the folder
@@ -155,6 +159,19 @@ void test_output_containers() {
     CHECK(words.member(0, "the") == Value(2) && words.member(0, "a\"\n") == Value(1) && !words.member(0, "") && !words.member(0, 1));
 }
 
+// A map is a container of values; its parameter says the type of its subscripts.
+void test_maps() {
+    auto program = Program::load("version 4\nproc control closed map int write tmap sum\nregs text int int\nTEXT v0 \"all\"\nINT v1 1\nMGET v2 d0 v1 +1\nMADD d1 v0 v2\n"
+                                 "DROPR d0\nDROPW d1\nRET\n");
+    const auto main = program.procedure(0);
+    CHECK(main.parameters[0].depth == 0 && main.parameters[0].scalar == 'i' && main.parameters[0].by == 0 && main.parameters[0].map == 'i');
+    CHECK(main.parameters[1].depth == 0 && main.parameters[1].scalar == 's' && main.parameters[1].by == 0 && main.parameters[1].map == 't');
+    auto report = program.run({Container<std::int64_t, std::int64_t>{{1, 7}, {5, -3}}});
+    const Container<std::string, std::int64_t> wanted = {{"all", 7}};
+    CHECK(report.output(0) == Value(wanted) && report.member(0, "all") == Value(std::int64_t{7}) && !report.member(0, "none"));
+    CHECK(report.meter().data == 2 && report.meter().members == 1 && report.meter().bytes == 3);
+}
+
 // A run that is stuck leaves an output unset and one open.
 void test_open_outputs() {
     auto report = Program::load("proc control write int write cont int\nregs\nNEW d2 d3 int\nRULE 1 0 any 3 2 0 1\nRET\n\n"
@@ -188,6 +205,7 @@ void test_printed() {
     auto report = program.run({std::int64_t{39}}, options);
     CHECK(report.text() == "out 0 int 42\nquiet\n" && report.instructions() == 24);
     CHECK(report.meter().events == report.events() && report.meter().tasks == 4 && report.meter().instructions == 24);
+    CHECK(report.meter().data == 4 && report.meter().members == 0 && report.meter().bytes == 0);
     CHECK(report.trace().substr(0, 7) == "events\n" && report.json().find("\"outputs\":[42]") != std::string::npos);
     Stop stop;
     stop.raise();
@@ -219,6 +237,20 @@ void test_order() {
     const auto same = Program::load(read("pipeline.twn")).order(), by_copies = Program::load(read("fan_out.twn")).order();
     CHECK(same.may_show == 0 && same.procedure == 0 && same.place == 0);
     CHECK(by_copies.may_show == 1 && by_copies.procedure == 1 && by_copies.place == 3);
+}
+
+// Two tasks insert at the two subscripts by copies of one right: they compete if the subscripts are one, at the INS of procedure 1. A run of three
+// events is cut off before.
+void test_run_order() {
+    const auto program = Program::load(COMPETING);
+    Options options;
+    CHECK_THROWS(std::logic_error, program.run({std::int64_t{1}, std::int64_t{2}}, options).order());
+    options.order = true;
+    const auto apart = program.run({std::int64_t{1}, std::int64_t{2}}, options).order(), at_one = program.run({std::int64_t{1}, std::int64_t{1}}, options).order();
+    CHECK(apart.may_show == 0 && apart.procedure == 0 && apart.place == 0);
+    CHECK(at_one.may_show == 1 && at_one.procedure == 1 && at_one.place == 2);
+    options.limit = 3;
+    CHECK(program.run({std::int64_t{1}, std::int64_t{1}}, options).order().may_show == 2);
 }
 
 bool is_above(const Options &options) {
@@ -311,11 +343,13 @@ void test_throwing() {
     test_values();
     test_containers();
     test_output_containers();
+    test_maps();
     test_open_outputs();
     test_programs();
     test_printed();
     test_bounds();
     test_order();
+    test_run_order();
     test_caps();
     test_sessions();
     test_errors();

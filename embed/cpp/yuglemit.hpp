@@ -293,9 +293,14 @@ public:
     std::size_t events() const { return static_cast<std::size_t>(ending_.events); }
     std::size_t output_count() const { return static_cast<std::size_t>(ending_.outputs); }
 
-    // The run's events, the tasks that it took, and the instructions that it executed, also if it was stopped.
+    // How much the run did, and what its store held at the end, also if it was stopped.
     Result<yuglemit_meter> try_meter() const {
         return detail::written<yuglemit_meter>([&](auto at) { return yuglemit_report_meter(handle_.get(), at); }, YUGLEMIT_METER);
+    }
+
+    // Whether the order of events may show in the run's outputs; Kind::use if its options didn't ask for that.
+    Result<yuglemit_order> try_order() const {
+        return detail::written<yuglemit_order>([&](auto at) { return yuglemit_report_order(handle_.get(), at); }, YUGLEMIT_ORDER);
     }
 
     // How many instructions the run executed; the greatest number if they were more.
@@ -345,6 +350,7 @@ public:
 
 #ifdef __cpp_exceptions
     yuglemit_meter meter() const { return detail::value_of(try_meter()); }
+    yuglemit_order order() const { return detail::value_of(try_order()); }
     std::uint64_t instructions() const { return detail::value_of(try_instructions()); }
     std::string text() const { return detail::value_of(try_text()); }
     std::string trace() const { return detail::value_of(try_trace()); }
@@ -384,6 +390,7 @@ private:
         case YUGLEMIT_KIND_INT: value = found.number; return YUGLEMIT_DONE;
         case YUGLEMIT_KIND_TEXT: return read_text(output, found, value);
         case YUGLEMIT_KIND_CONTAINER:
+        case YUGLEMIT_KIND_MAP:
             return found.by == 't' ? read_by<std::string>(output, found, value) : read_by<std::int64_t>(output, found, value);
         default: value = std::monostate(); return YUGLEMIT_DONE;
         }
@@ -441,6 +448,7 @@ struct Options {
     std::uint8_t engines = 1, servers = 1, workers = 1;
     std::uint64_t seed = 0;  // decides the order of the turns; 0: the actors take turns
     Caps caps;  // a program with a bound above one isn't run: an Error O07
+    bool order = false;  // Report::order has the run's order; it takes a replay
 };
 
 // A program that is verified.
@@ -555,7 +563,7 @@ private:
     }
 
     detail::Code run_into(detail::ReportHandle &report, const detail::InputsHandle &inputs, const Options &options, const detail::StopHandle &stop) const {
-        const yuglemit_options raw = {sizeof(yuglemit_options), options.limit, options.engines, options.servers, options.workers, options.seed};
+        const yuglemit_options raw = {sizeof(yuglemit_options), options.limit, options.engines, options.servers, options.workers, options.seed, options.order};
         const auto cap = [](const std::optional<std::uint64_t> &most) { return most.value_or(UINT64_MAX); };
         const auto &[tasks, instructions, data, bytes, budget, members, rules] = options.caps;
         const yuglemit_caps caps = {sizeof(yuglemit_caps), cap(tasks), cap(instructions), cap(data), cap(bytes), cap(budget), cap(members), cap(rules)};

@@ -1,6 +1,6 @@
 -- An answer whose text a handle holds.
 use Rattle.std.proofs.Common.{ℕ, List, Option, inl, inr}
-use Rattle.tw_program_output.specs.declared.close.Close.{Close}
+use Rattle.tw_source.specs.declared.close.Close.{Close}
 use Rattle.tw_session.specs.declared.status.Status.TheVariants.{Ended}
 use Rattle.tw_handles.specs.declared.held.Held.{Held}
 use Rattle.tw_calls.specs.SessionAnswers.{Answers, IsAnswerKept, IsKeptWith, nul}

@@ -4,11 +4,11 @@ use Rattle.std.specs.Io.BufRead.{strip_last}
 use Rattle.std.specs.List.{slice_split}
 use Rattle.tw_cli.specs.CommandLine.{asked_by_words, word_faults}
 use Rattle.tw_cli.specs.InTurn.{turned}
-use Rattle.tw_program_output.specs.Reply.{reply}
+use Rattle.tw_source.specs.Reply.{reply}
 use Rattle.tw_session.specs.Session.{AnswersWords}
 use Rattle.tw_session.specs.Status.{code_of}
-use Rattle.tw_program_output.specs.declared.close.Close.{Close}
-use Rattle.tw_program_output.specs.declared.close.Close.TheVariants.{CommandLine}
+use Rattle.tw_source.specs.declared.close.Close.{Close}
+use Rattle.tw_source.specs.declared.close.Close.TheVariants.{CommandLine}
 use Rattle.tw_session.specs.declared.status.Status.{Status}
 use Rattle.tw_session.specs.declared.status.Status.TheVariants.{Ended, NoMemory, ReadFailed, WriteFailed}
 use Rattle.tw_handles.specs.Asking.{Fails}

@@ -3,7 +3,7 @@
 ghost use Rattle.std.specs.Prelude.{◌≡◌, ◌<◌, IfOk, length};
 ghost use Rattle.tw_cli.specs.CommandLine.{asked_by_words, word_faults};
 ghost use Rattle.tw_cli.specs.InTurn.{turned};
-ghost use Rattle.tw_program_output.specs.Reply.{reply};
+ghost use Rattle.tw_source.specs.Reply.{reply};
 ghost use Rattle.tw_session.specs.Session.{AnswersWords};
 ghost use Rattle.tw_session.specs.Status.{code_of};
 ghost use Rattle.tw_calls.specs.SessionAnswers.{IsAnswered, arguments_in, filled};

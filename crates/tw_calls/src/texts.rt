@@ -7,8 +7,8 @@ ghost use Rattle.tw_calls.specs.SessionAnswers.{Answers, IsAnswerKept, IsKeptWit
 use crate::sessions::answer;
 use std::alloc::{AllocError, Global};
 use tw_handles::{Handle, text_handle};
-use tw_program_output::fixed_reply;
 use tw_session::{Close, Reply, Status};
+use tw_source::fixed_reply;
 
 /// Runs a session with arguments that NUL ends, and the bytes that `tw` would read. Returns an error if an allocation fails.
 fn reply_to(alloc: Global, words: &[u8], input: &[u8]) -> Result<Reply, AllocError>

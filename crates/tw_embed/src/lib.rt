@@ -32,9 +32,9 @@ pub use reports::{
     yuglemit_raw_print_json, yuglemit_raw_print_report, yuglemit_raw_print_trace,
     yuglemit_raw_report_ending, yuglemit_raw_report_find_int, yuglemit_raw_report_find_text,
     yuglemit_raw_report_instructions, yuglemit_raw_report_member, yuglemit_raw_report_member_text,
-    yuglemit_raw_report_members, yuglemit_raw_report_meter, yuglemit_raw_report_output,
-    yuglemit_raw_report_subscript_text, yuglemit_raw_report_text, yuglemit_raw_text_copy,
-    yuglemit_raw_text_length, yuglemit_report_free, yuglemit_text_free,
+    yuglemit_raw_report_members, yuglemit_raw_report_meter, yuglemit_raw_report_order,
+    yuglemit_raw_report_output, yuglemit_raw_report_subscript_text, yuglemit_raw_report_text,
+    yuglemit_raw_text_copy, yuglemit_raw_text_length, yuglemit_report_free, yuglemit_text_free,
 };
 pub use runs::{
     yuglemit_raw_run, yuglemit_raw_stop_lower, yuglemit_raw_stop_raise, yuglemit_raw_stop_share,
@@ -44,12 +44,12 @@ use std::alloc::Global;
 use tw_handles::Handle;
 
 /// The version: major, minor and patch, three digits each.
-const VERSION: u32 = 23_000;
+const VERSION: u32 = 24_000;
 
 /// Returns the version of the library, as `YUGLEMIT_VERSION_NUMBER` of the header it is made for.
 #[unsafe(no_mangle)]
 pub extern "C" fn yuglemit_version() -> u32
-    ensures { result ≡ 23000 }
+    ensures { result ≡ 24000 }
 {
     VERSION
 }

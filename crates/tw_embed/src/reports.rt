@@ -1,6 +1,7 @@
 //! Exports the calls of `tw_handles` that read reports.
 
 ghost use Rattle.std.specs.Prelude.{◌≡◌};
+ghost use Rattle.tw_handles.specs.Certificates.{IsRunOrder};
 ghost use Rattle.tw_handles.specs.Finding.{IsPlace, IsTextPlace};
 ghost use Rattle.tw_handles.specs.Many.{AreMembers};
 ghost use Rattle.tw_handles.specs.Members.{IsMember, IsMemberText, IsSubscriptText};
@@ -154,6 +155,19 @@ pub extern "C" fn yuglemit_raw_report_meter(
     ensures is { IsMetered report.old.held numbers.old numbers.new result }
 {
     tw_handles::report_meter(alloc, report, numbers)
+}
+
+/// Exports `tw_handles::report_order`.
+#[unsafe(no_mangle)]
+pub extern "C" fn yuglemit_raw_report_order(
+    alloc: Global,
+    report: &mut Handle,
+    numbers: &mut [u64],
+) -> u8
+    ensures kept { report.new.held ≡ report.old.held }
+    ensures is { IsRunOrder report.old.held numbers.old numbers.new result }
+{
+    tw_handles::report_order(alloc, report, numbers)
 }
 
 /// Exports `tw_handles::instructions`.

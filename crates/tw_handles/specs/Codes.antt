@@ -60,6 +60,9 @@ no_end = 227
 abbrev pub rejected : ℕ
 rejected = 229
 
+abbrev pub no_order : ℕ
+no_order = 230
+
 -- returns the code of a run that isn't opened
 abbrev pub open_code : OpenError → ℕ
 open_code InputCount = 201

@@ -1,40 +1,51 @@
 -- The place of a subscript in an output.
-use Rattle.std.specs.Prelude.{◌≡◌, ◌⊎◌, ℕ, List, IsUtf8, Option, Some, None, MatchOption, slice_get}
+use Rattle.std.specs.Prelude.{◌≡◌, ◌⊎◌, ℕ, List, [], IsUtf8, Option, Some, None, MatchOption, slice_get}
 use Rattle.std.specs.declared.cmp.Ordering.{Ordering}
 use Rattle.std.specs.declared.cmp.Ordering.TheVariants.{Less}
+use Rattle.std.specs.FinMap.{get}
+use Rattle.std.specs.Option.{option_and_then}
 use Rattle.tw_pool.specs.Ends.{FinalView}
+use Rattle.tw_types.specs.Store.{Datum}
+use Rattle.tw_types.specs.StoreCalls.{subscripts_of}
 use Rattle.tw_types.specs.ValueOrder.{Subscript, value_cmp}
 use Rattle.tw_types.specs.declared.value.Value.TheVariants as value
 use Rattle.tw_handles.specs.Asking.{Fails}
 use Rattle.tw_handles.specs.Codes.{done, no_index, no_report, no_utf8}
 use Rattle.tw_handles.specs.Loading.{report_in}
-use Rattle.tw_handles.specs.Members.{entry_at}
 use Rattle.tw_handles.specs.Reading.{final_of}
 use Rattle.tw_handles.specs.declared.held.Held.{Held}
 
 -- compares a subscript with one that may be missing, which is greater
-abbrev pub order_with : Subscript → Option (Subscript × ℕ) → Ordering
+abbrev pub order_with : Subscript → Option Subscript → Ordering
 order_with subscript None = Less
-order_with subscript (Some e) = value_cmp subscript e.0
+order_with subscript (Some other) = value_cmp subscript other
 
-abbrev pub order_at : List (Subscript × ℕ) → ℕ → Subscript → Ordering
-order_at es index subscript = order_with subscript (slice_get es index)
+abbrev pub order_at : List Subscript → ℕ → Subscript → Ordering
+order_at subscripts index subscript = order_with subscript (slice_get subscripts index)
 
--- holds for the index of the entry with this subscript
-abbrev pub HasSubscript : List (Subscript × ℕ) → Subscript → ℕ → Type 0
-HasSubscript es subscript index = (id : ℕ) × (slice_get es index ≡ Some (subscript, id))
+-- holds for the index of this subscript
+abbrev pub HasSubscript : List Subscript → Subscript → ℕ → Type 0
+HasSubscript subscripts subscript index = slice_get subscripts index ≡ Some subscript
 
-abbrev pub HasNone : List (Subscript × ℕ) → Subscript → Type 0
-HasNone es subscript = (index : ℕ) → HasSubscript es subscript index → ⊥
+abbrev pub HasNone : List Subscript → Subscript → Type 0
+HasNone subscripts subscript = (index : ℕ) → HasSubscript subscripts subscript index → ⊥
 
--- holds for the place of the member with this subscript
+abbrev pub subscripts_if : Option Datum → List Subscript
+subscripts_if None = []
+subscripts_if (Some x) = subscripts_of x.content
+
+-- returns the subscripts of an output, which has none if it is no live container or map
+abbrev pub subscripts_at : FinalView → ℕ → List Subscript
+subscripts_at final index = subscripts_if (option_and_then (λ id. get final.store.store.live id) (slice_get final.outputs index))
+
+-- holds for the place of this subscript
 abbrev pub IsThere : FinalView → ℕ → Subscript → ℕ → Type 0
-IsThere final index subscript place = (id : ℕ) × (entry_at final index place ≡ Some (subscript, id))
+IsThere final index subscript place = HasSubscript (subscripts_at final index) subscript place
 
 abbrev pub IsNowhere : FinalView → ℕ → Subscript → Type 0
 IsNowhere final index subscript = (place : ℕ) → IsThere final index subscript place → ⊥
 
--- holds if this is the place, or there is no member with this subscript
+-- holds if this is the place, or the output doesn't have this subscript
 abbrev pub IsPlaceIn : FinalView → ℕ → Subscript → ℕ → ℕ → ℕ → Type 0
 IsPlaceIn final index subscript old new code =
     (IsThere final index subscript new × (code ≡ done)) ⊎ (IsNowhere final index subscript × Fails no_index old new code)

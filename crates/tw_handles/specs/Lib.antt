@@ -2,6 +2,8 @@
 pub mod Asking
 -- Caps on runs, and bounds.
 pub mod Caps
+-- Certificates of runs.
+pub mod Certificates
 -- The codes that calls return.
 pub mod Codes
 -- Containers that are to be inputs.
@@ -26,6 +28,8 @@ pub mod Reading
 pub mod Running
 -- Procedures and parameters of a loaded program.
 pub mod Shape
+-- The members or values of an output, by their subscripts.
+pub mod Shown
 -- The memory of a handle.
 pub mod Slot
 -- Stop flags.

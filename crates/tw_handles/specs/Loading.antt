@@ -11,6 +11,7 @@ use Rattle.tw_verdict.specs.declared.verdict.Verdict.{Verdict}
 use Rattle.tw_verify.specs.Typed.{TypedProgram}
 use Rattle.tw_handles.specs.Codes.{loading_code, no_options}
 use Rattle.tw_handles.specs.Numbers.{filled}
+use Rattle.tw_handles.specs.declared.finished.Finished.{Finished}
 use Rattle.tw_handles.specs.declared.held.Held.{Held}
 use Rattle.tw_handles.specs.declared.held.Held.TheVariants.{Program, Inputs, Container, Report, Stop, Text}
 
@@ -40,9 +41,19 @@ report_in None = None
 report_in (Some (Program verified)) = None
 report_in (Some (Inputs inputs)) = None
 report_in (Some (Container container)) = None
-report_in (Some (Report left)) = Some left
+report_in (Some (Report run)) = Some run.left
 report_in (Some (Stop flag)) = None
 report_in (Some (Text text)) = None
+
+-- returns that with its certificate
+abbrev pub finished_in : Option Held → Option Finished
+finished_in None = None
+finished_in (Some (Program verified)) = None
+finished_in (Some (Inputs inputs)) = None
+finished_in (Some (Container container)) = None
+finished_in (Some (Report run)) = Some run
+finished_in (Some (Stop flag)) = None
+finished_in (Some (Text text)) = None
 
 -- the handle holds the accepted program of the source; else its contents are as they were, and the verdict has the source's error
 abbrev pub IsSourceLoaded : Format → List ℕ → Option Held → Option Held → SourceVerdict → Type 0

@@ -1,6 +1,5 @@
 -- Calls on a report: how the run ended, and its outputs.
 use Rattle.std.specs.Prelude.{◌≡◌, ◌≤◌, ◌<◌, ◌⊎◌, ◌++◌, ◌∷◌, [], ℕ, List, Option, Some, None, MatchOption, drop, length, pos, slice_get, if◌then◌else◌}
-use Rattle.std.specs.FinMap as map
 use Rattle.std.specs.FinMap.{get}
 use Rattle.std.specs.Option.{option_and_then}
 use Rattle.tw_in_turn.specs.declared.run.InTurnResult.{InTurnResult}
@@ -11,12 +10,12 @@ use Rattle.tw_pool.specs.declared.answer.Closing.{Closing}
 use Rattle.tw_pool.specs.declared.answer.Closing.TheVariants.{Quiet, Stuck, Stopped, Limit}
 use Rattle.tw_pool.specs.Ends.{FinalView}
 use Rattle.tw_pool.specs.History.{HistoryView}
-use Rattle.tw_types.specs.DataType.{is_container_by}
+use Rattle.tw_types.specs.DataType.{has_subscripts_by, has_sums, is_map}
 use Rattle.tw_types.specs.Nesting.{NestedScalar}
 use Rattle.tw_types.specs.declared.data_type.Scalar.{Scalar}
 use Rattle.tw_types.specs.declared.data_type.Scalar.TheVariants as scalar
 use Rattle.tw_types.specs.Store.{Datum, is_closed}
-use Rattle.tw_types.specs.StoreCalls.{members_in, value_in}
+use Rattle.tw_types.specs.StoreCalls.{count_in, value_in}
 use Rattle.tw_types.specs.StoreChecks.{is_unset}
 use Rattle.tw_types.specs.declared.value.Value.{Value}
 use Rattle.tw_types.specs.declared.value.Value.TheVariants as value
@@ -75,6 +74,10 @@ abbrev pub letter_of : Scalar → ℕ
 letter_of scalar.Int = 105
 letter_of scalar.Text = 116
 
+-- returns the letter of the scalar inside all containers, or of a map's values: s of sums
+abbrev pub leaf_letter : NestedScalar → ℕ
+leaf_letter ty = if has_sums ty.map then 115 else letter_of ty.scalar
+
 -- returns i with the integer, or t with the text's length
 abbrev pub value_item : Value → Item
 value_item (value.Int n) = record { number = n; length = 0; kind = 105; closed = 1; scalar = 105; by = 0 }
@@ -84,16 +87,16 @@ value_item (value.Text text) = record { number = pos 0; length = length text; ki
 abbrev pub unset_item : NestedScalar → Item
 unset_item ty = record { number = pos 0; length = 0; kind = 117; closed = 0; scalar = letter_of ty.scalar; by = 0 }
 
--- returns c with the number of members, whether it is closed, and the types of scalars and subscripts
+-- returns c for a container or m for a map, how many members or values it has, whether it is closed, and the types of scalars and subscripts
 abbrev pub container_item : Datum → Item
 container_item x =
     record {
       number = pos 0;
-      length = map.len (members_in x.content);
-      kind = 99;
+      length = count_in x.content;
+      kind = if is_map x.ty then 109 else 99;
       closed = if is_closed x then 1 else 0;
-      scalar = letter_of x.ty.scalar;
-      by = if is_container_by scalar.Text x.ty then 116 else 105;
+      scalar = leaf_letter x.ty;
+      by = if has_subscripts_by scalar.Text x.ty then 116 else 105;
     }
 
 abbrev pub valueless_item : Datum → Item

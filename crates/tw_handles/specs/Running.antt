@@ -5,7 +5,6 @@ use Rattle.tw_stop.specs.declared.signal.Never.{Never}
 use Rattle.tw_stop.specs.Flags.{IsSeen, name_of, signal_name}
 use Rattle.tw_stop.specs.Looks.{Looked, never_says}
 use Rattle.tw_in_turn.specs.Stopping.{IsLeftBy}
-use Rattle.tw_in_turn.specs.declared.run.StoppableResult.{StoppableResult}
 use Rattle.tw_pool.specs.Openings.{IsRejection, MayOpen, opened}
 use Rattle.tw_pool.specs.declared.open.OpenError.{OpenError}
 use Rattle.tw_types.specs.Layout.{ActorCounts, IsLayout}
@@ -14,8 +13,10 @@ use Rattle.tw_verify.specs.Typed.{TypedProgram}
 use Rattle.tw_handles.specs.Asking.{Fails}
 use Rattle.tw_handles.specs.Caps.{IsDecided, listed_caps}
 use Rattle.tw_handles.specs.Codes.{above_cap, done, no_inputs, no_layout, no_memory, no_options, no_program, no_stop, open_code}
-use Rattle.tw_handles.specs.Loading.{inputs_in, program_in, report_in}
+use Rattle.tw_handles.specs.Certificates.{IsCertificateIf, asks}
+use Rattle.tw_handles.specs.Loading.{finished_in, inputs_in, program_in}
 use Rattle.tw_handles.specs.declared.caps.AllCaps.{AllCaps}
+use Rattle.tw_handles.specs.declared.finished.Finished.{Finished}
 use Rattle.tw_handles.specs.declared.held.Held.{Held}
 use Rattle.tw_handles.specs.declared.running.RunOrder.{RunOrder}
 use Rattle.tw_handles.specs.Stops.{WithFlag}
@@ -32,16 +33,17 @@ IsAdded given old new code = MatchOption (inputs_in old) (Fails no_inputs old ne
 abbrev pub Looks : Type 1
 Looks = List Bool → Type 0
 
--- holds if the report has the result of a run whose looks had such answers, or the run isn't opened
-abbrev pub IsRunOn : Looks → TypedProgram → List Input → ActorCounts → ℕ → Option ℕ → Option Held → Option Held → ℕ → Type 0
-IsRunOn Saw verified inputs counts limit seed old new code =
-    ((left : StoppableResult) × (answers : List Bool) × Saw answers × (report_in new ≡ Some left) × MayOpen verified.program inputs counts limit × IsLeftBy seed (opened verified inputs counts limit) answers left × (code ≡ done))
+-- holds if the report has the result of a run whose looks had such answers, with its certificate if one is asked for; or the run isn't opened
+abbrev pub IsRunOn : Looks → TypedProgram → List Input → ActorCounts → ℕ → Option ℕ → Bool → Option Held → Option Held → ℕ → Type 0
+IsRunOn Saw verified inputs counts limit seed asked old new code =
+    ((run : Finished) × (answers : List Bool) × Saw answers × (finished_in new ≡ Some run) × MayOpen verified.program inputs counts limit × IsLeftBy seed (opened verified inputs counts limit) answers run.left
+    × IsCertificateIf asked verified.program inputs counts run.left run.certificate × (code ≡ done))
     ⊎ ((why : OpenError) × IsRejection verified.program inputs counts limit why × Fails (open_code why) old new code)
 
 -- holds if this is the result of a run, of a program that stays within the caps; or a bound is above its cap; or an allocation failed
-abbrev pub IsRunIfWithin : Looks → TypedProgram → List Input → ActorCounts → ℕ → Option ℕ → AllCaps → Option Held → Option Held → ℕ → Type 0
-IsRunIfWithin Saw verified inputs counts limit seed caps old new code =
-    ((within : Bool) × IsDecided verified limit caps within × (((within ≡ true) × IsRunOn Saw verified inputs counts limit seed old new code) ⊎ ((within ≡ false) × Fails above_cap old new code)))
+abbrev pub IsRunIfWithin : Looks → TypedProgram → List Input → ActorCounts → ℕ → Option ℕ → Bool → AllCaps → Option Held → Option Held → ℕ → Type 0
+IsRunIfWithin Saw verified inputs counts limit seed asked caps old new code =
+    ((within : Bool) × IsDecided verified limit caps within × (((within ≡ true) × IsRunOn Saw verified inputs counts limit seed asked old new code) ⊎ ((within ≡ false) × Fails above_cap old new code)))
     ⊎ Fails no_memory old new code
 
 abbrev pub counts_of : RunOrder → ActorCounts
@@ -50,7 +52,7 @@ counts_of order = record { engines = order.engines; servers = order.servers; wor
 -- holds if this is the result of a run, or there is no layout with these numbers
 abbrev pub IsRunIn : Looks → TypedProgram → List Input → RunOrder → Option Held → Option Held → ℕ → Type 0
 IsRunIn Saw verified inputs order old new code =
-    (IsLayout (counts_of order) × IsRunIfWithin Saw verified inputs (counts_of order) order.limit order.seed order.caps old new code)
+    (IsLayout (counts_of order) × IsRunIfWithin Saw verified inputs (counts_of order) order.limit order.seed order.certify order.caps old new code)
     ⊎ ((IsLayout (counts_of order) → ⊥) × Fails no_layout old new code)
 
 -- holds if this is the result of a run with the inputs of a handle
@@ -91,11 +93,12 @@ order_of options caps =
       servers = actors_at options 2;
       workers = actors_at options 3;
       seed = seed_of (option_at options 4 0);
+      certify = asks (option_at options 5 0);
       caps = listed_caps caps;
     }
 
 -- holds if this is the result of such a run with these options and caps, or one of the lists is longer than those that there are
 abbrev pub IsRun : Option Held → Option Held → List ℕ → List ℕ → Option Held → Option Held → Option Held → ℕ → Type 0
 IsRun program given options caps stop old new code =
-    ((length options ≤ 5) × (length caps ≤ 7) × IsRunUntil program given (order_of options caps) stop old new code)
-    ⊎ ((5 < length options) × Fails no_options old new code) ⊎ ((7 < length caps) × Fails no_options old new code)
+    ((length options ≤ 6) × (length caps ≤ 7) × IsRunUntil program given (order_of options caps) stop old new code)
+    ⊎ ((6 < length options) × Fails no_options old new code) ⊎ ((7 < length caps) × Fails no_options old new code)

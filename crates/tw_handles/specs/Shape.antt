@@ -1,10 +1,10 @@
 -- Calls on the procedures of a loaded program: kinds, parameters, names, and the actors that the program needs.
 use Rattle.std.specs.Prelude.{◌≡◌, ◌⊎◌, ◌∷◌, [], ℕ, List, IsUtf8, length, slice_get, Option, Some, None, MatchOption, if◌then◌else◌}
-use Rattle.std.specs.Option.{option_and_then}
+use Rattle.std.specs.Option.{option_and_then, option_map_or}
 use Rattle.tw_code.specs.accepting.Needs.{needed}
 use Rattle.tw_code.specs.declared.procedure.Procedure.{Procedure}
 use Rattle.tw_symbols.specs.Symbols.{AreNames, name_at}
-use Rattle.tw_types.specs.DataType.{depth_of, element_of, is_container_by, is_scalar}
+use Rattle.tw_types.specs.DataType.{depth_of, element_of, is_container, is_container_by, map_by}
 use Rattle.tw_types.specs.Nesting.{NestedScalar}
 use Rattle.tw_types.specs.declared.actor.Kind.{Kind}
 use Rattle.tw_types.specs.declared.actor.Kind.TheVariants.{Control, Leaf}
@@ -17,7 +17,7 @@ use Rattle.tw_handles.specs.Asking.{Fails}
 use Rattle.tw_handles.specs.Codes.{done, no_index, no_program, no_utf8}
 use Rattle.tw_handles.specs.Loading.{program_in}
 use Rattle.tw_handles.specs.Numbers.{filled}
-use Rattle.tw_handles.specs.Reading.{letter_of}
+use Rattle.tw_handles.specs.Reading.{leaf_letter, letter_of}
 use Rattle.tw_handles.specs.Texts.{IsTextMade}
 use Rattle.tw_handles.specs.declared.held.Held.{Held}
 
@@ -46,9 +46,13 @@ mode_letter Closed = 99
 mode_letter Ref = 114
 mode_letter Write = 119
 
--- returns the letter of a container's subscripts, or 0 for a scalar
+-- returns the letter of a container's subscripts, or 0 for a scalar or a map
 abbrev pub by_of : NestedScalar → ℕ
-by_of ty = if is_scalar ty then 0 else (if is_container_by scalar.Text ty then 116 else 105)
+by_of ty = if is_container ty then (if is_container_by scalar.Text ty then 116 else 105) else 0
+
+-- returns the letter of the subscripts of the map inside all containers, or 0 if there is none
+abbrev pub map_letter : NestedScalar → ℕ
+map_letter ty = option_map_or letter_of (map_by ty) 0
 
 abbrev pub by_inside : Option NestedScalar → ℕ
 by_inside None = 0
@@ -57,10 +61,12 @@ by_inside (Some ty) = by_of ty
 abbrev pub members_of : Option NestedScalar → Option NestedScalar
 members_of ty = option_and_then element_of ty
 
--- returns the mode, the number of containers around the scalar, its letter, and those of the subscripts of the containers, outermost first
+-- returns the mode, the number of containers around the scalar or map, the letter of the scalar or of the map's values, those of the subscripts of the
+-- containers, outermost first, and that of the map's
 abbrev pub parameter_of : Param → List ℕ
 parameter_of p =
-    mode_letter p.mode ∷ depth_of p.ty ∷ letter_of p.ty.scalar ∷ by_of p.ty ∷ by_inside (element_of p.ty) ∷ by_inside (members_of (element_of p.ty)) ∷ []
+    mode_letter p.mode ∷ depth_of p.ty ∷ leaf_letter p.ty ∷ by_of p.ty ∷ by_inside (element_of p.ty) ∷ by_inside (members_of (element_of p.ty))
+    ∷ map_letter p.ty ∷ []
 
 abbrev pub parameter_at : TypedProgram → ℕ → ℕ → Option Param
 parameter_at verified procedure index = option_and_then (λ (p : Procedure). slice_get p.params index) (slice_get verified.program procedure)

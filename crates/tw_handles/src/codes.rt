@@ -43,6 +43,8 @@ pub(crate) const NO_ROOM: u8 = 226;
 pub(crate) const NO_END: u8 = 227;
 /// The program is rejected; the verdict says why.
 pub(crate) const REJECTED: u8 = 229;
+/// The report has no certificate, since its run wasn't asked for one.
+pub(crate) const NO_ORDER: u8 = 230;
 
 /// Returns the code of a run that isn't opened.
 pub(crate) fn of_open(why: OpenError) -> u8

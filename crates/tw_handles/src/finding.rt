@@ -1,8 +1,7 @@
-//! Finds members of an output by their subscripts.
+//! Finds members of an output, or values of one that is a map, by their subscripts.
 
 ghost use Rattle.std.specs.Prelude.{◌≡◌, MatchOption, Some};
-ghost use Rattle.std.specs.FinMap.{entries};
-ghost use Rattle.tw_types.specs.StoreCalls.{members_in};
+ghost use Rattle.tw_types.specs.StoreCalls.{subscripts_of};
 ghost use Rattle.tw_types.specs.ValueOrder.{named};
 ghost use Rattle.tw_types.specs.declared.value.Value.TheVariants as value;
 ghost use Rattle.tw_handles.specs.Finding.{HasNone, HasSubscript, IsNowhere, IsPlace, IsPlaceIn, IsTextPlace, IsThere, order_at as order_at_is};
@@ -17,26 +16,26 @@ use tw_pool::Final;
 use tw_store::Datum;
 use tw_types::ValueRef;
 
-/// Compares a subscript with that of the member with this index. A member that isn't there is greater.
-fn order_at(container: &Datum, index: usize, subscript: ValueRef<'_>) -> Ordering
-    ensures { result ≡ order_at_is (entries (members_in container.now.datum.content)) index (named subscript.entry) }
+/// Compares a subscript with the one that has so many smaller ones. One that isn't there is greater.
+fn order_at(datum: &Datum, index: usize, subscript: ValueRef<'_>) -> Ordering
+    ensures { result ≡ order_at_is (subscripts_of datum.now.datum.content) index (named subscript.entry) }
 {
-    match container.entry(index) {
-        Some((found, _)) => subscript.compare(found),
+    match datum.nth_subscript(index) {
+        Some(found) => subscript.compare(found),
         None => Ordering::Less,
     }
 }
 
-/// Returns how many subscripts of a container are smaller than one of its subscripts, or none if it doesn't have this one.
-fn place_in(container: &Datum, subscript: ValueRef<'_>) -> Option<usize>
-    ensures { MatchOption result (HasNone (entries (members_in container.now.datum.content)) (named subscript.entry))
-        (HasSubscript (entries (members_in container.now.datum.content)) (named subscript.entry)) }
+/// Returns how many subscripts of a container or a map are smaller than one of its subscripts, or none if it doesn't have this one.
+fn place_in(datum: &Datum, subscript: ValueRef<'_>) -> Option<usize>
+    ensures { MatchOption result (HasNone (subscripts_of datum.now.datum.content) (named subscript.entry))
+        (HasSubscript (subscripts_of datum.now.datum.content) (named subscript.entry)) }
 {
     let mut low = 0;
-    let mut high = container.len();
+    let mut high = datum.count();
     while low < high {
         let middle = low + (high - low) / 2;
-        match order_at(container, middle, subscript) {
+        match order_at(datum, middle, subscript) {
             Ordering::Less => high = middle,
             Ordering::Equal => return Some(middle),
             Ordering::Greater => low = middle + 1,
@@ -45,14 +44,14 @@ fn place_in(container: &Datum, subscript: ValueRef<'_>) -> Option<usize>
     None
 }
 
-/// Returns the place of a subscript in an output, if that is a container with such a member.
+/// Returns the place of a subscript in an output, if that is a container or a map with this subscript.
 fn place_of(outcome: &Final, index: usize, subscript: ValueRef<'_>) -> Option<usize>
     ensures { MatchOption result (IsNowhere outcome.now index (named subscript.entry)) (IsThere outcome.now index (named subscript.entry)) }
 {
     let outputs = outcome.outputs();
     if index < outputs.len() {
         match outcome.view(outputs[index]) {
-            Some(container) => place_in(container, subscript),
+            Some(datum) => place_in(datum, subscript),
             None => None,
         }
     } else {
@@ -76,7 +75,7 @@ fn find_held(held: &Held, index: usize, subscript: ValueRef<'_>, place: &mut usi
     ensures { IsPlace (Some held.now) index (named subscript.entry) place.old place.new result }
 {
     match held {
-        Held::Report(left) => find_in(final_of(left), index, subscript, place),
+        Held::Report(run) => find_in(final_of(&run.left), index, subscript, place),
         Held::Program(_) | Held::Inputs(_) | Held::Stop(_) | Held::Container(_) | Held::Text(_) =>
             codes::NO_REPORT,
     }
@@ -102,7 +101,7 @@ fn find(
 }
 
 /// Writes how many subscripts of an output are smaller than this integer, which is one of them. Returns `NO_INDEX` if the output isn't a container
-/// with this subscript.
+/// or a map with this subscript.
 pub fn find_int(
     alloc: Global,
     report: &mut Handle,

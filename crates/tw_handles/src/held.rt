@@ -1,8 +1,8 @@
 //! The contents of a handle.
 
 use crate::container::Container;
+use crate::finished::Finished;
 use std::sync::Arc;
-use tw_in_turn::StoppableResult;
 use tw_stop::StopFlag;
 use tw_types::Input;
 use tw_verify::Verified;
@@ -16,8 +16,8 @@ pub enum Held {
     Inputs(Vec<Input>),
     /// A container that is to be an input.
     Container(Container),
-    /// The result of a run.
-    Report(StoppableResult),
+    /// The result of a run, and its certificate.
+    Report(Finished),
     /// A stop flag, shared by its handles.
     Stop(StopFlag),
     /// A text that a call made.

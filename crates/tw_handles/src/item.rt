@@ -3,27 +3,27 @@
 ghost use Rattle.std.specs.Prelude.{◌≡◌, option_map};
 ghost use Rattle.std.specs.Option.{option_copied};
 ghost use Rattle.tw_types.specs.StoreCalls.{value_in};
-ghost use Rattle.tw_handles.specs.Reading.{IsFilled, IsWritten, container_item as container_item_of, item_by, item_of as item_of_datum, letter_of as letter_of_type, unset_item as unset_item_of, value_item as value_item_of, value_of as value_of_datum, valueless_item as valueless_item_of};
+ghost use Rattle.tw_handles.specs.Reading.{IsFilled, IsWritten, container_item as container_item_of, item_by, item_of as item_of_datum, leaf_letter as leaf_letter_of, letter_of as letter_of_type, unset_item as unset_item_of, value_item as value_item_of, value_of as value_of_datum, valueless_item as valueless_item_of};
 
 use crate::codes;
 use tw_store::Datum;
 use tw_types::{DataType, Scalar, Value};
 
-/// An output, a member or a subscript.
+/// An output, a member of a container, a value of a map, or a subscript.
 #[repr(C)]
 #[derive(Clone, Copy)]
 pub struct Item {
     /// The integer, if `kind` is `i`.
     pub number: i64,
-    /// The length of a text in bytes if `kind` is `t`, the number of members if it is `c`.
+    /// The length of a text in bytes if `kind` is `t`, the number of members or values if it is `c` or `m`.
     pub length: usize,
-    /// `i`: an integer; `t`: a text; `c`: a container; `u`: an unset scalar; 0: the datum isn't live.
+    /// `i`: an integer; `t`: a text; `c`: a container; `m`: a map; `u`: an unset scalar; 0: the datum isn't live.
     pub kind: u8,
     /// 1 if the datum is closed, so that it never changes again.
     pub closed: u8,
-    /// `i` or `t`: the type of the value, or of the scalars in a container.
+    /// `i` or `t`: the type of the value, of the scalars in a container, or of a map's values; `s` if those are sums.
     pub scalar: u8,
-    /// `i` or `t`: the type of a container's subscripts; 0 if it is no container.
+    /// `i` or `t`: the type of the subscripts; 0 if it is neither a container nor a map.
     pub by: u8,
 }
 
@@ -34,6 +34,17 @@ pub(crate) fn letter_of(ty: Scalar) -> u8
     match ty {
         Scalar::Int => b'i',
         Scalar::Text => b't',
+    }
+}
+
+/// Returns the letter of the scalar inside all containers, or of a map's values.
+pub(crate) fn leaf_letter(ty: DataType) -> u8
+    ensures { result ≡ leaf_letter_of ty }
+{
+    if ty.has_sums() {
+        b's'
+    } else {
+        letter_of(ty.scalar())
     }
 }
 
@@ -74,22 +85,24 @@ fn unset_item(ty: DataType) -> Item
     }
 }
 
+/// Describes a container or a map.
 fn container_item(datum: &Datum) -> Item
     ensures { result ≡ container_item_of datum.now.datum }
 {
     let ty = datum.ty();
+    let kind = if ty.is_map() { b'm' } else { b'c' };
     let closed = if datum.closed() { 1 } else { 0 };
-    let by = if ty.is_container_by(Scalar::Text) {
+    let by = if ty.has_subscripts_by(Scalar::Text) {
         b't'
     } else {
         b'i'
     };
     Item {
         number: 0,
-        length: datum.len(),
-        kind: b'c',
+        length: datum.count(),
+        kind,
         closed,
-        scalar: letter_of(ty.scalar()),
+        scalar: leaf_letter(ty),
         by,
     }
 }

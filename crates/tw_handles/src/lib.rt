@@ -3,11 +3,13 @@
 
 mod bounds;
 mod caps;
+mod certificate;
 mod codes;
 mod container;
 mod containers;
 mod event_order;
 mod finding;
+mod finished;
 mod given;
 mod handle;
 mod held;
@@ -21,19 +23,23 @@ mod numbers;
 mod printing;
 mod program;
 mod report;
+mod run_order;
 mod running;
 mod shape;
+mod shown;
 mod stopping;
 mod texts;
 mod unfit;
 
 pub use bounds::program_bounds;
 pub use caps::AllCaps;
+pub use certificate::Certificate;
 pub use containers::{
     container_new, input_container, put_int, put_int_by_text, put_text, put_text_by_text,
 };
 pub use event_order::program_order;
 pub use finding::{find_int, find_text};
+pub use finished::Finished;
 pub use given::{input_int, input_text};
 pub use handle::Handle;
 pub use item::Item;
@@ -44,6 +50,7 @@ pub use meter::report_meter;
 pub use printing::{instructions, print_json, print_report, print_trace};
 pub use program::{budget, procedures, share};
 pub use report::{output, output_text, report_ending};
+pub use run_order::report_order;
 pub use running::{RunOrder, run};
 pub use shape::{describe_parameter, describe_procedure, read_needs, source_name};
 pub use stopping::{stop_lower, stop_new, stop_raise, stop_share};

@@ -1,25 +1,25 @@
-//! Calls that read many members of an output at once.
+//! Calls that read many members of an output at once, or values of one that is a map.
 
 ghost use Rattle.std.specs.Prelude.{◌≡◌, IfSome, Some, option_map};
-ghost use Rattle.std.specs.FinMap.{entries};
 ghost use Rattle.std.specs.Option.{option_copied};
 ghost use Rattle.tw_store.specs.Served.{KnowsPlaces};
-ghost use Rattle.tw_types.specs.StoreCalls.{members_in};
-ghost use Rattle.tw_handles.specs.Many.{AreMembers, AreRead, AreReadIn, HasEntries, member_by};
+ghost use Rattle.tw_handles.specs.Many.{AreMembers, AreRead, AreReadIn};
+ghost use Rattle.tw_handles.specs.Shown.{shown_by, shown_if, shown_of};
 
 use crate::codes;
 use crate::handle::Handle;
 use crate::held::Held;
-use crate::item::{item_of, value_item};
+use crate::item::value_item;
 use crate::members::Member;
 use crate::report::final_of;
+use crate::shown::shown_in;
 use std::alloc::Global;
 use tw_pool::Final;
-use tw_store::{Datum, ShownMember};
+use tw_store::Datum;
 
 /// Returns the datum of an output, if it is live.
 fn output_datum<'f>(outcome: &'f Final, index: usize) -> Option<&'f Datum>
-    ensures members { HasEntries outcome.now index (option_map (λ d. d.datum) (option_copied result)) }
+    ensures members { shown_by outcome.now index ≡ shown_if outcome.now (option_map (λ d. d.datum) (option_copied result)) }
     ensures places { IfSome (option_copied result) (λ d. KnowsPlaces outcome.now.store d) }
 {
     let outputs = outcome.outputs();
@@ -30,27 +30,20 @@ fn output_datum<'f>(outcome: &'f Final, index: usize) -> Option<&'f Datum>
     }
 }
 
-/// Describes a member.
-fn shown_member(shown: ShownMember<'_>) -> Member
-    ensures { result ≡ member_by shown.entry.subscript.now (option_map (λ d. d.datum) (option_copied shown.entry.datum)) }
+/// Describes the members or values from a place on, as many as there is room for.
+fn read_members(outcome: &Final, datum: &Datum, first: usize, room: &mut [Member]) -> u8
+    requires { KnowsPlaces outcome.now.store datum.now }
+    ensures { AreRead (shown_of outcome.now datum.now.datum.content) first room.old room.new result }
 {
-    Member {
-        subscript: value_item(shown.subscript),
-        value: item_of(shown.datum),
-    }
-}
-
-/// Describes the members from a place on, as many as there is room for.
-fn read_members(outcome: &Final, container: &Datum, first: usize, room: &mut [Member]) -> u8
-    requires { KnowsPlaces outcome.now.store container.now }
-    ensures { AreRead outcome.now (entries (members_in container.now.datum.content)) first room.old room.new result }
-{
-    if room.len() > container.len().saturating_sub(first) {
+    if room.len() > datum.count().saturating_sub(first) {
         return codes::NO_INDEX;
     }
     for k in 0..room.len() {
-        match outcome.member(container, first + k) {
-            Some(shown) => room[k] = shown_member(shown),
+        match shown_in(outcome, datum, first + k) {
+            Some(shown) => room[k] = Member {
+                subscript: value_item(shown.subscript),
+                value: shown.item,
+            },
             None => return codes::NO_INDEX,
         }
     }
@@ -61,7 +54,7 @@ fn members_in_output(outcome: &Final, index: usize, first: usize, room: &mut [Me
     ensures { AreReadIn outcome.now index first room.old room.new result }
 {
     match output_datum(outcome, index) {
-        Some(container) => read_members(outcome, container, first, room),
+        Some(datum) => read_members(outcome, datum, first, room),
         None if room.is_empty() => codes::DONE,
         None => codes::NO_INDEX,
     }
@@ -71,14 +64,14 @@ fn members_held(held: &Held, index: usize, first: usize, room: &mut [Member]) ->
     ensures { AreMembers (Some held.now) index first room.old room.new result }
 {
     match held {
-        Held::Report(left) => members_in_output(final_of(left), index, first, room),
+        Held::Report(run) => members_in_output(final_of(&run.left), index, first, room),
         Held::Program(_) | Held::Inputs(_) | Held::Stop(_) | Held::Container(_) | Held::Text(_) =>
             codes::NO_REPORT,
     }
 }
 
-/// Describes the members of an output from a place on, as many as `room` has items. Returns `NO_INDEX` if there are fewer; then `room` holds members
-/// or what it held before.
+/// Describes the members or values of an output from a place on, as many as `room` has items. Returns `NO_INDEX` if there are fewer; then `room` holds
+/// some of them or what it held before.
 pub fn output_members(
     alloc: Global,
     report: &mut Handle,

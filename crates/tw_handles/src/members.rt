@@ -1,18 +1,19 @@
-//! Calls that read the members of an output.
+//! Calls that read the members of an output, or the values of one that is a map.
 
-ghost use Rattle.std.specs.Prelude.{◌≡◌, Some};
-ghost use Rattle.tw_handles.specs.Members.{IsMember, IsMemberIn, IsMemberText, IsMemberTextIn, IsShownAt, IsSubscriptText, IsSubscriptTextIn};
+ghost use Rattle.std.specs.Prelude.{◌≡◌, Some, slice_get};
+ghost use Rattle.tw_handles.specs.Members.{IsMember, IsMemberIn, IsMemberText, IsMemberTextIn, IsSubscriptText, IsSubscriptTextIn};
+ghost use Rattle.tw_handles.specs.Shown.{IsShownAs, shown_by};
 
 use crate::codes;
 use crate::handle::Handle;
 use crate::held::Held;
-use crate::item::{Item, item_of, value_item, value_of, write_text};
+use crate::item::{Item, value_item, write_text};
 use crate::report::final_of;
+use crate::shown::{Shown, shown_in};
 use std::alloc::Global;
 use tw_pool::Final;
-use tw_store::ShownMember;
 
-/// A member of a container: its subscript and its value.
+/// A member of a container, or a value of a map, with its subscript.
 #[repr(C)]
 #[derive(Clone, Copy)]
 pub struct Member {
@@ -20,14 +21,14 @@ pub struct Member {
     pub value: Item,
 }
 
-/// Returns the member of an output that has `place` members with smaller subscripts.
-fn shown_at<'f>(outcome: &'f Final, index: usize, place: usize) -> Option<ShownMember<'f>>
-    ensures { IsShownAt outcome.now index place result }
+/// Returns what an output has at the place with so many smaller subscripts.
+fn shown_at<'f>(outcome: &'f Final, index: usize, place: usize) -> Option<Shown<'f>>
+    ensures { IsShownAs (slice_get (shown_by outcome.now index) place) result }
 {
     let outputs = outcome.outputs();
     if index < outputs.len() {
         match outcome.view(outputs[index]) {
-            Some(container) => outcome.member(container, place),
+            Some(datum) => shown_in(outcome, datum, place),
             None => None,
         }
     } else {
@@ -42,7 +43,7 @@ fn member_in(outcome: &Final, index: usize, place: usize, member: &mut Member) -
         Some(shown) => {
             *member = Member {
                 subscript: value_item(shown.subscript),
-                value: item_of(shown.datum),
+                value: shown.item,
             };
             codes::DONE
         }
@@ -54,13 +55,13 @@ fn member_held(held: &Held, index: usize, place: usize, member: &mut Member) -> 
     ensures { IsMember (Some held.now) index place member.old member.new result }
 {
     match held {
-        Held::Report(left) => member_in(final_of(left), index, place, member),
+        Held::Report(run) => member_in(final_of(&run.left), index, place, member),
         Held::Program(_) | Held::Inputs(_) | Held::Stop(_) | Held::Container(_) | Held::Text(_) =>
             codes::NO_REPORT,
     }
 }
 
-/// Describes the member of an output that has `place` members with smaller subscripts. Returns `NO_INDEX` if there is no such output or member.
+/// Describes the member or value of an output with `place` smaller subscripts. Returns `NO_INDEX` if there is no such output, member or value.
 pub fn output_member(
     alloc: Global,
     report: &mut Handle,
@@ -83,7 +84,7 @@ fn member_text_in(outcome: &Final, index: usize, place: usize, room: &mut [u8]) 
     ensures { IsMemberTextIn outcome.now index place room.old room.new result }
 {
     match shown_at(outcome, index, place) {
-        Some(shown) => write_text(value_of(shown.datum), room),
+        Some(shown) => write_text(shown.value, room),
         None => codes::NO_INDEX,
     }
 }
@@ -92,13 +93,13 @@ fn member_text_held(held: &Held, index: usize, place: usize, room: &mut [u8]) ->
     ensures { IsMemberText (Some held.now) index place room.old room.new result }
 {
     match held {
-        Held::Report(left) => member_text_in(final_of(left), index, place, room),
+        Held::Report(run) => member_text_in(final_of(&run.left), index, place, room),
         Held::Program(_) | Held::Inputs(_) | Held::Stop(_) | Held::Container(_) | Held::Text(_) =>
             codes::NO_REPORT,
     }
 }
 
-/// Writes the text of a member to the start of a buffer. Returns `NO_TEXT` if the member is no text, and `NO_ROOM` if the buffer is shorter.
+/// Writes the text of a member or value to the start of a buffer. Returns `NO_TEXT` if it is no text, and `NO_ROOM` if the buffer is shorter.
 pub fn member_text(
     alloc: Global,
     report: &mut Handle,
@@ -130,7 +131,7 @@ fn subscript_text_held(held: &Held, index: usize, place: usize, room: &mut [u8])
     ensures { IsSubscriptText (Some held.now) index place room.old room.new result }
 {
     match held {
-        Held::Report(left) => subscript_text_in(final_of(left), index, place, room),
+        Held::Report(run) => subscript_text_in(final_of(&run.left), index, place, room),
         Held::Program(_) | Held::Inputs(_) | Held::Stop(_) | Held::Container(_) | Held::Text(_) =>
             codes::NO_REPORT,
     }

@@ -1,4 +1,4 @@
-//! The meter of a run: how much it did.
+//! The meter of a run: how much it did, and what its store held at the end.
 
 ghost use Rattle.std.specs.Prelude.{◌≡◌, Some};
 ghost use Rattle.tw_bounds.specs.Runs.{tasks_by as tasks_by_is, tasks_in as tasks_in_is};
@@ -10,7 +10,7 @@ use crate::handle::Handle;
 use crate::held::Held;
 use crate::numbers::put;
 use crate::printing::instructions_of;
-use crate::report::history_of;
+use crate::report::{final_of, history_of};
 use std::alloc::Global;
 use tw_in_turn::StoppableResult;
 use tw_pool::History;
@@ -42,10 +42,15 @@ fn put_meter(left: &StoppableResult, numbers: &mut [u64])
     ensures { numbers.new ≡ filled (meter_of left.now) numbers.old }
 {
     let history = history_of(left);
+    let outcome = final_of(left);
+    let held = outcome.amounts();
     let meter = [
         history.len() as u64,
         tasks_in(history),
         instructions_of(left),
+        outcome.next().number().saturating_sub(1),
+        held.members,
+        held.bytes,
     ];
     put(&meter, numbers);
 }
@@ -54,8 +59,8 @@ fn meter_held(held: &Held, numbers: &mut [u64]) -> u8
     ensures { IsMetered (Some held.now) numbers.old numbers.new result }
 {
     match held {
-        Held::Report(left) => {
-            put_meter(left, numbers);
+        Held::Report(run) => {
+            put_meter(&run.left, numbers);
             codes::DONE
         }
         Held::Program(_) | Held::Inputs(_) | Held::Stop(_) | Held::Container(_) | Held::Text(_) =>
@@ -63,7 +68,8 @@ fn meter_held(held: &Held, numbers: &mut [u64]) -> u8
     }
 }
 
-/// Writes what a run did: its events, the tasks that it took, and the instructions that it executed, 2 ^ 64 - 1 if they were more.
+/// Writes how many events a run had, how many tasks it took, how many instructions it executed, and how many data it made, with those of
+/// its opening. Two numbers more are the members and the bytes of texts that its store held at the end. None is larger than 2 ^ 64 - 1.
 pub fn report_meter(alloc: Global, report: &mut Handle, numbers: &mut [u64]) -> u8
     ensures kept { report.new.held ≡ report.old.held }
     ensures is { IsMetered report.old.held numbers.old numbers.new result }

@@ -36,7 +36,7 @@ fn report_held(alloc: Global, held: &Held, text: &mut Handle) -> u8
     ensures { IsReportPrinted (Some held.now) text.old.held text.new.held result }
 {
     match held {
-        Held::Report(left) => report_in(alloc, left, text),
+        Held::Report(run) => report_in(alloc, &run.left, text),
         Held::Program(_) | Held::Inputs(_) | Held::Stop(_) | Held::Container(_) | Held::Text(_) =>
             codes::NO_REPORT,
     }
@@ -74,7 +74,7 @@ fn trace_held(alloc: Global, held: &Held, text: &mut Handle) -> u8
     ensures { IsTracePrinted (Some held.now) text.old.held text.new.held result }
 {
     match held {
-        Held::Report(left) => trace_in(alloc, left, text),
+        Held::Report(run) => trace_in(alloc, &run.left, text),
         Held::Program(_) | Held::Inputs(_) | Held::Stop(_) | Held::Container(_) | Held::Text(_) =>
             codes::NO_REPORT,
     }
@@ -130,7 +130,7 @@ fn json_held(alloc: Global, held: &Held, text: &mut Handle) -> u8
     ensures { IsJsonPrinted (Some held.now) text.old.held text.new.held result }
 {
     match held {
-        Held::Report(left) => json_in(alloc, left, text),
+        Held::Report(run) => json_in(alloc, &run.left, text),
         Held::Program(_) | Held::Inputs(_) | Held::Stop(_) | Held::Container(_) | Held::Text(_) =>
             codes::NO_REPORT,
     }
@@ -169,8 +169,8 @@ fn instructions_held(held: &Held, count: &mut u64) -> u8
     ensures { IsInstructionCount (Some held.now) count.old count.new result }
 {
     match held {
-        Held::Report(left) => {
-            *count = instructions_of(left);
+        Held::Report(run) => {
+            *count = instructions_of(&run.left);
             codes::DONE
         }
         Held::Program(_) | Held::Inputs(_) | Held::Stop(_) | Held::Container(_) | Held::Text(_) =>

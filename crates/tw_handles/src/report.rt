@@ -121,8 +121,8 @@ fn ending_held(held: &Held, numbers: &mut [u64]) -> u8
     ensures { IsEnding (Some held.now) numbers.old numbers.new result }
 {
     match held {
-        Held::Report(left) => {
-            ending_in(left, numbers);
+        Held::Report(run) => {
+            ending_in(&run.left, numbers);
             codes::DONE
         }
         Held::Program(_) | Held::Inputs(_) | Held::Stop(_) | Held::Container(_) | Held::Text(_) =>
@@ -159,7 +159,7 @@ fn output_held(held: &Held, index: usize, item: &mut Item) -> u8
     ensures { IsOutput (Some held.now) index item.old item.new result }
 {
     match held {
-        Held::Report(left) => output_in(final_of(left), index, item),
+        Held::Report(run) => output_in(final_of(&run.left), index, item),
         Held::Program(_) | Held::Inputs(_) | Held::Stop(_) | Held::Container(_) | Held::Text(_) =>
             codes::NO_REPORT,
     }
@@ -193,7 +193,7 @@ fn text_held(held: &Held, index: usize, room: &mut [u8]) -> u8
     ensures { IsOutputText (Some held.now) index room.old room.new result }
 {
     match held {
-        Held::Report(left) => text_in(final_of(left), index, room),
+        Held::Report(run) => text_in(final_of(&run.left), index, room),
         Held::Program(_) | Held::Inputs(_) | Held::Stop(_) | Held::Container(_) | Held::Text(_) =>
             codes::NO_REPORT,
     }

@@ -5,7 +5,9 @@ ghost use Rattle.tw_stop.specs.Looks.{Looked};
 ghost use Rattle.tw_handles.specs.Running.{IsRun, IsRunBy, IsRunIfWithin, IsRunIn, IsRunOn, IsRunUntil, IsRunWith, actors_at as actors_at_is, option_at as option_at_is, order_of as order_of_is, seed_of as seed_of_is};
 
 use crate::caps::{AllCaps, is_admitted};
+use crate::certificate::{asks, certify_if};
 use crate::codes;
+use crate::finished::Finished;
 use crate::handle::Handle;
 use crate::held::Held;
 use std::alloc::Global;
@@ -25,11 +27,13 @@ pub struct RunOrder {
     pub servers: u8,
     pub workers: u8,
     pub seed: Option<u64>,
+    /// Whether the report has the run's certificate.
+    pub certify: bool,
     pub caps: AllCaps,
 }
 
 /// How many options there are.
-const OPTIONS: usize = 5;
+const OPTIONS: usize = 6;
 
 fn option_at(options: &[u64], index: usize, default: u64) -> u64
     ensures { result ≡ option_at_is options.now index default }
@@ -64,6 +68,7 @@ fn order_of(options: &[u64], caps: &[u64]) -> RunOrder
         servers: actors_at(options, 2),
         workers: actors_at(options, 3),
         seed: seed_of(option_at(options, 4, 0)),
+        certify: asks(option_at(options, 5, 0)),
         caps: AllCaps::listed(caps),
     }
 }
@@ -76,16 +81,20 @@ fn run_on<S: StopSignal>(
     layout: Layout,
     limit: usize,
     seed: Option<u64>,
+    certify: bool,
     stop: &mut S,
     report: &mut Handle,
 ) -> u8
-    ensures { IsRunOn (Looked S.says stop.old stop.new) verified.now inputs.now layout limit seed report.old.held report.new.held result }
+    ensures { IsRunOn (Looked S.says stop.old stop.new) verified.now inputs.now layout limit seed certify report.old.held report.new.held result }
 {
     let left = match run_until(alloc, verified, inputs, layout, limit, seed, stop) {
         Ok(left) => left,
         Err(why) => return codes::of_open(why),
     };
-    match Handle::of_held(alloc, Held::Report(left)) {
+    let Ok(certificate) = certify_if(alloc, certify, verified, inputs, layout, &left) else {
+        return codes::NO_MEMORY;
+    };
+    match Handle::of_held(alloc, Held::Report(Finished { left, certificate })) {
         Ok(handle) => {
             *report = handle;
             codes::DONE
@@ -102,14 +111,17 @@ fn run_if_within<S: StopSignal>(
     layout: Layout,
     limit: usize,
     seed: Option<u64>,
+    certify: bool,
     caps: AllCaps,
     stop: &mut S,
     report: &mut Handle,
 ) -> u8
-    ensures { IsRunIfWithin (Looked S.says stop.old stop.new) verified.now inputs.now layout limit seed caps report.old.held report.new.held result }
+    ensures { IsRunIfWithin (Looked S.says stop.old stop.new) verified.now inputs.now layout limit seed certify caps report.old.held report.new.held result }
 {
     match is_admitted(alloc, verified, limit, caps) {
-        Ok(true) => run_on(alloc, verified, inputs, layout, limit, seed, stop, report),
+        Ok(true) => run_on(
+            alloc, verified, inputs, layout, limit, seed, certify, stop, report,
+        ),
         Ok(false) => codes::ABOVE_CAP,
         Err(_) => codes::NO_MEMORY,
     }
@@ -129,8 +141,9 @@ fn run_in<S: StopSignal>(
     match Layout::new(order.engines, order.servers, order.workers) {
         Ok(layout) => {
             let (limit, seed, caps) = (order.limit, order.seed, order.caps);
+            let certify = order.certify;
             run_if_within(
-                alloc, verified, inputs, layout, limit, seed, caps, stop, report,
+                alloc, verified, inputs, layout, limit, seed, certify, caps, stop, report,
             )
         },
         Err(_) => codes::NO_LAYOUT,
@@ -257,10 +270,10 @@ fn run_until_stopped(
 }
 
 /// Runs a loaded program in this thread, its actors in turn, until the run ends or the flag of `stop` is raised. `options` are the limit, the
-/// numbers of engines, servers and workers, and the seed that decides the order of the turns, or 0; `caps` the most that the run may do, in the order of `AllCaps`. What they lack is as usual, and
-/// no cap. If the run is opened, `report` holds its result, and the former contents of `report` are freed. Otherwise returns
-/// `NO_OPTIONS`, `NO_STOP`, `NO_PROGRAM`, `NO_INPUTS`, `NO_LAYOUT`, the code of an `OpenError`, or `ABOVE_CAP` if a bound of the program's runs is above
-/// its cap. Each run that is opened is within the caps.
+/// numbers of engines, servers and workers, the seed that decides the order of the turns, or 0, and whether the report is to have the run's certificate,
+/// 1 or 0; `caps` the most that the run may do, in the order of `AllCaps`. What they lack is as usual, and no cap. If the run is opened, `report` holds
+/// its result, and the former contents of `report` are freed. Otherwise returns `NO_OPTIONS`, `NO_STOP`, `NO_PROGRAM`, `NO_INPUTS`, `NO_LAYOUT`, the
+/// code of an `OpenError`, or `ABOVE_CAP` if a bound of the program's runs is above its cap. Each run that is opened is within the caps.
 pub fn run(
     alloc: Global,
     program: &mut Handle,

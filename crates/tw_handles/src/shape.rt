@@ -2,13 +2,13 @@
 
 ghost use Rattle.std.specs.Prelude.{◌≡◌, IfOk, Some};
 ghost use Rattle.tw_handles.specs.Texts.{IsTextMade};
-ghost use Rattle.tw_handles.specs.Shape.{AreNeeds, IsNameIn, IsNameRead, IsParameter, IsParameterIn, IsSection, IsSectionIn, by_inside as by_inside_is, by_of as by_of_is, kind_letter as kind_letter_is, members_of as members_of_is, mode_letter as mode_letter_is, parameter_at as parameter_at_is, parameter_of, section_of};
+ghost use Rattle.tw_handles.specs.Shape.{AreNeeds, IsNameIn, IsNameRead, IsParameter, IsParameterIn, IsSection, IsSectionIn, by_inside as by_inside_is, by_of as by_of_is, kind_letter as kind_letter_is, map_letter as map_letter_is, members_of as members_of_is, mode_letter as mode_letter_is, parameter_at as parameter_at_is, parameter_of, section_of};
 ghost use Rattle.tw_handles.specs.Numbers.{filled};
 
 use crate::codes;
 use crate::handle::Handle;
 use crate::held::Held;
-use crate::item::letter_of;
+use crate::item::{leaf_letter, letter_of};
 use crate::numbers::put;
 use crate::texts::keep_text;
 use std::alloc::{AllocError, Global};
@@ -86,16 +86,26 @@ fn mode_letter(mode: Mode) -> u8
     }
 }
 
-/// Returns the letter of a container's subscripts, or 0 for a scalar.
+/// Returns the letter of a container's subscripts, or 0 for a scalar or a map.
 fn by_of(ty: DataType) -> u8
     ensures { result ≡ by_of_is ty }
 {
-    if ty.is_scalar() {
+    if !ty.is_container() {
         0
     } else if ty.is_container_by(Scalar::Text) {
         b't'
     } else {
         b'i'
+    }
+}
+
+/// Returns the letter of the subscripts of the map inside all containers, or 0 if there is none.
+fn map_letter(ty: DataType) -> u8
+    ensures { result ≡ map_letter_is ty }
+{
+    match ty.map_by() {
+        Some(by) => letter_of(by),
+        None => 0,
     }
 }
 
@@ -117,7 +127,8 @@ fn members_of(ty: Option<DataType>) -> Option<DataType>
     }
 }
 
-/// Writes the letter of the mode, the number of containers around the scalar, the letter of that, and those of the subscripts of three containers.
+/// Writes the letter of the mode, the number of containers around the scalar or map, the letter of the scalar or of the map's values, and those of the
+/// subscripts of three containers and of the map.
 fn put_parameter(param: &Param, numbers: &mut [u64])
     ensures { numbers.new ≡ filled (parameter_of param.now) numbers.old }
 {
@@ -125,10 +136,11 @@ fn put_parameter(param: &Param, numbers: &mut [u64])
     let found = [
         mode_letter(param.mode) as u64,
         ty.depth() as u64,
-        letter_of(ty.scalar()) as u64,
+        leaf_letter(ty) as u64,
         by_of(ty) as u64,
         by_inside(ty.element()) as u64,
         by_inside(members_of(ty.element())) as u64,
+        map_letter(ty) as u64,
     ];
     put(&found, numbers);
 }

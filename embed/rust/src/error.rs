@@ -46,6 +46,8 @@ pub enum Error {
     NoIndex,
     /// The run was stopped, so it has no JSON line.
     NoEnd,
+    /// The run's options didn't ask for its order.
+    NoOrder,
     /// An input or a member of one is unset, or a member is of another type than its container.
     NoInput,
     /// An allocation failed.
@@ -104,6 +106,7 @@ impl Display for Error {
             Error::NoLayout => f.write_str("engines and servers are 1 to 4, workers 1 to 16"),
             Error::NoIndex => f.write_str("there is none of this index"),
             Error::NoEnd => f.write_str("the run was stopped"),
+            Error::NoOrder => f.write_str("the run's options didn't ask for its order"),
             Error::NoInput => f.write_str("an input is unset, or a member is of another type than its container"),
             Error::NoMemory => f.write_str("out of memory"),
         }

@@ -31,7 +31,7 @@ mod stop;
 mod value;
 
 pub use error::{Error, Refused, RunError};
-pub use program::{Bound, Bounds, Caps, EventOrder, Format, MOST_BYTES, Mode, Options, Parameter, Procedure, Program};
+pub use program::{Bound, Bounds, Caps, EventOrder, Format, MOST_BYTES, MapKind, Mode, Options, Parameter, Procedure, Program};
 pub use report::{End, Meter, Report};
 pub use session::{Reply, explain, session, verify};
 pub use stop::Stop;

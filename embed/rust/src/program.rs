@@ -105,11 +105,13 @@ pub struct Options<'a> {
     pub caps: Caps,
     /// Ends the run when it is raised.
     pub stop: Option<&'a Stop>,
+    /// Lets [`Report::order`] return the run's order. It takes a replay.
+    pub order: bool,
 }
 
 impl Default for Options<'_> {
     fn default() -> Self {
-        Options { limit: 10_000, engines: 1, servers: 1, workers: 1, seed: None, caps: Caps::default(), stop: None }
+        Options { limit: 10_000, engines: 1, servers: 1, workers: 1, seed: None, caps: Caps::default(), stop: None, order: false }
     }
 }
 
@@ -136,13 +138,22 @@ impl Mode {
     }
 }
 
-/// A parameter: a scalar inside containers, of each of which `by` has the type of the subscripts, the outermost first.
+/// A parameter: a scalar or a map inside containers, of each of which `by` has the type of the subscripts, the outermost first.
 #[derive(Clone, Debug, PartialEq, Eq)]
 #[non_exhaustive]
 pub struct Parameter {
     pub mode: Mode,
     pub by: Vec<Type>,
+    /// The type of the scalar, or of the map's values.
     pub scalar: Type,
+    pub map: Option<MapKind>,
+}
+
+/// The subscripts of a map, and whether its values are sums.
+#[derive(Clone, Copy, Debug, PartialEq, Eq)]
+pub struct MapKind {
+    pub by: Type,
+    pub is_sums: bool,
 }
 
 /// A procedure, which runs on an engine if it is a control procedure, else on a worker.
@@ -226,11 +237,12 @@ impl Program {
     }
 
     fn parameter(&self, number: usize, index: usize) -> Result<Parameter, Error> {
-        let mut found = [0; 6];
+        let mut found = [0; 7];
         done(unsafe { raw::yuglemit_raw_program_parameter(&mut self.owner.seen(), number, index, found.as_mut_ptr(), found.len()) })?;
-        let [mode, _, scalar, by @ ..] = found;
+        let [mode, _, scalar, by @ .., map] = found;
         let by = by.into_iter().filter(|letter| *letter != 0).map(|letter| Type::of(letter as u8)).collect();
-        Ok(Parameter { mode: Mode::of(mode), by, scalar: Type::of(scalar as u8) })
+        let map = (map != 0).then(|| MapKind { by: Type::of(map as u8), is_sums: scalar == u64::from(b's') });
+        Ok(Parameter { mode: Mode::of(mode), by, scalar: Type::of(scalar as u8), map })
     }
 
     /// Returns for each procedure the most instructions that one of its tasks executes.
@@ -286,8 +298,8 @@ impl Program {
     pub fn run_with(&self, inputs: &[Value], options: &Options) -> Result<Report, Error> {
         let values = Owner::<OfInputs>::new();
         inputs.iter().try_for_each(|value| value.append(&values))?;
-        let Options { limit, engines, servers, workers, seed, caps, stop } = *options;
-        let options = [limit as u64, engines.into(), servers.into(), workers.into(), seed.map_or(0, |seed| seed.get())];
+        let Options { limit, engines, servers, workers, seed, caps, stop, order } = *options;
+        let options = [limit as u64, engines.into(), servers.into(), workers.into(), seed.map_or(0, |seed| seed.get()), order.into()];
         let (none, report) = (Owner::new(), Owner::new());
         let stop = stop.map_or(&none, |stop| &stop.owner);
         let caps = caps.raw();

@@ -74,6 +74,7 @@ unsafe extern "C" {
     pub fn yuglemit_raw_report_member_text(report: *mut Handle, output: usize, place: usize, room: *mut u8, length: usize) -> u8;
     pub fn yuglemit_raw_report_subscript_text(report: *mut Handle, output: usize, place: usize, room: *mut u8, length: usize) -> u8;
     pub fn yuglemit_raw_report_meter(report: *mut Handle, meter: *mut u64, count: usize) -> u8;
+    pub fn yuglemit_raw_report_order(report: *mut Handle, order: *mut u64, count: usize) -> u8;
     pub fn yuglemit_raw_report_instructions(report: *mut Handle, count: *mut u64) -> u8;
     pub fn yuglemit_raw_print_report(report: *mut Handle, text: *mut Handle) -> u8;
     pub fn yuglemit_raw_print_trace(report: *mut Handle, text: *mut Handle) -> u8;
@@ -183,6 +184,7 @@ pub mod code {
     pub const NO_INDEX: u8 = 223;
     pub const NO_END: u8 = 227;
     pub const REJECTED: u8 = 229;
+    pub const NO_ORDER: u8 = 230;
 }
 
 /// Returns the error of a call, if there is one.
@@ -198,6 +200,7 @@ pub fn done(code: u8) -> Result<(), Error> {
         code::NO_LAYOUT => Err(Error::NoLayout),
         code::NO_INDEX => Err(Error::NoIndex),
         code::NO_END => Err(Error::NoEnd),
+        code::NO_ORDER => Err(Error::NoOrder),
         _ => unreachable!("no call of this crate can return the code {code}"),
     }
 }

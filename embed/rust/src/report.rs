@@ -1,6 +1,6 @@
 // SPDX-License-Identifier: Apache-2.0
 use crate::raw::{self, Handle, Item, Member, OfReport, OfText, Owner, done, kept_text};
-use crate::{Container, Error, Scalar, Type, Value};
+use crate::{Container, Error, EventOrder, Scalar, Type, Value};
 
 /// How a run ended.
 #[derive(Clone, Copy, Debug, PartialEq, Eq)]
@@ -16,7 +16,7 @@ pub enum End {
     Stopped,
 }
 
-/// The meter of a run: how much it did. No number is above the bound of its name.
+/// The meter of a run: how much it did, and what its store held at the end.
 #[derive(Clone, Copy, Debug, PartialEq, Eq)]
 #[non_exhaustive]
 pub struct Meter {
@@ -25,6 +25,12 @@ pub struct Meter {
     pub tasks: u64,
     /// Instructions that were executed; the greatest number if they were more.
     pub instructions: u64,
+    /// Data that were made, with inputs, outputs and the members of inputs; a map is one.
+    pub data: u64,
+    /// Members and values of maps that the store held at the end, also in inputs and outputs.
+    pub members: u64,
+    /// Bytes of the texts that it held then: values and subscripts.
+    pub bytes: u64,
 }
 
 /// The report of a run. Any number of threads may read it at once.
@@ -64,10 +70,23 @@ impl Report {
 
     /// Returns how much the run did, also if it was stopped.
     pub fn meter(&self) -> Result<Meter, Error> {
-        let mut found = [0; 3];
+        let mut found = [0; 6];
         done(unsafe { raw::yuglemit_raw_report_meter(&mut self.owner.seen(), found.as_mut_ptr(), found.len()) })?;
-        let [events, tasks, instructions] = found;
-        Ok(Meter { events, tasks, instructions })
+        let [events, tasks, instructions, data, members, bytes] = found;
+        Ok(Meter { events, tasks, instructions, data, members, bytes })
+    }
+
+    /// Returns whether the order of events may show in the run's outputs, if its options have `order`. None says that the run was cut off, and that
+    /// nothing up to its last event may show it.
+    pub fn order(&self) -> Result<Option<EventOrder>, Error> {
+        let mut found = [0; 3];
+        done(unsafe { raw::yuglemit_raw_report_order(&mut self.owner.seen(), found.as_mut_ptr(), found.len()) })?;
+        let [may_show, procedure, place] = found.map(|number| number as usize);
+        Ok(match may_show {
+            0 => Some(EventOrder::Same),
+            1 => Some(EventOrder::MayShow { procedure, place }),
+            _ => None,
+        })
     }
 
     /// Returns how many instructions the run executed; the greatest number if they were more.
@@ -107,7 +126,7 @@ impl Report {
     /// Returns an output of main.
     pub fn output(&self, output: usize) -> Result<Value, Error> {
         let item = self.item(output)?;
-        if item.kind == b'c' {
+        if matches!(item.kind, b'c' | b'm') {
             return Ok(Value::Container(self.container(output, &item)?));
         }
         let text = |at, room, length| unsafe { raw::yuglemit_raw_report_text(at, output, room, length) };

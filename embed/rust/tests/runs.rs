@@ -4,7 +4,7 @@ use std::collections::BTreeMap;
 use std::fs;
 use std::thread;
 
-use yuglemit::{Bound, Bounds, Caps, Container, End, Error, EventOrder, Format, Mode, Options, Parameter, Program, RunError, Stop, Type, Value, session};
+use yuglemit::{Bound, Bounds, Caps, Container, End, Error, EventOrder, Format, MapKind, Mode, Options, Parameter, Program, RunError, Stop, Type, Value, session};
 
 const ENDLESS: &str = "proc control\nregs int int\nINT v1 1\nREPEAT 5\nREPEAT 1000\nADD v0 v0 v1 no\nno:\nEND\nEND\nPUT 0 0 any\nRET\n";
 /// Inserts a text by a text: the member is a text, and its subscript another.
@@ -94,6 +94,21 @@ fn members_by_text() -> Result<(), Error> {
 }
 
 #[test]
+fn maps_have_values() -> Result<(), Error> {
+    let text = "version 4\nproc control closed map int write tmap sum\nregs text int int\nTEXT v0 \"all\"\nINT v1 1\nMGET v2 d0 v1 +1\nMADD d1 v0 v2\nDROPR d0\nDROPW d1\nRET\n";
+    let program = Program::load(text)?;
+    let parameters = program.procedures()?.swap_remove(0).parameters;
+    let maps = [MapKind { by: Type::Int, is_sums: false }, MapKind { by: Type::Text, is_sums: true }];
+    assert_eq!(parameters.iter().map(|it| (it.by.len(), it.scalar, it.map)).collect::<Vec<_>>(), maps.map(|map| (0, Type::Int, Some(map))));
+    let report = program.run(&[[(1, 7), (5, -3)].into()])?;
+    assert_eq!(report.outputs()?, [[("all", 7)].into()]);
+    assert_eq!((report.member(0, "all")?, report.member(0, "none")?), (Some(7.into()), None));
+    let meter = report.meter()?;
+    assert_eq!((meter.data, meter.members, meter.bytes), (2, 1, 3));
+    Ok(())
+}
+
+#[test]
 fn open_outputs() -> Result<(), Error> {
     let leaf = "proc leaf closed int write int write int write cont int\nregs int\nDROPR d0\nSTORE d1 v0\nSTORE d2 v0\nDROPW d3\nRET\n";
     let program = Program::load(format!("proc control write int write cont int\nregs\nNEW d2 d3 int\nRULE 1 0 any 3 2 0 1\nRET\n\n{leaf}"))?;
@@ -125,6 +140,23 @@ fn orders_are_checked() -> Result<(), Error> {
     // docs/FORMAT.md has both answers of the check.
     let (Some(same), Some(copies)) = (example("pipeline.twn"), example("fan_out.twn")) else { return Ok(()) };
     assert_eq!((same.order()?, copies.order()?), (EventOrder::Same, EventOrder::MayShow { procedure: 1, place: 3 }));
+    Ok(())
+}
+
+/// Two tasks insert at the two subscripts by copies of one right, so they compete if these are one.
+#[test]
+fn orders_of_runs_are_certified() -> Result<(), Error> {
+    let program = Program::load(concat!(
+        "proc control closed int closed int write cont int\nregs int int\nGET v0 d0\nGET v1 d1\nDROPR d0\nDROPR d1\nDUPW d3 d2\nPUT 1 0 any 2 0\nPUT 1 0 any 3 1\nRET\n",
+        "proc leaf write cont int val int\nregs int\nNEW d1 d2 int\nSTORE d1 v0\nINS d0 v0 d2 +1\nJMP +1\nDROPR d2\nDROPW d0\nRET\n",
+    ))?;
+    let mut options = Options::default();
+    assert_eq!(program.run(&[1.into(), 2.into()])?.order(), Err(Error::NoOrder));
+    options.order = true;
+    assert_eq!(program.run_with(&[1.into(), 2.into()], &options)?.order()?, Some(EventOrder::Same));
+    assert_eq!(program.run_with(&[1.into(), 1.into()], &options)?.order()?, Some(EventOrder::MayShow { procedure: 1, place: 2 }));
+    options.limit = 3;
+    assert_eq!(program.run_with(&[1.into(), 1.into()], &options)?.order()?, None);
     Ok(())
 }
 
@@ -292,6 +324,7 @@ fn reports_are_printed() -> Result<(), Error> {
     assert_eq!((report.text()?.as_str(), report.instructions()?), ("out 0 int 7\nquiet\n", 4));
     let meter = report.meter()?;
     assert_eq!((meter.events, meter.tasks, meter.instructions), (report.events() as u64, 1, 4));
+    assert_eq!((meter.data, meter.members, meter.bytes), (2, 0, 0));
     assert!(report.trace()?.starts_with("events\n") && report.json()?.contains("\"outputs\":[7]"));
     let stop = Stop::new()?;
     stop.raise();

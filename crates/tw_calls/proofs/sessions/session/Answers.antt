@@ -1,9 +1,9 @@
 use Rattle.std.proofs.Common.{List, ℕ, inl, inr, refl, subst, sym}
 use Rattle.tw_cli.specs.CommandLine.{asked_by_words, word_faults}
 use Rattle.tw_cli.specs.InTurn.{turned}
-use Rattle.tw_program_output.specs.Reply.{reply}
+use Rattle.tw_source.specs.Reply.{reply}
 use Rattle.tw_session.specs.Session.{AnswersWords}
-use Rattle.tw_program_output.specs.declared.close.Close.TheVariants.{CommandLine}
+use Rattle.tw_source.specs.declared.close.Close.TheVariants.{CommandLine}
 use Rattle.tw_session.specs.declared.status.Status.TheVariants.{Ended}
 use Rattle.tw_calls.specs.SessionAnswers.{Answers, arguments_in, line_feed}
 use Rattle.tw_calls.proofs.sessions.session.Goals as goal

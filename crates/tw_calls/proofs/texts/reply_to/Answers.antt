@@ -2,8 +2,8 @@ use Rattle.std.proofs.Common.{List, ℕ, ap, inl, inr, subst}
 use Rattle.std.proofs.lemmas.Result.{IfOk-weaker}
 use Rattle.tw_cli.specs.CommandLine.{asked_by_words, word_faults}
 use Rattle.tw_cli.specs.InTurn.{turned}
-use Rattle.tw_program_output.specs.Reply.{Reply, reply}
-use Rattle.tw_program_output.specs.declared.reply.Reply.{Reply as MadeReply}
+use Rattle.tw_source.specs.Reply.{Reply, reply}
+use Rattle.tw_source.specs.declared.reply.Reply.{Reply as MadeReply}
 use Rattle.tw_session.specs.Session.{AnswersWords}
 use Rattle.tw_calls.specs.SessionAnswers.{arguments_in, nul}
 use Rattle.tw_calls.proofs.texts.reply_to.Goals as goal

@@ -1,13 +1,12 @@
-use Rattle.std.specs.FinMap.{entries}
 use Rattle.std.specs.Prelude.{◌-◌}
-use Rattle.tw_types.specs.StoreCalls.{members_in}
+use Rattle.tw_types.specs.StoreCalls.{subscripts_of}
 use Rattle.tw_types.specs.ValueOrder.{named}
 use Rattle.tw_handles.proofs.Search.{IsSearched}
 use Rattle.tw_handles.proofs.finding.place_in.Given as goal
 
 -- the subscript is at neither end
 abbrev pub invariant-loop-low : goal.invariant-loop-low
-invariant-loop-low l = IsSearched (entries (members_in l.container.datum.content)) (named l.subscript) l.low l.high
+invariant-loop-low l = IsSearched (subscripts_of l.datum.datum.content) (named l.subscript) l.low l.high
 
 abbrev pub decreases-loop-low : goal.decreases-loop-low
 decreases-loop-low l = l.high - l.low

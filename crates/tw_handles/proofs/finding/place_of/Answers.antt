@@ -1,4 +1,4 @@
-use Rattle.std.proofs.Common.{◌≡◌, ◌∙◌, ℕ, List, None, Some, ap, arith, length, refl, slice_get, sym}
+use Rattle.std.proofs.Common.{◌≡◌, ◌∙◌, ℕ, List, Some, ap, arith, length, refl, slice_get, sym}
 use Rattle.std.proofs.lemmas.Option.{slice_get_past, slice_get_read}
 use Rattle.tw_types.specs.ValueOrder.{named}
 use Rattle.tw_handles.proofs.Search.{nowhere_freed, nowhere_past, there_in}
@@ -9,7 +9,7 @@ returns-in-Some c =
     let outs = c.outputs-outputs.result.now in
     let read : slice_get outs c.args.index ≡ Some c.index-outputs-index.result = slice_get_read outs (length outs) c.args.index c.index-outputs-index.result refl c.if-index-outputs.true c.index-outputs-index.is in
     let at = ap (λ (xs : List ℕ). slice_get xs c.args.index) (sym c.outputs-outputs.ensures) ∙ read in
-    there_in c.args.outcome.now c.args.index (named c.args.subscript) c.index-outputs-index.result c.in-Some.container.now.datum c.place_in.result at (sym c.in-Some.ensures.datum) c.place_in.ensures
+    there_in c.args.outcome.now c.args.index (named c.args.subscript) c.index-outputs-index.result c.in-Some.datum.now.datum c.place_in.result at (sym c.in-Some.ensures.datum) c.place_in.ensures
 
 pub returns-in-None : goal.returns-in-None
 returns-in-None c =

@@ -1,0 +1,90 @@
+-- The facts about a finished run, and its certificate.
+use Rattle.std.proofs.Common.{◌≡◌, ◌≤◌, ◌==◌, ◌∙◌, ℕ, Bool, true, false, List, length, Option, Some, None, Result, Ok, ap, arith, refl, subst, sym}
+use Rattle.std.specs.Prelude.{if◌then◌else◌}
+use Rattle.std.specs.Option.{option_map, option_or}
+use Rattle.tw_types.specs.declared.ending.Ending.{Ending}
+use Rattle.tw_types.specs.declared.ending.Ending.TheVariants as ending
+use Rattle.tw_types.specs.declared.event.Event.{Event}
+use Rattle.tw_types.specs.declared.input.Input.{Input}
+use Rattle.tw_types.specs.Layout.{ActorCounts}
+use Rattle.tw_types.specs.Outcome.{Went}
+use Rattle.tw_code.specs.declared.procedure.Procedure.{Procedure}
+use Rattle.tw_code.specs.machine.Ending.{ending as ending_of}
+use Rattle.tw_code.specs.machine.Opening.{reached}
+use Rattle.tw_code.specs.machine.State.{State}
+use Rattle.tw_certificate.specs.FirstContest.{IsFirstContest}
+use Rattle.tw_copies.specs.declared.check.CopyInsertion.{CopyInsertion}
+use Rattle.tw_determinism.specs.OneResult.{IsOnlyResult, IsWholeRun}
+use Rattle.tw_in_turn.specs.InTurn.{IsLeftIn}
+use Rattle.tw_in_turn.specs.Stopping.{IsLeftAfter, IsLeftBy}
+use Rattle.tw_in_turn.specs.declared.run.InTurnResult.TheVariants as left
+use Rattle.tw_in_turn.specs.declared.run.StoppableResult.{StoppableResult}
+use Rattle.tw_in_turn.specs.declared.run.StoppableResult.TheVariants as stoppable
+use Rattle.tw_pool.specs.declared.answer.Closing.TheVariants.{Stopped, Limit}
+use Rattle.tw_pool.specs.Ends.{IsLeftOf}
+use Rattle.tw_pool.specs.Openings.{MayOpen, opened}
+use Rattle.tw_pool.specs.PoolView.{HasState, PoolView}
+use Rattle.tw_pool.specs.Turns.{closing_of}
+use Rattle.tw_verify.specs.Typed.{TypedProgram}
+use Rattle.tw_handles.specs.Certificates.{IsCertificate, IsOfRun, calm, certificate_of, own_end}
+use Rattle.tw_handles.specs.Reading.{final_of, history_of}
+
+-- ---- the end of a run
+
+own_ending : (e : Option Ending) (stopped full : Bool) → own_end (option_or (option_map closing_of e) (if stopped then Some Stopped else if full then Some Limit else None)) ≡ e
+own_ending None true full = refl
+own_ending None false true = refl
+own_ending None false false = refl
+own_ending (Some ending.Quiet) stopped full = refl
+own_ending (Some (ending.Stuck rules)) stopped full = refl
+
+module _ (verified : TypedProgram) (inputs : List Input) (counts : ActorCounts) (limit : ℕ) (may : MayOpen verified.program inputs counts limit) where
+  left_in : (left : StoppableResult) (p : PoolView) → IsLeftIn (opened verified inputs counts limit) p (final_of left) (history_of left) → IsOfRun verified.program inputs counts left
+  left_in left p h =
+      let shut = h.shut in
+      let s = shut.state in
+      let here : reached verified.program inputs counts p.history ≡ Went s = subst (λ (q : PoolView). HasState q s) h.of_first shut.has_state in
+      let within : length p.history ≤ limit = h.within in
+      let few : length p.history ≤ 1000000 = omega (arith, within, may.within.few) in
+      record {
+        given = may.inputs_are;
+        state = s;
+        reaches = subst (λ (es : List Event). reached verified.program inputs counts es ≡ Went s) (sym shut.events) here;
+        few = subst (λ (es : List Event). length es ≤ 1000000) (sym shut.events) few;
+        shows = subst (λ (q : PoolView). IsLeftOf q.program.program s (final_of left)) h.of_first shut.left;
+        ends = ap own_end shut.closing ∙ own_ending (ending_of s) p.stopped (length p.history == p.limit);
+      }
+
+  after : (seed : Option ℕ) (turns : ℕ) (left : StoppableResult) → IsLeftAfter seed (opened verified inputs counts limit) turns left → IsOfRun verified.program inputs counts left
+  after seed turns (stoppable.Ended (left.Over final history)) h = left_in (stoppable.Ended (left.Over final history)) h.0 h.2
+  after seed turns (stoppable.Ended (left.NoMemory final history)) h = left_in (stoppable.Ended (left.NoMemory final history)) h.0 h.2
+  after seed turns (stoppable.Stopped final history) h = left_in (stoppable.Stopped final history) h.0 h.2
+
+  pub of_run : (seed : Option ℕ) (answers : List Bool) (left : StoppableResult) → IsLeftBy seed (opened verified inputs counts limit) answers left → IsOfRun verified.program inputs counts left
+  of_run seed answers left h = after seed h.0 left h.4
+
+-- ---- its certificate
+
+module _ (program : List Procedure) (inputs : List Input) (layout : ActorCounts) (left : StoppableResult) (is : IsOfRun program inputs layout left) where
+  calm_is : IsFirstContest program inputs layout (history_of left).events None → ((s : State) (end : Ending) → IsWholeRun program inputs layout (history_of left).events s end → IsOnlyResult program inputs s end)
+      → (e : Option Ending) → e ≡ ending_of is.state → IsCertificate program inputs layout left (calm e)
+  calm_is first only None end = (first, record { state = is.state; reaches = is.reaches; runs_on = sym end })
+  calm_is first only (Some e) end =
+      let whole : IsWholeRun program inputs layout (history_of left).events is.state e = record { given = is.given; goes = is.reaches; ends = sym end } in
+      (first, record { state = is.state; end = e; whole = whole; shows = is.shows; only = only is.state e whole })
+
+  found_is : (found : Option CopyInsertion) → IsFirstContest program inputs layout (history_of left).events found
+      → (found ≡ None → (s : State) (end : Ending) → IsWholeRun program inputs layout (history_of left).events s end → IsOnlyResult program inputs s end)
+      → IsCertificate program inputs layout left (certificate_of found (final_of left).closing)
+  found_is None first only = calm_is first (only refl) (own_end (final_of left).closing) is.ends
+  found_is (Some at) first only = first
+
+  -- from the events and the program that were copied
+  pub certified : (again : List Procedure) (events : List Event) (found : Option CopyInsertion) → again ≡ program → events ≡ (history_of left).events → IsFirstContest again inputs layout events found
+      → (found ≡ None → (s : State) (end : Ending) → IsWholeRun again inputs layout events s end → IsOnlyResult again inputs s end)
+      → IsCertificate program inputs layout left (certificate_of found (final_of left).closing)
+  certified again events found same all first only =
+      found_is found
+      (subst (λ (es : List Event). IsFirstContest program inputs layout es found) all (subst (λ (ps : List Procedure). IsFirstContest ps inputs layout events found) same first))
+      (subst (λ (es : List Event). found ≡ None → (s : State) (end : Ending) → IsWholeRun program inputs layout es s end → IsOnlyResult program inputs s end) all
+      (subst (λ (ps : List Procedure). found ≡ None → (s : State) (end : Ending) → IsWholeRun ps inputs layout events s end → IsOnlyResult ps inputs s end) same only))

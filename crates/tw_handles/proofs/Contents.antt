@@ -1,0 +1,36 @@
+-- Facts about what a container or a map has at its subscripts.
+use Rattle.std.proofs.Common.{◌≡◌, ◌∙◌, ℕ, [], true, false, ap, refl, sym, slice_get, length, map as each, option_map}
+use Rattle.std.specs.FinMap.{entries, len-entries}
+use Rattle.std.proofs.lemmas.List.{length-map}
+use Rattle.std.proofs.lemmas.Option.{slice_get-map}
+use Rattle.tw_datum.proofs.Members.{no_entries}
+use Rattle.tw_datum.specs.Kept.{has_entries}
+use Rattle.tw_pool.specs.Ends.{FinalView}
+use Rattle.tw_types.specs.Store.{Content, Unset, Set, Contains, Maps}
+use Rattle.tw_types.specs.StoreCalls.{count_in, entries_in, members_in}
+use Rattle.tw_handles.specs.Shown.{at_member, at_value, shown_of}
+
+module _ (final : FinalView) where
+  none_shown : [] ≡ each (at_member final) (entries (members_in Unset))
+  none_shown = ap (each (at_member final)) (sym no_entries)
+
+  members_shown : (content : Content) → has_entries content ≡ false → shown_of final content ≡ each (at_member final) (entries (members_in content))
+  members_shown Unset is = none_shown
+  members_shown (Set v) is = none_shown
+  members_shown (Contains members) is = refl
+  members_shown (Maps values) is = cc
+
+  pub member_shown_at : (content : Content) (place : ℕ) → has_entries content ≡ false → slice_get (shown_of final content) place ≡ option_map (at_member final) (slice_get (entries (members_in content)) place)
+  member_shown_at content place is = ap (λ es. slice_get es place) (members_shown content is) ∙ slice_get-map (at_member final) (entries (members_in content)) place
+
+  pub value_shown_at : (content : Content) (place : ℕ) → has_entries content ≡ true → slice_get (shown_of final content) place ≡ option_map at_value (slice_get (entries (entries_in content)) place)
+  value_shown_at Unset place is = cc
+  value_shown_at (Set v) place is = cc
+  value_shown_at (Contains members) place is = cc
+  value_shown_at (Maps values) place is = slice_get-map at_value (entries values) place
+
+  pub count_shown : (content : Content) → length (shown_of final content) ≡ count_in content
+  count_shown Unset = refl
+  count_shown (Set v) = refl
+  count_shown (Contains members) = length-map (entries members) (at_member final) ∙ sym (len-entries members)
+  count_shown (Maps values) = length-map (entries values) at_value ∙ sym (len-entries values)
