@@ -579,8 +579,8 @@ class Manual(unittest.TestCase):
     def test_programs_of_the_manual(self) -> None:
         text = (EXAMPLES.parent / "docs" / "BUILD.md").read_text(encoding="utf-8")
         shown = re.findall(r"```python\n(.*?)```\n\nWith `(.*?)` it gives `(.*?)`\.", text, re.S)
-        self.assertEqual(len(shown), 3)
-        self.assertEqual(text.count("```python"), 3)
+        self.assertEqual(len(shown), 4)
+        self.assertEqual(text.count("```python"), 4)
         for code, given, wanted in shown:
             with self.subTest(given):
                 self.assertLess(len([line for line in code.split("\n") if line]), 20)

@@ -56,7 +56,7 @@ class Package(unittest.TestCase):
             self.assertLess(len(path.read_text().splitlines()), 520, path)
 
     def test_manual_is_short(self) -> None:
-        for name, most in (("BUILD.md", 800), ("MANY.md", 900)):
+        for name, most in (("BUILD.md", 1000), ("MANY.md", 900)):
             path = ROOT / "docs" / name
             if path.exists():
                 self.assertLessEqual(len(path.read_text(encoding="utf-8").split()), most, name)

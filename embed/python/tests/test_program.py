@@ -171,6 +171,7 @@ class Programs(unittest.TestCase):
         for second, limit, expected in ((2, 10000, True), (1, 10000, False), (2, 3, None)):
             report = yuglemit.load(text.format(second)).run(limit=limit)
             self.assertIs(report.same_in_every_order(), expected)
+            self.assertIs(pickle.loads(pickle.dumps(report)).same_in_every_order(), expected)
 
     def test_bounds_with_a_limit(self) -> None:
         """Main executes PUT and RET, its task INT, REPEAT, 100 times COPY and END, and RET; a task is an event more."""
@@ -325,6 +326,8 @@ class Reports(unittest.TestCase):
         self.assertEqual(orders[0].trace, orders[1].trace)
         self.assertNotEqual(orders[0].trace, orders[2].trace)
         self.assertEqual(program.replay(orders[2].trace, workers=2).outputs, [{0: 2}])
+        self.assertEqual(orders[2].timeline(), program.picture(orders[2].trace, workers=2))
+        self.assertEqual([report.same_in_every_order() for report in orders], [False] * 4)
         for seed in (0, 2**64, -1):
             with self.assertRaises(ValueError):
                 program.run(seed=seed)
@@ -333,6 +336,9 @@ class Reports(unittest.TestCase):
         program = yuglemit.load(example("pipeline.twn"))
         report = program.run(39, engines=2, workers=2)
         self.assertEqual((report.events, report.tasks, report.instructions), (33, 4, 24))
+        self.assertEqual(report.meter, yuglemit.Meter(events=33, tasks=4, instructions=24, data=4, members=0, bytes=0))
+        self.assertEqual(yuglemit.load(example("two_inputs.twn")).run({1: 7, 5: -3}, -4).meter[3:], (7, 2, 0))
+        self.assertEqual(yuglemit.load(example("word_count.twn")).run(["the", "cat", "the"]).meter[3:], (2, 2, 6))
         kept = program.run(39, engines=2, workers=2, trace=True)
         self.assertEqual((kept.trace, kept.text, kept.events), (report.trace, report.text, 33))
         self.assertEqual(len(kept.trace.split("\n")), 33 + 3)

@@ -14,18 +14,19 @@ from ._inputs import Input, Value, read_input
 from ._listing import Bounds, Needs, Parameter, Procedure
 from ._load import load, load_bytes, load_text
 from ._map import map
-from ._native import Output
+from ._native import Meter, Output
 from ._program import Program
 from ._report import Report, Wait
 from ._stop import Stop
 from ._version import __version__
 
-for _public in (Refused, Trap, Bounds, Needs, Parameter, Procedure, Program, Report, Stop, Wait):
+for _public in (Refused, Trap, Bounds, Meter, Needs, Parameter, Procedure, Program, Report, Stop, Wait):
     _public.__module__ = "yuglemit"
 
 __all__ = [
     "Bounds",
     "Input",
+    "Meter",
     "Needs",
     "Output",
     "Parameter",

@@ -5,26 +5,19 @@ from __future__ import annotations
 
 import operator
 import re
-from typing import Any, Dict, List, Mapping, Optional, SupportsIndex, Tuple, Union
+from typing import Any, Dict, List, Mapping, Optional, Sequence, SupportsIndex, Tuple, Union
 
 from ._native import Given, Scalar
 
 Value = Union[int, str, Mapping[int, int], Mapping[int, str], Mapping[str, int], Mapping[str, str]]
 
 # Outputs may be inputs, so a value or a member may be None for a type checker; `given` rejects it.
-Input = Union[None, SupportsIndex, str, Mapping[Any, Union[SupportsIndex, str, None]]]
+Input = Union[None, SupportsIndex, str, Mapping[Any, Union[SupportsIndex, str, None]], Sequence[Union[SupportsIndex, str]]]
 
-TYPES = ("int", "text", "cont int", "cont text", "tcont int", "tcont text")
-_PREFIXES = {"cont int": "ints:", "cont text": "texts:", "tcont int": "tints:", "tcont text": "ttexts:"}
-_ASKED = {
-    "int": "an int",
-    "text": "a str",
-    "cont int": "a dict of int by int",
-    "cont text": "a dict of str by int",
-    "tcont int": "a dict of int by str",
-    "tcont text": "a dict of str by str",
-}
+_MANY = {"cont": ("int", "text"), "tcont": ("int", "text"), "map": ("int", "text", "sum"), "tmap": ("int", "text", "sum")}
+TYPES = ("int", "text", *(f"{outer} {inner}" for outer, inners in _MANY.items() for inner in inners))
 _MOST_MEMBERS = 1000
+_MOST_VALUES = 100_000
 _MOST_BYTES = 4096
 
 
@@ -43,6 +36,29 @@ def _escaped(code: Optional[str], character: str) -> str:
     if code:
         return chr(int(code, 16))
     return "\n" if character == "n" else character
+
+
+def _asked(kind: str) -> str:
+    """Returns the Python type that a type asks, in words."""
+    if kind in ("int", "text"):
+        return "an int" if kind == "int" else "a str"
+    outer, inner = kind.split()
+    many = f"a dict of {_NAMED[inner]} by {'str' if _is_by_text(outer) else 'int'}"
+    return f"{many}, or a list" if outer == "map" else many
+
+
+def _is_by_text(outer: str) -> bool:
+    """Whether the subscripts of such containers or maps are texts."""
+    return outer in ("tcont", "tmap")
+
+
+_NAMED = {"int": "int", "sum": "int", "text": "str"}
+
+
+def _prefix(kind: str) -> str:
+    """Returns what the word of such a container or map begins with."""
+    outer, inner = kind.split()
+    return f"{'t' if _is_by_text(outer) else ''}{'texts' if inner == 'text' else 'ints'}:"
 
 
 def _advice(value: object) -> str:
@@ -102,7 +118,7 @@ def _text(value: object, where: str) -> str:
 
 
 def _scalar(value: object, kind: str, where: str) -> Scalar:
-    return _int(value, where) if kind == "int" else _text(value, where)
+    return _text(value, where) if kind == "text" else _int(value, where)
 
 
 def _type_of(value: object, where: str) -> str:
@@ -118,11 +134,12 @@ def _type_of(value: object, where: str) -> str:
 
 
 def _members(value: Mapping[object, object], kind: str, where: str) -> List[Tuple[Scalar, Scalar]]:
-    """Returns the members of a container by rising subscripts, texts by their bytes."""
+    """Returns the members of a container or the values of a map by rising subscripts, texts by their bytes."""
     outer, inner = kind.split()
-    keyed = "text" if outer == "tcont" else "int"
-    if len(value) > _MOST_MEMBERS:
-        raise ValueError(f"{where}: {len(value)} members, and at most {_MOST_MEMBERS} are taken")
+    keyed = "text" if _is_by_text(outer) else "int"
+    what, most = ("values", _MOST_VALUES) if "map" in outer else ("members", _MOST_MEMBERS)
+    if len(value) > most:
+        raise ValueError(f"{where}: {len(value)} {what}, and at most {most} are taken")
     pairs = []
     for key, member in value.items():
         subscript = _scalar(key, keyed, f"{where}, subscript {shown(key, with_type=False)}")
@@ -144,8 +161,10 @@ def given(value: object, kind: Optional[str] = None, where: str = "input") -> Gi
     kind = kind or _type_of(value, where)
     if kind in ("int", "text"):
         return Given(kind, _scalar(value, kind, where))
+    if isinstance(value, (list, tuple)) and kind.startswith("map "):
+        value = dict(enumerate(value))
     if not isinstance(value, Mapping):
-        raise _wrong(where, _ASKED[kind], value)
+        raise _wrong(where, _asked(kind), value)
     return Given(kind, _members(value, kind, where))
 
 
@@ -163,7 +182,7 @@ def word_of(checked: Given) -> str:
     """
     kind, value = checked
     if isinstance(value, list):
-        return _PREFIXES[kind] + ",".join(f"{_spelled(subscript)}={_spelled(member)}" for subscript, member in value)
+        return _prefix(kind) + ",".join(f"{_spelled(subscript)}={_spelled(member)}" for subscript, member in value)
     return f"{kind}:{value}"
 
 

@@ -106,6 +106,7 @@ _SHORT_CALLS: Dict[str, Sequence[Any]] = {
     "raw_report_member_text": (_AT, _SIZE, _SIZE, *_ROOM),
     "raw_report_subscript_text": (_AT, _SIZE, _SIZE, *_ROOM),
     "raw_report_meter": (_AT, *_NUMBERS),
+    "raw_report_order": (_AT, *_NUMBERS),
     "raw_text_length": (_AT, ctypes.POINTER(_SIZE)),
     "raw_text_copy": (_AT, *_ROOM),
 }

@@ -10,9 +10,10 @@ from __future__ import annotations
 
 import ctypes
 import threading
-from typing import Any, Callable, Dict, List, NamedTuple, Optional, Sequence, Tuple, TypeVar, Union
+from typing import Any, Callable, Dict, Iterable, List, NamedTuple, Optional, Sequence, Tuple, TypeVar, Union
 
 from ._library import Handle, Item, Member, library, numbers, short
+from ._shown import Shown
 
 Answer = Tuple[int, bytes]
 Result = TypeVar("Result")
@@ -68,12 +69,20 @@ class Layout(NamedTuple):
     most_rules: Optional[int] = None
 
 
-class Meter(NamedTuple):
-    """The events of a run, the tasks that it took, and the instructions that it executed."""
-
+class _Meter(NamedTuple):
     events: int
     tasks: int
     instructions: int
+    data: int
+    members: int
+    bytes: int
+
+
+class Meter(_Meter, metaclass=Shown):  # type: ignore[misc]  # of a tuple, in typeshed only
+    """How much a run did: its `events`, the `tasks` that it took, the `instructions` that it executed, and the `data` that it made, with inputs, outputs
+    and the members of inputs. At its end the store held so many `members` of containers and maps, and `bytes` of texts."""
+
+    __slots__ = ()
 
 
 class Ran(NamedTuple):
@@ -169,14 +178,16 @@ class Loaded:
         return Head("control" if kind == ord("c") else "leaf", parameters, budget.value)
 
     def _parameter(self, number: int, index: int) -> Tuple[str, str]:
-        found = numbers(*[0] * 6)
+        found = numbers(*[0] * 7)
         _done(short().yuglemit_raw_program_parameter(self.root.seen(), number, index, found, len(found)))
-        mode, depth, scalar, *around = found
+        mode, depth, scalar, *around, by_map = found
         outer = "".join("tcont " if by == ord("t") else "cont " for by in around[:depth])
-        return _MODES[mode], outer + ("text" if scalar == ord("t") else "int")
+        return _MODES[mode], outer + _MAPS[by_map] + _SCALARS[scalar]
 
 
 _MODES = {ord("v"): "val", ord("c"): "closed", ord("r"): "ref", ord("w"): "write"}
+_MAPS = {0: "", ord("i"): "map ", ord("t"): "tmap "}
+_SCALARS = {ord("i"): "int", ord("t"): "text", ord("s"): "sum"}
 
 
 def _no_report() -> None:
@@ -202,6 +213,12 @@ class Kept:
             return None
         _done(code)
         return _read_text(text).decode()
+
+    def same_in_every_order(self) -> Optional[bool]:
+        """Returns whether each order of events has the run's outputs, of a run with its order; None if it was cut off before that shows."""
+        found = numbers(0, 0, 0)
+        _done(short().yuglemit_raw_report_order(self._report.seen(), found, len(found)))
+        return (True, False, None)[found[0]]
 
 
 def _read_text(text: _Owner) -> bytes:
@@ -245,7 +262,7 @@ def is_long_source(source: bytes) -> bool:
     return len(source) > 500_000
 
 
-def _verdict_of(found: Sequence[int]) -> Verdict:
+def _verdict_of(found: Iterable[int]) -> Verdict:
     letter, number, engines, workers, procedure, place, _line, _word, column = found
     return Verdict(chr(letter) if letter else "", number, engines, workers, procedure, place, column)
 
@@ -260,8 +277,8 @@ BRIEF_SECONDS = 0.001  # one that takes less keeps the GIL
 
 def _add_container(inputs: _Owner, kind: str, members: List[Tuple[Scalar, Scalar]]) -> None:
     outer, inner = kind.split()
-    container, by = _owner("container"), "t" if outer == "tcont" else "i"
-    _done(short().yuglemit_container_new(container.at, ord(by), ord(inner[0])))
+    container, by = _owner("container"), "t" if outer in ("tcont", "tmap") else "i"
+    _done(short().yuglemit_container_new(container.at, ord(by), ord("t" if inner == "text" else "i")))
     add = getattr(short(), f"yuglemit_member_{inner}" + ("_by_text" if by == "t" else ""))
     for subscript, member in members:
         _done(add(container.at, *_words(subscript), *_words(member)))
@@ -288,9 +305,9 @@ def _inputs_of(given: Sequence[Given]) -> _Owner:
     return inputs
 
 
-def _call_run(calls: ctypes.CDLL, program: Loaded, inputs: _Owner, layout: Layout, stop: Optional[Flag]) -> _Owner:
+def _call_run(calls: ctypes.CDLL, program: Loaded, inputs: _Owner, layout: Layout, stop: Optional[Flag], order: bool) -> _Owner:
     """Makes a run by calls that release the GIL or keep it, and returns the handle of its report."""
-    options = numbers(layout.limit, layout.engines, layout.servers, layout.workers, layout.seed)
+    options = numbers(layout.limit, layout.engines, layout.servers, layout.workers, layout.seed, int(order))
     caps = numbers(*(NO_CAP if cap is None else cap for cap in layout[5:]))
     flag = stop.of_run.seen() if stop is not None else ctypes.byref(Handle())
     report, given = _owner("report"), (program.root.seen(), inputs.seen())
@@ -309,8 +326,9 @@ def _unfit_input(*given: Any) -> Optional[int]:
     return None if code else index.value + 1
 
 
-def run(program: Loaded, given: Sequence[Given], layout: Layout, stop: Optional[Flag], seconds: float) -> Ran:
-    """Makes a run of a program on these values, of so many seconds at most; raises RunError if it can't begin.
+def run(program: Loaded, given: Sequence[Given], layout: Layout, stop: Optional[Flag], seconds: float, order: bool = False) -> Ran:
+    """Makes a run of a program on these values, of so many seconds at most; raises RunError if it can't begin. `order` says whether its report has the
+    run's order.
 
     A brief run keeps the GIL, since getting it back from other threads takes longer than the run. A long one gives way to Ctrl-C, which only the
     main thread gets: its flag is raised, so that it ends at its next event.
@@ -319,13 +337,13 @@ def run(program: Loaded, given: Sequence[Given], layout: Layout, stop: Optional[
     calls = short() if seconds < BRIEF_SECONDS else library()
     if seconds > LONG_SECONDS and threading.current_thread() is threading.main_thread():
         flag = stop if stop is not None else Flag()
-        return _ran(_aside(lambda: _call_run(calls, program, inputs, layout, flag), flag.set))
-    return _ran(_call_run(calls, program, inputs, layout, stop))
+        return _ran(_aside(lambda: _call_run(calls, program, inputs, layout, flag, order), flag.set))
+    return _ran(_call_run(calls, program, inputs, layout, stop, order))
 
 
 def _ran(report: _Owner) -> Ran:
     """Reads a report."""
-    ending, meter = numbers(0, 0, 0), numbers(0, 0, 0)
+    ending, meter = numbers(0, 0, 0), numbers(*[0] * len(Meter._fields))
     _done(short().yuglemit_raw_report_ending(report.seen(), ending, len(ending)))
     _done(short().yuglemit_raw_report_meter(report.seen(), meter, len(meter)))
     _, count, status = ending
@@ -335,13 +353,13 @@ def _ran(report: _Owner) -> Ran:
         item = Item()
         _done(short().yuglemit_raw_report_output(report.seen(), number, ctypes.byref(item)))
         outputs.append(_output(report, number, item))
-        if item.kind not in b"it" and not (item.kind == ord("c") and item.closed):
+        if item.kind not in b"it" and not (item.kind in b"cm" and item.closed):
             unfinished.append(number)
     return Ran(ENDS[status], Meter(*meter), outputs, unfinished, Kept(report))
 
 
 def _output(report: _Owner, number: int, item: Item) -> Output:
-    if item.kind != ord("c"):
+    if item.kind not in b"cm":
         return _scalar(item, "text", report, number)
     return _members(report, number, item)
 
@@ -351,7 +369,7 @@ _WORDS = ctypes.sizeof(Member) // 8
 
 
 def _members(report: _Owner, number: int, item: Item) -> Dict[Scalar, Optional[Scalar]]:
-    """Reads the members of an output by one call, and each text of them by another. Numbers are taken from their array at once."""
+    """Reads the members or values of an output by one call, and each text of them by another. Numbers are taken from their array at once."""
     room = bytearray(ctypes.sizeof(Member) * item.length)
     if not room:
         return {}

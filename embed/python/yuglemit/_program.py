@@ -238,6 +238,14 @@ class Program(metaclass=Shown):
             raise MemoryError("yuglemit: out of memory")
         return report_of(ran, made, options)
 
+    def _is_same(self, made: Made) -> Optional[bool]:
+        """Makes a run again, and returns whether each order of events has its outputs."""
+        seconds = max(self.bounds.usual_seconds(made.layout.limit), _native.BRIEF_SECONDS)
+        ran = _native.run(self._kept, self._given(made.inputs), made.layout, None, seconds, order=True)
+        if ran.end == "memory":
+            raise MemoryError("yuglemit: out of memory")
+        return ran.kept.same_in_every_order()
+
     def _may_take(self, seconds: float, limit: int) -> bool:
         """Returns whether a run may take so long, by its bounds."""
         return self.bounds.seconds(limit) * _SURE > seconds

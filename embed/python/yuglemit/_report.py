@@ -20,6 +20,7 @@ if TYPE_CHECKING:
 
 _SCALAR = r'(-?\d+|"(?:\\.|[^"\\])*")'
 _SET = re.compile(rf"out \d+ (?:int|text) {_SCALAR}$", re.S)
+_MANY = re.compile(r"out \d+ t?(?:cont|map) ")
 _MEMBER = re.compile(rf"  at {_SCALAR} (?:(?:int|text) {_SCALAR})?", re.S)
 _ENDS = ("quiet", "stuck", "limit", "running", "stopped")
 
@@ -43,7 +44,7 @@ def read_outputs(text: str) -> Tuple[List[Output], List[int]]:
     for line in text.split("\n"):
         if line.startswith("out "):
             found = _SET.match(line)
-            outputs.append(read_scalar(found[1]) if found else {} if "cont " in line else None)
+            outputs.append(read_scalar(found[1]) if found else {} if _MANY.match(line) else None)
             if not found and " closed " not in line:
                 unfinished.append(len(outputs) - 1)
         elif line.startswith("  at ") and outputs:
@@ -74,8 +75,8 @@ def read_circle(text: str) -> List[Wait]:
 
 
 def _caps(layout: Layout) -> Tuple[str, ...]:
-    """Returns the options of `tw run` for the caps, which has none for members and rules."""
-    given = ((name, most) for name, most in zip(layout._fields[5:10], layout[5:10]) if most is not None)
+    """Returns the options of `tw run` for the caps, which has none for rules."""
+    given = ((name, most) for name, most in zip(layout._fields[5:11], layout[5:11]) if most is not None)
     return tuple(word for name, most in given for word in (f"--{name.replace('_', '-')}", str(most)))
 
 
@@ -94,7 +95,8 @@ class Made:
 
     def words(self) -> Tuple[str, ...]:
         """Returns the options of `tw run`."""
-        return (*actors(self.layout), "--limit", str(self.layout.limit), *_caps(self.layout))
+        seed = ("--in-turn", "--seed", str(self.layout.seed)) if self.layout.seed else ()
+        return (*actors(self.layout), "--limit", str(self.layout.limit), *seed, *_caps(self.layout))
 
     def until(self, end: str, events: int) -> "Made":
         """Returns the causes of a run with this end: one that was stopped is made again by a limit of as many events."""
@@ -171,19 +173,21 @@ class Report(metaclass=Shown):
     @property
     def events(self) -> int:
         """How many events the run had."""
-        return self._did().events
+        return self.meter.events
 
     @property
     def tasks(self) -> int:
         """How many tasks the run took, main's included."""
-        return self._did().tasks
+        return self.meter.tasks
 
     @property
     def instructions(self) -> int:
         """How many instructions its tasks did."""
-        return self._did().instructions
+        return self.meter.instructions
 
-    def _did(self) -> Meter:
+    @property
+    def meter(self) -> Meter:
+        """How much the run did, and what its store held at the end, also if it was stopped."""
         if self._meter is None:
             raise ValueError(_NO_RUN)
         return self._meter
@@ -208,8 +212,7 @@ class Report(metaclass=Shown):
         """Returns whether each order of events, in any layout, ends like this run with its outputs, for its inputs. False if tasks competed for a
         subscript: another order may have other outputs. None if the limit ended the run and none had competed. It makes the run again."""
         made = self._cause()
-        line: Dict[str, object] = json.loads(made.program._answer(made, "--json", "--order"))
-        return None if line["order"] is None else line["order"] == "same"
+        return made.program._is_same(made)
 
     def _repr_svg_(self) -> Optional[str]:
         """Draws the timeline for a notebook, if the run is brief."""
@@ -225,7 +228,7 @@ class Report(metaclass=Shown):
 
     @property
     def json(self) -> str:
-        """The report as JSON. A container is an object whose names are its subscripts, a number as its decimal digits."""
+        """The report as JSON. A container or a map is an object whose names are its subscripts, a number as its decimal digits."""
         fields: Dict[str, object] = {"end": self.end, "outputs": self.outputs, "unfinished": self.unfinished}
         if self.end == "stuck":
             fields["circle"] = [wait._asdict() for wait in self.circle]

@@ -83,6 +83,26 @@ class Table(Dict[str, Member]):
         return iter(self.items())
 
 
+class Map(Dict[Subscript, Member]):
+    """Values by subscripts that are ints or texts."""
+
+    def __iter__(self) -> Iterator[Any]:
+        return iter(self.items())
+
+
+class Sum(Dict[Subscript, int]):
+    """Ints by subscripts that are ints or texts, to which tasks add, modulo 2^64."""
+
+    def __iter__(self) -> Iterator[Any]:
+        return iter(self.items())
+
+    def __missing__(self, subscript: Subscript) -> int:
+        return 0
+
+    def __setitem__(self, subscript: Subscript, number: int) -> None:
+        dict.__setitem__(self, subscript, (number + 2**63) % 2**64 - 2**63)
+
+
 class _Outputs:
     def __getattr__(self, name: str) -> Any:
         raise AttributeError(f"out.{name}: out is for functions that are compiled")
@@ -100,12 +120,12 @@ def check(*values: object) -> bool:
 
 
 def each(container: Dict[Subscript, Any], most: int = 1000) -> Iterator[Any]:
-    """Gives to a `for` the subscripts, or with two names the subscripts and the members, at most so many."""
+    """Gives to a `for` the subscripts, or with two names the subscripts and the members or values, at most so many."""
     return iter(sorted(container.items())[:most])
 
 
 def insert(container: Dict[Subscript, Member], subscript: Subscript, member: Member) -> bool:
-    """Puts a member into a container; it is refused if the subscript has one. As plain Python it says whether it has put it there."""
+    """Puts a member into a container, or a value into a map; it is refused if the subscript has one. As plain Python it says whether it has put it there."""
     is_free = subscript not in container.keys()
     container.setdefault(subscript, member)
     return is_free
@@ -126,7 +146,9 @@ __all__ = [
     "BuildError",
     "Built",
     "Int",
+    "Map",
     "Out",
+    "Sum",
     "Table",
     "Text",
     "build_file",

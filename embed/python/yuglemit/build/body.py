@@ -63,12 +63,13 @@ class Failing:
 
 @dataclass
 class Loop:
-    """A loop that is being compiled: the label of its END, that of the next turn, and the flag that ends it."""
+    """A loop that is being compiled: the label of its END, that of the next turn, the flag that ends it, and how many loops of the machine it is."""
 
     home: State
     next: str
     end: str
     flag: str
+    depth: int = 1
     is_ended: bool = False
     return_sets: List[Set[str]] = field(default_factory=list)
     outputs: Dict[str, ast.AST] = field(default_factory=dict)
@@ -78,7 +79,8 @@ class Loop:
 BREAK, RETURN, FAILED = 1, 2, 3
 _CONTAINERS = [("cont",), ("tcont",)]
 _AROUND = [(), *_CONTAINERS, *((*a, *b) for a in _CONTAINERS for b in _CONTAINERS), *((*a, *b, *c) for a in _CONTAINERS for b in _CONTAINERS for c in _CONTAINERS)]
-HELPERS = frozenset("_".join((*what, *around, *scalar.words)) for what in (("copy",), ("never",)) for around in _AROUND for scalar in SCALARS.values())
+_INNERMOST = [*(it.words for it in SCALARS.values()), *((by, inner) for by in ("map", "tmap") for inner in ("int", "text", "sum"))]
+HELPERS = frozenset("_".join((what, *around, *inner)) for what in ("copy", "never") for around in _AROUND for inner in _INNERMOST)
 
 
 @dataclass(frozen=True)
@@ -97,7 +99,7 @@ class Unit:
     names: Dict[Variant, str] = field(default_factory=dict)
     queue: List[Variant] = field(default_factory=list)
     helpers: Dict[str, List[str]] = field(default_factory=dict)
-    version_2: bool = False
+    version: int = 1
     procedures: FrozenSet[str] = frozenset()
     _kinds: Dict[str, Kinds] = field(default_factory=dict)
     _uses: Dict[str, Uses] = field(default_factory=dict)
@@ -111,6 +113,10 @@ class Unit:
     def apart(self) -> "Unit":
         """Returns another unit of the same file, whose procedures aren't this one's."""
         return Unit(self.source, procedures=self.procedures)
+
+    def need(self, version: int) -> None:
+        """Notes that the program needs a version of the language."""
+        self.version = max(self.version, version)
 
     def name_of(self, variant: Variant) -> str:
         """Returns the procedure's name of a variant, which is compiled once."""

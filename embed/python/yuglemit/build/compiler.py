@@ -74,7 +74,7 @@ def _prologue(body: Body) -> Tuple[List[str], int]:
 def _hold(body: Body, key: str, register: str, mode: str, kind: DataType) -> None:
     body.places[key] = register
     body.now.rights[key] = Right(register, mode, kind)
-    body.unit.version_2 = body.unit.version_2 or kind.needs_version_2
+    body.unit.need(kind.version)
 
 
 def _read_scalars(body: Body) -> None:
@@ -146,7 +146,7 @@ def _check_main(source: Source, main: Function) -> Variant:
         source.fail(main.node, "main is a control function: @control")
     for it in (*main.parameters, *(Parameter("result", kind, True) for kind in main.results)):
         if len(it.type.words) > 2:
-            source.fail(main.node, f"{it.name}: main takes and gives Int, Text, and Array or Table of these")
+            source.fail(main.node, f"{it.name}: main takes and gives Int, Text, Array and Table of these, Map and Sum")
     return Variant(main, tuple("write" if it.is_out else "closed" for it in main.parameters))
 
 
@@ -182,7 +182,7 @@ def _build(source: Source) -> Built:
     if main is None:
         raise BuildError(source.file, 1, 1, "there is no function main: @control def main(..) begins the program")
     name = ascii(os.path.basename(source.file))[1:-1]
-    first = ["names", f"; Compiled from {name} by yuglemit.build."] + (["version 2"] if unit.version_2 else [])
+    first = ["names", f"; Compiled from {name} by yuglemit.build."] + ([f"version {unit.version}"] if unit.version > 1 else [])
     lines = [Line(it, (1, 0)) for it in first]
     for procedure in procedures:
         lines.extend([Line("", (1, 0)), *procedure])

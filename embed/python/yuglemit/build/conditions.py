@@ -8,7 +8,7 @@ from typing import List
 
 from .body import Body
 from .kinds import called
-from .types import INT, TEXT
+from .types import INT, TEXT, DataType
 from .values import closed_container, kind_of, value
 
 
@@ -73,15 +73,27 @@ def _compare(body: Body, operator: ast.cmpop, operands: List[ast.expr], yes: str
 def _contained(body: Body, subscript: ast.expr, over: ast.expr, yes: str, no: str) -> None:
     kind = kind_of(body, over).type
     if kind.is_scalar:
-        body.fail("in is for containers: whether a subscript is there", over)
+        body.fail("in is for containers and maps: whether a subscript is there", over)
     register = closed_container(body, over)
     wanted = value(body, subscript, kind.subscript)
+    if kind.is_map:
+        _read_at(body, kind, register, wanted, yes, no)
+        return
     key = body.new_key()
     missing = body.now.copy()
     found = body.hold(key, "found", "ref", kind.member)
     body.code.put("LOOK" if kind.subscript == INT else "TLOOK", found.register, register, wanted, no)
-    body.unit.version_2 = body.unit.version_2 or kind.subscript == TEXT
+    body.unit.need(kind.version)
     body.values.release(wanted)
     body.drop(key)
     body.code.put("JMP", yes)
     assert set(body.now.rights) == set(missing.rights)
+
+
+def _read_at(body: Body, kind: DataType, over: str, subscript: str, yes: str, no: str) -> None:
+    """Writes code that jumps by whether a map has a value at a subscript."""
+    found = body.temporary(kind.member)
+    body.code.put("MGET", found, over, subscript, no)
+    for it in (found, subscript):
+        body.values.release(it)
+    body.code.put("JMP", yes)

@@ -8,7 +8,7 @@ from collections import deque
 from typing import Deque, Dict, Iterator, List, Optional, Tuple
 
 from .source import Function, Source, container_type
-from .types import INT, TEXT, Kind, container, future, value
+from .types import INT, TEXT, DataType, Kind, container, future, value
 
 _INT_CALLS = frozenset("len byte_length int abs min max".split())
 _SETS = (ast.NamedExpr, ast.Assign, ast.AnnAssign, ast.Return, ast.For)
@@ -144,7 +144,7 @@ class Kinds:
         if kind is None or kind.type.is_scalar:
             return
         targets = node.target.elts if isinstance(node.target, ast.Tuple) else [node.target]
-        for it, found in zip(targets, (value(kind.type.subscript), future(kind.type.member))):
+        for it, found in zip(targets, (value(kind.type.subscript), _held_in(kind.type))):
             if isinstance(it, ast.Name) and it.id != "_":
                 yield it.id, found, it
 
@@ -175,7 +175,7 @@ class Kinds:
             return self.kind_of(node.value)
         if isinstance(node, ast.Subscript):
             kind = self.kind_of(node.value)
-            return future(kind.type.member) if kind and not kind.type.is_scalar else None
+            return _held_in(kind.type) if kind and not kind.type.is_scalar else None
         return self._kind_of_call(node)
 
     def _kind_of_operation(self, node: ast.BinOp) -> Kind:
@@ -209,6 +209,11 @@ class Kinds:
             kind = self.kind_of(node.args[0])
             return value(kind.type.subscript) if kind and not kind.type.is_scalar else None
         return None
+
+
+def _held_in(data_type: DataType) -> Kind:
+    """Returns the kind of a container's member, or of a map's value."""
+    return value(data_type.member) if data_type.is_map else future(data_type.member)
 
 
 def _read_by(node: ast.AST) -> Iterator[str]:

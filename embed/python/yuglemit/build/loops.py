@@ -1,5 +1,5 @@
 # SPDX-License-Identifier: Apache-2.0
-"""Loops: over range(constants), and over the members of a container. The machine's loops make all their turns; a flag skips the rest."""
+"""Loops: over range(constants), and over the members of a container or the values of a map. The machine's loops make all their turns; a flag skips the rest."""
 
 from __future__ import annotations
 
@@ -14,6 +14,7 @@ from .types import INT
 from .values import closed_container, kind_of
 
 MOST_TURNS = 1000
+MOST_VALUES = 100_000
 MOST_DEPTH = 4
 Block = Callable[[Body, Sequence[ast.stmt]], None]
 Ends = Callable[[Body], None]
@@ -34,13 +35,16 @@ def loop(body: Body, node: ast.For, block: Block, ends: Ends) -> None:
     """Compiles a `for`."""
     if node.orelse:
         body.fail("a for has no else", node.orelse[0])
-    if len(body.loops) == MOST_DEPTH:
-        body.fail(f"at most {MOST_DEPTH} loops in one another")
     over = None if called(node.iter) == "range" else _container(body, node)
     shape = _counted(body, node) if over is None else _begun(body, over)
-    turns = Loop(body.now.copy(), body.new_label("next"), body.new_label("end"), body.temporary(INT) if _may_end(node) else "")
+    repeats = _repeats(shape.turns)
+    if sum(it.depth for it in body.loops) + len(repeats) > MOST_DEPTH:
+        body.fail(f"at most {MOST_DEPTH} loops in one another; one over more than {MOST_TURNS} values counts as two")
+    flag = body.temporary(INT) if _may_end(node) else ""
+    turns = Loop(body.now.copy(), body.new_label("next"), body.new_label("end"), flag, len(repeats))
     before, places = len(body.code.lines), set(body.places)
-    body.code.put("REPEAT", shape.turns)
+    for count in repeats:
+        body.code.put("REPEAT", count)
     top = len(body.code.lines)
     body.loops.append(turns)
     failing = body.begin_failing()
@@ -58,6 +62,11 @@ def loop(body: Body, node: ast.For, block: Block, ends: Ends) -> None:
     _add_flag(body, turns, before, top)
     _after(body, turns, shape, ends)
     body.forget([it for it in body.places if it not in places])
+
+
+def _repeats(turns: int) -> Tuple[int, ...]:
+    """Returns the iterations of the machine's loops that make so many turns, or more: one in another if one isn't enough."""
+    return (turns,) if turns <= MOST_TURNS else (-(-turns // MOST_TURNS), MOST_TURNS)
 
 
 def _with_pads(body: Body, turns: Loop, failing: Failing, shape: _Shape, lines: List[Line]) -> List[Line]:
@@ -79,7 +88,8 @@ def _with_pads(body: Body, turns: Loop, failing: Failing, shape: _Shape, lines: 
             body.code.put("ADD", shape.counter, shape.counter, step, "+0")
             body.values.release(step)
     body.code.label(turns.end)
-    body.code.put("END")
+    for _ in range(turns.depth):
+        body.code.put("END")
     made, body.code.lines = body.code.lines, kept
     return made
 
@@ -217,8 +227,10 @@ def _container(body: Body, node: ast.For) -> _Over:
     if called(node.iter) == "each" and isinstance(node.iter, ast.Call):
         arguments = [*node.iter.args, *(it.value for it in node.iter.keywords if it.arg == "most")]
         found = body.source.constants.of(arguments[1]) if len(arguments) == 2 else None
-        if not isinstance(found, int) or not 1 <= found <= MOST_TURNS:
-            body.fail(f"each takes a container and the most members, a constant from 1 to {MOST_TURNS}", node.iter)
+        kind = body.kinds.kind_of(arguments[0]) if arguments else None
+        greatest = MOST_VALUES if kind and kind.type.is_map else MOST_TURNS
+        if not isinstance(found, int) or not 1 <= found <= greatest:
+            body.fail(f"each takes a container or a map, and the most members or values, a constant from 1 to {greatest}", node.iter)
         over, most = arguments[0], found
     register = closed_container(body, over)
     return _Over(register, most, body.temporary(INT), body.temporary(INT), _names(body, node))
@@ -236,6 +248,12 @@ def _names(body: Body, node: ast.For) -> Tuple[str, str]:
 
 def _begun(body: Body, over: _Over) -> _Shape:
     body.code.put("SIZE", over.size, over.register)
+    if over.most > MOST_TURNS:
+        few = body.new_label("few")
+        body.code.put("INT", over.index, over.most)
+        body.code.put("JLT", over.size, over.index, few)
+        body.code.put("COPY", over.size, over.index)
+        body.code.label(few)
     body.code.put("INT", over.index, 0)
     return _Shape(over.most, over.index, 1, (), (over.size, over.index))
 
@@ -253,8 +271,10 @@ def _member(body: Body, node: ast.For, over: _Over, shape: _Shape, turns: Loop) 
     body.code.label(there)
     register = body.variable(subscript) if subscript != "_" else body.temporary(kind.subscript)
     body.code.put("TSUBAT" if by_text else "SUBAT", register, over.register, over.index, turns.next)
-    body.unit.version_2 = body.unit.version_2 or by_text
-    if member != "_":
+    body.unit.need(kind.version)
+    if member != "_" and kind.is_map:
+        body.code.put("MGET", body.variable(member), over.register, register, turns.next)
+    elif member != "_":
         if body.function.kind == "leaf":
             body.fail("a leaf function can't wait for members: give them to it as arguments", node.target)
         held = body.hold(member, member, "ref", kind.member)

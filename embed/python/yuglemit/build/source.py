@@ -10,11 +10,11 @@ from typing import Dict, List, NoReturn, Optional, Tuple
 from .constants import Constant, Constants
 from .errors import BuildError
 from .reading import checked, column_of
-from .types import CONTAINERS, DEEPEST, SCALARS, DataType
+from .types import CONTAINERS, DEEPEST, INT, MAPS, SCALARS, DataType
 
 MOST_ARGUMENTS = 8
 MOST_SHOWN = 60
-BUILTINS = frozenset("check each insert nth len byte_length str int abs min max out Array Table Int Text Out range leaf control tuple".split())
+BUILTINS = frozenset("check each insert nth len byte_length str int abs min max out Array Table Map Sum Int Text Out range leaf control tuple".split())
 
 
 @dataclass(frozen=True)
@@ -85,12 +85,27 @@ def _type_of(source: Source, node: Optional[ast.expr], where: ast.AST) -> DataTy
         return SCALARS[node.id]
     if isinstance(node, ast.Subscript) and isinstance(node.value, ast.Name) and node.value.id in CONTAINERS:
         inner_type = _type_of(source, node.slice, node)
-        if len(inner_type.words) > DEEPEST:
+        if inner_type.depth == DEEPEST:
             source.fail(node, f"at most {DEEPEST} of Array and Table in one another")
         return DataType((CONTAINERS[node.value.id], *inner_type.words))
+    if isinstance(node, ast.Subscript) and isinstance(node.value, ast.Name) and node.value.id in MAPS:
+        return _map_type(source, node, node.value.id == "Sum")
     named = source.shown(node) if node is not None else "nothing"
-    advice = {"int": "; Int is that of ints", "str": "; Text is that of texts", "list": "; Array[..] is like a list", "dict": "; Table[..] is like a dict"}
-    source.fail(node or where, f"expected a type: Int, Text, Array[..] or Table[..], found {named}{advice.get(named.partition('[')[0], '')}")
+    advice = {"int": "; Int is that of ints", "str": "; Text is that of texts", "list": "; Array[..] is like a list", "dict": "; Map[..] is like a dict"}
+    source.fail(node or where, f"expected a type: Int, Text, Array[..], Table[..], Map[..] or Sum[..], found {named}{advice.get(named.partition('[')[0], '')}")
+
+
+def _map_type(source: Source, node: ast.Subscript, is_sums: bool) -> DataType:
+    """Returns the type of `Map[Int, Text]`, or of `Sum[Text]`."""
+    items = node.slice.elts if isinstance(node.slice, ast.Tuple) else [node.slice]
+    if len(items) != 2 - is_sums:
+        wanted = "the type of its subscripts: Sum[Int] or Sum[Text]" if is_sums else "the types of its subscripts and of its values, such as Map[Int, Text]"
+        source.fail(node, f"{'Sum' if is_sums else 'Map'} takes {wanted}")
+    types = [_type_of(source, it, node) for it in items]
+    for it, found in zip(items, types):
+        if not found.is_scalar:
+            source.fail(it, f"subscripts and values of a map are Int or Text, and {source.shown(it)} is neither: an Array or a Table has such members")
+    return DataType(("map" if types[0] == INT else "tmap", "sum" if is_sums else types[1].words[0]))
 
 
 def _in_quotes(source: Source, node: ast.expr, text: str) -> ast.expr:
@@ -107,9 +122,9 @@ def _in_quotes(source: Source, node: ast.expr, text: str) -> ast.expr:
 
 
 def container_type(source: Source, node: ast.expr) -> Optional[DataType]:
-    """Returns the type of `Array[..]()` or `Table[..]()`, or None if the expression is another."""
+    """Returns the type of `Array[..]()`, `Table[..]()`, `Map[..]()` or `Sum[..]()`, or None if the expression is another."""
     if isinstance(node, ast.Call) and isinstance(node.func, ast.Subscript):
-        if isinstance(node.func.value, ast.Name) and node.func.value.id in CONTAINERS:
+        if isinstance(node.func.value, ast.Name) and (node.func.value.id in CONTAINERS or node.func.value.id in MAPS):
             if node.args or node.keywords:
                 source.fail(node, "a container begins empty: give no argument")
             return _type_of(source, node.func, node)
@@ -121,7 +136,7 @@ def _parameter(source: Source, argument: ast.arg) -> Parameter:
     if isinstance(annotation, ast.Subscript) and isinstance(annotation.value, ast.Name) and annotation.value.id == "Out":
         return Parameter(argument.arg, _type_of(source, annotation.slice, argument), True)
     if annotation is None:
-        source.fail(argument, f"parameter {argument.arg} has no type: {argument.arg}: Int, Text, Array[..], Table[..] or Out[..]")
+        source.fail(argument, f"parameter {argument.arg} has no type: {argument.arg}: Int, Text, Array[..], Table[..], Map[..], Sum[..] or Out[..]")
     return Parameter(argument.arg, _type_of(source, annotation, argument), False)
 
 

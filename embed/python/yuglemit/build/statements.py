@@ -14,7 +14,7 @@ from .kinds import called, name_of
 from .loops import loop, turn_ends
 from .reading import is_elif
 from .source import container_type
-from .tasks import call_task, copied_to, left_unset, look, move, new_datum, read_right, stored, write_key
+from .tasks import add_to_sum, call_task, copied_to, left_unset, look, move, new_datum, read_right, stored, write_key
 from .types import INT, DataType
 from .values import kind_of, put_constant, value
 
@@ -65,8 +65,11 @@ def _annotated(body: Body, node: ast.AnnAssign) -> None:
 
 
 def _augmented(body: Body, node: ast.AugAssign) -> None:
+    if isinstance(node.target, ast.Subscript):
+        add_to_sum(body, node.target, node)
+        return
     if not isinstance(node.target, ast.Name):
-        body.fail("only a variable can be changed so", node.target)
+        body.fail("only a variable, or a value of a Sum, can be changed so", node.target)
     load = ast.copy_location(ast.Name(node.target.id, ast.Load()), node.target)
     assign_to(body, node.target, ast.copy_location(ast.BinOp(load, node.op, node.value), node))
 
@@ -147,7 +150,7 @@ def _set_variable(body: Body, target: ast.Name, node: ast.expr) -> None:
     elif kind.form == "future":
         set_future(body, key, node)
     else:
-        body.fail(f"{key} is a container: a container has one name, and is made as Array[..]() or Table[..]()", node)
+        body.fail(f"{key} is a container: a container has one name, and is made as Array[..](), Table[..](), Map[..]() or Sum[..]()", node)
 
 
 def _check_settable(body: Body, target: ast.Name) -> None:
@@ -170,7 +173,7 @@ def _make_container(body: Body, key: str, kind: DataType) -> None:
     write = body.hold(f"{key}>", f"{key}_out", "write", kind)
     read = body.hold(key, key, "ref", kind)
     body.code.put("NEW", write.register, read.register, kind.spelling)
-    body.unit.version_2 = body.unit.version_2 or kind.needs_version_2
+    body.unit.need(kind.version)
     body.now.assigned.add(key)
 
 
@@ -230,18 +233,24 @@ def _check_output(body: Body, key: str, target: ast.AST) -> None:
 
 
 def insert(body: Body, over: ast.expr, subscript: ast.expr, member: ast.expr) -> None:
-    """Sets a member of a container; it is refused if the subscript has one."""
+    """Sets a member of a container or a value of a map; it is refused if the subscript has one."""
     key = write_key(body, over)
     kind = body.now.rights[key].type
     if kind.is_scalar:
         body.fail(f"{body.source.shown(over)} is no container", over)
+    if kind.is_sums:
+        body.fail(f"values of a Sum are added to: {body.source.shown(over)}[..] += ..", over)
     at = value(body, subscript, kind.subscript)
-    source = _member_right(body, member, kind.member)
-    label = body.refused(f"the subscript {body.source.shown(subscript)} may be taken", _as_check(body, over, subscript, member))
-    name = "INS" if kind.subscript == INT else "TINS"
-    body.unit.version_2 = body.unit.version_2 or name == "TINS"
-    body.code.put(name, body.now.rights[key].register, at, body.now.rights[source].register, label)
-    body.spend(source)
+    cause = (f"the subscript {body.source.shown(subscript)} may be taken", _as_check(body, over, subscript, member))
+    if kind.is_map:
+        found = value(body, member, kind.member)
+        body.code.put("MINS", body.now.rights[key].register, at, found, body.refused(*cause))
+        body.values.release(found)
+    else:
+        source = _member_right(body, member, kind.member)
+        label = body.refused(*cause)
+        body.code.put("INS" if kind.subscript == INT else "TINS", body.now.rights[key].register, at, body.now.rights[source].register, label)
+        body.spend(source)
     body.values.release(at)
 
 
@@ -276,7 +285,7 @@ def _expression(body: Body, node: ast.Expr) -> None:
 
 def _insert_call(body: Body, node: ast.expr) -> None:
     if not isinstance(node, ast.Call) or len(node.args) != 3 or node.keywords:
-        body.fail("insert takes a container, a subscript and a member", node)
+        body.fail("insert takes a container or a map, a subscript, and a member or a value", node)
     insert(body, *node.args)
 
 

@@ -45,7 +45,7 @@ def call_task(body: Body, node: ast.Call, results: Sequence[Optional[str]]) -> N
     discarded, moved = _results(body, function, results, gathered)
     name = body.unit.name_of(Variant(function, tuple(gathered.modes)))
     instruction = ("RULE" if gathered.waits else "PUT") + ("V" if priority in gathered.values else "")
-    body.unit.version_2 = body.unit.version_2 or instruction.endswith("V")
+    body.unit.need(2 if instruction.endswith("V") else 1)
     body.code.at(node)
     body.code.put(instruction, name, priority, target, *gathered.operands)
     _finish(body, gathered, discarded, moved)
@@ -130,7 +130,7 @@ def look(body: Body, node: ast.Subscript, key: str, wanted: str = "member") -> N
     subscript = value(body, node.slice, kind.subscript)
     label = body.refused(f"{body.source.shown(node)} may not be there")
     right = body.hold(key, wanted, "ref", kind.member)
-    body.unit.version_2 = body.unit.version_2 or kind.subscript != INT
+    body.unit.need(kind.version)
     body.code.put("LOOK" if kind.subscript == INT else "TLOOK", right.register, over, subscript, label)
     body.values.release(subscript)
 
@@ -172,6 +172,18 @@ def write_key(body: Body, node: ast.expr) -> str:
             body.fail(f"{key} is set already", node)
         body.fail(f"{body.source.shown(node)} can't be written here: expected out.NAME or a container made here", node)
     return key
+
+
+def add_to_sum(body: Body, target: ast.Subscript, node: ast.AugAssign) -> None:
+    """Adds to a value of a Sum, which is never refused."""
+    key = write_key(body, target.value)
+    kind = body.now.rights[key].type
+    if not kind.is_sums or not isinstance(node.op, ast.Add):
+        body.fail("only a variable can be changed so; a value of a Sum by += alone", target)
+    at, number = value(body, target.slice, kind.subscript), value(body, node.value, INT)
+    body.code.put("MADD", body.now.rights[key].register, at, number)
+    for it in (at, number):
+        body.values.release(it)
 
 
 def _give_write(body: Body, parameter: Parameter, argument: ast.expr, gathered: _Call) -> None:
@@ -248,7 +260,7 @@ def new_datum(body: Body, key: str, kind: DataType, wanted: str) -> str:
     to_write = body.hold(write, f"{wanted}_out", "write", kind)
     to_read = body.hold(key, wanted, "ref", kind)
     body.code.put("NEW", to_write.register, to_read.register, kind.spelling)
-    body.unit.version_2 = body.unit.version_2 or kind.needs_version_2
+    body.unit.need(kind.version)
     return write
 
 
@@ -285,7 +297,7 @@ def left_unset(body: Body, output: str) -> None:
     """Writes the rule that holds the right to write an output or a container for ever, so that it stays unset or open: the run then ends stuck."""
     kind = body.now.rights[output].type
     name = f"never_{kind.spelling}".replace(" ", "_")
-    body.unit.version_2 = body.unit.version_2 or kind.needs_version_2
+    body.unit.need(kind.version)
     body.unit.helpers[name] = [
         "; Waits for what it would store itself, so its task never comes, and `unset` stays as it is.",
         f"proc leaf {name}(waits: closed int, own: write int, unset: write {kind.spelling})",

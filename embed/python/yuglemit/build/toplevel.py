@@ -18,7 +18,7 @@ _ADVICE = {
     ast.For: "nothing is repeated here: write the constants themselves",
     ast.While: "nothing is repeated here: write the constants themselves",
     ast.Delete: "leave out what isn't used",
-    ast.ClassDef: "types are Int, Text, Array[..] and Table[..]",
+    ast.ClassDef: "types are Int, Text, Array[..], Table[..], Map[..] and Sum[..]",
     ast.AsyncFunctionDef: "write def; a call of a task is never waited for",
 }
 

@@ -100,6 +100,8 @@ def _computed(body: Body, node: ast.expr, kind: Kind, into: Optional[str]) -> st
         return _formatted(body, node, into)
     if isinstance(node, ast.Call):
         return _called(body, node, into)
+    if isinstance(node, ast.Subscript):
+        return _entry(body, node, into)
     if isinstance(node, ast.NamedExpr):
         body.fail(":= is for the argument of check(..)", node)
     body.fail(f"{body.source.shown(node)} is not of the language", node)
@@ -324,13 +326,24 @@ def _nth(body: Body, node: ast.Call, into: Optional[str]) -> str:
     index = value(body, node.args[1], INT)
     register = into or body.temporary(kind.subscript)
     body.code.put("SUBAT" if kind.subscript == INT else "TSUBAT", register, over, index, body.refused(f"{body.source.shown(node)} may not be there"))
-    body.unit.version_2 = body.unit.version_2 or kind.subscript == TEXT
+    body.unit.need(kind.version)
     body.values.release(index)
     return register
 
 
+def _entry(body: Body, node: ast.Subscript, into: Optional[str]) -> str:
+    """Reads the value of a map at a subscript."""
+    over = closed_container(body, node.value)
+    kind = kind_of(body, node.value).type
+    subscript = value(body, node.slice, kind.subscript)
+    register = into or body.temporary(kind.member)
+    body.code.put("MGET", register, over, subscript, body.refused(f"{body.source.shown(node)} may not be there"))
+    body.values.release(subscript)
+    return register
+
+
 def closed_container(body: Body, node: ast.expr) -> str:
-    """Returns the register of a container that is complete: a parameter that isn't Out."""
+    """Returns the register of a container or a map that is complete: a parameter that isn't Out."""
     if isinstance(node, ast.Name):
         right = body.now.rights.get(node.id)
         if right is not None and right.mode == "closed" and not right.type.is_scalar:

@@ -1,0 +1,21 @@
+from yuglemit.build import Int, Map, Out, control, leaf, out
+
+
+@leaf(otherwise=())
+def multiply(matrix: Map[Int, Int], vector: Map[Int, Int], product: Out[Map[Int, Int]], row: Int, columns: Int, at: Int) -> None:
+    total = 0
+    for column in range(1000):
+        if column == columns:
+            break
+        total = total + matrix[at + column] * vector[column]
+    out.product[row] = total
+
+
+@control
+def main(matrix: Map[Int, Int], vector: Map[Int, Int], product: Out[Map[Int, Int]]) -> None:
+    seen = 0
+    for row in range(1000):
+        if seen >= len(matrix) or len(vector) == 0:
+            break
+        multiply(matrix, vector, out.product, row, len(vector), seen)
+        seen = seen + len(vector)
