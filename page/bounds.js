@@ -17,7 +17,7 @@ function endsOf(code) {
     return ends;
 }
 
-const SKIPS = new Set(["ADD", "SUB", "MUL", "DIV", "REM", "CAT", "READI", "JEQ", "JLT", "INS", "LOOK", "SUBAT", "TINS", "TLOOK", "TSUBAT"]);
+const SKIPS = new Set(["ADD", "SUB", "MUL", "DIV", "REM", "CAT", "READI", "JEQ", "JLT", "INS", "LOOK", "SUBAT", "TINS", "TLOOK", "TSUBAT", "MINS", "MGET"]);
 
 /** Returns the cost of the dearest walk through a procedure. From the last place to the first, the cost of each place is that of the
  * dearest walk from there to the END of its loop, or to a RET.

@@ -12,7 +12,7 @@ import {scan} from "./source.js";
 
 const MOST = 8, SHORTEST = 2;
 const LINES = {proc: "begins a procedure", regs: "names value registers", let: "names a register", const: "names a number", names: "the first line of a text with names"};
-const HEAD = {control: "runs on an engine", leaf: "runs on a worker", closed: "a right to read a closed datum", ref: "a right to read", write: "a right to write", val: "a value", int: "a number", text: "a text", cont: "a container by numbers", tcont: "a container by texts"};
+const HEAD = {control: "runs on an engine", leaf: "runs on a worker", closed: "a right to read a closed datum", ref: "a right to read", write: "a right to write", val: "a value", int: "a number", text: "a text", cont: "a container by numbers", tcont: "a container by texts", map: "values by numbers", tmap: "values by texts", sum: "numbers of a map that are added up"};
 
 /** Returns what may be meant at the end of a line.
  * @param {string} text the program @param {number} line @param {string} before the line up to the cursor @returns {Offer[]} */

@@ -2,13 +2,14 @@
 // SPDX-License-Identifier: Apache-2.0
 // The fields above Run: an input for each that main asks for, and how many actors there are.
 import {$, h} from "./dom.js";
-import {inputFault, normal, openingFault} from "./values.js";
+import {inputFault, isMap, normal, openingFault} from "./values.js";
 
 /** @typedef {import("./program.js").Procedure} Procedure */
 
 /** The prefix of an input's word, by its type.
  * @type {Record<string, string>} */
-const PREFIX = {int: "int:", text: "text:", "cont int": "ints:", "cont text": "texts:", "tcont int": "tints:", "tcont text": "ttexts:"};
+const PREFIX = {int: "int:", text: "text:", "cont int": "ints:", "cont text": "texts:", "tcont int": "tints:", "tcont text": "ttexts:",
+    "map int": "ints:", "map sum": "ints:", "map text": "texts:", "tmap int": "tints:", "tmap sum": "tints:", "tmap text": "ttexts:"};
 /** A sample value for each prefix.
  * @type {Record<string, string>} */
 const SAMPLE = {"int:": "7", "text:": "any words", "ints:": "1=7,2=-3", "texts:": '1="a",2="b"', "tints:": '"a"=1,"b"=2', "ttexts:": '"a"="x"'};
@@ -22,7 +23,7 @@ export class Fields {
         this.box = box;
         this.changed = changed;
         /** Main's inputs; null until they are known.
-         * @type {{name: string, prefix: string}[] | null} */
+         * @type {{name: string, prefix: string, ofMap: boolean}[] | null} */
         this.asked = null;
         for (const [name, most] of NUMBERS) $(name).addEventListener("input", () => { this.markNumber(name, most); changed(); });
     }
@@ -31,7 +32,7 @@ export class Fields {
      * @param {Procedure[]} program @param {string[]} names of main's parameters */
     ask(program, names) {
         const inputs = program[0].params.map(({mode, type}, k) => ({mode, type, name: names[k]})).filter(it => it.mode !== "write");
-        const asked = inputs.map(({type, name}, k) => ({name: /^d\d+$/.test(name) ? `input ${k + 1}` : name, prefix: PREFIX[type] ?? ""}));
+        const asked = inputs.map(({type, name}, k) => ({name: /^d\d+$/.test(name) ? `input ${k + 1}` : name, prefix: PREFIX[type] ?? "", ofMap: isMap(type)}));
         if (JSON.stringify(asked) === JSON.stringify(this.asked)) return;
         const words = this.words();
         this.asked = asked;
@@ -72,7 +73,7 @@ export class Fields {
     /** Marks wrong inputs. Returns the first fault, with the field's name; empty if there is none. */
     mark() {
         const words = this.words(), rows = this.inputs.map((field, k) => {
-            const fault = field.value.trim() || field.dataset.prefix !== "int:" ? inputFault(words[k]) || openingFault(words[k]) : "a number is wanted";
+            const fault = field.value.trim() || field.dataset.prefix !== "int:" ? inputFault(words[k]) || openingFault(words[k], this.asked?.[k]?.ofMap) : "a number is wanted";
             field.setAttribute("aria-invalid", String(!!fault));
             $(`input-${k}-fault`).textContent = fault;
             return fault && `The input ${this.asked?.[k]?.name ?? k + 1} is wrong: ${fault}.`;

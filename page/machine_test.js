@@ -49,7 +49,7 @@ async function compare(name, text, words, [engines, servers, workers]) {
         if (k % 7 === 0) say(report(run.at(k)) === report(state), name, "another state at", k);
     }
     const places = readPlaces(session(["check", "--text", "--places"], text).text, source), verdict = readVerdict(session(["check", "--text", "--order"], text).text, source);
-    say(verdict.order && (verdict.order.same || /\bT?INS\b/.test(source.text[verdict.order.line])), name, "another order", verdict.order);
+    say(verdict.order && (verdict.order.same || /\b(T?INS|MINS)\b/.test(source.text[verdict.order.line])), name, "another order", verdict.order);
     say(verdict.accepted && verdict.budgets.length === program.length, name, "verdict", verdict);
     say(source.places.every((code, k) => code.length === program[k].code.length), name, "lines of places", source.places.map(it => it.length));
     say(verdict.budgets.every(({budget, procedure}) => dearestWalk(program[procedure].code, () => 1n) === BigInt(budget)), name, "other budgets", verdict.budgets);

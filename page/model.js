@@ -1,7 +1,7 @@
 // @ts-check
 // SPDX-License-Identifier: Apache-2.0
 // Describes a step: its event in a sentence, and the state after it in rows.
-import {isBetter, isClosed, jumps, lines, standing, subscripts} from "./machine.js";
+import {count, isBetter, isClosed, jumps, lines, standing, subscripts} from "./machine.js";
 import {callName, nameAt, uncommented} from "./source.js";
 import {shown} from "./values.js";
 
@@ -22,7 +22,7 @@ import {shown} from "./values.js";
 
 /** The rows of a table that are made; a few more than are shown, so that a row that moves up isn't taken for a new one. */
 const MADE = 160;
-/** The members of a container that are shown. */
+/** The members of a container, or the values of a map, that are shown. */
 const MEMBERS = 12;
 
 /** Returns the first of many things, as rows.
@@ -57,7 +57,10 @@ const DID = {
     GET: ([it]) => `reads ${it}`,
     INS: ([into, member], {refused}) => refused ? `finds the subscript taken in ${into}, and skips` : `puts ${member} into ${into}`,
     LOOK: ([from, member], {refused}) => refused ? `finds no such subscript in ${from}, and skips` : `finds ${member} in ${from}, and gets a right to read it`,
-    SIZE: ([it]) => `counts the members of ${it}`,
+    MINS: ([into], {refused}) => refused ? `finds the subscript taken in ${into}, and skips` : `puts a value into ${into}`,
+    MADD: ([into]) => `adds to a value of ${into}`,
+    MGET: ([from], {refused}) => refused ? `finds no such subscript in ${from}, and skips` : `reads a value of ${from}`,
+    SIZE: ([it]) => `counts the members or values of ${it}`,
     SUBAT: ([it], {refused}) => refused ? `finds no further subscript in ${it}, and skips` : `reads a subscript of ${it}`,
     DUPR: ([it]) => `copies its right to read ${it}`,
     DUPW: ([it]) => `copies its right to write ${it}`,
@@ -92,9 +95,10 @@ function describe(run, event) {
 /** Returns a datum's content in words.
  * @param {Datum} datum */
 export function content(datum) {
-    if (!datum.members) return datum.value === null ? "not yet written" : shown(datum.value);
-    const some = subscripts(datum, MEMBERS).map(key => `${shown(key)} → ${datum.members?.get(key)}`).join(", "), {size} = datum.members;
-    return size ? `${size} member${size > 1 ? "s" : ""}: ${some}${size > MEMBERS ? ", .." : ""}` : "no members";
+    if (!datum.members && !datum.entries) return datum.value === null ? "not yet written" : shown(datum.value);
+    const held = (/** @type {Scalar} */ key) => datum.entries ? shown(/** @type {Scalar} */ (datum.entries.get(key))) : datum.members?.get(key);
+    const some = subscripts(datum, MEMBERS).map(key => `${shown(key)} → ${held(key)}`).join(", "), size = count(datum), what = datum.entries ? "value" : "member";
+    return size ? `${size} ${what}${size > 1 ? "s" : ""}: ${some}${size > MEMBERS ? ", .." : ""}` : `no ${what}s`;
 }
 
 /** Returns what an argument is called.
@@ -153,7 +157,7 @@ function dataRow(run, datum) {
  * @param {Run} run @param {number} event */
 function refusedInsertions(run, event) {
     const {program} = run.setting, all = [...run.track.refusedUpTo(event)].slice(-500);
-    const named = all.filter(it => /^T?INS$/.test(program[run.track.procedureOf(it)].code[run.track.placesOf(it)[0]].name));
+    const named = all.filter(it => /^(T?INS|MINS)$/.test(program[run.track.procedureOf(it)].code[run.track.placesOf(it)[0]].name));
     return named.slice(-8).map(it => `event ${it}: ${sentence(run, run.event(it))}`);
 }
 

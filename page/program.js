@@ -11,7 +11,7 @@
  * @typedef {{name: string, operands: any[]}} Instruction */
 /** @typedef {{kind: "control" | "leaf", params: Param[], regs: Type[], code: Instruction[]}} Procedure */
 
-const MODES = ["", "val", "closed", "ref", "write"], WORDS = ["", "int", "text", "cont", "tcont"];
+const MODES = ["", "val", "closed", "ref", "write"], WORDS = ["", "int", "text", "cont", "tcont", "map", "tmap"], ENTRIES = ["", "int", "text", "sum"];
 
 // Of each code its name, and its operands: r register, n number, t text, s skip, y type, p procedure, g target, a arguments, c turns.
 /** @type {Record<number, [string, string]>} */
@@ -24,6 +24,7 @@ const CODES = {
     0x35: ["SIZE", "rr"], 0x36: ["SUBAT", "rrrs"], 0x37: ["DUPR", "rr"], 0x38: ["DUPW", "rr"], 0x39: ["DROPR", "r"], 0x3a: ["DROPW", "r"],
     0x40: ["RULE", "pnga"], 0x41: ["PUT", "pnga"], 0x42: ["RET", ""],
     0x50: ["TINS", "rrrs"], 0x51: ["TLOOK", "rrrs"], 0x52: ["TSUBAT", "rrrs"], 0x53: ["RULEV", "prga"], 0x54: ["PUTV", "prga"],
+    0x60: ["MINS", "rrrs"], 0x61: ["MGET", "rrrs"], 0x62: ["MADD", "rrr"],
 };
 
 /** Reads bytes from the left. */
@@ -35,7 +36,10 @@ class Reader {
     eight() { this.at += 8; return this.view.getBigInt64(this.at - 8); }
     text() { const length = this.two(); this.at += length; return new TextDecoder("utf-8", {ignoreBOM: true}).decode(this.bytes.subarray(this.at - length, this.at)); }
     /** @returns {Type} */
-    type() { const word = WORDS[this.byte()]; return word.endsWith("cont") ? `${word} ${this.type()}` : word; }
+    type() {
+        const word = WORDS[this.byte()];
+        return word.endsWith("cont") ? `${word} ${this.type()}` : word.endsWith("map") ? `${word} ${ENTRIES[this.byte()]}` : word;
+    }
     /** Reads as many items as a byte says.
      * @template T @param {() => T} item @returns {T[]} */
     list(item) { return Array.from({length: this.byte()}, item); }

@@ -47,7 +47,7 @@ def tables(text: str) -> list[list[list[str]]]:
 def named_in(cell: str) -> tuple[list[str], str]:
     """Returns the instructions of a table's first cell, and their operands."""
     names = re.findall(r"\b[A-Z]{3,}[VI]?\b", cell)
-    return names, re.sub(r"\*\*2\*\*: ", "", cell.split(",")[-1] if "," in cell else cell)
+    return names, re.sub(r"\*\*[24]\*\*: ", "", cell.split(",")[-1] if "," in cell else cell)
 
 
 def rows_of(section: str) -> dict[str, Row]:
@@ -69,12 +69,13 @@ def rows_of(section: str) -> dict[str, Row]:
 
 def refusal(section: str, name: str) -> str:
     """Returns when an instruction on data is refused, as the text above their table says it."""
-    said = re.search(r"((?:\w+, )+\w+ and \w+) are refused, and skip, if their call is; (\w+ and \w+) if\s+(.*?); no\s+other ever is", section)
+    said = re.search(r"((?:\w+, )+\w+ and \w+) are refused, and skip, if their call is; (\w+ and \w+) if\s+(.*?);\s+(\w+) if\s+(.*?),\s+and (\w+) if (.*?); no\s+other ever is", section, re.S)
     if not said:
         raise ValueError("docs/MACHINE.md says in another form which instructions are refused")
-    if name in re.findall(r"\w+", said[1]):
-        return "if the subscript is taken" if name.endswith("INS") else "if there is no such subscript"
-    return f"if {said[3]}" if name in said[2].split() else "never"
+    calls, subscripts, why, puts, taken, reads, missing = (" ".join(it.split()) for it in said.groups())
+    causes = {puts: taken, reads: missing, **dict.fromkeys(subscripts.split(" and "), why)}
+    causes.update({it: "the subscript is taken" if it.endswith("INS") else "there is no such subscript" for it in re.findall(r"[A-Z]+", calls)})
+    return f"if {causes[name]}" if name in causes else "never"
 
 
 def started(section: str) -> dict[str, Row]:

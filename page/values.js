@@ -2,7 +2,7 @@
 // SPDX-License-Identifier: Apache-2.0
 // Types, values and input words, as docs/FORMAT.md and docs/MACHINE.md define them.
 
-/** A type as its words: `int`, `text`, or `cont` or `tcont` before a type.
+/** A type as its words: `int`, `text`, `cont` or `tcont` before a type, or `map` or `tmap` before `int`, `text` or `sum`.
  * @typedef {string} Type */
 /** A scalar: an int or a text.
  * @typedef {bigint | string} Scalar */
@@ -28,7 +28,15 @@ export const elementOf = type => type.slice(type.indexOf(" ") + 1);
 
 /** Returns whether a type is a container.
  * @param {Type} type */
-export const isContainer = type => type.includes(" ");
+export const isContainer = type => /^t?cont /.test(type);
+
+/** Returns whether a type is a map.
+ * @param {Type} type */
+export const isMap = type => /^t?map /.test(type);
+
+/** Returns the type of a map's values.
+ * @param {Type} type @returns {Type} */
+export const entryOf = type => type.endsWith("text") ? "text" : "int";
 
 /** Orders subscripts: ints by value, texts by their UTF-8 bytes.
  * @param {Scalar} one @param {Scalar} other */
@@ -130,18 +138,18 @@ export function normal(word) {
 }
 
 /** Returns why a program's opening would refuse an input; empty if it wouldn't.
- * @param {string} word */
-export function openingFault(word) {
+ * @param {string} word @param {boolean} [ofMap] whether it is for a map */
+export function openingFault(word, ofMap = false) {
     const input = readInput(word);
     if (!input) return "";
     const {value} = input, texts = value instanceof Map ? [...value].flat() : [value], keys = value instanceof Map ? [...value.keys()] : [];
     if (texts.some(it => typeof it === "string" && byteLength(it) > LONGEST_TEXT)) return "a text has over 4,096 bytes";
-    if (keys.length > MEMBERS) return "it has over 1,000 members";
+    if (keys.length > (ofMap ? ENTRIES : MEMBERS)) return ofMap ? "it has over 100,000 values" : "it has over 1,000 members";
     if (/^t?(ints|texts):/.test(word) && keys.length < pairsIn(word)) return "a subscript is there twice";
     const wrong = keys.findIndex((key, k) => k > 0 && order(keys[k - 1], key) >= 0);
     return wrong > 0 ? `the subscripts have to rise: ${shown(keys[wrong])} is after ${shown(keys[wrong - 1])}` : "";
 }
-const MEMBERS = 1000;
+const MEMBERS = 1000, ENTRIES = 100000;
 
 /** Returns how many pairs a list word has.
  * @param {string} word */
