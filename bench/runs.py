@@ -192,6 +192,65 @@ def memory() -> None:
     table.append(("memory of a million events of `put.tw` (most of the process), beside a run of none", f"{most:.1f} MiB, {least:.1f} MiB", "half"))
 
 
+def repeated(head: str, step: str, end: str, thousands: int) -> str:
+    """Returns a main that makes a step so many thousand times."""
+    return f"version 4\nproc control {head}\nregs int int\nINT v1 1\nREPEAT {thousands}\n{step * 1000}END\n{end}RET\n"
+
+
+# Steps of main, with what its parameter is, the instruction that ends its right, and an input.
+STEPS = {
+    "GET": ("closed int", "GET v0 d0\n", "DROPR", "int:1"),
+    "MGET": ("closed map int", "MGET v0 d0 v1 +0\n", "DROPR", "ints:1=1"),
+    "MADD": ("write map sum", "MADD d0 v0 v1\n", "DROPW", ""),
+    "GET, ADD": ("closed int", "GET v1 d0\nADD v0 v0 v1 +0\n", "DROPR", "int:1"),
+    "MADD, ADD": ("write map sum", "MADD d0 v0 v1\nADD v0 v0 v1 +0\n", "DROPW", ""),
+    "MINS, ADD": ("write map int", "MINS d0 v0 v1 +0\nADD v0 v0 v1 +0\n", "DROPW", ""),
+}
+
+
+def steps_of(name: str, thousands: int) -> tuple[str, list[str]]:
+    """Returns the program of so many thousand steps, and the words of its run."""
+    head, step, drop, given = STEPS[name]
+    return repeated(head, step, f"{drop} d0\n", thousands), [LIMIT, "--in-turn", *given.split()]
+
+
+def run_of_steps(name: str, thousands: int) -> Run:
+    text, words = steps_of(name, thousands)
+    return tw_run(text, *words)
+
+
+def of_maps() -> None:
+    print("Events on maps, or with an ADD after each, beside GET: nanoseconds on the clock, and ratios")
+    least = least_of(9, {(name, thousands): run_of_steps(name, thousands) for name in STEPS for thousands in (1, 100)})
+    costs = {name: (least[name, 100][0] - least[name, 1][0]) / 99e3 * 1e9 for name in STEPS}
+    ratios = {name: cost / costs["GET, ADD" if "," in name else "GET"] for name, cost in costs.items()}
+    for name, cost in costs.items():
+        print(f"{cost:8.0f}   {ratios[name]:6.2f}  {name}")
+    table.append(("an event MGET, MADD of GET's time", several((ratios["MGET"], ratios["MADD"])), "1.2, 1.2"))
+    table.append(("MADD, MINS under 100,000 subscripts, with an ADD after each, of GET's with an ADD", several((ratios["MADD, ADD"], ratios["MINS, ADD"])), ""))
+
+
+def bytes_of_a_step(name: str) -> float:
+    """The memory that a step keeps."""
+    few, many = (steps_of(name, thousands) for thousands in (100, 200))
+    return (peak_memory(many[0], *many[1]) - peak_memory(few[0], *few[1])) * 2**20 / 100e3
+
+
+def of_values() -> None:
+    print("A value of a map under an int, without its events: bytes")
+    kept = bytes_of_a_step("MINS, ADD") - bytes_of_a_step("GET, ADD")
+    print(f"{kept:8.0f}")
+    table.append(("memory of a value of a map under an int", f"{kept:.0f} bytes", "100 bytes"))
+
+
+def sum_of_inputs() -> None:
+    print("The sum of 100,000 inputs by one leaf: seconds on the clock")
+    given = (read("sum.tw") + "inputs\nints:" + ",".join(f"{number}=7" for number in range(100_000))).encode()
+    least = least_of(9, {"sum": lambda: timed([program, "run", "--text", "--inputs", LIMIT], given)})["sum"][0]
+    print(f"{least:8.3f}")
+    table.append(("the sum of 100,000 inputs by one leaf", f"{least:.2f} s", "0.4 s"))
+
+
 def start_to_end() -> None:
     print("A run of store_seven from start to end: milliseconds on the clock")
     with open(os.path.join(here, "..", "examples", "store_seven.hex"), "rb") as file:
@@ -216,6 +275,9 @@ def main() -> None:
     long_jobs(50, "3.5")
     long_jobs(500, "3.5")
     memory()
+    of_maps()
+    of_values()
+    sum_of_inputs()
     start_to_end()
     print_table()
 

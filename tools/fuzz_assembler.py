@@ -6,13 +6,16 @@ import re
 from dataclasses import dataclass, field
 from typing import Union
 
-from fuzz_code import CONT, FORMS, KINDS, MODES, SECOND, TCONT, TYPES, VAL, Instr, Operand, Param, Procedure, Program, Type
+from fuzz_code import (
+    CONT, ENTRIES, FORMS, KINDS, MAP, MODES, TCONT, TMAP, TYPES, VAL, VERSIONS, Instr, Operand, Param, Procedure, Program, Type, instructions_of, types_of,
+)
 
 LABEL = re.compile(r"[A-Za-z][A-Za-z0-9_]*")
 ESCAPE = re.compile(r'\\(["\\n]|x[0-7][0-9A-Fa-f])')
 BANKS = {"v": re.compile(r"v[0-9]+"), "d": re.compile(r"d[0-9]+")}
 MODE_CODES = {name: mode for mode, name in MODES.items()}
 TYPE_CODES = {name: type_ for type_, name in TYPES.items()}
+ENTRY_CODES = {name: type_ for type_, name in ENTRIES.items()}
 MOST = {"v": 15, "d": 15, "p": 255, "a": 15, "k": 1000}
 
 
@@ -109,14 +112,22 @@ class Assembler:
         while True:
             word = words.pop(0) if words else None
             code = TYPE_CODES.get(word) if isinstance(word, str) else None
-            if code is None or (code == TCONT and self.version == 1):
+            if code is None or code not in types_of(self.version):
                 self.codes.add(2)
                 return (1,)
             found.append(code)
             if code not in (CONT, TCONT):
                 if len(found) > 4:
                     self.codes.add(6)
-                return tuple(found)
+                return (*found, *(self.entry(words) if code in (MAP, TMAP) else ()))
+
+    def entry(self, words: list[Word]) -> Type:
+        """Returns the type of a map's values, and removes its word."""
+        word = words.pop(0) if words else None
+        code = ENTRY_CODES.get(word) if isinstance(word, str) else None
+        if code is None:
+            self.codes.add(2)
+        return (code or 1,)
 
     def string(self, word: Word) -> str:
         if not isinstance(word, Quoted) or word.text is None:
@@ -233,7 +244,7 @@ class Assembler:
             self.codes.add(1)
         elif first.endswith(":") and LABEL.fullmatch(first[:-1]):
             self.label(first, rest)
-        elif first in FORMS and (self.version == 2 or first not in SECOND):
+        elif first in instructions_of(self.version):
             self.instruction(line, first, rest)
         else:
             self.codes.add(1)
@@ -243,7 +254,9 @@ class Assembler:
         if len(rest) != 1:
             self.codes.add(2)
         else:
-            self.version = self.number(rest[0], 1, 2)
+            self.version = self.number(rest[0], 1, 4)
+            if self.version not in VERSIONS and not self.codes:
+                self.codes.add(6)
 
     # --- The whole
 

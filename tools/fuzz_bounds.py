@@ -5,7 +5,7 @@ from __future__ import annotations
 from dataclasses import dataclass
 from typing import Callable, Sequence
 
-from fuzz_code import CALLS, CLOSED, TEXT, Instr, Program
+from fuzz_code import CALLS, CLOSED, TEXT, Instr, Procedure, Program
 
 OVER = 1_000_000_000_000
 Cost = Callable[[Instr], int]
@@ -120,9 +120,16 @@ def is_circle(program: Program, number: int, place: int) -> bool:
     return number in {callee} | reached(program, callee)
 
 
-def adds_text(instr: Instr) -> bool:
-    """Whether an instruction makes a scalar of texts, or a subscript that is a text."""
-    return instr.name == "TINS" or (instr.name == "NEW" and instr.items(2) == (TEXT,))
+INSERTIONS = {"INS", "TINS", "MINS", "MADD"}
+# The places of the operands of which an instruction keeps a copy, if it is a text.
+KEPT = {"TINS": (1,), "MINS": (1, 2), "MADD": (1,)}
+
+
+def texts_added(procedure: Procedure, instr: Instr) -> int:
+    """Returns how many texts an instruction makes: a scalar of texts, or subscripts and values that are texts."""
+    if instr.name == "NEW":
+        return int(instr.items(2) == (TEXT,))
+    return sum(procedure.registers[instr.number(place)] == TEXT for place in KEPT.get(instr.name, ()))
 
 
 def bound(program: Program, weights: Weights, first: int = 0) -> int:
@@ -131,14 +138,15 @@ def bound(program: Program, weights: Weights, first: int = 0) -> int:
 
     def of(number: int) -> int:
         if number not in known:
-            known[number] = weights.task + walk(program.procedures[number].code, cost)
+            procedure = program.procedures[number]
+            known[number] = weights.task + walk(procedure.code, lambda instr: cost(procedure, instr))
         return known[number]
 
-    def cost(instr: Instr) -> int:
+    def cost(procedure: Procedure, instr: Instr) -> int:
         if instr.name == "NEW":
-            return weights.instr + weights.datum + weights.text * adds_text(instr)
-        if instr.name in ("INS", "TINS"):
-            return weights.instr + weights.member + weights.text * adds_text(instr)
+            return weights.instr + weights.datum + weights.text * texts_added(procedure, instr)
+        if instr.name in INSERTIONS:
+            return weights.instr + weights.member + weights.text * texts_added(procedure, instr)
         if instr.name not in CALLS:
             return weights.instr
         called = of(instr.number(0)) + weights.instr
@@ -172,14 +180,15 @@ def each_lines(program: Program) -> list[str]:
 
 def limited_lines(program: Program, limit: int) -> list[str]:
     """Returns the lines of the bounds of runs with so many events at most."""
-    names = {instr.name for procedure in program.procedures for instr in procedure.code}
+    instrs = [(procedure, instr) for procedure in program.procedures for instr in procedure.code]
+    names = {instr.name for _, instr in instrs}
     most = {
         "tasks": limit,
         "instructions": limit * max(budgets(program)),
         "data": limit if "NEW" in names else 0,
-        "members": limit if names & {"INS", "TINS"} else 0,
+        "members": limit if names & INSERTIONS else 0,
         "rules": limit if any(name.startswith("RULE") for name in names) else 0,
-        "bytes": 4096 * limit if any(adds_text(instr) for procedure in program.procedures for instr in procedure.code) else 0,
+        "bytes": 4096 * limit * max(texts_added(procedure, instr) for procedure, instr in instrs),
         "events": limit,
     }
     return [f"limited {name} {reported(number)}" for name, number in most.items()]

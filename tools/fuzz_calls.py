@@ -18,7 +18,7 @@ from fuzz_common import Corpus, RunTest, FuzzTest, case_word, difference, input_
 COMMANDS = ["asm", "disasm", "check", "run", "replay", "picture", "explain", "help", "--help", "-h", "--version", "-V", ""]
 FLAGS = ["--text", "--names", "--plain", "--places", "--bounds", "--trace", "--stats", "--picture", "--quiet", "--in-turn", "--inputs", "--inputs-json", "--help", "-h", "--", "-",
          "--json", "--each", "--bounds=all", "--order", "--seed=7", "--seed=0", "--seconds=0", "--seconds=1000", "--seconds=4294967295", "--seconds=4294967296"]
-NUMBERED = ["--engines", "--servers", "--workers", "--limit", "--from", "--to", "--jobs", "--most-tasks", "--most-instructions", "--most-data", "--most-bytes", "--most-budget"]
+NUMBERED = ["--engines", "--servers", "--workers", "--limit", "--from", "--to", "--jobs", "--most-tasks", "--most-instructions", "--most-data", "--most-bytes", "--most-budget", "--most-members"]
 READING = ("asm", "check", "disasm", "picture", "replay", "run")
 VALUES = ["0", "1", "2", "4", "5", "16", "17", "100", "1000000", "1000001", "4294967295", "4294967296", "-1", "+1", "01", "x", "", "1.0", "99999999999999999999"]
 INPUTS = ["int:7", "int:-4", "int:", "int:x", "int:9223372036854775808", "ints:", "ints:1=7,5=-3", "ints:5=1,1=2", "ints:1=2,", "text:", "text:a b ", "text:é",

@@ -12,10 +12,13 @@ from typing import Iterator, Union
 Type = tuple[int, ...]
 Operand = Union[int, str, Type]
 
-INT, TEXT, CONT, TCONT = 1, 2, 3, 4
+INT, TEXT, CONT, TCONT, MAP, TMAP = 1, 2, 3, 4, 5, 6
+SUM = 3  # after MAP or TMAP
 VAL, CLOSED, REF, WRITE = 1, 2, 3, 4
 MODES = {VAL: "val", CLOSED: "closed", REF: "ref", WRITE: "write"}
-TYPES = {INT: "int", TEXT: "text", CONT: "cont", TCONT: "tcont"}
+TYPES = {INT: "int", TEXT: "text", CONT: "cont", TCONT: "tcont", MAP: "map", TMAP: "tmap"}
+ENTRIES = {INT: "int", TEXT: "text", SUM: "sum"}
+VERSIONS = (1, 2, 4)
 KINDS = ("control", "leaf")
 
 # Each instruction's code and operands: v and d registers, n a number of 8 bytes, t a text, s a skip, y a type, k iterations,
@@ -29,11 +32,53 @@ FORMS: dict[str, tuple[int, str]] = {
     "SIZE": (0x35, "vd"), "SUBAT": (0x36, "vdvs"), "DUPR": (0x37, "dd"), "DUPW": (0x38, "dd"), "DROPR": (0x39, "d"), "DROPW": (0x3A, "d"),
     "RULE": (0x40, "pnag"), "PUT": (0x41, "pnag"), "RET": (0x42, ""),
     "TINS": (0x50, "dvds"), "TLOOK": (0x51, "ddvs"), "TSUBAT": (0x52, "vdvs"), "RULEV": (0x53, "pvag"), "PUTV": (0x54, "pvag"),
+    "MINS": (0x60, "dvvs"), "MGET": (0x61, "vdvs"), "MADD": (0x62, "dvv"),
 }
 NAMES = {code: name for name, (code, _) in FORMS.items()}
-SECOND = {"TINS", "TLOOK", "TSUBAT", "RULEV", "PUTV"}
+SINCE = {**dict.fromkeys(("TINS", "TLOOK", "TSUBAT", "RULEV", "PUTV"), 2), **dict.fromkeys(("MINS", "MGET", "MADD"), 4)}
+TYPES_SINCE = {TCONT: 2, MAP: 4, TMAP: 4}
 LOCAL = {name for name, (code, _) in FORMS.items() if code <= 0x24}
 CALLS = {"RULE", "PUT", "RULEV", "PUTV"}
+
+
+def instructions_of(version: int) -> set[str]:
+    """Returns the names of the instructions that a version has."""
+    return {name for name in FORMS if SINCE.get(name, 1) <= version}
+
+
+def types_of(version: int) -> set[int]:
+    """Returns the first bytes of the types that a version has."""
+    return {each for each in TYPES if TYPES_SINCE.get(each, 1) <= version}
+
+
+# --- Types
+
+
+def is_container(type_: Type) -> bool:
+    return type_[0] in (CONT, TCONT)
+
+
+def is_map(type_: Type) -> bool:
+    return type_[0] in (MAP, TMAP)
+
+
+def is_sums(type_: Type) -> bool:
+    return is_map(type_) and type_[1] == SUM
+
+
+def leaf_of(type_: Type) -> Type:
+    """Returns a type without its containers: that of a scalar or a map."""
+    return type_[-2:] if len(type_) > 1 and is_map(type_[-2:]) else type_[-1:]
+
+
+def entry_of(type_: Type) -> int:
+    """Returns the type of a scalar, or of the values of a map: that of a sum is int."""
+    return INT if is_sums(leaf_of(type_)) else type_[-1]
+
+
+def subscript_of(type_: Type) -> int:
+    """Returns the type of the subscripts of a container or a map."""
+    return INT if type_[0] in (CONT, MAP) else TEXT
 
 
 @dataclass(frozen=True)
@@ -106,7 +151,9 @@ class Program:
 
 
 def type_text(type_: Type) -> str:
-    return " ".join(TYPES[each] for each in type_)
+    leaf = leaf_of(type_)
+    words = [TYPES[each] for each in type_[:-1]]
+    return " ".join([*words, ENTRIES[leaf[-1]]])
 
 
 def quoted(text: str) -> str:
@@ -147,9 +194,12 @@ def registers_text(procedure: Procedure) -> str:
     return " ".join(["regs", *(TYPES[each] for each in procedure.registers)])
 
 
+def version_lines(program: Program) -> list[str]:
+    return [] if program.version == 1 else [f"version {program.version}"]
+
+
 def program_lines(program: Program) -> Iterator[str]:
-    if program.version == 2:
-        yield "version 2"
+    yield from version_lines(program)
     for procedure in program.procedures:
         yield head_text(procedure)
         yield registers_text(procedure)
@@ -179,7 +229,7 @@ def labelled_lines(procedure: Procedure, first: str = "L") -> Iterator[str]:
 
 def disassembled(program: Program) -> str:
     """Returns the text that `tw disasm` writes."""
-    lines = ["version 2"] if program.version == 2 else []
+    lines = version_lines(program)
     for procedure in program.procedures:
         lines += [head_text(procedure), registers_text(procedure), *labelled_lines(procedure)]
     return "\n".join(lines) + "\n"
@@ -253,10 +303,12 @@ class Reader:
     def type(self) -> Type:
         types: list[int] = []
         while True:
-            found = self.known({INT, TEXT, CONT} | ({TCONT} if self.version == 2 else set()))
+            found = self.known(types_of(self.version))
             types.append(found)
             if found in (INT, TEXT):
                 return tuple(types)
+            if found in (MAP, TMAP):
+                return (*types, self.known({INT, TEXT, SUM}))
             if len(types) > 3:
                 raise Fault(6, self.at - 1)
 
@@ -289,7 +341,7 @@ class Reader:
         return self.count(length, least, most)
 
     def instr(self) -> Instr:
-        name = NAMES[self.known({code for code, name in NAMES.items() if self.version == 2 or name not in SECOND})]
+        name = NAMES[self.known({FORMS[name][0] for name in instructions_of(self.version)})]
         return Instr(name, tuple(self.operand(form) for form in FORMS[name][1]))
 
     def procedure(self) -> Procedure:
@@ -303,7 +355,7 @@ class Reader:
             if self.take(1)[0] != letter:
                 raise Fault(1, self.at - 1)
         self.version = self.take(1)[0]
-        if self.version not in (1, 2):
+        if self.version not in VERSIONS:
             raise Fault(2, 3)
         procedures = tuple(self.procedure() for _ in range(self.count(1, 1, 64)))
         if self.at < len(self.data):

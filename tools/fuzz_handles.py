@@ -10,8 +10,9 @@ from typing import Any, Iterator
 
 import fuzz_make
 from fuzz_bounds import COUNTED, bound, budgets, has_circle, limited_lines, needs, reported
-from fuzz_code import CONT, INT, TCONT, TEXT, Type, encode
+from fuzz_code import CONT, INT, TCONT, TEXT, Type, encode, entry_of, is_map, is_sums, subscript_of
 from fuzz_common import Corpus, FuzzTest, RunTest
+from fuzz_inputs import form_of
 from fuzz_library import Library
 from fuzz_machine import Datum, Machine, Scalar, Value, run_in_turn
 from fuzz_orders import first_copy_insertion
@@ -51,11 +52,11 @@ class Ending(Struct):
 
 
 class Meter(Struct):
-    _fields_ = fields("events", "tasks", "instructions")
+    _fields_ = fields("events", "tasks", "instructions", "data", "members", "bytes")
 
 
 class Options(Struct):
-    _fields_ = fields("limit", "engines", "servers", "workers")
+    _fields_ = fields("limit", "engines", "servers", "workers", "seed", "order")
 
 
 class Bounds(Struct):
@@ -100,7 +101,8 @@ def handles(library: Library) -> Any:
         "raw_run": [pointer, pointer, *numbers, *numbers, pointer, pointer], "raw_unfit_input": [pointer, pointer, pointer],
         "raw_report_find_int": [pointer, size, ctypes.c_int64, pointer], "raw_report_find_text": [pointer, size, ctypes.c_char_p, size, pointer],
         "raw_program_bounds": [pointer, size, *numbers], "raw_program_order": [pointer, *numbers],
-        "raw_report_ending": [pointer, *numbers], "raw_report_meter": [pointer, *numbers], "raw_report_output": [pointer, size, pointer],
+        "raw_report_ending": [pointer, *numbers], "raw_report_meter": [pointer, *numbers], "raw_report_order": [pointer, *numbers],
+        "raw_report_output": [pointer, size, pointer],
         "raw_report_member": [pointer, size, size, pointer], "raw_report_members": [pointer, size, size, pointer, size],
         "raw_report_text": [pointer, size, pointer, size], "raw_report_member_text": [pointer, size, size, pointer, size],
         "raw_report_subscript_text": [pointer, size, size, pointer, size], "program_free": [pointer], "inputs_free": [pointer], "report_free": [pointer],
@@ -126,17 +128,21 @@ class Report:
     machine: Machine
 
     def compare(self, output: int, number: int) -> None:
-        """Compares an output, and its members by their order."""
+        """Compares an output, and its members or values by their order."""
         datum = self.machine.store[number]
         self.compare_item(f"output {output}", self.item(output), datum, [self.native.yuglemit_raw_report_text, output])
-        members = datum.sorted_members() if not datum.is_scalar else []
+        members = [(subscript, self.machine.store[member]) for subscript, member in datum.sorted_members()]
+        entries = [(subscript, Datum((entry_of(datum.type),), 0, 0, value)) for subscript, value in datum.sorted_entries()]
+        self.compare_members(output, [*members, *entries])
+
+    def compare_members(self, output: int, members: list[tuple[Scalar, Datum]]) -> None:
         every = (Member * (len(members) + 1))()
         expect("report_members", 0, self.native.yuglemit_raw_report_members(ctypes.byref(self.handle), output, 0, ctypes.byref(every), len(members)))
         for place, (subscript, member) in enumerate(members):
             found = Member()
             expect("report_member", 0, self.native.yuglemit_raw_report_member(ctypes.byref(self.handle), output, place, ctypes.byref(found)))
             self.compare_scalar(f"subscript {place}", found.subscript, subscript, [self.native.yuglemit_raw_report_subscript_text, output, place])
-            self.compare_item(f"member {place}", found.value, self.machine.store[member], [self.native.yuglemit_raw_report_member_text, output, place])
+            self.compare_item(f"member {place}", found.value, member, [self.native.yuglemit_raw_report_member_text, output, place])
             expect(f"member {place} of all", listed(found), listed(every[place]))
             expect(f"the place of {subscript!r}", (0, place), self.place_of(output, subscript))
         many = self.native.yuglemit_raw_report_members(ctypes.byref(self.handle), output, 0, ctypes.byref(every), len(members) + 1)
@@ -161,10 +167,11 @@ class Report:
 
     def compare_item(self, what: str, item: Item, datum: Datum, text: list[Any]) -> None:
         expect(f"{what}: closed", int(datum.is_closed), item.closed)
-        expect(f"{what}: scalar", "i" if datum.type[-1] == INT else "t", chr(item.scalar))
+        expect(f"{what}: scalar", "s" if is_sums(datum.type) else "i" if entry_of(datum.type) == INT else "t", chr(item.scalar))
         if not datum.is_scalar:
-            by = "i" if datum.type[0] == 3 else "t"
-            expect(f"{what}: container", ("c", len(datum.members), by), (chr(item.kind), item.length, chr(item.by)))
+            by = "i" if subscript_of(datum.type) == INT else "t"
+            kind = "m" if is_map(datum.type) else "c"
+            expect(f"{what}: container", (kind, datum.count, by), (chr(item.kind), item.length, chr(item.by)))
         elif datum.value is None:
             expect(f"{what}: kind", "u", chr(item.kind))
         else:
@@ -279,7 +286,7 @@ class HandlesTest(RunTest):
         return self.run_until(native, program, inputs, caps, ctypes.c_void_p(), report)
 
     def run_until(self, native: Any, program: Any, inputs: Any, caps: list[int], stop: ctypes.c_void_p, report: Any) -> int:
-        options, most = Options(self.limit, *self.layout), (ctypes.c_uint64 * 8)(*caps)
+        options, most = Options(self.limit, *self.layout, 0, 1), (ctypes.c_uint64 * 8)(*caps)
         given = [ctypes.byref(program), ctypes.byref(inputs), *options.listed(), ctypes.byref(most), len(caps)]
         return int(native.yuglemit_raw_run(*given, ctypes.byref(stop), ctypes.byref(report)))
 
@@ -296,7 +303,7 @@ class HandlesTest(RunTest):
     def compare_unfit(self, native: Any, program: Any, inputs: Any) -> None:
         """Finds the input that doesn't fit, if the run has the error O02."""
         types, index = self.program.inputs, ctypes.c_size_t(77)
-        unfit = [index for index, (type_, value) in enumerate(zip(types, self.inputs)) if type_ != self.type_of(index, value)]
+        unfit = [index for index, (type_, value) in enumerate(zip(types, self.inputs)) if form_of(type_) != self.type_of(index, value)]
         expected = (INPUT_COUNT, 77) if len(types) != len(self.inputs) else (0, unfit[0]) if unfit else (NO_INDEX, 77)
         given = [ctypes.byref(program), ctypes.byref(inputs), ctypes.byref(index)]
         expect("the input that doesn't fit", expected, (native.yuglemit_raw_unfit_input(*given), index.value))
@@ -313,13 +320,13 @@ class HandlesTest(RunTest):
         expect("an input that isn't UTF-8", NO_UTF8, native.yuglemit_input_text(ctypes.byref(inputs), b"a\xff", 2))
 
     def type_of(self, index: int, value: Value) -> Type:
-        """Returns the type of an input: its own, or the parameter's if it is a container without members."""
+        """Returns the type of an input: its own as a container, or that of the parameter's argument if it has no members."""
         if not isinstance(value, dict):
             return (INT,) if isinstance(value, int) else (TEXT,)
         for subscript, member in value.items():
             return (CONT if isinstance(subscript, int) else TCONT, INT if isinstance(member, int) else TEXT)
         types = self.program.inputs
-        return types[index] if index < len(types) and len(types[index]) == 2 else (CONT, INT)
+        return form_of(types[index]) if index < len(types) and len(types[index]) == 2 else (CONT, INT)
 
     def append_container(self, native: Any, inputs: Any, value: dict[Any, Scalar], type_: Type) -> int:
         """Makes a container and moves it to the inputs; then it is empty, and is begun anew by the next one."""
@@ -343,7 +350,7 @@ class HandlesTest(RunTest):
         types = self.program.inputs
         if len(types) != len(self.inputs):
             return INPUT_COUNT
-        if any(type_ != self.type_of(index, value) for index, (type_, value) in enumerate(zip(types, self.inputs))):
+        if any(form_of(type_) != self.type_of(index, value) for index, (type_, value) in enumerate(zip(types, self.inputs))):
             return INPUT_TYPE
         return 0 if 1 <= self.limit <= 1_000_000 else NO_LIMIT
 
@@ -358,14 +365,26 @@ class HandlesTest(RunTest):
         machine = run_in_turn(self.program, list(self.inputs), self.layout, self.limit)
         expect("ending", 0, native.yuglemit_raw_report_ending(ctypes.byref(report), *ending.listed()))
         expect("ending", (machine.events, len(machine.outputs), status_of(machine)), (ending.events, ending.outputs, ending.status))
-        self.compare_meter(native, report, [machine.events, sum(made.event[0] == "take" for made in machine.made), sum(machine.spent.values())])
+        self.compare_meter(native, report, machine)
+        self.compare_run_order(native, report, machine)
         for output, number in enumerate(machine.outputs):
             Report(native, report, machine).compare(output, number)
 
-    def compare_meter(self, native: Any, report: Any, expected: list[int]) -> None:
-        found = Meter(77, 77, 77)
+    def compare_meter(self, native: Any, report: Any, machine: Machine) -> None:
+        """Compares what a run did, and what the store holds then, with the machine."""
+        found, store = Meter(*[77] * 6), machine.store.values()
         expect("meter", 0, native.yuglemit_raw_report_meter(ctypes.byref(report), *found.listed()))
-        expect("meter", expected, [found.events, found.tasks, found.instructions])
+        texts = [text for datum in store for text in (datum.value, *datum.subscripts(), *datum.entries.values()) if isinstance(text, str)]
+        did = [machine.events, sum(made.event[0] == "take" for made in machine.made), sum(machine.spent.values())]
+        held = [machine.next_id - 1, sum(datum.count for datum in store), sum(len(text.encode()) for text in texts)]
+        expect("meter", [*did, *held], [getattr(found, name) for name, _ in Meter._fields_[1:]])
+
+    def compare_run_order(self, native: Any, report: Any, machine: Machine) -> None:
+        """Compares the certificate of a run: the same in every order, the first contested insertion, or that the run was cut off."""
+        found = Order(77, 77, 77)
+        expected = (1, *machine.contested) if machine.contested else (0 if machine.is_over else 2, 0, 0)
+        expect("the order of a run", 0, native.yuglemit_raw_report_order(ctypes.byref(report), *found.listed()))
+        expect("the order of a run", expected, (found.may_show, found.procedure, found.place))
 
     def compare_stopped(self, native: Any, program: Any, inputs: Any) -> None:
         """Makes a run whose flag is raised: it is opened or refused as ever, and has no event."""
@@ -378,7 +397,10 @@ class HandlesTest(RunTest):
             if not answer:
                 expect("its ending", 0, native.yuglemit_raw_report_ending(ctypes.byref(report), *ending.listed()))
                 expect("its ending", (0, 8), (ending.events, ending.status))
-                self.compare_meter(native, report, [0, 0, 0])
+                opened = Machine(self.program, self.layout)
+                opened.open(list(self.inputs))
+                self.compare_meter(native, report, opened)
+                self.compare_run_order(native, report, opened)
         finally:
             for handle, name in ((stop, "stop"), (other, "stop"), (report, "report")):
                 getattr(native, f"yuglemit_{name}_free")(handle)

@@ -9,7 +9,7 @@ from dataclasses import dataclass, replace
 from typing import Iterator
 
 import fuzz_make
-from fuzz_code import CONT, INT, TCONT, TEXT, Type
+from fuzz_code import CONT, INT, TCONT, TEXT, Type, entry_of, is_map, subscript_of
 from fuzz_library import Library
 from fuzz_machine import Event, Scalar, Value
 from fuzz_report import event_text, report_lines, split_circle, status_of
@@ -43,7 +43,7 @@ def read_scalar(text: str, type_: int) -> Scalar | None:
 
 
 def read_pairs(text: str, type_: Type) -> Pairs | None:
-    """Returns the subscripts and members of a container, in the order of the argument."""
+    """Returns the subscripts and members of a container or a map, in the order of the argument."""
     pairs: Pairs = []
     key, member = (QUOTED if type_[0] == TCONT else NUMBER), (QUOTED if type_[1] == TEXT else NUMBER)
     while text or pairs:
@@ -74,20 +74,32 @@ def size_of(value: Scalar) -> int:
     return len(value.encode()) if isinstance(value, str) else 0
 
 
+def form_of(type_: Type) -> Type:
+    """Returns the type of the argument for a parameter."""
+    return (CONT if subscript_of(type_) == INT else TCONT, entry_of(type_)) if is_map(type_) else type_
+
+
 def fits(given: tuple[Type, Scalar | Pairs], type_: Type) -> bool:
-    """Whether the opening takes an input for a parameter of a type."""
-    if given[0] != type_:
+    """Whether the opening takes an input for a parameter of a type: a container's argument fits a map, too."""
+    if given[0] != form_of(type_):
         return False
     if not isinstance(given[1], list):
         return size_of(given[1]) <= 4096
     keys = [pair[0].encode() if isinstance(pair[0], str) else pair[0] for pair in given[1]]
     rises = all(left < right for left, right in zip(keys, keys[1:]))  # type: ignore[operator]
-    return rises and len(keys) <= 1000 and all(size_of(each) <= 4096 for pair in given[1] for each in pair)
+    return rises and len(keys) <= (100_000 if is_map(type_) else 1000) and all(size_of(each) <= 4096 for pair in given[1] for each in pair)
 
 
-def json_item(value: Scalar | Pairs) -> Scalar | dict[str, Scalar]:
-    """Returns an input as JSON: a container is an object, whose members come in the other order."""
-    return {str(key): member for key, member in reversed(value)} if isinstance(value, list) else value
+def json_item(value: Scalar | Pairs, as_list: bool) -> Scalar | dict[str, Scalar] | list[Scalar]:
+    """Returns an input as JSON: a container or a map is an object, whose members come in the other order; or it is a list, if that is required."""
+    if not isinstance(value, list):
+        return value
+    return [member for _, member in value] if as_list else {str(key): member for key, member in reversed(value)}
+
+
+def is_listed(value: Scalar | Pairs, type_: Type) -> bool:
+    """Whether a value can be a JSON list: that of a map with the subscripts 0, 1 and so on."""
+    return isinstance(value, list) and is_map(type_) and subscript_of(type_) == INT and [key for key, _ in value] == list(range(len(value)))
 
 
 @dataclass(frozen=True)
@@ -124,7 +136,8 @@ class InputsTest(RunTest):
     @property
     def json_text(self) -> str:
         """Returns the inputs as a JSON array, on one line or on several."""
-        items = [json_item(found[1]) for found in map(read_input, self.given) if found]
+        pairs = zip([found for found in map(read_input, self.given) if found], self.program.inputs)
+        items = [json_item(found[1], is_listed(found[1], type_)) for found, type_ in pairs]
         text = json.dumps(items, ensure_ascii=len(self.given) % 2 == 0, indent=None if self.line_end == "\n" else 1)
         return text.replace("\n", self.line_end)
 
@@ -181,7 +194,7 @@ def make_inputs(chance: random.Random, corpus: Corpus) -> FuzzTest:
         if chance.random() < 0.3:
             words[place] = damaged_word(chance, word)
     if chance.random() < 0.1:
-        words.append("ints:" + ",".join(f"{number}={number}" for number in range(chance.choice([999, 1000, 1001]))))
+        words.append("ints:" + ",".join(f"{number}={number}" for number in range(chance.choice([999, 1000, 1001, 1001]))))
     if words and chance.random() < 0.1:
         words.pop(chance.randrange(len(words)))
     in_file = chance.random() < 0.4 and not any(word in ("", "end", "events") or word.endswith("\r") for word in words)

@@ -5,7 +5,12 @@ from __future__ import annotations
 import random
 from dataclasses import dataclass, field, replace
 
-from fuzz_code import CLOSED, CONT, FORMS, INT, REF, SECOND, TCONT, TEXT, VAL, WRITE, Instr, Param, Procedure, Program, Type
+from typing import Callable
+
+from fuzz_code import (
+    CLOSED, CONT, FORMS, INT, MAP, REF, SUM, TCONT, TEXT, TMAP, VAL, VERSIONS, WRITE, Instr, Param, Procedure, Program, Type, entry_of, instructions_of,
+    is_container, is_map, is_sums, subscript_of,
+)
 from fuzz_machine import Layout, Scalar, Value
 
 Right = tuple[int, Type]
@@ -13,7 +18,32 @@ Right = tuple[int, Type]
 NUMBERS = [0, 1, -1, 2, 3, 7, 10, -10, 255, 256, 65535, 2**31, -(2**31), 2**62, -(2**62), 2**63 - 1, -(2**63), 2**63 - 2]
 WORDS = ["", "a", "0", "-5", "-0", "007", "+1", "12", " ", "x y", "é", '"q"', "\\", "\n", "\x00\x7f", "😀", ";", "9223372036854775807", "-9223372036854775808"]
 MAIN_TYPES: list[Type] = [(INT,), (TEXT,), (CONT, INT), (CONT, TEXT), (TCONT, INT), (TCONT, TEXT)]
+MAPS: list[Type] = [(by, entry) for by in (MAP, TMAP) for entry in (INT, TEXT, SUM)]
 MORE_TYPES: list[Type] = [(CONT, CONT, INT), (TCONT, CONT, TEXT), (CONT, TCONT, CONT, INT)]
+MORE_MAPS: list[Type] = [(CONT, MAP, INT), (TCONT, CONT, TMAP, SUM)]
+
+
+def is_any(_: Type) -> bool:
+    return True
+
+
+def is_scalar(type_: Type) -> bool:
+    return len(type_) == 1
+
+
+def is_shared(type_: Type) -> bool:
+    """Whether write rights of this type can be copied."""
+    return not is_scalar(type_)
+
+
+def main_types(version: int) -> list[Type]:
+    """Returns the types of main's parameters; of version 4 rather maps."""
+    return {1: MAIN_TYPES[:4], 2: MAIN_TYPES, 4: MAIN_TYPES + MAPS + MAPS}[version]
+
+
+def more_types(version: int) -> list[Type]:
+    """Returns types that main's parameters can't have."""
+    return {1: MORE_TYPES[:1], 2: MORE_TYPES, 4: MORE_TYPES + MORE_MAPS}[version]
 
 
 def scalar(chance: random.Random, type_: int) -> Scalar:
@@ -24,13 +54,15 @@ def scalar(chance: random.Random, type_: int) -> Scalar:
 
 def value(chance: random.Random, type_: Type) -> Value:
     """Returns a random input of a type."""
-    if len(type_) == 1:
+    if is_scalar(type_):
         found = scalar(chance, type_[0])
         return found.replace("\n", " ") if isinstance(found, str) else found
     count = chance.randrange(0, 6)
-    if type_[0] == CONT:
-        return {int(scalar(chance, INT)): scalar(chance, type_[1]) for _ in range(count)}
-    return {str(scalar(chance, TEXT)): scalar(chance, type_[1]) for _ in range(count)}
+    if subscript_of(type_) == TEXT:
+        return {str(scalar(chance, TEXT)): scalar(chance, entry_of(type_)) for _ in range(count)}
+    if chance.random() < 0.3:
+        return {number: scalar(chance, entry_of(type_)) for number in range(count)}
+    return {int(scalar(chance, INT)): scalar(chance, entry_of(type_)) for _ in range(count)}
 
 
 def inputs_of(chance: random.Random, program: Program) -> list[Value]:
@@ -73,13 +105,13 @@ class Writer:
     def free(self) -> list[int]:
         return [place for place in range(16) if place not in self.rights]
 
-    def holding(self, modes: tuple[int, ...], mine: bool, test: int = 0) -> list[int]:
-        """Returns right registers of these modes; test 1 asks for scalars, 2 for containers."""
+    def holding(self, modes: tuple[int, ...], mine: bool, is_of: Callable[[Type], bool] = is_any) -> list[int]:
+        """Returns right registers of these modes, on data of such types."""
         found = [place for place in (self.mine if mine else self.rights) if self.rights[place][0] in modes]
-        return sorted(place for place in found if test == 0 or (len(self.rights[place][1]) == 1) == (test == 1))
+        return sorted(place for place in found if is_of(self.rights[place][1]))
 
     def any_type(self) -> Type:
-        types = MAIN_TYPES[:4] + MORE_TYPES[:1] if self.version == 1 else MAIN_TYPES + MORE_TYPES
+        types = main_types(self.version) + more_types(self.version)
         return self.chance.choice(types + [(INT,), (TEXT,), (INT,)])
 
     def own(self, place: int, right: Right) -> None:
@@ -98,7 +130,7 @@ class Writer:
         self.give(place)
         if mode != WRITE:
             return [Instr("DROPR", (place,))]
-        return [Instr("STORE", (place, self.register(type_[0])))] if len(type_) == 1 else [Instr("DROPW", (place,))]
+        return [Instr("STORE", (place, self.register(type_[0])))] if is_scalar(type_) else [Instr("DROPW", (place,))]
 
     def block(self, size: int, given: dict[int, Right]) -> list[Instr]:
         """Writes a block that begins with further rights of its own, and leaves the rights as they were before."""
@@ -123,6 +155,8 @@ class Writer:
         makers = [self.compute, self.compute, self.literal, self.new, self.use, self.give_up, self.copy, self.insert, self.look, self.measure]
         if self.depth < 3:
             makers += [self.branch, self.loop, self.stop]
+        if self.version == 4:
+            makers += [self.put, self.put, self.read_entry]
         if self.head.kind == 0:
             makers += [self.start] * 6 + [self.new]
         return self.chance.choice(makers)()
@@ -195,14 +229,14 @@ class Writer:
         return self.dispose(self.chance.choice(found))
 
     def use(self) -> list[Instr]:
-        closed = self.holding((CLOSED,), False, 1)
+        closed = self.holding((CLOSED,), False, is_scalar)
         if not closed:
             return self.literal()
         place = self.chance.choice(closed)
         return [Instr("GET", (self.register(self.rights[place][1][0]), place))]
 
     def copy(self) -> list[Instr]:
-        reads, writes, free = self.holding((CLOSED, REF), False), self.holding((WRITE,), False, 2), self.free()
+        reads, writes, free = self.holding((CLOSED, REF), False), self.holding((WRITE,), False, is_shared), self.free()
         if len(free) < 4 or not reads + writes:
             return self.compute()
         of = self.chance.choice(reads + writes)
@@ -213,7 +247,7 @@ class Writer:
     def insert(self) -> list[Instr]:
         """Inserts a member, and drops it if its subscript is taken."""
         pairs = [
-            (into, member) for into in self.holding((WRITE,), False, 2) for member in self.holding((CLOSED, REF), True)
+            (into, member) for into in self.holding((WRITE,), False, is_container) for member in self.holding((CLOSED, REF), True)
             if self.rights[into][1][1:] == self.rights[member][1]
         ]
         if not pairs:
@@ -225,7 +259,7 @@ class Writer:
 
     def fill(self) -> list[Instr]:
         """Makes a member for a container that can be written, and inserts it."""
-        into, free = self.holding((WRITE,), False, 2), self.free()
+        into, free = self.holding((WRITE,), False, is_container), self.free()
         if not into or len(free) < 4:
             return self.compute()
         type_ = self.rights[self.chance.choice(into)][1][1:]
@@ -236,7 +270,7 @@ class Writer:
 
     def look(self) -> list[Instr]:
         """Looks a member up, and uses it in a block that is skipped if there is none."""
-        found, free = self.holding((CLOSED,), False, 2), self.free()
+        found, free = self.holding((CLOSED,), False, is_container), self.free()
         if not found or len(free) < 4 or self.depth > 3:
             return self.compute()
         of = self.chance.choice(found)
@@ -246,14 +280,37 @@ class Writer:
         return [Instr(name, (free[0], of, self.register(subscript), len(code))), *code]
 
     def measure(self) -> list[Instr]:
-        found = self.holding((CLOSED,), False, 2)
+        found = self.holding((CLOSED,), False, is_shared)
         if not found:
             return self.compute()
         of = self.chance.choice(found)
         if self.chance.random() < 0.4:
             return [Instr("SIZE", (self.register(INT), of))]
-        name, subscript = ("SUBAT", INT) if self.rights[of][1][0] == CONT else ("TSUBAT", TEXT)
-        return [Instr(name, (self.register(subscript), of, self.register(INT), 0))]
+        subscript = subscript_of(self.rights[of][1])
+        return [Instr("SUBAT" if subscript == INT else "TSUBAT", (self.register(subscript), of, self.register(INT), 0))]
+
+    def put(self) -> list[Instr]:
+        """Puts a value into a map, or adds to a map of sums."""
+        found = self.holding((WRITE,), False, is_map)
+        if not found:
+            return self.new() if self.chance.random() < 0.3 else self.compute()
+        into = self.chance.choice(found)
+        type_ = self.rights[into][1]
+        operands = (into, self.register(subscript_of(type_)), self.register(entry_of(type_)))
+        if is_sums(type_):
+            return [Instr("MADD", operands)]
+        rest = self.block(1, {}) if self.depth < 3 and self.chance.random() < 0.3 else []
+        return [Instr("MINS", (*operands, len(rest))), *rest]
+
+    def read_entry(self) -> list[Instr]:
+        """Reads a value of a map; what comes next is skipped if there is none."""
+        found = self.holding((CLOSED,), False, is_map)
+        if not found:
+            return self.compute()
+        of = self.chance.choice(found)
+        type_ = self.rights[of][1]
+        rest = self.block(1, {}) if self.depth < 3 and self.chance.random() < 0.5 else []
+        return [Instr("MGET", (self.register(entry_of(type_)), of, self.register(subscript_of(type_)), len(rest))), *rest]
 
     # --- RULE and PUT
 
@@ -281,7 +338,7 @@ class Writer:
 
     def call(self, number: int, is_rule: bool, args: list[int]) -> Instr:
         target = self.chance.choice([0, 0, 0, 0, 1, 2])
-        if self.version == 2 and self.chance.random() < 0.4:
+        if self.version > 1 and self.chance.random() < 0.4:
             return Instr("RULEV" if is_rule else "PUTV", (number, self.register(INT), target, tuple(args)))
         return Instr("RULE" if is_rule else "PUT", (number, int(scalar(self.chance, INT)), target, tuple(args)))
 
@@ -297,7 +354,7 @@ class Writer:
         free = [place for place in self.free() if place not in taken]
         if len(free) < 4:
             return None
-        if fit and (param.mode != WRITE or len(param.type) > 1):
+        if fit and (param.mode != WRITE or is_shared(param.type)):
             of = self.chance.choice(fit)
             self.own(free[0], self.rights[of])
             code.append(Instr("DUPW" if param.mode == WRITE else "DUPR", (free[0], of)))
@@ -320,14 +377,14 @@ class Writer:
 
 def head(chance: random.Random, number: int, version: int, is_plain: bool) -> Procedure:
     """Returns a procedure without code: its kind, parameters and registers. Parameters of a plain program are ints, mostly."""
-    some = MAIN_TYPES[:4] if version == 1 else MAIN_TYPES
-    types: list[Type] = [*[(INT,)] * 6, (CONT, INT)] if is_plain else some
+    plain_maps = [(MAP, INT), (MAP, SUM)] if version == 4 else []
+    types: list[Type] = [*[(INT,)] * 6, (CONT, INT), *plain_maps] if is_plain else main_types(version)
     modes = [CLOSED, REF, WRITE, WRITE] if number == 0 else [VAL, CLOSED, CLOSED, REF, WRITE, WRITE]
     params = []
     for _ in range(chance.randrange(0, 5)):
         mode = chance.choice(modes)
-        type_ = chance.choice(types + [(INT,), (INT,), (TEXT,)] + (MORE_TYPES[:1] if number else []))
-        params.append(Param(mode, type_[-1:] if mode == VAL else type_))
+        type_ = chance.choice(types + [(INT,), (INT,), (TEXT,)] + (more_types(version)[::3] if number else []))
+        params.append(Param(mode, (entry_of(type_),) if mode == VAL else type_))
     values = [param.type[0] for param in params if param.mode == VAL]
     registers = values + chance.choices([INT, INT, TEXT], k=chance.randrange(0, 5)) + [INT, TEXT, INT]
     return Procedure(0 if number == 0 or chance.random() < 0.35 else 1, tuple(params), tuple(registers), ())
@@ -335,7 +392,7 @@ def head(chance: random.Random, number: int, version: int, is_plain: bool) -> Pr
 
 def program(chance: random.Random) -> Program:
     """Makes a program. One in ten may have procedures that start each other in a circle."""
-    version = chance.choice([1, 2])
+    version = chance.choice([*VERSIONS, 4])
     is_plain = chance.random() < 0.6
     heads = [head(chance, number, version, is_plain) for number in range(chance.choice([1, 2, 2, 3, 3, 4, 5]))]
     circles = chance.random() < 0.1
@@ -346,7 +403,7 @@ def program(chance: random.Random) -> Program:
 # --- Damage
 
 
-def other_operand(chance: random.Random, form: str) -> int | str | Type:
+def other_operand(chance: random.Random, form: str, version: int) -> int | str | Type:
     if form in "vd":
         return chance.choice([0, 1, 2, 3, 4, 5, chance.randrange(16)])
     if form == "n":
@@ -354,15 +411,15 @@ def other_operand(chance: random.Random, form: str) -> int | str | Type:
     if form == "t":
         return scalar(chance, TEXT)
     if form == "y":
-        return chance.choice(MAIN_TYPES[:4] + MORE_TYPES[:1])
+        return chance.choice(main_types(version) + more_types(version))
     if form == "g":
         return tuple(chance.randrange(6) for _ in range(chance.randrange(0, 5)))
     return {"s": chance.randrange(6), "k": chance.choice([1, 2, 3, 1000]), "p": chance.randrange(5), "a": chance.randrange(3)}[form]
 
 
 def other_instr(chance: random.Random, version: int) -> Instr:
-    name = chance.choice([name for name in FORMS if version == 2 or name not in SECOND])
-    return Instr(name, tuple(other_operand(chance, form) for form in FORMS[name][1]))
+    name = chance.choice(sorted(instructions_of(version)))
+    return Instr(name, tuple(other_operand(chance, form, version) for form in FORMS[name][1]))
 
 
 def damaged_code(chance: random.Random, code: tuple[Instr, ...], version: int) -> tuple[Instr, ...]:
@@ -372,7 +429,7 @@ def damaged_code(chance: random.Random, code: tuple[Instr, ...], version: int) -
     here = code[place]
     if kind < 3 and here.operands:
         at = chance.randrange(len(here.operands))
-        return (*code[:place], here.with_operand(at, other_operand(chance, here.form[at])), *code[place + 1:])
+        return (*code[:place], here.with_operand(at, other_operand(chance, here.form[at], version)), *code[place + 1:])
     if kind == 3 and len(code) > 1:
         return code[:place] + code[place + 1:]
     if kind == 4 and len(code) > 1:

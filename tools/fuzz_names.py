@@ -5,9 +5,9 @@ from __future__ import annotations
 import random
 from dataclasses import dataclass, field
 
-from fuzz_code import CALLS, FORMS, KINDS, MODES, TYPES, VAL, Instr, Procedure, Program, operand_text, quoted, type_text
+from fuzz_code import CALLS, ENTRIES, FORMS, KINDS, MODES, TYPES, VAL, Instr, Procedure, Program, operand_text, quoted, type_text, version_lines
 
-KEYWORDS = {"any", "names", "version", "proc", "regs", "const", "let", *KINDS, *MODES.values(), *TYPES.values()}
+KEYWORDS = {"any", "names", "version", "proc", "regs", "const", "let", *KINDS, *MODES.values(), *TYPES.values(), *ENTRIES.values()}
 LETTERS = "abcdefghijklmnopqrstuvwxyzABCDEFGHIJKLMNOPQRSTUVWXYZ"
 # Separators of the operands of an instruction. A quoted text needs a blank before it.
 JOINTS = (" ", ", ", " , ", ") ( ")
@@ -60,8 +60,7 @@ class Names:
         if self.is_so(0.3):
             self.lines.append("; names come next")
         self.lines.append("names")
-        if self.program.version == 2:
-            self.lines.append("version 2")
+        self.lines += version_lines(self.program)
         for number, procedure in enumerate(self.program.procedures):
             if self.is_so(0.8) and begins_with_values(procedure):
                 self.procedures[number] = new_name(self.chance, self.taken)

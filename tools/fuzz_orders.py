@@ -58,7 +58,7 @@ def copies(program: Program) -> set[Register]:
 def first_copy_insertion(program: Program) -> tuple[int, int] | None:
     """Returns the first procedure and place that inserts by a right that may be a copy."""
     found = copies(program)
-    return next(((number, place) for number, place, instr in instrs(program) if instr.name in ("INS", "TINS") and (number, instr.number(0)) in found), None)
+    return next(((number, place) for number, place, instr in instrs(program) if instr.name in ("INS", "TINS", "MINS") and (number, instr.number(0)) in found), None)
 
 
 def line_of(at: tuple[int, int] | None) -> str:

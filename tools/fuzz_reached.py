@@ -15,7 +15,7 @@ from fuzz_common import Corpus, FuzzTest, RunTest
 MOST_EVENTS = 20_000
 # A random program often has no bound; so many are made until one has.
 TRIES = 40
-CAPPED = ("tasks", "instructions", "data", "bytes", "budget")
+CAPPED = ("tasks", "instructions", "data", "bytes", "budget", "members")
 
 
 @dataclass(frozen=True)

@@ -4,7 +4,7 @@ from __future__ import annotations
 
 import re
 
-from fuzz_code import WRITE, quoted, type_text
+from fuzz_code import TEXT, WRITE, entry_of, is_map, quoted, subscript_of, type_text
 from fuzz_machine import Event, Machine, Made, Scalar, Value, key_of
 
 
@@ -18,7 +18,12 @@ def datum_text(machine: Machine, number: int) -> str:
         return "gone"
     if made.is_scalar:
         return "unset" if made.value is None else f"{type_text(made.type)} {scalar_text(made.value)}"
-    return f"{type_text(made.type)} {'closed' if made.is_closed else 'open'} {len(made.members)}"
+    return f"{type_text(made.type)} {'closed' if made.is_closed else 'open'} {made.count}"
+
+
+def entry_text(type_: tuple[int, ...], value: Scalar) -> str:
+    """Returns a value of a map."""
+    return f"{type_text((entry_of(type_),))} {scalar_text(value)}"
 
 
 def output_lines(machine: Machine) -> list[str]:
@@ -28,6 +33,8 @@ def output_lines(machine: Machine) -> list[str]:
         made = machine.store.get(number)
         for subscript, member in made.sorted_members() if made else []:
             lines.append(f"  at {scalar_text(subscript)} {datum_text(machine, member)}")
+        if made and is_map(made.type):
+            lines += [f"  at {scalar_text(subscript)} {entry_text(made.type, value)}" for subscript, value in made.sorted_entries()]
     return lines
 
 
@@ -95,7 +102,7 @@ def split_trace(text: str) -> tuple[list[Event], str]:
 
 
 def input_word(value: Value) -> str:
-    """Returns an input as an argument; a line feed is only possible in a container."""
+    """Returns an input as an argument; a line feed is only possible in a container or a map."""
     if isinstance(value, int):
         return f"int:{value}"
     if isinstance(value, str):
@@ -105,7 +112,7 @@ def input_word(value: Value) -> str:
 
 def container_word(value: Value, type_: tuple[int, ...]) -> str:
     assert isinstance(value, dict)
-    name = ("t" if type_[0] == 4 else "") + ("ints" if type_[1] == 1 else "texts")
+    name = ("t" if subscript_of(type_) == TEXT else "") + ("texts" if entry_of(type_) == TEXT else "ints")
     pairs: list[tuple[Scalar, Scalar]] = list(value.items())
     return f"{name}:" + ",".join(f"{scalar_text(subscript)}={scalar_text(member)}" for subscript, member in sorted(pairs, key=key_of))
 

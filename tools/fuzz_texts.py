@@ -9,7 +9,9 @@ from typing import Callable, Iterator
 
 import fuzz_make
 from fuzz_assembler import Error, assembled
-from fuzz_code import FORMS, Fault, Program, decode, disassembled, encode, head_text, instr_text, labelled_lines, registers_text, smaller
+from fuzz_code import (
+    FORMS, Fault, Program, decode, disassembled, encode, head_text, instr_text, labelled_lines, registers_text, smaller, version_lines,
+)
 from fuzz_library import Library
 from fuzz_names import is_name, new_name, symbolic, wrong
 from fuzz_common import Corpus, FuzzTest, answer_part, difference, indented, input_lines
@@ -102,7 +104,7 @@ TOKEN = re.compile(r'"(?:\\.|[^"\\])*"|[^ ]+')
 def styled(program: Program, style: int) -> str:
     """Returns an assembly text of a program with random blanks, comments, labels, and forms of numbers and texts."""
     chance = random.Random(f"asm {style}")
-    lines = ["version 2"] if program.version == 2 else ["version 1"] if chance.random() < 0.2 else []
+    lines = version_lines(program) or (["version 1"] if chance.random() < 0.2 else [])
     for procedure in program.procedures:
         lines += [head_text(procedure), registers_text(procedure)]
         code = list(labelled_lines(procedure)) if chance.random() < 0.7 else [instr_text(instr) for instr in procedure.code]
@@ -182,8 +184,8 @@ def make_asm(chance: random.Random, corpus: Corpus) -> FuzzTest:
 
 # --- Damaged texts
 
-PIECES = ["", " ", ";", '"', "\\", "\\q", ":", "+", "-", "0", "99999999999999999999", "v16", "d16", "tcont", "cont", "\t", "é", "\u00a0", "\ufeff", ",",
-          "(", ")", "=", "names", "const", "let", "any", "int", "version 2", "version 1", "proc control", "regs", "RET", "INT", "\x00", "\n", "a" * 65, "#", "//"]
+PIECES = ["", " ", ";", '"', "\\", "\\q", ":", "+", "-", "0", "99999999999999999999", "v16", "d16", "tcont", "cont", "map", "tmap", "sum", "\t", "é", "\u00a0", "\ufeff", ",",
+          "(", ")", "=", "names", "const", "let", "any", "int", "version 2", "version 1", "version 4", "version 3", "proc control", "regs", "RET", "INT", "\x00", "\n", "a" * 65, "#", "//"]
 
 
 def damaged_text(chance: random.Random, text: str) -> str:
@@ -424,7 +426,7 @@ class PrefixTest(BytesTest):
 
 CHANGES: list[Callable[[random.Random, bytes, int], bytes]] = [
     lambda chance, data, at: data[:at] + bytes([data[at] ^ (1 << chance.randrange(8))]) + data[at + 1:],
-    lambda chance, data, at: data[:at] + bytes([chance.choice([0, 1, 2, 3, 4, 5, 15, 16, 17, 0x42, 0x50, 0xFF, chance.randrange(256)])]) + data[at + 1:],
+    lambda chance, data, at: data[:at] + bytes([chance.choice([0, 1, 2, 3, 4, 5, 6, 7, 15, 16, 17, 0x42, 0x50, 0x60, 0x62, 0x63, 0xFF, chance.randrange(256)])]) + data[at + 1:],
     lambda chance, data, at: data[:at] + data[at + chance.choice([1, 1, 2, 8]):],
     lambda chance, data, at: data[:at] + bytes(chance.randrange(256) for _ in range(chance.choice([1, 1, 2, 8]))) + data[at:],
     lambda chance, data, at: data[:at],

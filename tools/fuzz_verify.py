@@ -9,8 +9,8 @@ from typing import Iterator
 import fuzz_make
 from fuzz_bounds import budgets, partners
 from fuzz_code import (
-    CALLS, CLOSED, CONT, INT, MODES, REF, TCONT, TEXT, VAL, WRITE, Instr, Procedure, Program, Type, encode, head_text, labelled_lines, program_text,
-    registers_text, smaller, type_text,
+    CALLS, CLOSED, CONT, INT, MAP, MODES, REF, TCONT, TEXT, TMAP, VAL, WRITE, Instr, Procedure, Program, Type, encode, entry_of, head_text, is_map, is_sums,
+    labelled_lines, program_text, registers_text, smaller, subscript_of, type_text, version_lines,
 )
 from fuzz_library import Library
 from fuzz_machine import LOCAL_TYPES
@@ -153,11 +153,23 @@ def of_look(here: Here, instr: Instr) -> None:
 
 
 def of_measure(here: Here, instr: Instr) -> None:
-    kinds = {"SIZE": (CONT, TCONT), "SUBAT": (CONT,), "TSUBAT": (TCONT,)}[instr.name]
+    kinds = {"SIZE": (CONT, TCONT, MAP, TMAP), "SUBAT": (CONT, MAP), "TSUBAT": (TCONT, TMAP)}[instr.name]
     here.container(instr.number(1), CLOSED, kinds)
     here.value(instr.number(0), TEXT if instr.name == "TSUBAT" else INT)
     if instr.name != "SIZE":
         here.value(instr.number(2), INT)
+
+
+def of_entry(here: Here, instr: Instr) -> None:
+    """MINS, MADD and MGET: the types of the value registers are required only if the right is one on such a map."""
+    value, right, subscript = (0, 1, 2) if instr.name == "MGET" else (2, 0, 1)
+    here.value(instr.number(subscript), None)
+    here.value(instr.number(value), None)
+    type_ = here.right(instr.number(right), (CLOSED if instr.name == "MGET" else WRITE,))
+    is_fit = type_ is not None and is_map(type_) and (instr.name == "MGET" or is_sums(type_) == (instr.name == "MADD"))
+    if type_ is not None and here.ask(is_fit, 4):
+        here.value(instr.number(subscript), subscript_of(type_))
+        here.value(instr.number(value), entry_of(type_))
 
 
 def of_copy(here: Here, instr: Instr) -> None:
@@ -197,7 +209,7 @@ def of_call(here: Here, instr: Instr) -> None:
 
 ON_DATA = {
     "NEW": of_new, "STORE": of_store_or_get, "GET": of_store_or_get, "INS": of_insert, "TINS": of_insert, "LOOK": of_look, "TLOOK": of_look,
-    "SIZE": of_measure, "SUBAT": of_measure, "TSUBAT": of_measure, "DUPR": of_copy, "DUPW": of_copy, "DROPR": of_drop, "DROPW": of_drop,
+    "SIZE": of_measure, "SUBAT": of_measure, "TSUBAT": of_measure, "MINS": of_entry, "MADD": of_entry, "MGET": of_entry, "DUPR": of_copy, "DUPW": of_copy, "DROPR": of_drop, "DROPW": of_drop,
 }
 
 
@@ -284,7 +296,7 @@ def value_faults(procedure: Procedure) -> list[tuple[int, int]]:
 
 
 def is_main(procedure: Procedure) -> bool:
-    return procedure.kind == 0 and all(param.mode != VAL and param.type in fuzz_make.MAIN_TYPES for param in procedure.params)
+    return procedure.kind == 0 and all(param.mode != VAL and param.type in fuzz_make.main_types(4) for param in procedure.params)
 
 
 def refusal(program: Program) -> Refusal | None:
@@ -346,7 +358,7 @@ def listed(program: Program, found: Refusal | None) -> list[str]:
 
 def line_of(program: Program, found: Refusal) -> int:
     """Returns the line of a text without labels that an error names: the procedure's first line for V16, else an instruction's."""
-    before = sum(2 + len(procedure.code) for procedure in program.procedures[:found.procedure]) + (program.version == 2)
+    before = sum(2 + len(procedure.code) for procedure in program.procedures[:found.procedure]) + len(version_lines(program))
     return before + (1 if found.code == 16 else 3 + found.place)
 
 

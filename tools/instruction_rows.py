@@ -25,6 +25,7 @@ SEEN = "tw_asm/specs/Seen.antt"
 ENUMS = {"Local": "LocalInstr", "Data": "DataInstr"}
 ALIASES = {"Local": "local", "Data": "on_data"}
 REGISTERS = ("Value", "Right")
+VERSIONS = ("One", "Two", "Four")
 
 # The functions that decode operands: by their form, and of registers before a skip or the end.
 READERS = {
@@ -32,8 +33,11 @@ READERS = {
     "Skip": "skip(bytes)?", "Iterations": "iterations(bytes)?", "TypeOf": "data_type(version, bytes)?",
 }
 # The parts of several registers, and a skip or none: their names, and those of their values.
-PARTS = {(2, False): "two", (2, True): "two_and_skip", (3, True): "three_and_skip"}
-VALUES = {"two": ("first", "second"), "two_and_skip": ("first", "second", "skip"), "three_and_skip": ("first", "second", "third", "skip")}
+PARTS = {(2, False): "two", (2, True): "two_and_skip", (3, False): "three", (3, True): "three_and_skip"}
+VALUES = {
+    "two": ("first", "second"), "two_and_skip": ("first", "second", "skip"), "three": ("first", "second", "third"),
+    "three_and_skip": ("first", "second", "third", "skip"),
+}
 
 # The functions that read the words of operands.
 SHAPES = {
@@ -42,6 +46,7 @@ SHAPES = {
     "Right Right": "two_rights", "Right Right TypeOf": "two_rights_and_type", "Value Value Skip": "two_values_and_goal",
     "Value Value Value Skip": "three_values_and_goal", "Right Value Right Skip": "right_value_right_and_goal",
     "Right Right Value Skip": "right_right_value_and_goal", "Value Right Value Skip": "value_right_value_and_goal",
+    "Right Value Value": "right_and_two_values", "Right Value Value Skip": "right_two_values_and_goal",
 }
 
 
@@ -137,10 +142,11 @@ def list_rows(rows: list[Row]) -> Iterator[str]:
 
 
 def version_rows(rows: list[Row]) -> Iterator[str]:
-    """Yields which opcodes version 1 has."""
-    later = " | ".join(f"Opcode::{row.opcode}" for row in rows if row.version == "Two")
-    yield f"            Version::One => !matches!(self, {later}),"
-    yield "            Version::Two => true,"
+    """Yields which opcodes each version has."""
+    for index, version in enumerate(VERSIONS[:-1]):
+        later = " | ".join(f"Opcode::{row.opcode}" for row in rows if row.version in VERSIONS[index + 1:])
+        yield f"            Version::{version} => !matches!(self, {later}),"
+    yield f"            Version::{VERSIONS[-1]} => true,"
 
 
 def form_rows(rows: list[Row]) -> Iterator[str]:
@@ -353,11 +359,14 @@ REGIONS: tuple[Region, ...] = (
     Region("tw_binary/src/rows.rt", "fn operands_of<", "    match opcode {", "    }", decoding_rows),
     Region("tw_binary/src/rows.rt", "fn instr_of_two(", "    match opcode {", "        _ =>", part_rows("two")),
     Region("tw_binary/src/rows.rt", "fn instr_of_two_and_skip(", "    match opcode {", "        _ =>", part_rows("two_and_skip")),
+    Region("tw_binary/src/rows.rt", "fn instr_of_three(", "    match opcode {", "        _ =>", part_rows("three")),
     Region("tw_binary/src/rows.rt", "fn instr_of_three_and_skip(", "    match opcode {", "        _ =>", part_rows("three_and_skip")),
     Region("tw_asm/src/instructions.rt", "fn two_registers<", "    match opcode {", "        _ =>", bank_rows("two")),
+    Region("tw_asm/src/instructions.rt", "fn three_registers<", "    match opcode {", "        _ =>", bank_rows("three")),
     Region("tw_asm/src/instructions.rt", "fn three_registers_and_goal<", "    match opcode {", "        _ =>", bank_rows("three_and_skip")),
     Region("tw_asm/src/instructions.rt", "fn instr_of_two(", "    match opcode {", "        _ =>", part_rows("two")),
     Region("tw_asm/src/instructions.rt", "fn instr_of_two_and_skip(", "    match opcode {", "        _ =>", part_rows("two_and_skip")),
+    Region("tw_asm/src/instructions.rt", "fn instr_of_three(", "    match opcode {", "        _ =>", part_rows("three")),
     Region("tw_asm/src/instructions.rt", "fn instr_of_three_and_skip(", "    match opcode {", "        _ =>", part_rows("three_and_skip")),
     Region("tw_asm/src/instructions.rt", "fn going_of<", "    match opcode {", "        _ =>", reading_rows(True)),
     Region("tw_asm/src/instructions.rt", "fn plain_of<", "    match opcode {", "        _ =>", reading_rows(False)),

@@ -76,12 +76,12 @@ PARTS: tuple[str, ...] = (
     "tw_symbols/src/instruction.rt", "tw_symbols/specs/LineExpansion.antt",
     "tw_bounds/src/weighing.rt", "tw_bounds/specs/Bounds.antt", "tw_bounds/proofs/Paying.antt", "tw_budget/proofs/Sound.antt",
     "tw_bounds/src/limited.rt", "tw_bounds/specs/Limited.antt", "tw_bounds/proofs/LimitedRuns.antt",
-    "tw_soundness/proofs/DataLeft.antt", "tw_soundness/proofs/DataMade.antt", "tw_soundness/proofs/DataNew.antt", "tw_soundness/proofs/DataReads.antt",
-    "tw_pool_state/src/data/scalars.rt", "tw_pool_state/src/data/containers.rt", "tw_pool_state/src/data/rights.rt",
+    *(f"tw_soundness/proofs/{name}.antt" for name in ("DataLeft", "DataMade", "DataMaps", "DataNew", "DataReads")), "tw_bounds/src/texts.rt",
+    "tw_pool_state/src/data/scalars.rt", "tw_pool_state/src/data/containers.rt", "tw_pool_state/src/data/maps.rt", "tw_pool_state/src/data/rights.rt",
     "tw_determinism/specs/Contested.antt", "tw_determinism/specs/OneResult.antt", "tw_determinism/specs/Refused.antt",
     "tw_copies/specs/Copies.antt", "tw_copies/specs/Marks.antt", "tw_copies/src/insertions.rt", "tw_copies/src/marks.rt",
     "tw_copies/proofs/Copying.antt", "tw_copies/proofs/Marking.antt",
-    *(f"tw_pool_state/proofs/{name}.antt" for name in ("Copies", "Drops", "Gets", "Inserts", "Looks", "News", "Sizes", "Stores")),
+    *(f"tw_pool_state/proofs/{name}.antt" for name in ("Copies", "Drops", "Gets", "Inserts", "Looks", "Maps", "News", "Sizes", "Stores")),
 )
 
 # Proofs that show one instruction to the prover, and then all others at once: a new one needs nothing there.

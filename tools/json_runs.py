@@ -63,8 +63,8 @@ def scalar(words: str) -> int | str | None:
 
 
 def output_of(words: str) -> tuple[str, Any]:
-    """Returns kind and value of an output's line without its number; a container is empty at first."""
-    container = re.fullmatch(r"(t?cont (?:int|text) (?:open|closed)) \d+", words)
+    """Returns kind and value of an output's line without its number; a container or a map is empty at first."""
+    container = re.fullmatch(r"(t?(?:cont (?:int|text)|map (?:int|text|sum)) (?:open|closed)) \d+", words)
     if container:
         return container[1], {}
     return words.split(" ")[0], scalar(words)

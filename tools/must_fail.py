@@ -126,7 +126,7 @@ def run_prover(tree: Path, names: list[str]) -> str:
 
 def takes_names(output: str) -> bool:
     """Returns whether `rt ci` ran for the crates that it was given, by its last line."""
-    return re.search(r"(?m)^\d+ passed, \d+ failed$", output) is not None
+    return re.search(r"(?m)^\d+ passed, \d+ failed(?: \(.*)?$", output) is not None
 
 
 def copy_mutants(root: Path, tree: Path, names: Iterable[str]) -> None:

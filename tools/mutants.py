@@ -118,7 +118,7 @@ MUTANTS = (
     Mutant("limits_read_as_quiet", "python", PYTHON + "_report.py", '_ENDS = ("quiet", "stuck", "limit"', '_ENDS = ("quiet", "stuck"'),
     Mutant("open_outputs_are_finished", "python", PYTHON + "_report.py", 'if not found and " closed " not in line:', "if not found and line == '':"),
     Mutant("unset_members_are_left_out", "python", PYTHON + "_report.py", "read_scalar(found[2]) if found[2] else None", "read_scalar(found[2]) if found[2] else 0"),
-    Mutant("instructions_are_events", "python", PYTHON + "_report.py", "self._did().instructions", "self._did().events"),
+    Mutant("instructions_are_events", "python", PYTHON + "_report.py", "self.meter.instructions", "self.meter.events"),
     Mutant("errors_by_quoted_lines", "python", PYTHON + "_errors.py", 'r"at line (?P<line>\\d+)(?: in [^\\s:]+)?: ", rest[:1]', 'r".*at line (?P<line>\\d+)", rest'),
     Mutant("lines_without_procedures", "python", PYTHON + "_errors.py", "(?: in [^\\s:]+)?: ", ": "),
     Mutant("traps_are_refusals", "python", PYTHON + "_commands.py", "raise (Trap if status == 6 else Refused)(text)", "raise Refused(text)"),
@@ -133,7 +133,7 @@ MUTANTS = (
     Mutant("words_end_at_a_nul", "python", PYTHON + "_native.py", "_session_by_lines if has_nul else _session", "_session"),
     Mutant("interrupts_stop_nothing", "python", PYTHON + "_native.py", "        interrupt()\n", ""),
     Mutant("brief_runs_release_the_gil", "python", PYTHON + "_native.py", "calls = short() if seconds < BRIEF_SECONDS else library()", "calls = library()"),
-    Mutant("open_containers_are_finished", "python", PYTHON + "_native.py", 'item.kind == ord("c") and item.closed', 'item.kind == ord("c")'),
+    Mutant("open_containers_are_finished", "python", PYTHON + "_native.py", 'item.kind in b"cm" and item.closed', 'item.kind in b"cm"'),
     Mutant("stops_come_too_late", "python", PYTHON + "_stop.py", "        if self._event.is_set():\n", "        if False:\n"),
     # Programs written in Python: comparisons, divisions, loops, rights, calls, constants and the places of errors.
     Mutant("at_most_is_below", "build", BUILD + "conditions.py", "yes if strict else no)", "yes)"),

@@ -85,6 +85,20 @@ def data_rows() -> Iterator[Row]:
     yield Row("TLOOK, TSUBAT", f"version 2\nproc control closed tcont text\nregs text text int\n{read}", "event", (members,))
 
 
+def map_rows() -> Iterator[Row]:
+    """Yields programs of events on maps."""
+    head = "version 4\nproc control write map {0}\nregs int int\n"
+    for name, of, step in (("MINS of 100,000, rising", "int", "ADD"), ("MINS of 100,000, falling", "int", "SUB"), ("MADD of 100,000, rising", "sum", "ADD")):
+        body = "MINS d0 v0 v1 +0\n" if of == "int" else "MADD d0 v0 v1\n"
+        yield Row(name, looped(head.format(of), "INT v1 1\n", f"{body}{step} v0 v0 v1 +0\n", "DROPW d0\n"), "event")
+    yield Row("MADD at one subscript", looped(head.format("sum"), "INT v1 1\n", "MADD d0 v0 v1\n", "DROPW d0\n", copies=3), "event")
+    texts = "version 4\nproc control write tmap text\nregs int int text text text\n"
+    start = f'INT v1 1\nTEXT v4 "{LONG[:4085]}"\nTEXT v2 "{LONG}"\n'
+    yield Row("MINS of 20,000 texts that differ last", looped(texts, start, "SHOW v3 v0\nCAT v3 v4 v3 +0\nMINS d0 v3 v2 +0\nADD v0 v0 v1 +0\n", "DROPW d0\n", times=20), "event")
+    read = "REPEAT 100\nREPEAT 1000\nSUBAT v1 d0 v0 +0\nMGET v2 d0 v1 +0\nADD v0 v0 v3 +0\nEND\nEND\nDROPR d0\nRET\n"
+    yield Row("SUBAT, MGET", f"version 4\nproc control closed map int\nregs int int int int\nINT v3 1\n{read}", "event", ({number: 1 for number in range(100_000)},))
+
+
 def task_rows() -> Iterator[Row]:
     """Yields programs of events that make tasks and rules."""
     callee = f"proc control{' val text' * 8}\nregs{' text' * 8}\nRET\n"
@@ -107,6 +121,7 @@ def task_rows() -> Iterator[Row]:
 def rows() -> Iterator[Row]:
     yield from local_rows()
     yield from data_rows()
+    yield from map_rows()
     yield from task_rows()
 
 

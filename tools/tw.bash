@@ -16,7 +16,7 @@ _tw() {
         return
     fi
     case ${COMP_WORDS[COMP_CWORD - 1]} in
-        --engines | --from | --jobs | --limit | --most-budget | --most-bytes | --most-data | --most-instructions | --most-tasks | --seconds | --seed | --servers | --to | --workers)
+        --engines | --from | --jobs | --limit | --most-budget | --most-bytes | --most-data | --most-instructions | --most-members | --most-tasks | --seconds | --seed | --servers | --to | --workers)
             compopt +o bashdefault
             return ;;
         --each | --events | --inputs | --inputs-json)
@@ -31,8 +31,8 @@ _tw() {
         package:*) COMPREPLY=($(compgen -W "deb wheel sdist crate tar" -- "$word")) ;;
         asm:-*) COMPREPLY=($(compgen -W "--names --plain --json --help" -- "$word")) ;;
         disasm:-*) COMPREPLY=($(compgen -W "--text --places --json --help" -- "$word")) ;;
-        check:-*) COMPREPLY=($(compgen -W "--text --places --json --order --bounds --limit --most-tasks --most-instructions --most-data --most-bytes --most-budget --help" -- "$word")) ;;
-        run:-*) COMPREPLY=($(compgen -W "--engines --servers --workers --limit --from --to --jobs --trace --stats --order --json --each --picture --most-tasks --most-instructions --most-data --most-bytes --most-budget --in-turn --seed --seconds --quiet --inputs-json --text --inputs --help" -- "$word")) ;;
+        check:-*) COMPREPLY=($(compgen -W "--text --places --json --order --bounds --limit --most-tasks --most-instructions --most-data --most-bytes --most-budget --most-members --help" -- "$word")) ;;
+        run:-*) COMPREPLY=($(compgen -W "--engines --servers --workers --limit --from --to --jobs --trace --stats --order --json --each --picture --most-tasks --most-instructions --most-data --most-bytes --most-budget --most-members --in-turn --seed --seconds --quiet --inputs-json --text --inputs --help" -- "$word")) ;;
         replay:-*) COMPREPLY=($(compgen -W "--engines --servers --workers --stats --json --events --text --inputs --help" -- "$word")) ;;
         picture:-*) COMPREPLY=($(compgen -W "--engines --servers --workers --from --to --events --text --inputs --help" -- "$word")) ;;
         explain:-*) COMPREPLY=($(compgen -W "--json --help" -- "$word")) ;;

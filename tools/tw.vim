@@ -4,9 +4,9 @@ if exists("b:current_syntax")
 endif
 syntax case match
 setlocal iskeyword=@,48-57,_
-syntax keyword twInstruction ADD CAT COPY DIV DROPR DROPW DUPR DUPW END GET INS INT JEQ JLT JMP LEN LOOK MUL NEW PUT PUTV READI REM REPEAT RET RULE RULEV SHOW SIZE STORE SUB SUBAT TEXT TINS TLOOK TSUBAT
+syntax keyword twInstruction ADD CAT COPY DIV DROPR DROPW DUPR DUPW END GET INS INT JEQ JLT JMP LEN LOOK MADD MGET MINS MUL NEW PUT PUTV READI REM REPEAT RET RULE RULEV SHOW SIZE STORE SUB SUBAT TEXT TINS TLOOK TSUBAT
 syntax keyword twStatement const let names proc regs version
-syntax keyword twWord any closed cont control int leaf ref tcont text val write
+syntax keyword twWord any closed cont control int leaf map ref sum tcont text tmap val write
 syntax match twValue /\<v\(1[0-5]\|[0-9]\)\>/
 syntax match twRight /\<d\(1[0-5]\|[0-9]\)\>/
 syntax match twNumber /\(^\|\s\)\@<=-\?\d\+\>/

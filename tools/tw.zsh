@@ -8,7 +8,7 @@ if (( CURRENT == 2 )); then
     return
 fi
 case $words[CURRENT-1] in
-    --engines | --from | --jobs | --limit | --most-budget | --most-bytes | --most-data | --most-instructions | --most-tasks | --seconds | --seed | --servers | --to | --workers)
+    --engines | --from | --jobs | --limit | --most-budget | --most-bytes | --most-data | --most-instructions | --most-members | --most-tasks | --seconds | --seed | --servers | --to | --workers)
         _message number
         return ;;
     --each | --events | --inputs | --inputs-json)
@@ -23,8 +23,8 @@ case $words[2]:$PREFIX in
     package:*) compadd -- deb wheel sdist crate tar ;;
     asm:-*) compadd -- --names --plain --json --help ;;
     disasm:-*) compadd -- --text --places --json --help ;;
-    check:-*) compadd -- --text --places --json --order --bounds --limit --most-tasks --most-instructions --most-data --most-bytes --most-budget --help ;;
-    run:-*) compadd -- --engines --servers --workers --limit --from --to --jobs --trace --stats --order --json --each --picture --most-tasks --most-instructions --most-data --most-bytes --most-budget --in-turn --seed --seconds --quiet --inputs-json --text --inputs --help ;;
+    check:-*) compadd -- --text --places --json --order --bounds --limit --most-tasks --most-instructions --most-data --most-bytes --most-budget --most-members --help ;;
+    run:-*) compadd -- --engines --servers --workers --limit --from --to --jobs --trace --stats --order --json --each --picture --most-tasks --most-instructions --most-data --most-bytes --most-budget --most-members --in-turn --seed --seconds --quiet --inputs-json --text --inputs --help ;;
     replay:-*) compadd -- --engines --servers --workers --stats --json --events --text --inputs --help ;;
     picture:-*) compadd -- --engines --servers --workers --from --to --events --text --inputs --help ;;
     explain:-*) compadd -- --json --help ;;

@@ -52,7 +52,14 @@ pub fn put_type(text: &mut Text, ty: DataType) {
             inner = element;
         }
     }
+    if let Some(by) = inner.map_by() {
+        text.put(match by {
+            Scalar::Int => "map ",
+            Scalar::Text => "tmap ",
+        });
+    }
     text.put(match inner.scalar() {
+        _ if inner.has_sums() => "sum",
         Scalar::Int => "int",
         Scalar::Text => "text",
     });
