@@ -53,7 +53,7 @@ class Rows(unittest.TestCase):
         self.edit(instruction_rows.TABLE, "since o = One\n", "since opcode.Minimum = Two\nsince o = One\n")
         texts = instruction_rows.made(self.root)
         for path, rows in {
-            "tw_code/src/opcode.rt": ("    Minimum = 0x15,", "[Opcode; 37]", "Opcode::Minimum | Opcode::InsertByText | ", '        Opcode::Minimum => "MIN",'),
+            "tw_code/src/opcode.rt": ("    Minimum = 0x15,", "[Opcode; 40]", "Opcode::Minimum | Opcode::InsertByText | ", '        Opcode::Minimum => "MIN",'),
             "tw_code/src/sink.rt": ("        Arithmetic::Minimum => Opcode::Minimum,",),
             instruction_rows.TABLE: ("opcode_of_operation operation.Minimum = opcode.Minimum",),
             "tw_binary/src/rows.rt": ("        Opcode::Minimum => Instr::Local(LocalInstr::Compute { operation: Arithmetic::Minimum, to: first, left: second, right: third, skip }),",),

@@ -25,7 +25,7 @@ program: yuglemit.Program = yuglemit.load(pathlib.Path("sum.twn"))
 by_text, by_bytes = yuglemit.load_text(b"RET"), yuglemit.load_bytes(b"TWB")
 report = program.run({1: 7, 5: -3}, "a", 3, {"a": "b"}, {}, limit=100, timeout=1.5, most_tasks=7, stop=yuglemit.Stop())
 print(report.outputs[0], report.end, report.events + 1, report.text.split(), report.circle[0].rule)
-program.run(report.outputs[0])
+program.run(report.outputs[0], [1, 2], ["a"])
 program.run(*[yuglemit.read_input(word) for word in ("int:7", "ints:1=2")])
 pairs: List[Tuple[Dict[int, int], int]] = [({1: 2}, 3)]
 with ProcessPoolExecutor() as pool:
@@ -52,7 +52,7 @@ except yuglemit.Refused as why:
 WRONG = [
     ("program.run(1.5)", "float"),
     ("program.run({1: 1.5})", "float"),
-    ("program.run([1, 2])", "List"),
+    ("program.run([1.5])", "float"),
     ("program.run(1, nope=1)", "nope"),
     ("program.run(1, stop=True)", "bool"),
     ("program.run(1, timeout='1')", "str"),
