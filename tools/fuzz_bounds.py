@@ -122,13 +122,13 @@ def is_circle(program: Program, number: int, place: int) -> bool:
 
 INSERTIONS = {"INS", "TINS", "MINS", "MADD"}
 # The places of the operands of which an instruction keeps a copy, if it is a text.
-KEPT = {"TINS": (1,), "MINS": (1, 2), "MADD": (1,)}
+KEPT = {"MINS": (1, 2), "MADD": (1,)}
 
 
 def texts_added(procedure: Procedure, instr: Instr) -> int:
     """Returns how many texts an instruction makes: a scalar of texts, or subscripts and values that are texts."""
-    if instr.name == "NEW":
-        return int(instr.items(2) == (TEXT,))
+    if instr.name in ("NEW", "TINS"):
+        return int(instr.name == "TINS" or instr.items(2) == (TEXT,))
     return sum(procedure.registers[instr.number(place)] == TEXT for place in KEPT.get(instr.name, ()))
 
 

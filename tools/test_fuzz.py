@@ -31,7 +31,7 @@ from fuzz_assembler import Error, assembled
 from fuzz_bounds import COUNTED, bound, bound_lines, budgets, check_lines, has_circle, is_circle
 from fuzz_code import Fault, Instr, Param, Procedure, Program, decode, disassembled, encode, program_text, quoted, smaller, without
 from fuzz_library import ROOT, Answer, Library, Verdict
-from fuzz_machine import Machine, NotEnabled, Scalar, Trap, computed, read_int, run_in_turn
+from fuzz_machine import Machine, NotEnabled, Scalar, Trap, computed, read_int, run_in_turn, wrapped
 from fuzz_names import is_name, symbolic
 from fuzz_report import circle_fault, event_of, report_lines, split_circle, stats_lines, trace_text
 from fuzz_texts import renamed, styled
@@ -107,7 +107,7 @@ class CodeTest(unittest.TestCase):
         digits = manual.split("$ ./tw asm every.tw\n")[1].split("\n")[0]
         program = decode(bytes.fromhex(digits))
         self.assertEqual(encode(program).hex(), digits)
-        self.assertEqual(len({instr.name for instr in program.main.code}), 36)
+        self.assertEqual(len({instr.name for instr in program.main.code}), 39)
 
     def test_texts(self) -> None:
         self.assertEqual(quoted('a"\\\n\x01é'), '"a\\"\\\\\\n\\x01é"')
@@ -212,6 +212,18 @@ class RulesTest(unittest.TestCase):
         by_int: dict[int, Scalar] = {1: 7}
         machine.open([by_text, by_int])
         self.assertEqual(machine.held(), {"members": 3, "bytes": 5 * 4096})
+
+    def test_bounds_of_maps(self) -> None:
+        """A value is a member; a MINS of one text at another has two texts, a MADD at an int none."""
+        both = replace(main_of(Instr("MINS", (0, 1, 1, 0)), Instr("MADD", (1, 0, 0))).main, registers=(1, 2))
+        self.assertEqual([bound(Program((both,)), COUNTED[name]) for name in ("members", "bytes")], [2, 2 * 4096])
+        machine = Machine(main_of(params=(Param(2, (6, 2)), Param(4, (5, 3)))), (1, 1, 1))
+        texts: dict[str, Scalar] = {"a": "b", "c": "d"}
+        machine.open([texts])
+        self.assertEqual(machine.held(), {"members": 2, "bytes": 4 * 4096})
+
+    def test_sums_wrap(self) -> None:
+        self.assertEqual([wrapped(number) for number in (2**63 - 1, 2**63, -(2**63) - 1, 2**64)], [2**63 - 1, -(2**63), 2**63 - 1, 0])
 
     def test_circles_of_calls(self) -> None:
         program = Program((main_of(Instr("PUT", (1, 0, 0, ()))).main, main_of(Instr("PUT", (1, 0, 0, ()))).main))
