@@ -9,8 +9,8 @@
  * How long a call takes. Reading, checking and verifying take time by the input's length, at most some 0.1 seconds a MiB, and can't be stopped: give
  * yuglemit_load_with the greatest length that you can wait for. A run takes as long as its program: at most `--limit` events (10,000 if nothing
  * is said), each of at most as many instructions as the greatest budget, which may be 1,000,000,000. Only the calls that run a loaded program
- * can be stopped from outside, between two events. So run a stranger's program by yuglemit_run_within, whose caps reject it before it runs, or
- * with --most-instructions and --most-budget in a session.
+ * can be stopped from outside: before a turn, or within 65,536 local instructions of a task, whose event isn't made then. So run a stranger's
+ * program by yuglemit_run_within, whose caps reject it before it runs, or with --most-instructions and --most-budget in a session.
  *
  * The caller's duties, which no proof can check:
  *   - each pointer is no null pointer, and points to as many bytes as its length says, also if that is 0;
@@ -475,8 +475,8 @@ uint8_t yuglemit_raw_stop_lower(yuglemit_stop *stop);
 static inline uint8_t yuglemit_stop_lower(const yuglemit_stop *stop) { yuglemit_stop same = *stop;
  return yuglemit_raw_stop_lower(&same); }
 
-/* Runs a program in this thread, its actors in turn. `inputs` and `stop` may be empty handles; the flag is looked at before each event. If the
- * call returns 0, the report is that of the run, and a bound of the program's runs with options->limit events, or its greatest budget, is at
+/* Runs a program in this thread, its actors in turn. `inputs` and `stop` may be empty handles; the flag is looked at before each turn, and
+ * for each 65,536 local instructions of a task. If the call returns 0, the report is that of the run, and a bound of the program's runs with options->limit events, or its greatest budget, is at
  * most its cap. Else nothing is run: YUGLEMIT_INPUT_COUNT, _INPUT_TYPE, _NO_ACTOR, _NO_LIMIT, _NO_MEMORY, _ABOVE_CAP, _NO_PROGRAM,
  * _NO_INPUTS, _NO_STOP, _NO_LAYOUT, _NO_SIZE, _ONE_HANDLE. yuglemit_unfit_input finds the input of _INPUT_TYPE. */
 uint8_t yuglemit_raw_run(yuglemit_program *program, yuglemit_inputs *inputs, const uint64_t *options, size_t option_count, const uint64_t *caps,

@@ -47,7 +47,7 @@ WHOLES: tuple[Whole, ...] = (
             "tw_code/src/sink.rt", "tw_binary/src/rows.rt", "tw_asm/src/instructions.rt",
             "tw_code/specs/accepting/Typing.antt", "tw_code/specs/machine/Local.antt", "tw_soundness/proofs/Values.antt",
             "tw_verify/src/instructions.rt", "tw_bounds/proofs/Moved.antt", "tw_instr/src/local.rt",
-            "tw_frame/src/dispatch.rt", "tw_frame/specs/Requirements.antt", "tw_frame/proofs/Quickly.antt",
+            "tw_frame/src/dispatch.rt", "tw_frame/specs/Requirements.antt", "tw_frame/proofs/Quickly.antt", "tw_frame/proofs/Ahead.antt",
             "tw_diagnostics/src/local_checks.rt", "tw_diagnostics/specs/RegisterCheck.antt", "tw_diagnostics/proofs/Asking.antt",
         ),
         "DataInstr": (

@@ -95,8 +95,8 @@ Each engine, server and worker is a thread. With --in-turn there is one thread, 
 the workers take turns, again and again. The same command makes the same trace each time. With --in-turn --seed N the
 number N decides who takes the next turn; the same N gives the same trace, another N may give another. What depends on
 the order of events shows so. --each is excluded then.
-With --seconds N a run is stopped between two events once N seconds have passed, and its report ends with `stopped`; with
---each the run of each line.
+With --seconds N a run is stopped once N seconds have passed, and its report ends with `stopped`; with --each the run of
+each line. A task that works then is cut off, without an event.
 A run in threads of more than two seconds prints once a second on standard error, if that is a terminal, how many events
 there are so far, and --each how many lines are answered, and how many that is a second. With --quiet nothing is printed,
 nor by a run with --in-turn.

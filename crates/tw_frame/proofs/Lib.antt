@@ -5,6 +5,7 @@ pub mod Quickly
 pub mod Running
 mod Pacing
 pub mod Pairs
+mod Ahead
 pub mod Lending
 pub mod Prefixes
 pub mod Starting

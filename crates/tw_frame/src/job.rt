@@ -13,7 +13,7 @@ ghost use Rattle.tw_frame.specs.Pace.{IsSeenJob, steps_of};
 use crate::context::Context;
 use crate::job_buffer::JobBuffer;
 use crate::loops::Loops;
-use crate::run::{procedure_of, run_from};
+use crate::run::{procedure_of, run_watched};
 use std::alloc::{AllocError, Global};
 use std::marker::Model;
 use tw_stop::{Never, StopSignal};
@@ -206,7 +206,7 @@ fn run_in<'a, S: StopSignal>(
     let Ok(()) = after.copy_from(alloc, at) else {
         return Some(RunOutcome::Unmoved { short: true });
     };
-    let Some(loop_exit) = run_from(
+    let Some(loop_exit) = run_watched(
         alloc,
         p,
         verified.quick(procedure),

@@ -83,7 +83,7 @@ fn set_flag(alloc: Global, stop: &mut Handle, raised: bool) -> u8
     code
 }
 
-/// Raises a flag: runs that look at it end before their next event. Allocates nothing, so that a signal handler may call it.
+/// Raises a flag: runs that look at it end before their next turn, or within a task. Allocates nothing, so that a signal handler may call it.
 pub fn stop_raise(alloc: Global, stop: &mut Handle) -> u8
     ensures kept { stop.new.held ≡ stop.old.held }
     ensures raised { IsRaised stop.old.held result }

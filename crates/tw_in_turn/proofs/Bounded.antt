@@ -1,11 +1,10 @@
 -- A run whose events have a bound ends before a limit above it.
-use Rattle.std.proofs.Common.{◌≡◌, ◌==◌, ◌<◌, ◌≤◌, ℕ, Bool, true, false, if◌then◌else◌, List, length, Option, Some, None, refl, sym, ap, subst, ◌∙◌, arith, option_map}
+use Rattle.std.proofs.Common.{◌≡◌, ◌==◌, ℕ, Bool, true, false, if◌then◌else◌, List, length, Option, Some, None, refl, sym, ap, subst, ◌∙◌, arith, option_map}
 use Rattle.std.proofs.lemmas.Bool.{eqb-true}
 use Rattle.std.specs.Option.{option_or}
 use Rattle.tw_types.specs.declared.ending.Ending.{Ending}
 use Rattle.tw_types.specs.declared.ending.Ending.TheVariants as ending
 use Rattle.tw_types.specs.declared.input.Input.{Input}
-use Rattle.tw_types.specs.Layout.{ActorCounts}
 use Rattle.tw_types.specs.Outcome.{Went}
 use Rattle.tw_code.specs.machine.Ending.{ending}
 use Rattle.tw_code.specs.machine.Inputs.{AreInputsOf}
@@ -15,10 +14,8 @@ use Rattle.tw_verify.specs.Typed.{TypedProgram, typings_of}
 use Rattle.tw_bounds.proofs.Along.{few_events}
 use Rattle.tw_pool.specs.declared.answer.Closing.{Closing}
 use Rattle.tw_pool.specs.declared.answer.Closing.TheVariants.{Quiet, Stuck, Stopped, Limit}
-use Rattle.tw_pool.specs.Ends.{FinalView}
-use Rattle.tw_pool.specs.History.{HistoryView}
 use Rattle.tw_pool.specs.Openings.{opened}
-use Rattle.tw_pool.specs.PoolView.{PoolView, HasState}
+use Rattle.tw_pool.specs.PoolView.{PoolView}
 use Rattle.tw_pool.specs.Turns.{closing_at, closing_of}
 use Rattle.tw_in_turn.specs.InTurn.{HasEnded, IsLeftIn}
 use Rattle.tw_in_turn.specs.Bounded.{EndsByItself, HasEndedByItself, HasFew, IsBoundedBy}

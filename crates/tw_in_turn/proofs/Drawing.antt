@@ -1,15 +1,15 @@
 -- Steps whose actors a seed draws: the first one that isn't idle, from a place on. There is one.
-use Rattle.std.proofs.Common.{◌≡◌, ◌<◌, ◌≤◌, ◌+◌, ◌-◌, ◌%◌, ◌⊎◌, ◌∙◌, ℕ, length, None, Some, add-one, ap, arith, inl, inr, refl, subst, sym}
+use Rattle.std.proofs.Common.{◌≡◌, ◌<◌, ◌≤◌, ◌+◌, ◌-◌, ◌%◌, ◌⊎◌, ◌∙◌, ℕ, length, Some, add-one, ap, arith, inl, inr, subst, sym}
 use Rattle.std.proofs.lemmas.Bool.{cases_eq, cases_lt}
 use Rattle.std.proofs.Math.Nat.{add-mod_right, mod-eq_of_lt, mod-lt}
 use Rattle.tw_types.specs.declared.actor.Actor.{Actor}
 use Rattle.tw_types.specs.Actor.{actor_at, actor_count}
 use Rattle.tw_types.specs.Layout.{ActorCounts}
 use Rattle.tw_pool.specs.declared.answer.Turn.{Turn}
-use Rattle.tw_pool.specs.declared.answer.Turn.TheVariants.{Idle, Over}
+use Rattle.tw_pool.specs.declared.answer.Turn.TheVariants.{Idle, Over, Run}
 use Rattle.tw_pool.specs.PoolView.{PoolView}
 use Rattle.tw_in_turn.specs.Drawn.{place_for}
-use Rattle.tw_in_turn.specs.InTurn.{GoesOn, IsAfter, IsDrawn, IsIdle, IsMove, IsOver, IsRefused, actor_from}
+use Rattle.tw_in_turn.specs.InTurn.{GoesOn, IsAfter, IsDrawn, IsIdle, IsMove, actor_from}
 use Rattle.tw_in_turn.specs.Rounds.{Ends, MayTurn}
 use Rattle.tw_in_turn.specs.declared.rounds.End.{End}
 use Rattle.tw_in_turn.specs.declared.rounds.End.TheVariants as end
@@ -43,7 +43,7 @@ some_busy p first may inside idle = some_turn p may (λ index low. let r = reach
 no_end : (reason : End) → Ends reason Idle → ⊥
 no_end end.Over over = let no_way : Idle ≡ Over over.0 = over.1 in cc
 no_end end.NoMemory refused = refused
-no_end end.Stopped stopped = stopped
+no_end end.Stopped stopped = let no_way : Idle ≡ Run stopped.0 = stopped.1 in cc
 
 -- a step that is the last isn't an idle actor's
 pub busy_at_end : (reason : End) (old new : PoolView) (actor : Actor) (answer : Turn) → IsMove old actor answer new → Ends reason answer → IsIdle old actor → ⊥

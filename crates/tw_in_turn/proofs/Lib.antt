@@ -8,3 +8,4 @@ mod Opening
 mod Rounding
 mod Same
 mod Stops
+mod Watching

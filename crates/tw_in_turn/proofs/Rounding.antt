@@ -140,17 +140,14 @@ the_last first now new layout rounds index answer Answers is low after move ends
 )
 
 -- looks for so many steps
-pub as_many : (turns more : ℕ) → turns + more ≤ turns + more
-as_many turns more = omega arith
+pub in_all : (turns before all now had count more : ℕ) → turns + all ≤ before + now + more → before + now ≤ had + count → turns + all ≤ had + (count + more)
+in_all turns before all now had count more low enough = omega (arith, low, enough)
 
-pub in_all : (turns before count more : ℕ) → turns ≤ before + more → before ≤ count → turns ≤ count + more
-in_all turns before count more low enough = omega (arith, low, enough)
-
-pub enough : (rounds count index : ℕ) → index ≡ count → (rounds + 1) * count ≤ rounds * count + index
-enough rounds count index is = by ((rounds + 1) * count) (rounds * count) (ap (λ k. k * count) (add-one rounds) ∙ suc-mul rounds count)
+pub enough : (rounds actors index all had count : ℕ) → index ≡ actors → index + all ≤ had + count → (rounds + 1) * actors + all ≤ rounds * actors + had + count
+enough rounds actors index all had count is low = by ((rounds + 1) * actors) (rounds * actors) (ap (λ k. k * actors) (add-one rounds) ∙ suc-mul rounds actors)
   where
-    by : (all before : ℕ) → all ≡ before + count → all ≤ before + index
-    by all before sum = omega (arith, sum, is)
+    by : (next before : ℕ) → next ≡ before + actors → next + all ≤ before + had + count
+    by next before sum = omega (arith, sum, is, low)
 
 -- all of a round
 pub whole_round : (first new : PoolView) (rounds count index : ℕ) → index ≡ count → IsAfter None first (rounds * count + index) new → IsAfter None first ((rounds + 1) * count) new

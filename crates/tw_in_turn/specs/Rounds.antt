@@ -1,24 +1,25 @@
 -- The results that are kept from step to step of a run in one thread.
-use Rattle.std.specs.Prelude.{◌≡◌, ◌≢◌, ◌<◌, ◌≤◌, ◌+◌, ◌*◌, ◌⊎◌, ℕ, Bool, true, false, List, [], length, get_or, Option, Some, None}
+use Rattle.std.specs.Prelude.{◌≡◌, ◌≢◌, ◌<◌, ◌≤◌, ◌+◌, ◌*◌, ◌/◌, ◌⊎◌, ℕ, Bool, true, false, List, [], length, get_or, sum_by, Option, Some, None}
 use Rattle.tw_types.specs.declared.actor.Actor.{Actor}
 use Rattle.tw_types.specs.Actor.{actor_at, actor_count}
 use Rattle.tw_types.specs.Layout.{ActorCounts, IsLayout}
 use Rattle.tw_code.specs.accepting.Needs.{HasTargets}
-use Rattle.tw_frame.specs.Jobs.{DoneView}
+use Rattle.tw_frame.specs.Jobs.{DoneView, JobView}
 use Rattle.tw_pool.specs.declared.answer.Turn.{Turn}
+use Rattle.tw_pool.specs.declared.answer.Turn.TheVariants.{Run}
 use Rattle.tw_pool.specs.PoolView.{PoolView}
 use Rattle.tw_host.specs.Sees.{IsDoneOf}
 use Rattle.tw_in_turn.specs.declared.rounds.End.{End}
 use Rattle.tw_in_turn.specs.declared.rounds.End.TheVariants.{Over, NoMemory, Stopped}
 use Rattle.tw_stop.specs.Looks.{looks, noes}
-use Rattle.tw_in_turn.specs.Stopping.{ComesAfter}
+use Rattle.tw_in_turn.specs.Stopping.{ComesAfter, looks_within}
 use Rattle.tw_in_turn.specs.InTurn.{GoesOn, Has, IsAfter, IsIdle, IsMove, IsOver, IsRefused}
 
--- holds for the reason why no step follows this result; a stop is no result of a step
+-- holds for the reason why no step follows this result; a stop cuts off the job that was issued
 abbrev pub Ends : End → Turn → Type 0
 Ends Over answer = IsOver answer
 Ends NoMemory answer = IsRefused answer
-Ends Stopped answer = ⊥
+Ends Stopped answer = (job : JobView) × (answer ≡ Run job)
 
 -- holds for the reason why no step follows the first so many, which lead to this pool
 abbrev pub EndsAfter : Option ℕ → PoolView → ℕ → End → PoolView → Type 0
@@ -31,9 +32,38 @@ is_stop Over = false
 is_stop NoMemory = false
 is_stop Stopped = true
 
+-- ---- looks while tasks run
+
+-- returns how many looks there were at least for a result that is kept
+abbrev pub owed : Option DoneView → ℕ
+owed None = 0
+owed (Some done) = done.steps / 65536
+
+abbrev pub all_owed : List (Option DoneView) → ℕ
+all_owed kept = sum_by owed kept
+
+-- returns how many there were at least, for the events and for all results that are kept
+abbrev pub looks_at : PoolView → List (Option DoneView) → ℕ
+looks_at p kept = looks_within p.history + all_owed kept
+
+-- returns the answers of the looks in a step, if it isn't the last or ends so
+abbrev pub answers_in : Option End → ℕ → List Bool
+answers_in None count = noes count
+answers_in (Some Over) count = noes count
+answers_in (Some NoMemory) count = noes count
+answers_in (Some Stopped) count = looks count true
+
+-- holds for the looks in a step of an actor, from the result that it kept to the one that it keeps
+abbrev pub IsWatched : (List Bool → Type 0) → PoolView → Option DoneView → PoolView → Option DoneView → Option End → Type 0
+IsWatched Looks old given new kept end =
+    (count : ℕ) × Looks (answers_in end count) × (looks_within new.history + owed kept ≤ looks_within old.history + owed given + count)
+
 -- looks with such answers, and steps up to this pool, after which no step follows for this reason
-abbrev pub EndsBy : (List Bool → Type 0) → Option ℕ → PoolView → End → PoolView → Type 0
-EndsBy Looks seed first end p = (turns : ℕ) × (count : ℕ) × (turns ≤ count) × Looks (looks count (is_stop end)) × EndsAfter seed first turns end p
+abbrev pub EndsBy : (List Bool → Type 0) → Option ℕ → PoolView → List (Option DoneView) → End → PoolView → Type 0
+EndsBy Looks seed first kept end p =
+    (turns : ℕ) × (count : ℕ) × (turns + looks_within p.history ≤ looks_at first kept + count) × Looks (looks count (is_stop end)) × EndsAfter seed first turns end p
+
+-- ---- results that are kept
 
 -- an actor keeps a result for its step, and it is of the program that is run
 pub record Keeps (p : PoolView) (actor : Actor) (given : Option DoneView) : Type 0 where
@@ -83,11 +113,12 @@ pub record GoesAround (seed : Option ℕ) (rounds : ℕ) (old new : PoolView) (k
   pub kept_is : AreKept new kept
   pub after : (first : PoolView) → IsAfter seed first (turns_in seed old.layout rounds) old → IsAfter seed first (turns_in seed old.layout (rounds + 1)) new
 
--- holds for the result of a round after so many, with a look before each of its steps at least
-abbrev pub ComesAround : (List Bool → Type 0) → Option ℕ → ℕ → PoolView → PoolView → List (Option DoneView) → Option End → Type 0
-ComesAround Looks seed rounds old new kept None =
-    GoesAround seed rounds old new kept × (count : ℕ) × Looks (noes count) × (turns_in seed old.layout (rounds + 1) ≤ turns_in seed old.layout rounds + count)
-ComesAround Looks seed rounds old new kept (Some end) = (turns : ℕ) × (count : ℕ) × Looks (looks count (is_stop end)) × (turns ≤ turns_in seed old.layout rounds + count)
+-- holds for the result of a round after so many, with a look before each of its steps at least, and those while tasks ran
+abbrev pub ComesAround : (List Bool → Type 0) → Option ℕ → ℕ → PoolView → List (Option DoneView) → PoolView → List (Option DoneView) → Option End → Type 0
+ComesAround Looks seed rounds old had new kept None =
+    GoesAround seed rounds old new kept × (count : ℕ) × Looks (noes count) × (turns_in seed old.layout (rounds + 1) + looks_at new kept ≤ turns_in seed old.layout rounds + looks_at old had + count)
+ComesAround Looks seed rounds old had new kept (Some end) =
+    (turns : ℕ) × (count : ℕ) × Looks (looks count (is_stop end)) × (turns + looks_within new.history ≤ turns_in seed old.layout rounds + looks_at old had + count)
     × ((first : PoolView) → IsAfter seed first (turns_in seed old.layout rounds) old → EndsAfter seed first turns end new)
 
 -- a pool before its first event, with this number of actors

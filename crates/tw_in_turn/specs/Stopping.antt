@@ -1,6 +1,8 @@
--- A run in one thread that looks at a signal before each step, and stops at the first look that says yes.
-use Rattle.std.specs.Prelude.{◌≡◌, ◌≤◌, ℕ, Bool, true, false, List, Option}
+-- A run in one thread that looks at a signal before each step and while a task runs, and stops at the first look that says yes.
+use Rattle.std.specs.Prelude.{◌≡◌, ◌≤◌, ◌+◌, ◌/◌, ℕ, Bool, true, false, List, Option, sum_by}
 use Rattle.tw_stop.specs.Looks.{looks}
+use Rattle.tw_types.specs.declared.event.Event.{Event}
+use Rattle.tw_types.specs.declared.event.Event.TheVariants.{Take, Local, Call, End, Ask, Deliver, Release}
 use Rattle.tw_pool.specs.declared.answer.Turn.{Turn}
 use Rattle.tw_pool.specs.PoolView.{PoolView}
 use Rattle.tw_in_turn.specs.InTurn.{ComesTo, HasEnded, IsAfter, IsLeft, IsLeftIn, IsOver, IsRefused}
@@ -12,6 +14,28 @@ abbrev pub is_stopped : StoppableResult → Bool
 is_stopped (Ended left) = false
 is_stopped (Stopped final history) = true
 
+abbrev pub events_of : StoppableResult → List Event
+events_of (Ended (left.Over final history)) = history.events
+events_of (Ended (left.NoMemory final history)) = history.events
+events_of (Stopped final history) = history.events
+
+-- ---- looks while a task runs
+
+-- returns how many looks there are at least while a task makes an event: one for each 65,536 local instructions
+abbrev pub looks_in : Event → ℕ
+looks_in (Take actor) = 0
+looks_in (Local actor steps) = steps / 65536
+looks_in (Call actor) = 0
+looks_in (End actor) = 0
+looks_in (Ask engine rule parameter) = 0
+looks_in (Deliver server datum rule parameter) = 0
+looks_in (Release engine rule) = 0
+
+abbrev pub looks_within : List Event → ℕ
+looks_within events = sum_by looks_in events
+
+-- ---- how it ends
+
 -- the step after so many others
 abbrev pub ComesAfter : Option ℕ → PoolView → ℕ → (Turn → Type 0) → PoolView → Type 0
 ComesAfter seed first turns Answers p = (c : ComesTo seed first Answers p) × (c.turns ≡ turns)
@@ -22,11 +46,11 @@ IsLeftAfter seed first turns (Ended (left.Over final history)) = (p : PoolView) 
 IsLeftAfter seed first turns (Ended (left.NoMemory final history)) = (p : PoolView) × ComesAfter seed first turns IsRefused p × IsLeftIn first p final history
 IsLeftAfter seed first turns (Stopped final history) = (p : PoolView) × IsAfter seed first turns p × IsLeftIn first p final history
 
--- Holds for a finished run whose looks had these answers: at least one before each step. All say no but the last one, which says whether
--- the run was stopped.
+-- Holds for a finished run whose looks had these answers: at least one before each step, and those while tasks ran. All say no but the last
+-- one, which says whether the run was stopped. If a task was cut off, the step that issued its job is the last one.
 abbrev pub IsLeftBy : Option ℕ → PoolView → List Bool → StoppableResult → Type 0
 IsLeftBy seed first answers left =
-    (turns : ℕ) × (count : ℕ) × (turns ≤ count) × (answers ≡ looks count (is_stopped left)) × IsLeftAfter seed first turns left
+    (turns : ℕ) × (count : ℕ) × (turns + looks_within (events_of left) ≤ count) × (answers ≡ looks count (is_stopped left)) × IsLeftAfter seed first turns left
 
 -- holds for a finished run without its looks: it ended, or it was stopped after so many steps, if that may be
 abbrev pub IsLeftIf : Bool → Option ℕ → PoolView → StoppableResult → Type 0

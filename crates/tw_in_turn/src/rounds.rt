@@ -3,7 +3,7 @@
 ghost use Rattle.std.specs.Prelude.{◌≡◌, ◌≤◌, None, Some, true, ℕ};
 ghost use Rattle.tw_stop.specs.Looks.{Looked};
 ghost use Rattle.tw_types.specs.Actor.{is_in};
-ghost use Rattle.tw_in_turn.specs.Rounds.{AreKept, ComesAround, EndsBy, IsGrown, IsTurned, Keeps, MayTurn};
+ghost use Rattle.tw_in_turn.specs.Rounds.{AreKept, ComesAround, EndsBy, IsGrown, IsTurned, IsWatched, Keeps, MayTurn};
 
 use crate::drawn::place_for;
 use std::alloc::Global;
@@ -23,21 +23,26 @@ pub(crate) enum End {
     Stopped,
 }
 
-/// Makes one step of an actor, with its kept `Done`. Runs a job that it is issued at once, and keeps the `Done` for its next step.
-fn turn_one<'a>(
+/// Makes one step of an actor, with its kept `Done`. Runs a job that it is issued at once, and keeps the `Done` for its next step. The job
+/// is cut off if the stop signal is raised.
+fn turn_one<'a, S: StopSignal>(
     alloc: Global,
     pool: &mut Pool<'a>,
     actor: Actor,
     kept: &mut Option<Done<'a>>,
+    stop: &mut S,
 ) -> Option<End>
     requires actor { is_in pool.old.layout actor ≡ true }
     requires may { MayTurn pool.old }
     requires keeps { Keeps pool.old actor kept.old }
-    ensures { IsTurned pool.old actor pool.new kept.new result }
+    ensures turned { IsTurned pool.old actor pool.new kept.new result }
+    ensures watched { IsWatched (Looked S.says stop.old stop.new) pool.old kept.old pool.new kept.new result }
 {
     match pool.turn(alloc, actor, kept.take()) {
         Turn::Run(job) => {
-            let done = job.run(alloc);
+            let Some(done) = job.run_until(alloc, stop) else {
+                return Some(End::Stopped);
+            };
             let _steps = done.steps();
             if done.short() {
                 return Some(End::NoMemory);
@@ -52,7 +57,7 @@ fn turn_one<'a>(
     }
 }
 
-/// Makes one step for each actor, in their order. Looks at the stop signal before each.
+/// Makes one step for each actor, in their order. Looks at the stop signal before each, and while a task runs.
 fn turn_round<'a, S: StopSignal>(
     alloc: Global,
     pool: &mut Pool<'a>,
@@ -61,7 +66,7 @@ fn turn_round<'a, S: StopSignal>(
 ) -> Option<End>
     requires may { MayTurn pool.old }
     requires kept { AreKept pool.old kept.old }
-    ensures round { (rounds : ℕ) → ComesAround (Looked S.says stop.old stop.new) None rounds pool.old pool.new kept.new result }
+    ensures round { (rounds : ℕ) → ComesAround (Looked S.says stop.old stop.new) None rounds pool.old kept.old pool.new kept.new result }
     ensures grown { IsGrown pool.old pool.new }
 {
     let layout = pool.layout();
@@ -70,7 +75,7 @@ fn turn_round<'a, S: StopSignal>(
             return Some(End::Stopped);
         }
         let actor = layout.actor_at(index);
-        if let Some(end) = turn_one(alloc, pool, actor, &mut kept[index]) {
+        if let Some(end) = turn_one(alloc, pool, actor, &mut kept[index], stop) {
             return Some(end);
         }
     }
@@ -89,7 +94,7 @@ fn turn_drawn<'a, S: StopSignal>(
 ) -> Option<End>
     requires may { MayTurn pool.old }
     requires kept { AreKept pool.old kept.old }
-    ensures round { ComesAround (Looked S.says stop.old stop.new) (Some seed) steps pool.old pool.new kept.new result }
+    ensures round { ComesAround (Looked S.says stop.old stop.new) (Some seed) steps pool.old kept.old pool.new kept.new result }
     ensures grown { IsGrown pool.old pool.new }
 {
     let layout = pool.layout();
@@ -101,7 +106,7 @@ fn turn_drawn<'a, S: StopSignal>(
             return Some(End::Stopped);
         }
         let index = (first + skipped) % count;
-        if let Some(end) = turn_one(alloc, pool, layout.actor_at(index), &mut kept[index]) {
+        if let Some(end) = turn_one(alloc, pool, layout.actor_at(index), &mut kept[index], stop) {
             return Some(end);
         }
         if events < pool.history().len() {
@@ -122,7 +127,7 @@ fn turn_next<'a, S: StopSignal>(
 ) -> Option<End>
     requires may { MayTurn pool.old }
     requires kept { AreKept pool.old kept.old }
-    ensures round { ComesAround (Looked S.says stop.old stop.new) seed rounds pool.old pool.new kept.new result }
+    ensures round { ComesAround (Looked S.says stop.old stop.new) seed rounds pool.old kept.old pool.new kept.new result }
     ensures grown { IsGrown pool.old pool.new }
 {
     match seed {
@@ -142,7 +147,7 @@ pub(crate) fn turn_all<'a, S: StopSignal>(
     requires may { MayTurn pool.old }
     requires few { pool.old.limit ≤ 1000000 }
     requires kept { AreKept pool.old kept.old }
-    ensures ends { EndsBy (Looked S.says stop.old stop.new) seed pool.old result pool.new }
+    ensures ends { EndsBy (Looked S.says stop.old stop.new) seed pool.old kept.old result pool.new }
     ensures grown { IsGrown pool.old pool.new }
 {
     for rounds in 0..History::MOST_EVENTS + 1 {

@@ -6,7 +6,7 @@ ghost use Rattle.tw_pool.specs.Openings.{IsRejection, MayOpen, opened};
 ghost use Rattle.tw_pool.specs.PoolView.{PoolView};
 ghost use Rattle.tw_in_turn.specs.InTurn.{IsLeft};
 ghost use Rattle.tw_in_turn.specs.Stopping.{IsLeftBy};
-ghost use Rattle.tw_in_turn.specs.Rounds.{AreKept, IsOpened};
+ghost use Rattle.tw_in_turn.specs.Rounds.{AreKept, IsOpened, all_owed};
 
 use crate::rounds::{End, turn_all};
 use std::alloc::{AllocError, Global};
@@ -36,7 +36,8 @@ pub enum StoppableResult {
 
 /// Returns the kept results before a run: none for each actor.
 fn nothing_kept<'a>(alloc: Global, count: usize) -> Result<Vec<Option<Done<'a>>>, AllocError>
-    ensures { (p : PoolView) → IsOpened p count → IfOk result (λ kept. AreKept p kept.items) }
+    ensures kept { (p : PoolView) → IsOpened p count → IfOk result (λ kept. AreKept p kept.items) }
+    ensures nothing { IfOk result (λ kept. all_owed kept.items ≡ 0) }
 {
     let mut kept = Vec::with_capacity(alloc, count)?;
     for _ in 0..count {
@@ -46,8 +47,8 @@ fn nothing_kept<'a>(alloc: Global, count: usize) -> Result<Vec<Option<Done<'a>>>
 }
 
 /// Runs a program in this thread: engines, then servers, then workers make one step each, again and again, until the run is
-/// over. A seed decides another order of the steps, the same in each run. Looks at a stop signal before each step, and stops the run if it
-/// is raised.
+/// over. A seed decides another order of the steps, the same in each run. Looks at a stop signal before each step, and while a task runs:
+/// once in 65,536 of its local instructions. Stops the run if it is raised.
 pub fn run_until<S: StopSignal>(
     alloc: Global,
     verified: &Verified,

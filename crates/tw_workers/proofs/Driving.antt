@@ -5,7 +5,7 @@ use Rattle.tw_frame.specs.Jobs.{DoneView}
 use Rattle.tw_host.specs.Run.{Run}
 use Rattle.tw_host.specs.Seats.{SeatEvents}
 use Rattle.tw_workers.specs.AtHost.{AtSeat}
-use Rattle.tw_workers.specs.Driving.{Answer, Drives, Ends, GoesOn, Step, Turned, Held, Stopped, Before, Ran, After, asked, ends, goes}
+use Rattle.tw_workers.specs.Driving.{Answer, Drives, Ends, GoesOn, Step, Turned, Held, Stopped, Before, Ran, Left, After, asked, ends, goes}
 
 -- ---- lists of steps
 
@@ -33,14 +33,15 @@ module _ (was given : Option DoneView) (taken : given ≡ was) (past : List Step
 
 -- ---- at a host
 
-same_actor : (run : Run) (unwatched : Type 0) (old : SeatEvents) (step : Step) (new : SeatEvents) → AtSeat run unwatched old step new → new.actor ≡ old.actor
-same_actor run unwatched old (Turned given answer) new is = is.0
-same_actor run unwatched old (Held given answer) new is = is.1
-same_actor run unwatched old Stopped new is = ap (λ (t : SeatEvents). t.actor) is
-same_actor run unwatched old (Before actor task) new is = ap (λ (t : SeatEvents). t.actor) is
-same_actor run unwatched old (Ran job done) new is = ap (λ (t : SeatEvents). t.actor) is
-same_actor run unwatched old (After actor task) new is = ap (λ (t : SeatEvents). t.actor) is
+same_actor : (run : Run) (unwatched stoppable : Type 0) (old : SeatEvents) (step : Step) (new : SeatEvents) → AtSeat run unwatched stoppable old step new → new.actor ≡ old.actor
+same_actor run unwatched stoppable old (Turned given answer) new is = is.0
+same_actor run unwatched stoppable old (Held given answer) new is = is.1
+same_actor run unwatched stoppable old Stopped new is = ap (λ (t : SeatEvents). t.actor) is
+same_actor run unwatched stoppable old (Before actor task) new is = ap (λ (t : SeatEvents). t.actor) is
+same_actor run unwatched stoppable old (Ran job done) new is = ap (λ (t : SeatEvents). t.actor) is
+same_actor run unwatched stoppable old (Left job) new is = ap (λ (t : SeatEvents). t.actor) is.1
+same_actor run unwatched stoppable old (After actor task) new is = ap (λ (t : SeatEvents). t.actor) is
 
-pub kept_actor : (run : Run) (unwatched : Type 0) (old new : SeatEvents) (steps : List Step) → FoldsTo (AtSeat run unwatched) old steps new → new.actor ≡ old.actor
-kept_actor run unwatched old new [] is = ap (λ (t : SeatEvents). t.actor) (sym is)
-kept_actor run unwatched old new (x ∷ xs) is = kept_actor run unwatched is.0 new xs is.2 ∙ same_actor run unwatched old x is.0 is.1
+pub kept_actor : (run : Run) (unwatched stoppable : Type 0) (old new : SeatEvents) (steps : List Step) → FoldsTo (AtSeat run unwatched stoppable) old steps new → new.actor ≡ old.actor
+kept_actor run unwatched stoppable old new [] is = ap (λ (t : SeatEvents). t.actor) (sym is)
+kept_actor run unwatched stoppable old new (x ∷ xs) is = kept_actor run unwatched stoppable is.0 new xs is.2 ∙ same_actor run unwatched stoppable old x is.0 is.1

@@ -8,19 +8,19 @@ use Rattle.tw_host.specs.Seats.{SeatEvents, seen_by}
 use Rattle.tw_workers.specs.Threads.{AllDrove, Drove}
 use Rattle.tw_workers.specs.Threads.AllDrove.{none, threaded, unthreaded}
 
-module _ {X : Type 0} (view : X → SeatEvents) (run : Run) (unwatched : Type 0) where
+module _ {X : Type 0} (view : X → SeatEvents) (run : Run) (unwatched stoppable : Type 0) where
   abbrev pub All : List X → Bool → Type 0
-  All seats memory = AllDrove run unwatched (map view seats) memory
+  All seats memory = AllDrove run unwatched stoppable (map view seats) memory
 
   pub no_seat : (seats : List X) → length seats ≡ 0 → All seats false
   no_seat [] is = none
   no_seat (s ∷ seats) is = cc
 
   module _ (seats others : List X) (first : X) (split : IsFirstAndRest seats first others) where
-    pub threaded_first : (memory rest : Bool) → Drove run unwatched (view first) memory → All others rest → All seats (memory || rest)
+    pub threaded_first : (memory rest : Bool) → Drove run unwatched stoppable (view first) memory → All others rest → All seats (memory || rest)
     threaded_first memory rest drove all = subst (λ (xs : List X). All xs (memory || rest)) (sym split.0) (threaded drove all)
 
-    pub unthreaded_first : {memory rest : Bool} → Drove run unwatched (view first) memory → All others rest → All seats true
+    pub unthreaded_first : {memory rest : Bool} → Drove run unwatched stoppable (view first) memory → All others rest → All seats true
     unthreaded_first drove all = subst (λ (xs : List X). All xs true) (sym split.0) (unthreaded drove all)
 
 -- seats of these actors without events

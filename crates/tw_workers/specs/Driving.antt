@@ -10,7 +10,8 @@ use Rattle.tw_workers.specs.declared.driver.End.{End}
 abbrev pub Answer : Type 0
 Answer = Result Turn Strange
 
--- A step of a driver: a scheduling step or a batch, a stop of the run, a job, or a call of the observer before or after the job.
+-- A step of a driver: a scheduling step or a batch, a stop of the run, a job, a job that a stop of the run cuts off, or a call of the observer
+-- before or after the job.
 -- A scheduling step has its argument and its result, and a batch the argument of its first step and the result of its last.
 pub data Step : Type 0 where
   Turned : Option DoneView → Answer → Step
@@ -18,6 +19,7 @@ pub data Step : Type 0 where
   Stopped : Step
   Before : Actor → ℕ → Step
   Ran : JobView → DoneView → Step
+  Left : JobView → Step
   After : Actor → ℕ → Step
 
 -- returns one scheduling step, or a batch
@@ -27,9 +29,10 @@ asked true given answer = Held given answer
 
 -- ---- after a scheduling step
 
--- returns the steps of a job, which is run between the two calls of the observer
-abbrev pub working : JobView → DoneView → List Step
-working job done = Before job.actor job.task ∷ Ran job done ∷ After job.actor job.task ∷ []
+-- returns the steps of a job, which is run, or cut off, between the two calls of the observer
+abbrev pub working : JobView → Option DoneView → List Step
+working job None = Before job.actor job.task ∷ Left job ∷ After job.actor job.task ∷ []
+working job (Some done) = Before job.actor job.task ∷ Ran job done ∷ After job.actor job.task ∷ []
 
 -- holds if, after a failed allocation, a `Done` is submitted once, with any result, and the run is stopped
 abbrev pub GivesUp : Option DoneView → List Step → Type 0
@@ -42,11 +45,16 @@ GoesOn (Ok (turn.Over closing)) steps next = ⊥
 GoesOn (Ok (turn.Foreign done)) steps next = ⊥
 GoesOn (Ok turn.Owed) steps next = ⊥
 GoesOn (Ok (turn.NoMemory given)) steps next = ⊥
-GoesOn (Ok (turn.Run job)) steps next = (done : DoneView) × (done.before ≡ job) × (done.short ≡ false) × (steps ≡ working job done) × (next ≡ Some done)
+GoesOn (Ok (turn.Run job)) steps next = (done : DoneView) × (done.before ≡ job) × (done.short ≡ false) × (steps ≡ working job (Some done)) × (next ≡ Some done)
 GoesOn (Ok turn.Ended) steps next = (steps ≡ []) × (next ≡ None)
 GoesOn (Ok turn.Went) steps next = (steps ≡ []) × (next ≡ None)
 GoesOn (Ok turn.Idle) steps next = (steps ≡ []) × (next ≡ None)
 GoesOn (Err strange) steps next = ⊥
+
+-- the driver ends after a job for which an allocation failed, or that was cut off
+abbrev pub EndsWithin : JobView → List Step → Bool → Type 0
+EndsWithin job steps true = (done : DoneView) × (rest : List Step) × (done.before ≡ job) × (done.short ≡ true) × GivesUp (Some done) rest × (steps ≡ working job (Some done) ++ rest)
+EndsWithin job steps false = steps ≡ working job None
 
 -- The driver ends: these steps follow its last result, and `memory` is whether an allocation failed.
 abbrev pub Ends : Answer → List Step → Bool → Type 0
@@ -54,8 +62,7 @@ Ends (Ok (turn.Over closing)) steps memory = (steps ≡ []) × (memory ≡ false
 Ends (Ok (turn.Foreign done)) steps memory = (steps ≡ Stopped ∷ []) × (memory ≡ false)
 Ends (Ok turn.Owed) steps memory = (steps ≡ Stopped ∷ []) × (memory ≡ false)
 Ends (Ok (turn.NoMemory given)) steps memory = GivesUp given steps × (memory ≡ true)
-Ends (Ok (turn.Run job)) steps memory =
-    (done : DoneView) × (rest : List Step) × (done.before ≡ job) × (done.short ≡ true) × GivesUp (Some done) rest × (steps ≡ working job done ++ rest) × (memory ≡ true)
+Ends (Ok (turn.Run job)) steps memory = EndsWithin job steps memory
 Ends (Ok turn.Ended) steps memory = ⊥
 Ends (Ok turn.Went) steps memory = ⊥
 Ends (Ok turn.Idle) steps memory = ⊥

@@ -7,11 +7,11 @@ use Rattle.tw_workers.specs.AtHost.{AtSeat}
 use Rattle.tw_workers.specs.Driving.{Drives, Step}
 
 -- A driver started at a seat with these events, and returned whether an allocation failed.
-abbrev pub Drove : Run → Type 0 → SeatEvents → Bool → Type 0
-Drove run unwatched seat memory = (steps : List Step) × (left : SeatEvents) × FoldsTo (AtSeat run unwatched) seat steps left × Drives None steps memory
+abbrev pub Drove : Run → Type 0 → Type 0 → SeatEvents → Bool → Type 0
+Drove run unwatched stoppable seat memory = (steps : List Step) × (left : SeatEvents) × FoldsTo (AtSeat run unwatched stoppable) seat steps left × Drives None steps memory
 
 -- A driver for each seat. An allocation failed if and only if one of them says so, or if a seat had no thread.
-pub data AllDrove (run : Run) (unwatched : Type 0) : List SeatEvents → Bool → Type 0 where
-  none : AllDrove run unwatched [] false
-  threaded : {seat : SeatEvents} {seats : List SeatEvents} {memory others : Bool} → Drove run unwatched seat memory → AllDrove run unwatched seats others → AllDrove run unwatched (seat ∷ seats) (memory || others)
-  unthreaded : {seat : SeatEvents} {seats : List SeatEvents} {memory others : Bool} → Drove run unwatched seat memory → AllDrove run unwatched seats others → AllDrove run unwatched (seat ∷ seats) true
+pub data AllDrove (run : Run) (unwatched stoppable : Type 0) : List SeatEvents → Bool → Type 0 where
+  none : AllDrove run unwatched stoppable [] false
+  threaded : {seat : SeatEvents} {seats : List SeatEvents} {memory others : Bool} → Drove run unwatched stoppable seat memory → AllDrove run unwatched stoppable seats others → AllDrove run unwatched stoppable (seat ∷ seats) (memory || others)
+  unthreaded : {seat : SeatEvents} {seats : List SeatEvents} {memory others : Bool} → Drove run unwatched stoppable seat memory → AllDrove run unwatched stoppable seats others → AllDrove run unwatched stoppable (seat ∷ seats) true

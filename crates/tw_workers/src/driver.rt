@@ -1,6 +1,6 @@
 //! Drivers, each of which drives a seat until the run is over.
 
-ghost use Rattle.std.specs.Prelude.{◌≡◌, IfOk, List, None, Some};
+ghost use Rattle.std.specs.Prelude.{◌≡◌, IfOk, IfSome, List, None, Some};
 ghost use Rattle.std.specs.List.{FoldsTo};
 ghost use Rattle.tw_pool.specs.declared.answer.Turn.TheVariants as turn;
 ghost use Rattle.tw_host.specs.Seats.{seen_by};
@@ -29,15 +29,15 @@ struct End {
     memory: bool,
 }
 
-/// Runs a job between the two calls of the observer.
+/// Runs a job between the two calls of the observer. Returns nothing if the run is over meanwhile.
 fn run_job<'a, D: DriverCalls<'a>, R: Wait>(
     rt: &R,
     alloc: Global,
     driver_calls: &D,
     seat: &mut D::Seat,
     job: Job<'a>,
-) -> Done<'a>
-    ensures before { result.before ≡ job.entry }
+) -> Option<Done<'a>>
+    ensures before { IfSome result (λ done. done.before ≡ job.entry) }
     ensures steps { FoldsTo D.does seat.old (working job.entry result) seat.new }
 {
     let lent = job.lent();
@@ -67,7 +67,7 @@ fn retry_and_stop<'a, D: DriverCalls<'a>, R: Wait>(
     driver_calls.stop(rt, seat);
 }
 
-/// Runs a job, whose `Done` is submitted with the next step. A short one ends the driver.
+/// Runs a job, whose `Done` is submitted with the next step. A short one ends the driver, and so does the end of the run.
 fn work<'a, D: DriverCalls<'a>, R: Wait>(
     rt: &R,
     alloc: Global,
@@ -79,7 +79,9 @@ fn work<'a, D: DriverCalls<'a>, R: Wait>(
     ensures program { IfOk result (IsDoneOf D.program) }
     ensures steps { (steps : List Step) × FoldsTo D.does seat.old steps seat.new × Follows (Ok (turn.Run job.entry)) steps result }
 {
-    let done = run_job(rt, alloc, driver_calls, seat, job);
+    let Some(done) = run_job(rt, alloc, driver_calls, seat, job) else {
+        return Err(End { memory: false });
+    };
     if done.short() {
         retry_and_stop(rt, alloc, driver_calls, seat, Some(done));
         return Err(End { memory: true });
@@ -148,7 +150,7 @@ pub(crate) fn drive_borrowed<'a, N: Named, G: Gate, R: Wait + Clock>(
     gate: &G,
 ) -> bool
     ensures actor { seat.new.actor ≡ seat.old.actor }
-    ensures driven { (steps : List Step) × FoldsTo (AtSeat N.run G.unwatched) (seen_by seat.old.actor seat.old.events.items) steps (seen_by seat.new.actor seat.new.events.items) × Drives None steps result }
+    ensures driven { (steps : List Step) × FoldsTo (AtSeat N.run G.unwatched G.stoppable) (seen_by seat.old.actor seat.old.events.items) steps (seen_by seat.new.actor seat.new.events.items) × Drives None steps result }
 {
     let guarded = ObservedHost { host, gate };
     drive_at(rt, alloc, &guarded, seat)
@@ -164,7 +166,7 @@ pub fn drive<'a, N: Named, G: Gate, R: Wait + Clock>(
     gate: &G,
 ) -> Driven<N>
     ensures actor { result.seat.actor ≡ seat.actor }
-    ensures driven { (steps : List Step) × FoldsTo (AtSeat N.run G.unwatched) (seen_by seat.actor seat.events.items) steps (seen_by result.seat.actor result.seat.events.items) × Drives None steps result.memory }
+    ensures driven { (steps : List Step) × FoldsTo (AtSeat N.run G.unwatched G.stoppable) (seen_by seat.actor seat.events.items) steps (seen_by result.seat.actor result.seat.events.items) × Drives None steps result.memory }
 {
     let mut seat = seat;
     let memory = drive_borrowed(rt, alloc, host, &mut seat, gate);

@@ -1,11 +1,11 @@
 //! The interface between a driver and a host.
 
-ghost use Rattle.std.specs.Prelude.{◌≡◌, Bool, Ok, IfOk};
+ghost use Rattle.std.specs.Prelude.{◌≡◌, Bool, Ok, IfOk, IfSome, MatchOption};
 ghost use Rattle.tw_verify.specs.Typed.{TypedProgram};
 ghost use Rattle.tw_host.specs.Seats.{seen_by};
 ghost use Rattle.tw_host.specs.Sees.{IsAnswerOf, IsDoneOf};
 ghost use Rattle.tw_workers.specs.AtHost.{AtSeat};
-ghost use Rattle.tw_workers.specs.Driving.{Step, Turned, Stopped, Before, Ran, After, asked};
+ghost use Rattle.tw_workers.specs.Driving.{Step, Turned, Stopped, Before, Ran, Left, After, asked};
 
 use crate::gate::Gate;
 use std::alloc::Global;
@@ -13,6 +13,7 @@ use std::sync::Wait;
 use tw_frame::{Done, Job};
 use tw_host::{Host, MOST_TURNS, Named, Seat, Strange};
 use tw_pool::Turn;
+use tw_stop::StopSignal;
 use tw_types::Actor;
 
 /// The calls that a driver makes for a seat: of a host, of a job observer (`Gate`), and of a job. Each call is a step of
@@ -58,12 +59,27 @@ pub trait DriverCalls<'a> {
     fn before_job<R: Wait>(&self, rt: &R, seat: &mut Self::Seat, actor: Actor, task: u64)
         ensures { does seat.old (Before actor task) seat.new };
 
-    fn run(&self, alloc: Global, seat: &mut Self::Seat, job: Job<'a>) -> Done<'a>
-        ensures does { does seat.old (Ran job.entry result) seat.new }
-        ensures before { result.before ≡ job.entry };
+    /// Runs a job, or returns nothing if the run is over meanwhile.
+    fn run(&self, alloc: Global, seat: &mut Self::Seat, job: Job<'a>) -> Option<Done<'a>>
+        ensures does { MatchOption result (does seat.old (Left job.entry) seat.new) (λ done. does seat.old (Ran job.entry done) seat.new) }
+        ensures before { IfSome result (λ done. done.before ≡ job.entry) };
 
     fn after_job<R: Wait>(&self, rt: &R, seat: &mut Self::Seat, actor: Actor, task: u64)
         ensures { does seat.old (After actor task) seat.new };
+}
+
+/// A signal that is raised once a run is over.
+#[derive(Drop)]
+struct RunEnd<'h, 'a, N: Named> {
+    host: &'h Host<'a, N>,
+}
+
+impl<'h, 'a, N: Named> StopSignal for RunEnd<'h, 'a, N> {
+    ghost says = { λ _ _ _. Unit {0} };
+
+    fn is_raised(&mut self) -> bool {
+        self.host.events_so_far().is_none()
+    }
 }
 
 /// A host, and the observer of its jobs.
@@ -78,7 +94,7 @@ impl<'h, 'a, N: Named, G: Gate> DriverCalls<'a> for ObservedHost<'h, 'a, N, G> {
 
     ghost program = { N.run.program };
 
-    ghost does = { λ old step new. AtSeat N.run G.unwatched (seen_by old.actor old.events.items) step (seen_by new.actor new.events.items) };
+    ghost does = { λ old step new. AtSeat N.run G.unwatched G.stoppable (seen_by old.actor old.events.items) step (seen_by new.actor new.events.items) };
 
     fn turn<R: Wait>(
         &self,
@@ -116,8 +132,13 @@ impl<'h, 'a, N: Named, G: Gate> DriverCalls<'a> for ObservedHost<'h, 'a, N, G> {
         self.gate.before_job(rt, actor, task);
     }
 
-    fn run(&self, alloc: Global, _seat: &mut Seat<N>, job: Job<'a>) -> Done<'a> {
-        job.run(alloc)
+    fn run(&self, alloc: Global, _seat: &mut Seat<N>, job: Job<'a>) -> Option<Done<'a>> {
+        if self.gate.may_stop() {
+            let mut end = RunEnd { host: self.host };
+            job.run_until(alloc, &mut end)
+        } else {
+            Some(job.run(alloc))
+        }
     }
 
     fn after_job<R: Wait>(&self, rt: &R, _seat: &mut Seat<N>, actor: Actor, task: u64) {

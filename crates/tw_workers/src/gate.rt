@@ -1,6 +1,6 @@
 //! Job observers, which are called before and after each job.
 
-ghost use Rattle.std.specs.Prelude.{◌≡◌, false};
+ghost use Rattle.std.specs.Prelude.{◌≡◌, false, true};
 
 use std::sync::Wait;
 use std::time::Clock;
@@ -46,6 +46,16 @@ pub trait Gate {
         ensures { result ≡ false → unwatched }
     {
         true
+    }
+
+    /// Holds if the observer may stop the run.
+    ghost stoppable: { Type 0 } = { ⊥ };
+
+    /// Returns whether it may stop the run. If so, jobs look whether the run is over, and are cut off then.
+    fn may_stop(&self) -> bool
+        ensures { result ≡ true → stoppable }
+    {
+        false
     }
 
     fn before_job<R: Wait>(&self, rt: &R, actor: Actor, task: u64);

@@ -29,7 +29,7 @@ struct DriverPromise<N: Named, G: Gate> {
 }
 
 impl<N: Named, G: Gate> Promise<bool> for DriverPromise<N, G> {
-    ghost kept_by = { λ b memory. Drove N.run G.unwatched (seen_by b.seat.value.actor b.seat.value.events.items) memory };
+    ghost kept_by = { λ b memory. Drove N.run G.unwatched G.stoppable (seen_by b.seat.value.actor b.seat.value.events.items) memory };
 }
 
 /// A seat that had no thread and was driven by its starter, and whether an allocation failed.
@@ -48,14 +48,14 @@ fn begin<'s, 'e, 'a, N: Named + Send + Sync, G: Gate + Sync, R: Threads + Wait +
     gate: &'e G,
 ) -> Result<PromisedHandle<bool, DriverPromise<N, G>>, SpawnFailed>
     ensures there { IfOk result (λ driver. driver.promise.seat.value ≡ seat.old) }
-    ensures here { IfErr result (λ here. Drove N.run G.unwatched (seen_by seat.old.actor seat.old.events.items) here.memory) }
+    ensures here { IfErr result (λ here. Drove N.run G.unwatched G.stoppable (seen_by seat.old.actor seat.old.events.items) here.memory) }
 {
     let begun = DriverPromise::<N, G> {
         seat: Snapshot::of(seat),
         gate: PhantomData,
     };
     let work = move || -> bool
-        ensures { Drove N.run G.unwatched (seen_by seat.entry.now.actor seat.entry.now.events.items) result }
+        ensures { Drove N.run G.unwatched G.stoppable (seen_by seat.entry.now.actor seat.entry.now.events.items) result }
     { drive_borrowed(rt, alloc, host, seat, gate) };
     match scope.spawn_with(begun, work) {
         Ok(driver) => Ok(driver),
@@ -77,7 +77,7 @@ fn drive_each<'s, 'e, 'a, N: Named + Send + Sync, G: Gate + Sync, R: Threads + W
     seats: &'e mut [Seat<N>],
     gate: &'e G,
 ) -> bool
-    ensures { AllDrove N.run G.unwatched (map (λ s. seen_by s.actor s.events.items) seats.old) result }
+    ensures { AllDrove N.run G.unwatched G.stoppable (map (λ s. seen_by s.actor s.events.items) seats.old) result }
 {
     let Some((seat, others)) = seats.split_first_mut() else {
         gate.monitor(rt, host);
@@ -103,13 +103,13 @@ fn drive_all<'a, N: Named + Send + Sync, G: Gate + Sync, R: Threads + Wait + Clo
     seats: &mut [Seat<N>],
     gate: &G,
 ) -> bool
-    ensures { AllDrove N.run G.unwatched (map (λ s. seen_by s.actor s.events.items) seats.old) result }
+    ensures { AllDrove N.run G.unwatched G.stoppable (map (λ s. seen_by s.actor s.events.items) seats.old) result }
 {
     thread::scope(
         thread::scope_env(),
         rt,
         |scope| -> bool
-            ensures { AllDrove N.run G.unwatched (map (λ s. seen_by s.actor s.events.items) seats.entry.now) result }
+            ensures { AllDrove N.run G.unwatched G.stoppable (map (λ s. seen_by s.actor s.events.items) seats.entry.now) result }
         { drive_each(rt, alloc, scope, host, seats, gate) },
     )
 }
@@ -125,7 +125,7 @@ pub fn run_all<'a, N: Named + Send + Sync, G: Gate + Sync, R: Threads + Wait + C
 ) -> (Closed, bool)
     requires all { vec_len seats ≡ actor_count N.run.layout }
     ensures closes { (seats : List SeatEvents) × (length seats ≡ actor_count N.run.layout) × Closes N.run seats result.0 }
-    ensures memory { AllDrove N.run G.unwatched (map (λ s. seen_by s.actor s.events.items) seats.items) result.1 }
+    ensures memory { AllDrove N.run G.unwatched G.stoppable (map (λ s. seen_by s.actor s.events.items) seats.items) result.1 }
 {
     let memory = drive_all(rt, alloc, &host, seats.as_mut_slice(), gate);
     gate.missed_wakes(host.missed_wakes(rt));
@@ -147,7 +147,7 @@ fn run_named<N: Named + Send + Sync, G: Gate + Sync, R: Threads + Wait + Clock +
     requires run { N.run ≡ record { program = verified.now; inputs = inputs.now; layout = layout; limit = limit } }
     ensures allowed { IfOk result (λ _. MayOpen verified.now.program inputs.now layout limit) }
     ensures closes { IfOk result (λ r. (seats : List SeatEvents) × (length seats ≡ actor_count layout) × Closes N.run seats r.0) }
-    ensures memory { IfOk result (λ r. AllDrove N.run G.unwatched (map (λ a. seen_by a []) (actors_of layout)) r.1) }
+    ensures memory { IfOk result (λ r. AllDrove N.run G.unwatched G.stoppable (map (λ a. seen_by a []) (actors_of layout)) r.1) }
     ensures refused { IfErr result (IsRejection verified.now.program inputs.now layout limit) }
 {
     let (host, seats) = Host::<N>::open(alloc, blank, verified, inputs, layout, limit)?;
@@ -166,7 +166,7 @@ pub fn run<G: Gate + Sync, R: Threads + Wait + Clock + Sync>(
 ) -> Result<(Closed, bool), OpenError>
     ensures allowed { IfOk result (λ _. MayOpen verified.now.program inputs.now layout limit) }
     ensures closes { IfOk result (λ r. (seats : List SeatEvents) × (length seats ≡ actor_count layout) × Closes (record { program = verified.now; inputs = inputs.now; layout = layout; limit = limit }) seats r.0) }
-    ensures memory { IfOk result (λ r. AllDrove (record { program = verified.now; inputs = inputs.now; layout = layout; limit = limit }) G.unwatched (map (λ a. seen_by a []) (actors_of layout)) r.1) }
+    ensures memory { IfOk result (λ r. AllDrove (record { program = verified.now; inputs = inputs.now; layout = layout; limit = limit }) G.unwatched G.stoppable (map (λ a. seen_by a []) (actors_of layout)) r.1) }
     ensures refused { IfErr result (IsRejection verified.now.program inputs.now layout limit) }
 {
     let blank = Blank::new(layout.actor_count() as u64);

@@ -62,8 +62,14 @@ pub struct Timed<'g, G: Gate, C: Clock> {
 impl<'g, G: Gate, C: Clock> Gate for Timed<'g, G, C> {
     ghost unwatched = { G.unwatched };
 
+    ghost stoppable = { Unit {0} };
+
     fn watches(&self) -> bool {
         self.gate.watches()
+    }
+
+    fn may_stop(&self) -> bool {
+        true
     }
 
     fn before_job<R: Wait>(&self, rt: &R, actor: Actor, task: u64) {

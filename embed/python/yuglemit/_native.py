@@ -237,7 +237,7 @@ class Flag:
         _done(short().yuglemit_stop_new(self.of_run.at))
 
     def set(self) -> None:
-        """Ends the run before its next event."""
+        """Ends the run before its next turn, or within a task."""
         _done(short().yuglemit_raw_stop_raise(self.of_run.seen()))
 
 
@@ -331,7 +331,7 @@ def run(program: Loaded, given: Sequence[Given], layout: Layout, stop: Optional[
     run's order.
 
     A brief run keeps the GIL, since getting it back from other threads takes longer than the run. A long one gives way to Ctrl-C, which only the
-    main thread gets: its flag is raised, so that it ends at its next event.
+    main thread gets: its flag is raised, so that it ends soon.
     """
     inputs = _inputs_of(given)
     calls = short() if seconds < BRIEF_SECONDS else library()

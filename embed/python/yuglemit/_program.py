@@ -165,9 +165,8 @@ class Program(metaclass=Shown):
         run, and Refused has the code O07. Its actors take turns in the caller's thread, so the same run has the same events each time;
         `seed`, from 1 to 2**64 - 1, decides another order of the turns. Other threads continue meanwhile. `trace`, `text` and `line` say what the report keeps when it is pickled.
 
-        `stop` ends the run before its next event when another thread sets it, and so does `timeout` after so many seconds; then `end` is "stopped".
-        Ctrl-C stops a run too. An event takes up to the greatest budget, which `most_budget` bounds; after Ctrl-C a leaf may work on for some
-        time, in a thread of its own.
+        `stop` ends the run when another thread sets it, and so does `timeout` after so many seconds; then `end` is "stopped". Ctrl-C stops a
+        run too. A task that works at that time is cut off within 65,536 of its instructions, and its event isn't made.
 
         >>> import yuglemit
         >>> program = yuglemit.load('''

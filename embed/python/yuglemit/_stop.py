@@ -12,7 +12,7 @@ from ._shown import Shown
 
 
 class Stop(metaclass=Shown):
-    """Stops runs. Give it to `Program.run` as `stop`; `set` ends all its runs before their next events, from any thread or signal handler.
+    """Stops runs. Give it to `Program.run` as `stop`; `set` ends all its runs soon, from any thread or signal handler.
 
     A run that was stopped has the end "stopped", and the events and outputs so far. A `Stop` that is set stays so until `clear`; runs that
     begin meanwhile have no event.

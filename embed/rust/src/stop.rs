@@ -37,7 +37,7 @@ impl Stop {
         Ok(Stop { owner })
     }
 
-    /// Ends the runs that have the flag before their next events, and those that begin with it.
+    /// Ends the runs that have the flag, and those that begin with it. A task is cut off within 65,536 of its instructions.
     pub fn raise(&self) {
         done(unsafe { raw::yuglemit_raw_stop_raise(&mut self.owner.seen()) }).expect("a flag can be raised");
     }

@@ -5,7 +5,8 @@ use Rattle.tw_types.specs.Layout.{ActorCounts}
 use Rattle.tw_in_turn.specs.InTurn.{IsAfter}
 use Rattle.tw_stop.specs.Looks.{Looked}
 use Rattle.tw_stop.proofs.Looking.{more_looks, more_noes}
-use Rattle.tw_in_turn.specs.Rounds.{ComesAround, is_stop, turns_in}
+use Rattle.tw_in_turn.specs.Rounds.{ComesAround, is_stop, looks_at, turns_in}
+use Rattle.tw_in_turn.specs.Stopping.{looks_within}
 use Rattle.tw_in_turn.specs.declared.rounds.End.{End}
 use Rattle.tw_in_turn.proofs.Rounding as rounding
 use Rattle.tw_in_turn.proofs.rounds.turn_all.Goals as goal
@@ -20,7 +21,7 @@ loop-rounds-init g c = record {
   kept_is = c.requires.kept;
   after = subst (λ n. IsAfter c.args.seed c.args.pool.now n c.args.pool.now) (sym (none_yet c.args.seed c.args.pool.now.layout)) refl;
   many = omega arith;
-  looked = (0, refl, subst (λ n. n ≤ 0) (sym (none_yet c.args.seed c.args.pool.now.layout)) (omega arith));
+  looked = (0, refl, (let none = none_yet c.args.seed c.args.pool.now.layout in omega (arith, none)));
 }
 
 pub turn_next-requires-clause-may : goal.turn_next-requires-clause-may
@@ -37,7 +38,8 @@ returns-in-Some-clause-ends g c =
     let seen = inv.looked in (
       round.0,
       seen.0 + round.1,
-      rounding.in_all round.0 (turns_in seed first.layout c.loop-rounds.rounds) seen.0 round.1 (subst (λ (l : ActorCounts). round.0 ≤ turns_in seed l c.loop-rounds.rounds + round.1) same round.3) seen.2,
+      rounding.in_all round.0 (turns_in seed first.layout c.loop-rounds.rounds) (looks_within c.turn_next.new.pool.history) (looks_at now c.loop-rounds.kept) (looks_at first c.args.kept.now) seen.0 round.1
+          (subst (λ (l : ActorCounts). round.0 + looks_within c.turn_next.new.pool.history ≤ turns_in seed l c.loop-rounds.rounds + looks_at now c.loop-rounds.kept + round.1) same round.3) seen.2,
       more_looks g.S.StopSignal.says c.args.stop.now c.loop-rounds.stop c.turn_next.new.stop seen.0 round.1 (is_stop c.in-Some.end) seen.1 round.2,
       round.4 first (subst (λ (l : ActorCounts). IsAfter seed first (turns_in seed l c.loop-rounds.rounds) now) (sym same) inv.after),
     )
@@ -53,7 +55,7 @@ loop-rounds-preserved g c =
     let seed = c.args.seed in
     let same : now.layout ≡ first.layout = rounding.layout_same first now inv.grown in
     let new = c.turn_next.new.pool in
-    let around = subst (λ (o : Option End). ComesAround (Looked g.S.StopSignal.says c.loop-rounds.stop c.turn_next.new.stop) seed c.loop-rounds.rounds now new c.turn_next.new.kept o) c.in_default.is c.turn_next.ensures.round in
+    let around = subst (λ (o : Option End). ComesAround (Looked g.S.StopSignal.says c.loop-rounds.stop c.turn_next.new.stop) seed c.loop-rounds.rounds now c.loop-rounds.kept new c.turn_next.new.kept o) c.in_default.is c.turn_next.ensures.round in
     record {
       grown = rounding.grown_twice first now new inv.grown c.turn_next.ensures.grown;
       kept_is = around.0.kept_is;
@@ -64,8 +66,8 @@ loop-rounds-preserved g c =
           let seen = inv.looked in (
             seen.0 + around.1,
             more_noes g.S.StopSignal.says c.args.stop.now c.loop-rounds.stop c.turn_next.new.stop seen.0 around.1 seen.1 around.2,
-            rounding.in_all (turns_in seed first.layout (c.loop-rounds.rounds + 1)) (turns_in seed first.layout c.loop-rounds.rounds) seen.0 around.1
-                (subst (λ (l : ActorCounts). turns_in seed l (c.loop-rounds.rounds + 1) ≤ turns_in seed l c.loop-rounds.rounds + around.1) same around.3) seen.2,
+            rounding.in_all (turns_in seed first.layout (c.loop-rounds.rounds + 1)) (turns_in seed first.layout c.loop-rounds.rounds) (looks_at new c.turn_next.new.kept) (looks_at now c.loop-rounds.kept) (looks_at first c.args.kept.now) seen.0 around.1
+                (subst (λ (l : ActorCounts). turns_in seed l (c.loop-rounds.rounds + 1) + looks_at new c.turn_next.new.kept ≤ turns_in seed l c.loop-rounds.rounds + looks_at now c.loop-rounds.kept + around.1) same around.3) seen.2,
           );
     }
 

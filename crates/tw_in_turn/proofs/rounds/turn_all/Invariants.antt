@@ -1,7 +1,7 @@
-use Rattle.std.proofs.Common.{◌≤◌, ℕ, length}
+use Rattle.std.proofs.Common.{◌≤◌, ◌+◌, ℕ, length}
 use Rattle.tw_stop.specs.Looks.{Looked, noes}
 use Rattle.tw_in_turn.specs.InTurn.{IsAfter}
-use Rattle.tw_in_turn.specs.Rounds.{AreKept, IsGrown, turns_in}
+use Rattle.tw_in_turn.specs.Rounds.{AreKept, IsGrown, looks_at, turns_in}
 use Rattle.tw_in_turn.proofs.rounds.turn_all.Given as goal
 
 abbrev pub invariant-loop-rounds : goal.invariant-loop-rounds
@@ -10,5 +10,5 @@ invariant-loop-rounds g l = record {
   kept_is : AreKept l.pool l.kept;
   after : IsAfter l.fn.seed l.fn.pool (turns_in l.fn.seed l.fn.pool.layout l.rounds) l.pool;
   many : l.rounds ≤ length l.pool.history;
-  looked : (count : ℕ) × Looked g.S.StopSignal.says l.fn.stop l.stop (noes count) × (turns_in l.fn.seed l.fn.pool.layout l.rounds ≤ count);
+  looked : (count : ℕ) × Looked g.S.StopSignal.says l.fn.stop l.stop (noes count) × (turns_in l.fn.seed l.fn.pool.layout l.rounds + looks_at l.pool l.kept ≤ looks_at l.fn.pool l.fn.kept + count);
 }

@@ -1,16 +1,19 @@
-use Rattle.std.proofs.Common.{◌≡◌, ◌≢◌, ◌<◌, ◌+◌, ◌∙◌, Option, Some, true, false, ap, arith, length, refl, subst, sym}
+use Rattle.std.proofs.Common.{◌≡◌, ◌≢◌, ◌<◌, ◌+◌, ◌%◌, ◌∙◌, Option, Some, true, false, ap, arith, get_or, length, refl, subst, sym}
 use Rattle.tw_types.specs.declared.actor.Actor.{Actor}
 use Rattle.tw_types.specs.Actor.{actor_count}
 use Rattle.tw_frame.specs.Jobs.{DoneView}
-use Rattle.tw_stop.specs.Looks.{Looked, looks}
-use Rattle.tw_stop.proofs.Looking.{last_look, one_no}
+use Rattle.tw_stop.specs.Looks.{Looked}
+use Rattle.tw_stop.proofs.Looking.{last_look}
 use Rattle.tw_pool.specs.PoolView.{PoolView}
 use Rattle.tw_in_turn.specs.InTurn.{IsAfter, IsIdle}
-use Rattle.tw_in_turn.specs.Rounds.{IsTurned, Keeps, MayTurn}
+use Rattle.tw_in_turn.specs.Rounds.{IsTurned, IsWatched, Keeps, MayTurn, looks_at}
+use Rattle.tw_in_turn.specs.Stopping.{looks_within}
 use Rattle.tw_in_turn.specs.declared.rounds.End.{End}
 use Rattle.tw_in_turn.proofs.Drawing as drawing
 use Rattle.tw_in_turn.proofs.Rounding as rounding
-use Rattle.tw_in_turn.proofs.Stops.{ends_after, no_stop}
+use Rattle.tw_in_turn.proofs.Stops.{ends_after}
+use Rattle.tw_in_turn.proofs.Watching as watching
+use Rattle.tw_in_turn.proofs.Watching.{with_last}
 use Rattle.tw_in_turn.proofs.rounds.turn_drawn.Goals as goal
 
 pub returns-in-Some-clause-round : goal.returns-in-Some-clause-round
@@ -19,23 +22,27 @@ returns-in-Some-clause-round g c =
     let inv = c.loop-skipped.invariant in
     let new = c.turn_one.new.pool in
     let actor = c.actor_at.result in
-    let t = c.in-Some.ensures in
+    let t = c.in-Some.ensures.turned in
+    let end = c.in-Some.end in
     let same = c.layout-layout.ensures ∙ sym (ap (λ (p : PoolView). p.layout) inv.same) in
+    let low = drawing.index_inside c.args.seed c.args.steps now c.layout-layout.result c.actor_count-count.result c.place_for-first.result c.loop-skipped.skipped actor same c.actor_count-count.ensures.is c.place_for-first.ensures.place c.actor_at.ensures.is c.place_for-first.ensures.inside in
     let Says = g.S.StopSignal.says in
     let denied : Says c.loop-skipped.stop false c.is_raised.new.self = subst (λ b. Says c.loop-skipped.stop b c.is_raised.new.self) c.if-is_raised.false c.is_raised.ensures in
-    let looked = last_look Says c.args.stop.now c.loop-skipped.stop c.is_raised.new.self c.loop-skipped.skipped false inv.looked denied in (
-      c.args.steps,
-      c.loop-skipped.skipped,
-      subst (λ b. Looked Says c.args.stop.now c.is_raised.new.self (looks c.loop-skipped.skipped b)) (sym (no_stop c.in-Some.end t.answer t.comes)) looked,
-      omega arith,
-      λ start after. ends_after (Some c.args.seed) start c.args.steps c.in-Some.end new (
+    let seen = inv.looked in
+    let watched = c.in-Some.ensures.watched in
+    let more = watching.looks_last now new c.loop-skipped.kept _ c.turn_one.new.kept _ watched.0 (omega (arith, low, inv.kept_is.long)) watched.2 in (
+      with_last end c.args.steps,
+      with_last end (seen.0 + watched.0),
+      watching.last_looks Says c.args.stop.now c.loop-skipped.stop c.is_raised.new.self c.turn_one.new.stop seen.0 watched.0 seen.1 denied end watched.1,
+      watching.drawn_last end c.args.steps (looks_within new.history) (looks_at c.args.pool.now c.args.kept.now) (seen.0 + watched.0) (omega (arith, seen.2, more)),
+      λ start after. ends_after (Some c.args.seed) start c.args.steps end new (
         record {
           turns = c.args.steps;
           before = now;
           after = subst (λ (p : PoolView). IsAfter (Some c.args.seed) start c.args.steps p) (sym inv.same) after;
           actor = actor;
           next = drawing.drawn_at c.args.seed c.args.steps now c.layout-layout.result c.actor_count-count.result c.place_for-first.result c.loop-skipped.skipped actor same c.actor_count-count.ensures.is
-              c.place_for-first.ensures.place c.actor_at.ensures.is inv.idle (drawing.busy_at_end c.in-Some.end now new actor t.answer t.move t.comes);
+              c.place_for-first.ensures.place c.actor_at.ensures.is inv.idle (drawing.busy_at_end end now new actor t.answer t.move t.comes);
           answer = t.answer;
           last = t.move;
           is = t.comes;
@@ -48,11 +55,12 @@ pub returns-then-is_raised-clause-round : goal.returns-then-is_raised-clause-rou
 returns-then-is_raised-clause-round g c =
     let Says = g.S.StopSignal.says in
     let inv = c.loop-skipped.invariant in
+    let seen = inv.looked in
     let yes : Says c.loop-skipped.stop true c.is_raised.new.self = subst (λ b. Says c.loop-skipped.stop b c.is_raised.new.self) c.if-is_raised.true c.is_raised.ensures in (
       c.args.steps,
-      c.loop-skipped.skipped,
-      last_look Says c.args.stop.now c.loop-skipped.stop c.is_raised.new.self c.loop-skipped.skipped true inv.looked yes,
-      omega arith,
+      seen.0,
+      last_look Says c.args.stop.now c.loop-skipped.stop c.is_raised.new.self seen.0 true seen.1 yes,
+      omega (arith, seen.2),
       λ start after. subst (λ (p : PoolView). IsAfter (Some c.args.seed) start c.args.steps p) (sym inv.same) after,
     )
 
@@ -63,7 +71,7 @@ returns-then-events-len-clause-round g c =
     let inv = c.loop-skipped.invariant in
     let new = c.turn_one.new.pool in
     let actor = c.actor_at.result in
-    let t = subst (λ (o : Option End). IsTurned now actor new c.turn_one.new.kept o) c.in_default.is c.turn_one.ensures in
+    let t = subst (λ (o : Option End). IsTurned now actor new c.turn_one.new.kept o) c.in_default.is c.turn_one.ensures.turned in
     let same = c.layout-layout.ensures ∙ sym (ap (λ (p : PoolView). p.layout) inv.same) in
     let many = c.actor_count-count.ensures.is in
     let at_place = c.place_for-first.ensures.place in
@@ -75,16 +83,21 @@ returns-then-events-len-clause-round g c =
     let low = drawing.index_inside c.args.seed c.args.steps now c.layout-layout.result c.actor_count-count.result c.place_for-first.result c.loop-skipped.skipped actor same many at_place c.actor_at.ensures.is c.place_for-first.ensures.inside in
     let drawn = drawing.drawn_at c.args.seed c.args.steps now c.layout-layout.result c.actor_count-count.result c.place_for-first.result c.loop-skipped.skipped actor same many at_place c.actor_at.ensures.is inv.idle
     (drawing.busy_if_more now new actor t.answer t.move more_now) in
-    let denied = subst (λ b. g.S.StopSignal.says c.loop-skipped.stop b c.is_raised.new.self) c.if-is_raised.false c.is_raised.ensures in (
+    let Says = g.S.StopSignal.says in
+    let denied : Says c.loop-skipped.stop false c.is_raised.new.self = subst (λ b. Says c.loop-skipped.stop b c.is_raised.new.self) c.if-is_raised.false c.is_raised.ensures in
+    let seen = inv.looked in
+    let given = get_or c.loop-skipped.kept ((c.place_for-first.result + c.loop-skipped.skipped) % c.actor_count-count.result) c.index-kept-index.result in
+    let watched = subst (λ (o : Option End). IsWatched (Looked Says c.is_raised.new.self c.turn_one.new.stop) now given new c.turn_one.new.kept o) c.in_default.is c.turn_one.ensures.watched in
+    let again = watching.looks_again now new c.loop-skipped.kept ((c.place_for-first.result + c.loop-skipped.skipped) % c.actor_count-count.result) c.turn_one.new.kept c.index-kept-index.result watched.0 (omega (arith, low, inv.kept_is.long)) watched.2 in (
       record {
         more = more;
         kept_is = rounding.kept_again now new c.loop-skipped.kept _ c.turn_one.new.kept (rounding.layout_same now new t.grown) low inv.kept_is (subst (λ (a : Actor). Keeps new a c.turn_one.new.kept) actor_now t.comes.1)
             (subst (λ (a : Actor). (other : Actor) (its : Option DoneView) → other ≢ a → Keeps now other its → Keeps new other its) actor_now t.others);
         after = λ start at. drawing.after_drawn c.args.seed c.args.steps start now new actor t.answer (subst (λ (p : PoolView). IsAfter (Some c.args.seed) start c.args.steps p) (sym inv.same) at) drawn t.move t.comes.0;
       },
-      c.loop-skipped.skipped + 1,
-      one_no g.S.StopSignal.says c.args.stop.now c.loop-skipped.stop c.is_raised.new.self c.loop-skipped.skipped inv.looked denied,
-      omega arith,
+      seen.0 + 1 + watched.0,
+      watching.more_noes_again Says c.args.stop.now c.loop-skipped.stop c.is_raised.new.self c.turn_one.new.stop seen.0 watched.0 seen.1 denied watched.1,
+      omega (arith, seen.2, again),
     )
 
 pub loop-skipped-preserved : goal.loop-skipped-preserved
@@ -94,7 +107,7 @@ loop-skipped-preserved g c =
     let inv = c.loop-skipped.invariant in
     let new = c.turn_one.new.pool in
     let actor = c.actor_at.result in
-    let t = subst (λ (o : Option End). IsTurned now actor new c.turn_one.new.kept o) c.in_default.is c.turn_one.ensures in
+    let t = subst (λ (o : Option End). IsTurned now actor new c.turn_one.new.kept o) c.in_default.is c.turn_one.ensures.turned in
     let same = c.layout-layout.ensures ∙ sym (ap (λ (p : PoolView). p.layout) inv.same) in
     let many = c.actor_count-count.ensures.is in
     let at_place = c.place_for-first.ensures.place in
@@ -105,13 +118,22 @@ loop-skipped-preserved g c =
     let actor_now = drawing.at_index c.args.seed c.args.steps now c.layout-layout.result c.actor_count-count.result c.place_for-first.result c.loop-skipped.skipped actor same many at_place c.actor_at.ensures.is in
     let low = drawing.index_inside c.args.seed c.args.steps now c.layout-layout.result c.actor_count-count.result c.place_for-first.result c.loop-skipped.skipped actor same many at_place c.actor_at.ensures.is c.place_for-first.ensures.inside in
     let from = drawing.from_first c.args.seed c.args.steps now c.layout-layout.result c.actor_count-count.result c.place_for-first.result c.loop-skipped.skipped actor same many at_place c.actor_at.ensures.is in
+    let Says = g.S.StopSignal.says in
+    let denied : Says c.loop-skipped.stop false c.is_raised.new.self = subst (λ b. Says c.loop-skipped.stop b c.is_raised.new.self) c.if-is_raised.false c.is_raised.ensures in
+    let seen = inv.looked in
+    let given = get_or c.loop-skipped.kept ((c.place_for-first.result + c.loop-skipped.skipped) % c.actor_count-count.result) c.index-kept-index.result in
+    let watched = subst (λ (o : Option End). IsWatched (Looked Says c.is_raised.new.self c.turn_one.new.stop) now given new c.turn_one.new.kept o) c.in_default.is c.turn_one.ensures.watched in
+    let again = watching.looks_again now new c.loop-skipped.kept ((c.place_for-first.result + c.loop-skipped.skipped) % c.actor_count-count.result) c.turn_one.new.kept c.index-kept-index.result watched.0 (omega (arith, low, inv.kept_is.long)) watched.2 in
     record {
       same = still.0 ∙ inv.same;
       kept_is = rounding.kept_again now new c.loop-skipped.kept _ c.turn_one.new.kept (rounding.layout_same now new t.grown) low inv.kept_is (subst (λ (a : Actor). Keeps new a c.turn_one.new.kept) actor_now t.comes.1)
           (subst (λ (a : Actor). (other : Actor) (its : Option DoneView) → other ≢ a → Keeps now other its → Keeps new other its) actor_now t.others);
       idle = drawing.idle_again now new c.place_for-first.result c.loop-skipped.skipped still.0 inv.idle (subst (λ (a : Actor). IsIdle now a) from still.1);
-      looked = one_no g.S.StopSignal.says c.args.stop.now c.loop-skipped.stop c.is_raised.new.self c.loop-skipped.skipped inv.looked
-          (subst (λ b. g.S.StopSignal.says c.loop-skipped.stop b c.is_raised.new.self) c.if-is_raised.false c.is_raised.ensures);
+      looked = (
+        seen.0 + 1 + watched.0,
+        watching.more_noes_again Says c.args.stop.now c.loop-skipped.stop c.is_raised.new.self c.turn_one.new.stop seen.0 watched.0 seen.1 denied watched.1,
+        omega (arith, seen.2, again),
+      );
     }
 
 pub unreachable-requires : goal.unreachable-requires

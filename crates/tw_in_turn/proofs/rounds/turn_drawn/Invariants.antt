@@ -1,7 +1,7 @@
-use Rattle.std.proofs.Common.{◌≡◌, ◌<◌, ℕ}
+use Rattle.std.proofs.Common.{◌≡◌, ◌<◌, ◌≤◌, ◌+◌, ℕ}
 use Rattle.tw_stop.specs.Looks.{Looked, noes}
 use Rattle.tw_in_turn.specs.InTurn.{IsIdle, actor_from}
-use Rattle.tw_in_turn.specs.Rounds.{AreKept}
+use Rattle.tw_in_turn.specs.Rounds.{AreKept, looks_at}
 use Rattle.tw_in_turn.proofs.rounds.turn_drawn.Given as goal
 
 abbrev pub invariant-loop-skipped : goal.invariant-loop-skipped
@@ -9,5 +9,5 @@ invariant-loop-skipped g l = record {
   same : l.pool ≡ l.fn.pool;
   kept_is : AreKept l.pool l.kept;
   idle : (k : ℕ) → k < l.skipped → IsIdle l.pool (actor_from l.pool.layout l.first k);
-  looked : Looked g.S.StopSignal.says l.fn.stop l.stop (noes l.skipped);
+  looked : (count : ℕ) × Looked g.S.StopSignal.says l.fn.stop l.stop (noes count) × (looks_at l.pool l.kept ≤ looks_at l.fn.pool l.fn.kept + count);
 }

@@ -1,9 +1,9 @@
-use Rattle.std.proofs.Common.{◌+◌, ◌*◌, ℕ, None}
+use Rattle.std.proofs.Common.{◌≤◌, ◌+◌, ◌*◌, ℕ, None}
 use Rattle.tw_types.specs.Actor.{actor_count}
 use Rattle.tw_stop.specs.Looks.{Looked, noes}
 use Rattle.tw_pool.specs.PoolView.{PoolView}
 use Rattle.tw_in_turn.specs.InTurn.{IsAfter}
-use Rattle.tw_in_turn.specs.Rounds.{AreKept, IsGrown}
+use Rattle.tw_in_turn.specs.Rounds.{AreKept, IsGrown, looks_at}
 use Rattle.tw_in_turn.proofs.Rounding.{MoreOrIdle}
 use Rattle.tw_in_turn.proofs.rounds.turn_round.Given as goal
 
@@ -13,5 +13,5 @@ invariant-loop-index g l = record {
   kept_is : AreKept l.pool l.kept;
   after : (first : PoolView) (rounds : ℕ) → IsAfter None first (rounds * actor_count l.fn.pool.layout) l.fn.pool → IsAfter None first (rounds * actor_count l.fn.pool.layout + l.index) l.pool;
   more : MoreOrIdle l.fn.pool l.pool l.index;
-  looked : Looked g.S.StopSignal.says l.fn.stop l.stop (noes l.index);
+  looked : (count : ℕ) × Looked g.S.StopSignal.says l.fn.stop l.stop (noes count) × (l.index + looks_at l.pool l.kept ≤ looks_at l.fn.pool l.fn.kept + count);
 }

@@ -1,4 +1,4 @@
-use Rattle.std.proofs.Common.{Bool, is_some, Option, ℕ, subst, sym, true}
+use Rattle.std.proofs.Common.{is_some, Option, ℕ, subst, sym}
 use Rattle.std.proofs.lemmas.Result.{IfOk-weaker}
 use Rattle.tw_pool.specs.Openings.{opened}
 use Rattle.tw_in_turn.specs.Stopping.{IsLeftIf}
