@@ -2,5 +2,5 @@ pub mod Numbers
 pub mod Longest
 pub mod Nexts
 pub mod Histories
-pub mod Texts
 pub mod Openings
+pub mod Totals

@@ -1,5 +1,5 @@
 -- The statistics of a trace with one more event.
-use Rattle.std.proofs.Common.{arith, ◌≡◌, ◌+◌, ◌-◌, ◌<◌, ◌≤◌, ◌^◌, ◌==◌, ℕ, Bool, true, false, if◌then◌else◌, List, [], ◌∷◌, ◌++◌, length, length-append, min, suc, append_assoc, refl, sym, ap, subst, ◌∙◌, Option, Some, None}
+use Rattle.std.proofs.Common.{arith, ◌≡◌, ◌+◌, ◌-◌, ◌<◌, ◌≤◌, ◌^◌, ◌==◌, ℕ, Bool, true, false, if◌then◌else◌, List, [], ◌∷◌, ◌++◌, length, length-append, min, suc, refl, sym, ap, subst, ◌∙◌, Option, Some, None}
 use Rattle.std.specs.Prelude.{codes, max}
 use Rattle.std.proofs.lemmas.List.Sums.{fold-append, sum_by-append, sum_by-cons, sum_by-le-sum_by}
 use Rattle.std.specs.List.{sum_by}
@@ -16,6 +16,9 @@ use Rattle.tw_stats.specs.Kept.{AreCounts, AreOfProcedures, IsAdded, IsRaised, I
 use Rattle.tw_stats.specs.Numbers.{done_at, events_of, events_of_kind, if_of, instructions_by, instructions_of, kind_of, most_of, one_if, same_actor, tasks_by, tasks_of}
 use Rattle.tw_stats.specs.Text.{budget_text, done_part, lines_below, procedure_line, tasks_part}
 use Rattle.tw_stats.specs.Waits.{done_by, steps_in}
+use Rattle.tw_writer.proofs.Pieces as pieces
+use Rattle.tw_writer.specs.Appended.{IsAppended}
+use Rattle.tw_writer.specs.declared.writer.Writer.{Writer}
 
 -- ---- sums
 
@@ -177,7 +180,7 @@ line_same names moments p number budget h =
     ∙ ap (λ (n : ℕ). tasks_part names number (tasks_of number moments) ++ (done_part (instructions_of number moments) n ++ (budget_text budget ++ codes "\n"))) (h.most number)
 
 -- adds one more line
-pub line_added : (there out new : List ℕ) (line : ℕ → List ℕ) (number : ℕ) (text : List ℕ) → text ≡ line number → out ≡ there ++ lines_below line number → new ≡ out ++ text → new ≡ there ++ lines_below line (number + 1)
-line_added there out new line number text same before after =
+pub line_added : (a b c : Writer) (line : ℕ → List ℕ) (number : ℕ) (text : List ℕ) → text ≡ line number → IsAppended a b (lines_below line number) → IsAppended b c text → IsAppended a c (lines_below line (number + 1))
+line_added a b c line number text same before after =
     let next : number + 1 ≡ suc number = omega arith in
-    after ∙ ap (λ (t : List ℕ). out ++ t) same ∙ ap (λ (t : List ℕ). t ++ line number) before ∙ append_assoc there (lines_below line number) (line number) ∙ ap (λ (n : ℕ). there ++ lines_below line n) (sym next)
+    pieces.same_added a c _ _ (ap (λ (t : List ℕ). lines_below line number ++ t) same ∙ ap (λ (n : ℕ). lines_below line n) (sym next)) (pieces.both_added a b c (lines_below line number) text before after)

@@ -2,5 +2,7 @@
 pub mod Waits
 pub mod Numbers
 pub mod Text
+-- Theorems on all of them.
+pub mod Theorems
 -- The data of the code while it reads a trace.
 pub mod Kept

@@ -14,6 +14,7 @@ mod procedures;
 mod stats_builder;
 mod table;
 mod text;
+mod theorems;
 
 pub use actors::Actors;
 pub use chains::Chains;
@@ -27,3 +28,4 @@ pub use pre_state::PreState;
 pub use procedures::Procedures;
 pub use stats_builder::StatsBuilder;
 pub use table::Table;
+pub use theorems::statistics_add_up;

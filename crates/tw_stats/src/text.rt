@@ -1,129 +1,116 @@
 //! The lines of statistics.
 
-ghost use Rattle.std.specs.Prelude.{◌≡◌, ◌++◌, IfOk, List, OnOk, codes, length, slice_get};
+ghost use Rattle.std.specs.Prelude.{◌≡◌, ◌++◌, IfOk, List, codes, length, slice_get};
 ghost use Rattle.tw_types.specs.declared.event.Event.{Event as AnEvent};
 ghost use Rattle.tw_types.specs.Actor.{actor_count};
 ghost use Rattle.tw_machine.specs.PlainView.{PlainView};
 ghost use Rattle.tw_report.specs.Events.{actor_part, part_text};
 ghost use Rattle.tw_machine.specs.Moments.{Moment, history};
+ghost use Rattle.tw_symbols.specs.Symbols.{bracketed, name_at};
 ghost use Rattle.tw_stats.specs.Kept.{AreCounts, AreOfProcedures, IsTally, line_by};
 ghost use Rattle.tw_stats.specs.Text.{AreNumbers, actor_line_of, budget_text, chain_line, done_part, kind_lines, lines_below, number_line, procedure_line_of, tasks_part};
+ghost use Rattle.tw_writer.specs.Appended.{IsAppended};
 
 use crate::counts::Counts;
 use crate::procedures::Procedures;
 use crate::stats_builder::StatsBuilder;
 use std::alloc::{AllocError, Global};
 use tw_machine::Plain;
-use tw_report::{put, put_numbered};
 use tw_symbols::Symbols;
 use tw_types::{Actor, Layout};
+use tw_writer::Writer;
 
 /// Adds a name and a number, as a line.
-fn put_number_line(
-    alloc: Global,
-    out: &mut Vec<u8>,
-    name: &str,
-    number: u64,
-) -> Result<(), AllocError>
-    ensures { OnOk result (out.new.items ≡ out.old.items ++ number_line name.now number) }
+fn put_number_line(out: &mut Writer, name: &str, number: u64)
+    ensures { IsAppended out.old out.new (number_line name.now number) }
 {
-    put_numbered(alloc, out, name, number as usize)?;
-    put(out, "\n")
+    out.put_numbered(name, number as usize);
+    out.put("\n");
 }
 
 /// Adds the lines of the kinds of events.
-fn put_kinds(alloc: Global, out: &mut Vec<u8>, counts: &Counts) -> Result<(), AllocError>
-    ensures { OnOk result ((moments : List Moment) → AreCounts moments counts.now → out.new.items ≡ out.old.items ++ kind_lines moments) }
+fn put_kinds(out: &mut Writer, counts: &Counts)
+    ensures { (moments : List Moment) → AreCounts moments counts.now → IsAppended out.old out.new (kind_lines moments) }
 {
-    put_number_line(alloc, out, "take ", counts.kinds.at(0))?;
-    put_number_line(alloc, out, "local ", counts.kinds.at(1))?;
-    put_number_line(alloc, out, "call ", counts.kinds.at(2))?;
-    put_number_line(alloc, out, "end ", counts.kinds.at(3))?;
-    put_number_line(alloc, out, "ask ", counts.kinds.at(4))?;
-    put_number_line(alloc, out, "deliver ", counts.kinds.at(5))?;
-    put_number_line(alloc, out, "release ", counts.kinds.at(6))
+    put_number_line(out, "take ", counts.kinds.at(0));
+    put_number_line(out, "local ", counts.kinds.at(1));
+    put_number_line(out, "call ", counts.kinds.at(2));
+    put_number_line(out, "end ", counts.kinds.at(3));
+    put_number_line(out, "ask ", counts.kinds.at(4));
+    put_number_line(out, "deliver ", counts.kinds.at(5));
+    put_number_line(out, "release ", counts.kinds.at(6));
 }
 
-fn put_budget(alloc: Global, out: &mut Vec<u8>, budget: Option<u64>) -> Result<(), AllocError>
-    ensures { OnOk result (out.new.items ≡ out.old.items ++ budget_text budget) }
+fn put_budget(out: &mut Writer, budget: Option<u64>)
+    ensures { IsAppended out.old out.new (budget_text budget) }
 {
     match budget {
-        Some(budget) => put_numbered(alloc, out, " budget ", budget as usize),
-        None => Ok(()),
+        Some(budget) => out.put_numbered(" budget ", budget as usize),
+        None => {}
     }
 }
 
-fn put_tasks(
-    alloc: Global,
-    out: &mut Vec<u8>,
-    names: &Symbols,
-    number: usize,
-    tasks: u64,
-) -> Result<(), AllocError>
-    ensures { OnOk result (out.new.items ≡ out.old.items ++ tasks_part names.now number tasks) }
+/// Adds a procedure's name in brackets, if it has one.
+fn put_name(out: &mut Writer, names: &Symbols, number: usize)
+    ensures { IsAppended out.old out.new (bracketed (name_at names.now number)) }
 {
-    put_numbered(alloc, out, "procedure ", number)?;
-    names.put(out, number)?;
-    put_numbered(alloc, out, " tasks ", tasks as usize)
+    let done = names.put(&mut out.bytes, number);
+    out.note(done);
 }
 
-fn put_done(
-    alloc: Global,
-    out: &mut Vec<u8>,
-    instructions: u64,
-    most: u64,
-) -> Result<(), AllocError>
-    ensures { OnOk result (out.new.items ≡ out.old.items ++ done_part instructions most) }
+fn put_tasks(out: &mut Writer, names: &Symbols, number: usize, tasks: u64)
+    ensures { IsAppended out.old out.new (tasks_part names.now number tasks) }
 {
-    put_numbered(alloc, out, " instructions ", instructions as usize)?;
-    put_numbered(alloc, out, " most ", most as usize)
+    out.put_numbered("procedure ", number);
+    put_name(out, names, number);
+    out.put_numbered(" tasks ", tasks as usize);
+}
+
+fn put_done(out: &mut Writer, instructions: u64, most: u64)
+    ensures { IsAppended out.old out.new (done_part instructions most) }
+{
+    out.put_numbered(" instructions ", instructions as usize);
+    out.put_numbered(" most ", most as usize);
 }
 
 /// Adds the line of a procedure.
 fn put_procedure(
-    alloc: Global,
-    out: &mut Vec<u8>,
+    out: &mut Writer,
     names: &Symbols,
     procedures: &Procedures,
     number: usize,
     budget: Option<u64>,
-) -> Result<(), AllocError>
-    ensures { OnOk result (out.new.items ≡ out.old.items ++ line_by names.now procedures.now number budget) }
+)
+    ensures { IsAppended out.old out.new (line_by names.now procedures.now number budget) }
 {
     let key = number as u64;
-    put_tasks(alloc, out, names, number, procedures.tasks.at(key))?;
+    put_tasks(out, names, number, procedures.tasks.at(key));
     let instructions = procedures.instructions.at(key);
-    put_done(alloc, out, instructions, procedures.most.at(key))?;
-    put_budget(alloc, out, budget)?;
-    put(out, "\n")
+    put_done(out, instructions, procedures.most.at(key));
+    put_budget(out, budget);
+    out.put("\n");
 }
 
 /// Adds the line of an actor.
-fn put_actor(alloc: Global, out: &mut Vec<u8>, actor: Actor, events: u64) -> Result<(), AllocError>
-    ensures { OnOk result (out.new.items ≡ out.old.items ++ (codes "actor " ++ part_text (actor_part actor) ++ number_line (codes " events ") events)) }
+fn put_actor(out: &mut Writer, actor: Actor, events: u64)
+    ensures { IsAppended out.old out.new (codes "actor " ++ part_text (actor_part actor) ++ number_line (codes " events ") events) }
 {
     match actor {
-        Actor::Engine(number) => put_numbered(alloc, out, "actor e", usize::from(number))?,
-        Actor::Server(number) => put_numbered(alloc, out, "actor s", usize::from(number))?,
-        Actor::Worker(number) => put_numbered(alloc, out, "actor w", usize::from(number))?,
+        Actor::Engine(number) => out.put_numbered("actor e", usize::from(number)),
+        Actor::Server(number) => out.put_numbered("actor s", usize::from(number)),
+        Actor::Worker(number) => out.put_numbered("actor w", usize::from(number)),
     }
-    put_number_line(alloc, out, " events ", events)
+    put_number_line(out, " events ", events);
 }
 
 /// Adds the lines of the actors of a layout.
-fn put_actors(
-    alloc: Global,
-    out: &mut Vec<u8>,
-    layout: Layout,
-    counts: &Counts,
-) -> Result<(), AllocError>
-    ensures { OnOk result ((moments : List Moment) → AreCounts moments counts.now → out.new.items ≡ out.old.items ++ lines_below (actor_line_of layout moments) (actor_count layout)) }
+fn put_actors(out: &mut Writer, layout: Layout, counts: &Counts)
+    ensures { (moments : List Moment) → AreCounts moments counts.now → IsAppended out.old out.new (lines_below (actor_line_of layout moments) (actor_count layout)) }
 {
     for index in 0..layout.actor_count() {
         let actor = layout.actor_at(index);
-        put_actor(alloc, out, actor, counts.actors.at(actor))?;
+        put_actor(out, actor, counts.actors.at(actor));
     }
-    Ok(())
 }
 
 fn budget_at(budgets: &[u64], number: usize) -> Option<u64>
@@ -134,33 +121,24 @@ fn budget_at(budgets: &[u64], number: usize) -> Option<u64>
 
 /// Adds the lines of the first `count` procedures.
 fn put_procedures(
-    alloc: Global,
-    out: &mut Vec<u8>,
+    out: &mut Writer,
     names: &Symbols,
     procedures: &Procedures,
     budgets: &[u64],
     count: usize,
-) -> Result<(), AllocError>
-    ensures { OnOk result ((moments : List Moment) → AreOfProcedures moments procedures.now → out.new.items ≡ out.old.items ++ lines_below (procedure_line_of names.now budgets.now moments) count) }
+)
+    ensures { (moments : List Moment) → AreOfProcedures moments procedures.now → IsAppended out.old out.new (lines_below (procedure_line_of names.now budgets.now moments) count) }
 {
     for number in 0..count {
-        put_procedure(
-            alloc,
-            out,
-            names,
-            procedures,
-            number,
-            budget_at(budgets, number),
-        )?;
+        put_procedure(out, names, procedures, number, budget_at(budgets, number));
     }
-    Ok(())
 }
 
-fn put_chain(alloc: Global, out: &mut Vec<u8>, steps: u64, longest: u64) -> Result<(), AllocError>
-    ensures { OnOk result (out.new.items ≡ out.old.items ++ chain_line steps longest) }
+fn put_chain(out: &mut Writer, steps: u64, longest: u64)
+    ensures { IsAppended out.old out.new (chain_line steps longest) }
 {
-    put_numbered(alloc, out, "steps ", steps as usize)?;
-    put_number_line(alloc, out, " chain ", longest)
+    out.put_numbered("steps ", steps as usize);
+    put_number_line(out, " chain ", longest);
 }
 
 fn procedure_count(plain: &Plain) -> usize
@@ -182,14 +160,14 @@ impl StatsBuilder {
         ensures { IfOk result (λ text. (first : PlainView) (events : List AnEvent) → plain.now ≡ record first { state = plain.now.state } → IsTally first events plain.now.state self.now
             → AreNumbers names.now first.program first.layout budgets.now (history first events) text.items) }
     {
-        let mut text = Vec::new(alloc);
-        put(&mut text, "numbers\n")?;
-        put_number_line(alloc, &mut text, "events ", self.counts.events)?;
-        put_kinds(alloc, &mut text, &self.counts)?;
+        let mut text = Writer::new(alloc);
+        text.put("numbers\n");
+        put_number_line(&mut text, "events ", self.counts.events);
+        put_kinds(&mut text, &self.counts);
         let count = procedure_count(plain);
-        put_procedures(alloc, &mut text, names, &self.procedures, budgets, count)?;
-        put_actors(alloc, &mut text, plain.layout(), &self.counts)?;
-        put_chain(alloc, &mut text, self.counts.steps, self.chains.longest)?;
-        Ok(text)
+        put_procedures(&mut text, names, &self.procedures, budgets, count);
+        put_actors(&mut text, plain.layout(), &self.counts);
+        put_chain(&mut text, self.counts.steps, self.chains.longest);
+        text.finish()
     }
 }

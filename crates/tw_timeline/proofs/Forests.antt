@@ -1,11 +1,14 @@
 -- The texts of forests that are put together.
-use Rattle.std.proofs.Common.{arith, ◌≡◌, ◌+◌, ◌<◌, ◌≤◌, ℕ, zero, suc, Bool, true, false, List, [], ◌∷◌, ◌++◌, length, take, get_or, refl, sym, ap, subst, ◌∙◌, append_assoc, OnOk}
-use Rattle.std.specs.Prelude.{Result, Ok, Err, if◌then◌else◌}
-use Rattle.std.proofs.lemmas.List.{append-nil, flat_map_more, take_all, take_more}
+use Rattle.std.proofs.Common.{arith, ◌≡◌, ◌+◌, ◌<◌, ◌≤◌, ℕ, zero, suc, Bool, true, false, List, [], ◌∷◌, ◌++◌, length, take, get_or, refl, sym, ap, subst, ◌∙◌, append_assoc}
+use Rattle.std.specs.Prelude.{if◌then◌else◌}
+use Rattle.std.proofs.lemmas.List.{append-nil}
 use Rattle.std.specs.List.{flat_map}
 use Rattle.tw_timeline.specs.declared.attributes.Attribute.{Attribute}
 use Rattle.tw_timeline.specs.declared.attributes.Name.{Name}
 use Rattle.tw_timeline.specs.Xml.{Forest, Nothing, Words, Element, all, below, close_text, escaped, joined, open_text, plain, titled, with_words, xml_text}
+use Rattle.tw_writer.proofs.Pieces as pieces
+use Rattle.tw_writer.specs.Appended.{IsAppended}
+use Rattle.tw_writer.specs.declared.writer.Writer.{Writer}
 
 pub nothing_text : xml_text Nothing ≡ []
 unfolding xml_text
@@ -58,75 +61,56 @@ words_same name row attributes text words e f = ap (λ (attrs : List Attribute).
 pub titled_same : (name : Name) (row attributes : List Attribute) (text words : List ℕ) → row ≡ attributes → text ≡ words → titled name row text ≡ titled name attributes words
 titled_same name row attributes text words e f = ap (λ (attrs : List Attribute). titled name attrs text) e ∙ ap (λ (t : List ℕ). titled name attributes t) f
 
--- ---- what is added to a text
+-- ---- what is added to a writer
 
 -- adds nothing
-pub none_added : (out : List ℕ) (b : Bool) (shape : Forest) → b ≡ true → out ≡ out ++ xml_text (if b then Nothing else shape)
-none_added out true shape e = sym (ap (λ (t : List ℕ). out ++ t) nothing_text ∙ append-nil out)
-none_added out false shape e = cc
+pub none_added : (w : Writer) (b : Bool) (shape : Forest) → b ≡ true → IsAppended w w (xml_text (if b then Nothing else shape))
+none_added w true shape e = pieces.same_added w w [] (xml_text Nothing) (sym nothing_text) (pieces.none_added w)
+none_added w false shape e = cc
 
-pub none_left : (out : List ℕ) (b : Bool) (shape : Forest) → b ≡ false → out ≡ out ++ xml_text (if b then shape else Nothing)
-none_left out false shape e = none_added out true shape refl
-none_left out true shape e = cc
+pub none_left : (w : Writer) (b : Bool) (shape : Forest) → b ≡ false → IsAppended w w (xml_text (if b then shape else Nothing))
+none_left w false shape e = none_added w true shape refl
+none_left w true shape e = cc
 
 -- adds one forest, and another after it
-pub both_added : (old mid new : List ℕ) (first rest : Forest) → mid ≡ old ++ xml_text first → new ≡ mid ++ xml_text rest → new ≡ old ++ xml_text (joined first rest)
-both_added old mid new first rest before after =
-    after ∙ ap (λ (t : List ℕ). t ++ xml_text rest) before ∙ append_assoc old (xml_text first) (xml_text rest) ∙ ap (λ (t : List ℕ). old ++ t) (sym (joined_text first rest))
+pub both_added : (a b c : Writer) (first rest : Forest) → IsAppended a b (xml_text first) → IsAppended b c (xml_text rest) → IsAppended a c (xml_text (joined first rest))
+both_added a b c first rest before after = pieces.same_added a c _ _ (sym (joined_text first rest)) (pieces.both_added a b c (xml_text first) (xml_text rest) before after)
 
-module _ {T E : Type 0} (r : Result T E) where
-  -- adds both, each perhaps written in another way
-  pub following : (old mid new : List ℕ) (one first two rest : Forest) → one ≡ first → mid ≡ old ++ xml_text one → two ≡ rest → OnOk r (new ≡ mid ++ xml_text two) → OnOk r (new ≡ old ++ xml_text (joined first rest))
-  following old mid new one first two rest same before other after = go r after
-    where
-      go : (q : Result T E) → OnOk q (new ≡ mid ++ xml_text two) → OnOk q (new ≡ old ++ xml_text (joined first rest))
-      go (Ok x) h = both_added old mid new first rest (before ∙ ap (λ (f : Forest). old ++ xml_text f) same) (h ∙ ap (λ (f : Forest). mid ++ xml_text f) other)
-      go (Err e) h = h
+-- adds a forest that is written in another way
+pub shape_same : (a b : Writer) (one two : Forest) → one ≡ two → IsAppended a b (xml_text one) → IsAppended a b (xml_text two)
+shape_same a b one two same added = subst (λ (f : Forest). IsAppended a b (xml_text f)) same added
 
-  -- adds a forest that is written in another way
-  pub same_added : (old new : List ℕ) (one two : Forest) → one ≡ two → OnOk r (new ≡ old ++ xml_text one) → OnOk r (new ≡ old ++ xml_text two)
-  same_added old new one two same after = subst (λ (f : Forest). OnOk r (new ≡ old ++ xml_text f)) same after
+-- adds both, each perhaps written in another way
+pub following : (a b c : Writer) (one first two rest : Forest) → one ≡ first → IsAppended a b (xml_text one) → two ≡ rest → IsAppended b c (xml_text two) → IsAppended a c (xml_text (joined first rest))
+following a b c one first two rest same before other after = both_added a b c first rest (shape_same a b one first same before) (shape_same b c two rest other after)
 
-  -- adds a forest, if there is one
-  pub some_added : (old new : List ℕ) (b : Bool) (one two : Forest) → b ≡ false → one ≡ two → OnOk r (new ≡ old ++ xml_text one) → OnOk r (new ≡ old ++ xml_text (if b then Nothing else two))
-  some_added old new b one two e same after = same_added old new one (if b then Nothing else two) (same ∙ ap (λ (t : Bool). if t then Nothing else two) (sym e)) after
+-- adds a forest, if there is one
+pub some_added : (a b : Writer) (none : Bool) (one two : Forest) → none ≡ false → one ≡ two → IsAppended a b (xml_text one) → IsAppended a b (xml_text (if none then Nothing else two))
+some_added a b none one two e same after = shape_same a b one (if none then Nothing else two) (same ∙ ap (λ (t : Bool). if t then Nothing else two) (sym e)) after
 
-  -- adds an element: its start tag, its content, and its end tag
-  pub around : (old mid next new : List ℕ) (name : Name) (row attributes : List Attribute) (text : List ℕ) (shape : Forest) → row ≡ attributes → mid ≡ old ++ open_text name row → next ≡ mid ++ text
-      → xml_text shape ≡ open_text name attributes ++ (text ++ close_text name) → OnOk r (new ≡ next ++ close_text name) → OnOk r (new ≡ old ++ xml_text shape)
-  around old mid next new name row attributes text shape same opened inside is after = go r after
-    where
-      go : (q : Result T E) → OnOk q (new ≡ next ++ close_text name) → OnOk q (new ≡ old ++ xml_text shape)
-      go (Ok x) h =
-          h
-          ∙ ap (λ (t : List ℕ). t ++ close_text name) (inside ∙ ap (λ (t : List ℕ). t ++ text) (opened ∙ ap (λ (attrs : List Attribute). old ++ open_text name attrs) same))
-          ∙ append_assoc (old ++ open_text name attributes) text (close_text name)
-          ∙ append_assoc old (open_text name attributes) (text ++ close_text name)
-          ∙ ap (λ (t : List ℕ). old ++ t) (sym is)
-      go (Err e) h = h
+-- adds an element: its start tag, its content, and its end tag
+pub around : (a b c d : Writer) (name : Name) (row attributes : List Attribute) (text : List ℕ) (shape : Forest) → row ≡ attributes → IsAppended a b (open_text name row) → IsAppended b c text
+    → xml_text shape ≡ open_text name attributes ++ (text ++ close_text name) → IsAppended c d (close_text name) → IsAppended a d (xml_text shape)
+around a b c d name row attributes text shape same opened inside is after =
+    let begun = pieces.same_added a b _ _ (ap (λ (attrs : List Attribute). open_text name attrs) same) opened in
+    pieces.same_added a d _ _ (sym is) (pieces.both_added a b d _ _ begun (pieces.both_added b c d _ _ inside after))
 
-  -- adds an element without content
-  pub closed : (old mid new : List ℕ) (name : Name) (attributes : List Attribute) → mid ≡ old ++ open_text name attributes → OnOk r (new ≡ mid ++ close_text name) → OnOk r (new ≡ old ++ xml_text (plain name attributes))
-  closed old mid new name attributes opened after =
-      around old mid mid new name attributes attributes [] (plain name attributes) refl opened (sym (append-nil mid)) (expanded_text name attributes) after
+-- adds an element without content
+pub closed : (a b c : Writer) (name : Name) (attributes : List Attribute) → IsAppended a b (open_text name attributes) → IsAppended b c (close_text name) → IsAppended a c (xml_text (plain name attributes))
+closed a b c name attributes opened after = pieces.same_added a c _ _ (sym (expanded_text name attributes)) (pieces.both_added a b c _ _ opened after)
 
 -- ---- loops
 
 module _ {X : Type 0} (f : X → Forest) (xs : List X) (i : ℕ) where
   -- adds one more
-  pub one_added : (x : X) (there out new : List ℕ) → i < length xs → x ≡ get_or xs i x → out ≡ there ++ flat_map (λ y. xml_text (f y)) (take i xs) → new ≡ out ++ xml_text (f x)
-      → new ≡ there ++ flat_map (λ y. xml_text (f y)) (take (i + 1) xs)
-  one_added x there out new inside is before after =
-      let text : X → List ℕ = λ y. xml_text (f y) in
-      after ∙ ap (λ (t : List ℕ). t ++ text x) before ∙ flat_map_more text there (take i xs) x
-      ∙ ap (λ (ys : List X). there ++ flat_map text ys) (sym (take_more xs i x inside ∙ ap (λ (y : X). take i xs ++ y ∷ []) (sym is)))
+  pub one_added : (x : X) (a b c : Writer) → i < length xs → x ≡ get_or xs i x → IsAppended a b (flat_map (λ y. xml_text (f y)) (take i xs)) → IsAppended b c (xml_text (f x))
+      → IsAppended a c (flat_map (λ y. xml_text (f y)) (take (i + 1) xs))
+  one_added x a b c inside is before after = pieces.one_more (λ y. xml_text (f y)) xs i x a b c inside is before after
 
-  -- adds all of them
-  pub all_added : (there out : List ℕ) → length xs ≤ i → out ≡ there ++ flat_map (λ y. xml_text (f y)) (take i xs) → out ≡ there ++ xml_text (all f xs)
-  all_added there out last before =
-      before ∙ ap (λ (ys : List X). there ++ flat_map (λ y. xml_text (f y)) ys) (take_all i xs last) ∙ ap (λ (t : List ℕ). there ++ t) (sym (all_text f xs))
+  -- has added all of them
+  pub all_added : (a b : Writer) → length xs ≤ i → IsAppended a b (flat_map (λ y. xml_text (f y)) (take i xs)) → IsAppended a b (xml_text (all f xs))
+  all_added a b last before = pieces.same_added a b _ _ (sym (all_text f xs)) (pieces.all_of (λ y. xml_text (f y)) xs i a b last before)
 
 -- adds one more number
-pub number_added : (f : ℕ → Forest) (n : ℕ) (there out new : List ℕ) → out ≡ there ++ xml_text (below f n) → new ≡ out ++ xml_text (f n) → new ≡ there ++ xml_text (below f (n + 1))
-number_added f n there out new before after =
-    both_added there out new (below f n) (f n) before after ∙ ap (λ (t : List ℕ). there ++ t) (joined_text (below f n) (f n) ∙ sym (below_more f n))
+pub number_added : (f : ℕ → Forest) (n : ℕ) (a b c : Writer) → IsAppended a b (xml_text (below f n)) → IsAppended b c (xml_text (f n)) → IsAppended a c (xml_text (below f (n + 1)))
+number_added f n a b c before after = pieces.same_added a c _ _ (sym (below_more f n)) (pieces.both_added a b c _ _ before after)

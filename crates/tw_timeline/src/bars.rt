@@ -1,9 +1,10 @@
 //! Bars, which show tasks.
 
-ghost use Rattle.std.specs.Prelude.{◌≡◌, ◌++◌, codes, decimal, IfOk, OnOk};
+ghost use Rattle.std.specs.Prelude.{◌≡◌, ◌++◌, codes, decimal, IfOk};
 ghost use Rattle.tw_timeline.specs.Shapes.{bar_shape, bar_box, bar_class, bar_label, bar_parts, bar_title, bar_width, end_in, events_text, first_fitting, fits, full_text, has_bar, label_text, labelled, name_or};
-ghost use Rattle.tw_symbols.specs.Symbols.{name_at};
+ghost use Rattle.tw_symbols.specs.Symbols.{bracketed, name_at};
 ghost use Rattle.tw_timeline.specs.Xml.{all, xml_text};
+ghost use Rattle.tw_writer.specs.Appended.{Holds, IsAppended};
 
 use crate::attributes::{Attribute, Key, Name, Word, fixed, number};
 use crate::drawing::Bar;
@@ -11,9 +12,9 @@ use crate::elements::{numbered, put_titled, put_words};
 use crate::marks::rectangle;
 use crate::places::{View, lane_top};
 use std::alloc::{AllocError, Global};
-use tw_report::{put, put_numbered};
 use tw_symbols::Symbols;
 use tw_types::Layout;
+use tw_writer::Writer;
 
 /// Returns the attributes of a text: its class, and the place of its first letter.
 pub fn labelled(class: Word, x: usize, y: usize) -> [Attribute; 3]
@@ -27,67 +28,53 @@ pub fn labelled(class: Word, x: usize, y: usize) -> [Attribute; 3]
 }
 
 /// Adds two numbers, each after words.
-fn put_two(
-    alloc: Global,
-    out: &mut Vec<u8>,
-    first: (&str, usize),
-    second: (&str, usize),
-) -> Result<(), AllocError>
-    ensures { OnOk result (out.new.items ≡ out.old.items ++ (first.entry.0.now ++ (decimal first.entry.1 ++ (second.entry.0.now ++ decimal second.entry.1)))) }
+fn put_two(out: &mut Writer, first: (&str, usize), second: (&str, usize))
+    ensures { IsAppended out.old out.new (first.entry.0.now ++ (decimal first.entry.1 ++ (second.entry.0.now ++ decimal second.entry.1))) }
 {
-    put_numbered(alloc, out, first.0, first.1)?;
-    put_numbered(alloc, out, second.0, second.1)
+    out.put_numbered(first.0, first.1);
+    out.put_numbered(second.0, second.1);
 }
 
 /// Adds a number between words.
-fn put_within(
-    alloc: Global,
-    out: &mut Vec<u8>,
-    before: &str,
-    number: usize,
-    following: &str,
-) -> Result<(), AllocError>
-    ensures { OnOk result (out.new.items ≡ out.old.items ++ (before.now ++ (decimal number ++ following.now))) }
+fn put_within(out: &mut Writer, before: &str, number: usize, following: &str)
+    ensures { IsAppended out.old out.new (before.now ++ (decimal number ++ following.now)) }
 {
-    put_numbered(alloc, out, before, number)?;
-    put(out, following)
+    out.put_numbered(before, number);
+    out.put(following);
 }
 
 /// Adds the events of a bar; an open one has no last event.
-fn put_events(
-    alloc: Global,
-    out: &mut Vec<u8>,
-    from: u32,
-    to: Option<u32>,
-) -> Result<(), AllocError>
-    ensures { OnOk result (out.new.items ≡ out.old.items ++ events_text from to) }
+fn put_events(out: &mut Writer, from: u32, to: Option<u32>)
+    ensures { IsAppended out.old out.new (events_text from to) }
 {
     match to {
-        None => put_within(alloc, out, ", from event ", from as usize, " on"),
-        Some(to) => put_two(
-            alloc,
-            out,
-            (", events ", from as usize),
-            (" to ", to as usize),
-        ),
+        None => put_within(out, ", from event ", from as usize, " on"),
+        Some(to) => put_two(out, (", events ", from as usize), (" to ", to as usize)),
     }
 }
 
-/// Returns the tooltip of a bar: its task, its procedure and its events.
-fn bar_title(alloc: Global, names: &Symbols, bar: &Bar) -> Result<Vec<u8>, AllocError>
-    ensures { IfOk result (λ title. title.items ≡ bar_title names.now bar.now) }
+/// Adds a procedure's name in brackets, if it has one.
+fn put_name(out: &mut Writer, names: &Symbols, procedure: u8)
+    ensures { IsAppended out.old out.new (bracketed (name_at names.now procedure)) }
 {
-    let mut title = Vec::new(alloc);
+    let done = names.put(&mut out.bytes, usize::from(procedure));
+    out.note(done);
+}
+
+/// Returns the tooltip of a bar: its task, its procedure and its events.
+fn bar_title(alloc: Global, names: &Symbols, bar: &Bar) -> Writer
+    ensures { Holds result (bar_title names.now bar.now) }
+{
+    let mut title = Writer::new(alloc);
     let task = bar.task.number() as usize;
     put_two(
-        alloc,
         &mut title,
         ("task ", task),
         (" of procedure ", usize::from(bar.procedure)),
-    )?;
-    names.put(&mut title, usize::from(bar.procedure))?;
-    put_events(alloc, &mut title, bar.from, bar.to)?;
-    Ok(title)
+    );
+    put_name(&mut title, names, bar.procedure);
+    put_events(&mut title, bar.from, bar.to);
+    title
 }
 
 /// Returns whether a text fits into a width, at seven units for a letter.
@@ -103,19 +90,19 @@ fn name_or_number(alloc: Global, names: &Symbols, number: u8) -> Result<Vec<u8>,
 {
     let name = names.procedure(usize::from(number));
     if name.is_empty() {
-        numbered(alloc, "p", u64::from(number))
+        numbered(alloc, "p", u64::from(number)).finish()
     } else {
         name.to_vec(alloc)
     }
 }
 
-fn full_text(alloc: Global, task: u64, procedure: &[u8]) -> Result<Vec<u8>, AllocError>
-    ensures { IfOk result (λ text. text.items ≡ full_text task procedure.now) }
+fn full_text(alloc: Global, task: u64, procedure: &[u8]) -> Writer
+    ensures { Holds result (full_text task procedure.now) }
 {
-    let mut text = numbered(alloc, "t", task)?;
-    put(&mut text, " ")?;
-    text.extend_from_slice(procedure)?;
-    Ok(text)
+    let mut text = numbered(alloc, "t", task);
+    text.put(" ");
+    text.put_bytes(procedure);
+    text
 }
 
 /// Returns the first of three texts that fits, or an empty one.
@@ -142,9 +129,9 @@ fn label_text(
 ) -> Result<Vec<u8>, AllocError>
     ensures { IfOk result (λ text. text.items ≡ label_text names.now bar.now width) }
 {
-    let number = numbered(alloc, "p", u64::from(bar.procedure))?;
+    let number = numbered(alloc, "p", u64::from(bar.procedure)).finish()?;
     let procedure = name_or_number(alloc, names, bar.procedure)?;
-    let full = full_text(alloc, bar.task.number(), &procedure)?;
+    let full = full_text(alloc, bar.task.number(), &procedure).finish()?;
     first_fitting(&full, &procedure, &number, width).to_vec(alloc)
 }
 
@@ -186,17 +173,10 @@ fn bar_class(bar: &Bar) -> Word
     }
 }
 
-fn put_bar_box(
-    alloc: Global,
-    out: &mut Vec<u8>,
-    names: &Symbols,
-    layout: Layout,
-    view: View,
-    bar: &Bar,
-) -> Result<(), AllocError>
-    ensures { OnOk result (out.new.items ≡ out.old.items ++ xml_text (bar_box names.now layout view bar.now)) }
+fn put_bar_box(out: &mut Writer, names: &Symbols, layout: Layout, view: View, bar: &Bar)
+    ensures { IsAppended out.old out.new (xml_text (bar_box names.now layout view bar.now)) }
 {
-    let title = bar_title(alloc, names, bar)?;
+    let title = bar_title(out.alloc, names, bar);
     let top = lane_top(layout, bar.actor) + 16;
     let row = rectangle(
         bar_class(bar),
@@ -205,77 +185,49 @@ fn put_bar_box(
         bar_width(view, bar),
         18,
     );
-    put_titled(alloc, out, Name::Rectangle, &row, &title)
+    put_titled(out, Name::Rectangle, &row, &title);
 }
 
 /// Adds the label of a bar.
-fn put_bar_label(
-    alloc: Global,
-    out: &mut Vec<u8>,
-    names: &Symbols,
-    layout: Layout,
-    view: View,
-    bar: &Bar,
-) -> Result<(), AllocError>
-    ensures { OnOk result (out.new.items ≡ out.old.items ++ xml_text (bar_label names.now layout view bar.now)) }
+fn put_bar_label(out: &mut Writer, names: &Symbols, layout: Layout, view: View, bar: &Bar)
+    ensures { IsAppended out.old out.new (xml_text (bar_label names.now layout view bar.now)) }
 {
-    let text = label_text(alloc, names, bar, bar_width(view, bar))?;
+    let Ok(text) = label_text(out.alloc, names, bar, bar_width(view, bar)) else {
+        out.fail();
+        return;
+    };
     if text.is_empty() {
-        return Ok(());
+        return;
     }
     let row = labelled(
         Word::Label,
         view.left_of(bar.from) + 1,
         lane_top(layout, bar.actor) + 12,
     );
-    put_words(alloc, out, Name::Text, &row, &text)
+    put_words(out, Name::Text, &row, &text);
 }
 
-fn put_parts(
-    alloc: Global,
-    out: &mut Vec<u8>,
-    names: &Symbols,
-    layout: Layout,
-    view: View,
-    bar: &Bar,
-) -> Result<(), AllocError>
-    ensures { OnOk result (out.new.items ≡ out.old.items ++ xml_text (bar_parts names.now layout view bar.now)) }
+fn put_parts(out: &mut Writer, names: &Symbols, layout: Layout, view: View, bar: &Bar)
+    ensures { IsAppended out.old out.new (xml_text (bar_parts names.now layout view bar.now)) }
 {
-    put_bar_box(alloc, out, names, layout, view, bar)?;
-    put_bar_label(alloc, out, names, layout, view, bar)
+    put_bar_box(out, names, layout, view, bar);
+    put_bar_label(out, names, layout, view, bar);
 }
 
 /// Adds a bar, if it is drawn.
-fn put_bar(
-    alloc: Global,
-    out: &mut Vec<u8>,
-    names: &Symbols,
-    layout: Layout,
-    view: View,
-    bar: &Bar,
-) -> Result<(), AllocError>
-    ensures { OnOk result (out.new.items ≡ out.old.items ++ xml_text (bar_shape names.now layout view bar.now)) }
+fn put_bar(out: &mut Writer, names: &Symbols, layout: Layout, view: View, bar: &Bar)
+    ensures { IsAppended out.old out.new (xml_text (bar_shape names.now layout view bar.now)) }
 {
     if has_bar(view, bar) {
-        put_parts(alloc, out, names, layout, view, bar)
-    } else {
-        Ok(())
+        put_parts(out, names, layout, view, bar);
     }
 }
 
 /// Adds a bar for each task that is shown.
-pub fn put_bars(
-    alloc: Global,
-    out: &mut Vec<u8>,
-    names: &Symbols,
-    layout: Layout,
-    view: View,
-    bars: &[Bar],
-) -> Result<(), AllocError>
-    ensures { OnOk result (out.new.items ≡ out.old.items ++ xml_text (all (bar_shape names.now layout view) bars.now)) }
+pub fn put_bars(out: &mut Writer, names: &Symbols, layout: Layout, view: View, bars: &[Bar])
+    ensures { IsAppended out.old out.new (xml_text (all (bar_shape names.now layout view) bars.now)) }
 {
     for bar in bars {
-        put_bar(alloc, out, names, layout, view, bar)?;
+        put_bar(out, names, layout, view, bar);
     }
-    Ok(())
 }

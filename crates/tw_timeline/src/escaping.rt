@@ -1,32 +1,30 @@
 //! Escaping of text for XML.
 
-ghost use Rattle.std.specs.Prelude.{◌≡◌, ◌++◌, OnOk};
 ghost use Rattle.std.specs.List.{flat_map};
 ghost use Rattle.tw_timeline.specs.Xml.{escaped};
+ghost use Rattle.tw_writer.specs.Appended.{IsAppended};
 
-use std::alloc::AllocError;
-use tw_report::put;
+use tw_writer::Writer;
 
 /// Adds a byte of a text: escaped if it has a meaning in XML, and as `?` if XML doesn't allow it.
-fn put_escaped(out: &mut Vec<u8>, byte: u8) -> Result<(), AllocError>
-    ensures { OnOk result (out.new.items ≡ out.old.items ++ escaped byte) }
+fn put_escaped(out: &mut Writer, byte: u8)
+    ensures { IsAppended out.old out.new (escaped byte) }
 {
     match byte {
-        b'<' => put(out, "&lt;"),
-        b'>' => put(out, "&gt;"),
-        b'&' => put(out, "&amp;"),
-        b'"' => put(out, "&quot;"),
-        b'\n' | 32..=126 => Ok(out.push(byte)?),
-        _ => put(out, "?"),
+        b'<' => out.put("&lt;"),
+        b'>' => out.put("&gt;"),
+        b'&' => out.put("&amp;"),
+        b'"' => out.put("&quot;"),
+        b'\n' | 32..=126 => out.put_bytes(&[byte]),
+        _ => out.put("?"),
     }
 }
 
 /// Adds a text, escaped.
-pub fn put_text(out: &mut Vec<u8>, text: &[u8]) -> Result<(), AllocError>
-    ensures { OnOk result (out.new.items ≡ out.old.items ++ flat_map escaped text.now) }
+pub fn put_text(out: &mut Writer, text: &[u8])
+    ensures { IsAppended out.old out.new (flat_map escaped text.now) }
 {
     for byte in text {
-        put_escaped(out, *byte)?;
+        put_escaped(out, *byte);
     }
-    Ok(())
 }

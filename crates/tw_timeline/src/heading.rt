@@ -1,17 +1,18 @@
 //! The heading above the rows, and the style of the timeline.
 
-ghost use Rattle.std.specs.Prelude.{◌≡◌, ◌++◌, ◌<◌, IfOk, OnOk};
+ghost use Rattle.std.specs.Prelude.{◌≡◌, ◌<◌};
 ghost use Rattle.tw_timeline.specs.Timeline.{first_kinds, head_row, heading, key_of, kind, kinds, lines, looks, marker, meaning, none_text, shown_line, shown_text, some_text, tip, tip_row};
 ghost use Rattle.tw_timeline.specs.Xml.{xml_text};
+ghost use Rattle.tw_writer.specs.Appended.{Holds, IsAppended};
 
 use crate::attributes::{Attribute, Key, Kind, Name, Word, fixed, number};
 use crate::bars::labelled;
 use crate::drawing::Drawing;
-use crate::elements::{numbered, put_close, put_open, put_plain, put_words};
+use crate::elements::{numbered, put_close, put_open, put_plain, put_words, put_written};
 use crate::marks::rectangle;
 use crate::places::View;
-use std::alloc::{AllocError, Global};
-use tw_report::{put, put_numbered};
+use std::alloc::Global;
+use tw_writer::Writer;
 
 fn looks() -> &'static str
     ensures { result.now ≡ looks }
@@ -41,103 +42,101 @@ fn head_row() -> [Attribute; 2]
     ]
 }
 
-fn put_marker(alloc: Global, out: &mut Vec<u8>) -> Result<(), AllocError>
-    ensures { OnOk result (out.new.items ≡ out.old.items ++ xml_text marker) }
+fn put_marker(out: &mut Writer)
+    ensures { IsAppended out.old out.new (xml_text marker) }
 {
-    put_open(alloc, out, Name::Marker, &tip_row())?;
-    put_plain(alloc, out, Name::Path, &head_row())?;
-    put_close(out, Name::Marker)
+    put_open(out, Name::Marker, &tip_row());
+    put_plain(out, Name::Path, &head_row());
+    put_close(out, Name::Marker);
 }
 
 /// Adds the definition of an arrow's tip.
-fn put_tip(alloc: Global, out: &mut Vec<u8>) -> Result<(), AllocError>
-    ensures { OnOk result (out.new.items ≡ out.old.items ++ xml_text tip) }
+fn put_tip(out: &mut Writer)
+    ensures { IsAppended out.old out.new (xml_text tip) }
 {
-    put_open(alloc, out, Name::Definitions, &[])?;
-    put_marker(alloc, out)?;
-    put_close(out, Name::Definitions)
+    put_open(out, Name::Definitions, &[]);
+    put_marker(out);
+    put_close(out, Name::Definitions);
 }
 
 /// Adds a kind of event with its colour.
-fn put_kind(alloc: Global, out: &mut Vec<u8>, event: Kind, x: usize) -> Result<(), AllocError>
+fn put_kind(out: &mut Writer, event: Kind, x: usize)
     requires { x < 1000 }
-    ensures { OnOk result (out.new.items ≡ out.old.items ++ xml_text (kind event x)) }
+    ensures { IsAppended out.old out.new (xml_text (kind event x)) }
 {
     put_plain(
-        alloc,
         out,
         Name::Rectangle,
         &rectangle(Word::Event(event), x, 12, 12, 12),
-    )?;
+    );
     put_words(
-        alloc,
         out,
         Name::Text,
         &labelled(Word::Label, x + 18, 22),
         event.text().as_bytes(),
-    )
+    );
 }
 
-fn put_first_kinds(alloc: Global, out: &mut Vec<u8>) -> Result<(), AllocError>
-    ensures { OnOk result (out.new.items ≡ out.old.items ++ xml_text first_kinds) }
+fn put_first_kinds(out: &mut Writer)
+    ensures { IsAppended out.old out.new (xml_text first_kinds) }
 {
-    put_kind(alloc, out, Kind::Take, 240)?;
-    put_kind(alloc, out, Kind::Local, 320)?;
-    put_kind(alloc, out, Kind::Call, 410)?;
-    put_kind(alloc, out, Kind::End, 490)
+    put_kind(out, Kind::Take, 240);
+    put_kind(out, Kind::Local, 320);
+    put_kind(out, Kind::Call, 410);
+    put_kind(out, Kind::End, 490);
 }
 
-fn put_kinds(alloc: Global, out: &mut Vec<u8>) -> Result<(), AllocError>
-    ensures { OnOk result (out.new.items ≡ out.old.items ++ xml_text kinds) }
+fn put_kinds(out: &mut Writer)
+    ensures { IsAppended out.old out.new (xml_text kinds) }
 {
-    put_first_kinds(alloc, out)?;
-    put_kind(alloc, out, Kind::Ask, 560)?;
-    put_kind(alloc, out, Kind::Deliver, 630)?;
-    put_kind(alloc, out, Kind::Release, 730)
+    put_first_kinds(out);
+    put_kind(out, Kind::Ask, 560);
+    put_kind(out, Kind::Deliver, 630);
+    put_kind(out, Kind::Release, 730);
 }
 
 /// Adds the meaning of a column.
-fn put_meaning(alloc: Global, out: &mut Vec<u8>) -> Result<(), AllocError>
-    ensures { OnOk result (out.new.items ≡ out.old.items ++ xml_text meaning) }
+fn put_meaning(out: &mut Writer)
+    ensures { IsAppended out.old out.new (xml_text meaning) }
 {
     let row = labelled(Word::Label, 240, 22);
     let words =
         b"how many of the events in a column are the actor's: full height for half of them or more";
-    put_words(alloc, out, Name::Text, &row, words)
+    put_words(out, Name::Text, &row, words);
 }
 
 /// Adds the meaning of the colours, or of a column.
-fn put_key(alloc: Global, out: &mut Vec<u8>, view: View) -> Result<(), AllocError>
-    ensures { OnOk result (out.new.items ≡ out.old.items ++ xml_text (key_of view)) }
+fn put_key(out: &mut Writer, view: View)
+    ensures { IsAppended out.old out.new (xml_text (key_of view)) }
 {
     if view.is_coarse() {
-        put_meaning(alloc, out)
+        put_meaning(out);
     } else {
-        put_kinds(alloc, out)
+        put_kinds(out);
     }
 }
 
-fn some_text(alloc: Global, view: View, events: u32) -> Result<Vec<u8>, AllocError>
-    ensures { IfOk result (λ text. text.items ≡ some_text view events) }
+fn some_text(alloc: Global, view: View, events: u32) -> Writer
+    ensures { Holds result (some_text view events) }
 {
-    let mut text = numbered(alloc, "events ", u64::from(view.first()))?;
-    put_numbered(alloc, &mut text, " to ", view.last() as usize)?;
-    put_numbered(alloc, &mut text, " of ", events as usize)?;
-    put(&mut text, ": order of events, not duration")?;
-    Ok(text)
+    let mut text = numbered(alloc, "events ", u64::from(view.first()));
+    text.put_numbered(" to ", view.last() as usize);
+    text.put_numbered(" of ", events as usize);
+    text.put(": order of events, not duration");
+    text
 }
 
-fn none_text(alloc: Global, events: u32) -> Result<Vec<u8>, AllocError>
-    ensures { IfOk result (λ text. text.items ≡ none_text events) }
+fn none_text(alloc: Global, events: u32) -> Writer
+    ensures { Holds result (none_text events) }
 {
-    let mut text = numbered(alloc, "none of ", u64::from(events))?;
-    put(&mut text, " events")?;
-    Ok(text)
+    let mut text = numbered(alloc, "none of ", u64::from(events));
+    text.put(" events");
+    text
 }
 
 /// Returns a line that says which events are shown, how many there are, and that a timeline has no durations.
-fn shown_text(alloc: Global, view: View, events: u32) -> Result<Vec<u8>, AllocError>
-    ensures { IfOk result (λ text. text.items ≡ shown_text view events) }
+fn shown_text(alloc: Global, view: View, events: u32) -> Writer
+    ensures { Holds result (shown_text view events) }
 {
     if view.shows_none() {
         none_text(alloc, events)
@@ -146,39 +145,29 @@ fn shown_text(alloc: Global, view: View, events: u32) -> Result<Vec<u8>, AllocEr
     }
 }
 
-fn put_shown(alloc: Global, out: &mut Vec<u8>, view: View, events: u32) -> Result<(), AllocError>
-    ensures { OnOk result (out.new.items ≡ out.old.items ++ xml_text (shown_line view events)) }
+fn put_shown(out: &mut Writer, view: View, events: u32)
+    ensures { IsAppended out.old out.new (xml_text (shown_line view events)) }
 {
-    let text = shown_text(alloc, view, events)?;
+    let text = shown_text(out.alloc, view, events);
     let row = labelled(Word::Number, 10, 42);
-    put_words(alloc, out, Name::Text, &row, &text)
+    put_written(out, Name::Text, &row, &text);
 }
 
 /// Adds the last line of the report, and which events are shown.
-fn put_lines(
-    alloc: Global,
-    out: &mut Vec<u8>,
-    view: View,
-    drawing: &Drawing,
-) -> Result<(), AllocError>
-    ensures { OnOk result (out.new.items ≡ out.old.items ++ xml_text (lines view drawing.now)) }
+fn put_lines(out: &mut Writer, view: View, drawing: &Drawing)
+    ensures { IsAppended out.old out.new (xml_text (lines view drawing.now)) }
 {
     let row = labelled(Word::Closing, 10, 24);
-    put_words(alloc, out, Name::Text, &row, &drawing.closing)?;
-    put_shown(alloc, out, view, drawing.events)
+    put_words(out, Name::Text, &row, &drawing.closing);
+    put_shown(out, view, drawing.events);
 }
 
 /// Adds the style, the lines above the rows, and the meaning of the colours.
-pub fn put_heading(
-    alloc: Global,
-    out: &mut Vec<u8>,
-    view: View,
-    drawing: &Drawing,
-) -> Result<(), AllocError>
-    ensures { OnOk result (out.new.items ≡ out.old.items ++ xml_text (heading view drawing.now)) }
+pub fn put_heading(out: &mut Writer, view: View, drawing: &Drawing)
+    ensures { IsAppended out.old out.new (xml_text (heading view drawing.now)) }
 {
-    put_words(alloc, out, Name::Style, &[], looks().as_bytes())?;
-    put_tip(alloc, out)?;
-    put_lines(alloc, out, view, drawing)?;
-    put_key(alloc, out, view)
+    put_words(out, Name::Style, &[], looks().as_bytes());
+    put_tip(out);
+    put_lines(out, view, drawing);
+    put_key(out, view);
 }

@@ -1,17 +1,18 @@
 //! Boxes and arrows, which show a circle of rules that wait for one another.
 
-ghost use Rattle.std.specs.Prelude.{◌≡◌, ◌++◌, ◌<◌, ◌^◌, OnOk};
+ghost use Rattle.std.specs.Prelude.{◌≡◌, ◌<◌, ◌^◌};
 ghost use Rattle.tw_timeline.specs.Shapes.{arrow, arrow_height, back, box_left, forward, wait_shape, wait_arrow, wait_box};
 ghost use Rattle.tw_timeline.specs.Xml.{all, xml_text};
+ghost use Rattle.tw_writer.specs.Appended.{IsAppended};
 
 use crate::attributes::{Name, Point, Value, Word};
 use crate::bars::labelled;
 use crate::drawing::Wait;
-use crate::elements::{numbered, put_plain, put_words};
+use crate::elements::{numbered, put_plain, put_written};
 use crate::marks::{rectangle, way_row};
 use crate::places::bottom;
-use std::alloc::{AllocError, Global};
 use tw_types::Layout;
+use tw_writer::Writer;
 
 /// Returns the left edge of the box at a place in the circle.
 fn box_left(place: u32) -> usize
@@ -22,30 +23,23 @@ fn box_left(place: u32) -> usize
 }
 
 /// Adds the rule that waits, as a box.
-fn put_wait_box(
-    alloc: Global,
-    out: &mut Vec<u8>,
-    layout: Layout,
-    wait: &Wait,
-) -> Result<(), AllocError>
-    ensures { OnOk result (out.new.items ≡ out.old.items ++ xml_text (wait_box layout wait.now)) }
+fn put_wait_box(out: &mut Writer, layout: Layout, wait: &Wait)
+    ensures { IsAppended out.old out.new (xml_text (wait_box layout wait.now)) }
 {
-    let text = numbered(alloc, "rule ", wait.link.rule.number())?;
+    let text = numbered(out.alloc, "rule ", wait.link.rule.number());
     let left = box_left(wait.from);
     let top = bottom(layout) + 30;
     put_plain(
-        alloc,
         out,
         Name::Rectangle,
         &rectangle(Word::Rule, left, top, 110, 30),
-    )?;
-    put_words(
-        alloc,
+    );
+    put_written(
         out,
         Name::Text,
         &labelled(Word::RuleName, left + 12, top + 20),
         &text,
-    )
+    );
 }
 
 /// Returns the path from a box to one on its right.
@@ -105,42 +99,31 @@ fn arrow_height(left: usize, next: usize, top: usize) -> usize
 }
 
 /// Adds the arrow from a rule to the one that may write the datum, with the datum beside it.
-fn put_wait_arrow(
-    alloc: Global,
-    out: &mut Vec<u8>,
-    layout: Layout,
-    wait: &Wait,
-) -> Result<(), AllocError>
-    ensures { OnOk result (out.new.items ≡ out.old.items ++ xml_text (wait_arrow layout wait.now)) }
+fn put_wait_arrow(out: &mut Writer, layout: Layout, wait: &Wait)
+    ensures { IsAppended out.old out.new (xml_text (wait_arrow layout wait.now)) }
 {
-    let text = numbered(alloc, "datum ", wait.link.datum.number())?;
+    let text = numbered(out.alloc, "datum ", wait.link.datum.number());
     let left = box_left(wait.from);
     let next = box_left(wait.to);
     let top = bottom(layout) + 30;
     let row = way_row(Word::Wait, arrow(left, next, top));
-    put_plain(alloc, out, Name::Path, &row)?;
+    put_plain(out, Name::Path, &row);
     let place = labelled(Word::Number, left + 120, arrow_height(left, next, top));
-    put_words(alloc, out, Name::Text, &place, &text)
+    put_written(out, Name::Text, &place, &text);
 }
 
-fn put_wait(alloc: Global, out: &mut Vec<u8>, layout: Layout, wait: &Wait) -> Result<(), AllocError>
-    ensures { OnOk result (out.new.items ≡ out.old.items ++ xml_text (wait_shape layout wait.now)) }
+fn put_wait(out: &mut Writer, layout: Layout, wait: &Wait)
+    ensures { IsAppended out.old out.new (xml_text (wait_shape layout wait.now)) }
 {
-    put_wait_box(alloc, out, layout, wait)?;
-    put_wait_arrow(alloc, out, layout, wait)
+    put_wait_box(out, layout, wait);
+    put_wait_arrow(out, layout, wait);
 }
 
 /// Adds a box and an arrow for each rule.
-pub fn put_waits(
-    alloc: Global,
-    out: &mut Vec<u8>,
-    layout: Layout,
-    waits: &[Wait],
-) -> Result<(), AllocError>
-    ensures { OnOk result (out.new.items ≡ out.old.items ++ xml_text (all (wait_shape layout) waits.now)) }
+pub fn put_waits(out: &mut Writer, layout: Layout, waits: &[Wait])
+    ensures { IsAppended out.old out.new (xml_text (all (wait_shape layout) waits.now)) }
 {
     for wait in waits {
-        put_wait(alloc, out, layout, wait)?;
+        put_wait(out, layout, wait);
     }
-    Ok(())
 }

@@ -1,8 +1,9 @@
 //! The whole timeline.
 
-ghost use Rattle.std.specs.Prelude.{◌≡◌, ◌++◌, ◌<◌, ◌^◌, IfOk, OnOk};
+ghost use Rattle.std.specs.Prelude.{◌≡◌, ◌<◌, ◌^◌, IfOk};
 ghost use Rattle.tw_timeline.specs.Timeline.{drawn, events_of, ground, height_of, picture_of, sized, things, width_of};
 ghost use Rattle.tw_timeline.specs.Xml.{xml_text};
+ghost use Rattle.tw_writer.specs.Appended.{IsAppended};
 
 use crate::attributes::{Attribute, Key, Name, Value, Word, fixed, number};
 use crate::bars::put_bars;
@@ -16,6 +17,7 @@ use crate::marks::put_marks;
 use crate::places::{Settings, View, bottom};
 use crate::threads::put_threads;
 use std::alloc::{AllocError, Global};
+use tw_writer::Writer;
 
 /// Returns the width: that of the events or of the circle, and at least that of the heading.
 fn width_of(drawing: &Drawing, view: View) -> usize
@@ -52,82 +54,50 @@ fn sized(width: usize, height: usize) -> [Attribute; 4]
 }
 
 /// Adds everything that is drawn before the bars, and so under them.
-fn put_ground(
-    alloc: Global,
-    out: &mut Vec<u8>,
-    drawing: &Drawing,
-    view: View,
-) -> Result<(), AllocError>
-    ensures { OnOk result (out.new.items ≡ out.old.items ++ xml_text (ground drawing.now view)) }
+fn put_ground(out: &mut Writer, drawing: &Drawing, view: View)
+    ensures { IsAppended out.old out.new (xml_text (ground drawing.now view)) }
 {
-    put_heading(alloc, out, view, drawing)?;
-    put_lanes(alloc, out, drawing.layout, width_of(drawing, view))?;
-    put_ticks(alloc, out, drawing.layout, view, &drawing.marks)?;
-    put_threads(alloc, out, drawing.layout, view, &drawing.threads)
+    put_heading(out, view, drawing);
+    put_lanes(out, drawing.layout, width_of(drawing, view));
+    put_ticks(out, drawing.layout, view, &drawing.marks);
+    put_threads(out, drawing.layout, view, &drawing.threads);
 }
 
 /// Adds the markers, or columns if there were too many markers.
-fn put_events(
-    alloc: Global,
-    out: &mut Vec<u8>,
-    drawing: &Drawing,
-    view: View,
-) -> Result<(), AllocError>
-    ensures { OnOk result (out.new.items ≡ out.old.items ++ xml_text (events_of drawing.now view)) }
+fn put_events(out: &mut Writer, drawing: &Drawing, view: View)
+    ensures { IsAppended out.old out.new (xml_text (events_of drawing.now view)) }
 {
     if view.is_coarse() {
-        put_columns(alloc, out, drawing.layout, view, &drawing.marks)
+        put_columns(out, drawing.layout, view, &drawing.marks);
     } else {
-        put_marks(alloc, out, drawing.layout, view, &drawing.marks)
+        put_marks(out, drawing.layout, view, &drawing.marks);
     }
 }
 
 /// Adds the bars, the events and the circle of rules.
-fn put_things(
-    alloc: Global,
-    out: &mut Vec<u8>,
-    drawing: &Drawing,
-    view: View,
-) -> Result<(), AllocError>
-    ensures { OnOk result (out.new.items ≡ out.old.items ++ xml_text (things drawing.now view)) }
+fn put_things(out: &mut Writer, drawing: &Drawing, view: View)
+    ensures { IsAppended out.old out.new (xml_text (things drawing.now view)) }
 {
-    put_bars(
-        alloc,
-        out,
-        &drawing.names,
-        drawing.layout,
-        view,
-        &drawing.bars,
-    )?;
-    put_events(alloc, out, drawing, view)?;
-    put_waits(alloc, out, drawing.layout, &drawing.waits)
+    put_bars(out, &drawing.names, drawing.layout, view, &drawing.bars);
+    put_events(out, drawing, view);
+    put_waits(out, drawing.layout, &drawing.waits);
 }
 
-fn put_drawn(
-    alloc: Global,
-    out: &mut Vec<u8>,
-    drawing: &Drawing,
-    view: View,
-) -> Result<(), AllocError>
-    ensures { OnOk result (out.new.items ≡ out.old.items ++ xml_text (drawn drawing.now view)) }
+fn put_drawn(out: &mut Writer, drawing: &Drawing, view: View)
+    ensures { IsAppended out.old out.new (xml_text (drawn drawing.now view)) }
 {
     let size = sized(width_of(drawing, view), height_of(drawing));
-    put_open(alloc, out, Name::Picture, &size)?;
-    put_ground(alloc, out, drawing, view)?;
-    put_things(alloc, out, drawing, view)?;
-    put_close(out, Name::Picture)
+    put_open(out, Name::Picture, &size);
+    put_ground(out, drawing, view);
+    put_things(out, drawing, view);
+    put_close(out, Name::Picture);
 }
 
 /// Returns the timeline of a drawing, as one SVG text. The settings give its range of events and its width.
 pub fn timeline(alloc: Global, drawing: &Drawing, settings: Settings) -> Result<Vec<u8>, AllocError>
     ensures { IfOk result (λ text. text.items ≡ xml_text (picture_of drawing.now settings)) }
 {
-    let mut text = Vec::new(alloc);
-    put_drawn(
-        alloc,
-        &mut text,
-        drawing,
-        View::of(settings, drawing.events),
-    )?;
-    Ok(text)
+    let mut text = Writer::new(alloc);
+    put_drawn(&mut text, drawing, View::of(settings, drawing.events));
+    text.finish()
 }

@@ -1,36 +1,27 @@
 //! Lines from the event that made a task to its bar.
 
-ghost use Rattle.std.specs.Prelude.{◌≡◌, ◌++◌, IfOk, OnOk};
+ghost use Rattle.std.specs.Prelude.{◌≡◌};
 ghost use Rattle.tw_timeline.specs.Shapes.{has_line, line_end, line_start, thread_box, thread_shape, thread_title, thread_way};
 ghost use Rattle.tw_timeline.specs.Xml.{all, xml_text};
+ghost use Rattle.tw_writer.specs.Appended.{Holds, IsAppended};
 
 use crate::attributes::{Name, Point, Value, Word};
 use crate::drawing::Thread;
 use crate::elements::put_titled;
 use crate::marks::way_row;
 use crate::places::{View, lane_top};
-use std::alloc::{AllocError, Global};
-use tw_report::put_numbered;
+use std::alloc::Global;
 use tw_types::Layout;
+use tw_writer::Writer;
 
-fn thread_title(alloc: Global, thread: &Thread) -> Result<Vec<u8>, AllocError>
-    ensures { IfOk result (λ title. title.items ≡ thread_title thread.now) }
+fn thread_title(alloc: Global, thread: &Thread) -> Writer
+    ensures { Holds result (thread_title thread.now) }
 {
-    let mut title = Vec::new(alloc);
-    put_numbered(alloc, &mut title, "task ", thread.task.number() as usize)?;
-    put_numbered(
-        alloc,
-        &mut title,
-        ", made at event ",
-        thread.from.number as usize,
-    )?;
-    put_numbered(
-        alloc,
-        &mut title,
-        ", taken at event ",
-        thread.to.number as usize,
-    )?;
-    Ok(title)
+    let mut title = Writer::new(alloc);
+    title.put_numbered("task ", thread.task.number() as usize);
+    title.put_numbered(", made at event ", thread.from.number as usize);
+    title.put_numbered(", taken at event ", thread.to.number as usize);
+    title
 }
 
 /// Returns where a line begins: at the marker of its event, or at the left of all events.
@@ -70,23 +61,17 @@ fn thread_way(layout: Layout, view: View, thread: &Thread) -> Value
     Value::Curve(from, to)
 }
 
-fn put_thread(
-    alloc: Global,
-    out: &mut Vec<u8>,
-    layout: Layout,
-    view: View,
-    thread: &Thread,
-) -> Result<(), AllocError>
-    ensures { OnOk result (out.new.items ≡ out.old.items ++ xml_text (thread_box layout view thread.now)) }
+fn put_thread(out: &mut Writer, layout: Layout, view: View, thread: &Thread)
+    ensures { IsAppended out.old out.new (xml_text (thread_box layout view thread.now)) }
 {
-    let title = thread_title(alloc, thread)?;
+    let title = thread_title(out.alloc, thread);
     let class = if view.is_wide() {
         Word::Thread
     } else {
         Word::Thin
     };
     let row = way_row(class, thread_way(layout, view, thread));
-    put_titled(alloc, out, Name::Path, &row, &title)
+    put_titled(out, Name::Path, &row, &title);
 }
 
 /// Returns whether a line is drawn: the event that made the task or its Take is shown, and the line is one of those that are drawn.
@@ -99,34 +84,19 @@ fn has_line(view: View, thread: &Thread) -> bool
 }
 
 /// Adds a line, if it is drawn.
-fn put_thread_of(
-    alloc: Global,
-    out: &mut Vec<u8>,
-    layout: Layout,
-    view: View,
-    thread: &Thread,
-) -> Result<(), AllocError>
-    ensures { OnOk result (out.new.items ≡ out.old.items ++ xml_text (thread_shape layout view thread.now)) }
+fn put_thread_of(out: &mut Writer, layout: Layout, view: View, thread: &Thread)
+    ensures { IsAppended out.old out.new (xml_text (thread_shape layout view thread.now)) }
 {
     if has_line(view, thread) {
-        put_thread(alloc, out, layout, view, thread)
-    } else {
-        Ok(())
+        put_thread(out, layout, view, thread);
     }
 }
 
 /// Adds a line to each task that a shown event makes or takes, or to some of these if they are too many.
-pub fn put_threads(
-    alloc: Global,
-    out: &mut Vec<u8>,
-    layout: Layout,
-    view: View,
-    threads: &[Thread],
-) -> Result<(), AllocError>
-    ensures { OnOk result (out.new.items ≡ out.old.items ++ xml_text (all (thread_shape layout view) threads.now)) }
+pub fn put_threads(out: &mut Writer, layout: Layout, view: View, threads: &[Thread])
+    ensures { IsAppended out.old out.new (xml_text (all (thread_shape layout view) threads.now)) }
 {
     for thread in threads {
-        put_thread_of(alloc, out, layout, view, thread)?;
+        put_thread_of(out, layout, view, thread);
     }
-    Ok(())
 }

@@ -8,4 +8,4 @@ pub loop-number-preserved : goal.loop-number-preserved
 loop-number-preserved c = λ moments h.
     line_added _ _ _ (procedure_line_of c.args.names.now c.args.budgets.now moments) c.loop-number.number _
     (ap (λ (b : Option ℕ). line_by c.args.names.now c.args.procedures.now c.loop-number.number b) c.budget_at.ensures ∙ line_same c.args.names.now moments c.args.procedures.now c.loop-number.number _ h) (c.loop-number.invariant moments h)
-    c.in_ok-put_procedure.ensures
+    c.put_procedure.ensures

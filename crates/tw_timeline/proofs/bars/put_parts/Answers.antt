@@ -3,4 +3,4 @@ use Rattle.tw_timeline.proofs.bars.put_parts.Goals as goal
 
 pub returns : goal.returns
 returns c =
-    following c.put_bar_label.result _ _ _ _ _ _ _ (cc) c.in_ok-put_bar_box.ensures (cc) c.put_bar_label.ensures
+    following _ _ _ _ _ _ _ (cc) c.put_bar_box.ensures (cc) c.put_bar_label.ensures

@@ -11,8 +11,9 @@ pub returns : goal.returns
 returns c =
     let count = c.count_in-count.ensures.value in
     let there = c.args.there.now in
+    let title : ℕ → List ℕ = λ k. column_title c.args.range.0 c.args.range.1 k in
     let n = count_in c.args.layout c.args.place.0 there in
-    some_added c.put_column_box.result _ _ _ _ _ (ne_eqb n 0 (λ e. c.if-count-eq0.false (count ∙ e)))
-    (ap (λ (h : ℕ). column_box c.args.place.0 c.args.place.1 h c.deref.result.now) (c.column_height-height.ensures.value ∙ ap (λ (k : ℕ). column_height k (length there)) count)
-    ∙ ap (λ (t : List ℕ). column_box c.args.place.0 c.args.place.1 (column_height n (length there)) t) (c.deref.ensures.value ∙ c.in_ok-title.ensures ∙ ap (λ (k : ℕ). column_title c.args.range.0 c.args.range.1 k) count))
-    c.put_column_box.ensures
+    some_added _ _ _ _ _ (ne_eqb n 0 (λ e. c.if-count-eq0.false (count ∙ e)))
+    (ap (λ (h : ℕ). column_box c.args.place.0 c.args.place.1 h (title c.count_in-count.result)) (c.column_height-height.ensures.value ∙ ap (λ (k : ℕ). column_height k (length there)) count)
+    ∙ ap (λ (t : List ℕ). column_box c.args.place.0 c.args.place.1 (column_height n (length there)) t) (ap title count))
+    (c.put_column_box.ensures (title c.count_in-count.result) c.column_title-title.ensures)

@@ -7,4 +7,4 @@ pub loop-lane-init : goal.loop-lane-init
 loop-lane-init c = none_added _ true Nothing refl
 
 pub loop-lane-preserved : goal.loop-lane-preserved
-loop-lane-preserved c = number_added _ _ _ _ _ c.loop-lane.invariant c.in_ok-put_lane_columns.ensures
+loop-lane-preserved c = number_added _ _ _ _ _ c.loop-lane.invariant c.put_lane_columns.ensures

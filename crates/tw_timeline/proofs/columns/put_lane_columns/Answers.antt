@@ -7,4 +7,4 @@ pub loop-column-init : goal.loop-column-init
 loop-column-init c = none_added _ true Nothing refl
 
 pub loop-column-preserved : goal.loop-column-preserved
-loop-column-preserved c = number_added _ _ _ _ _ c.loop-column.invariant c.in_ok-put_column.ensures
+loop-column-preserved c = number_added _ _ _ _ _ c.loop-column.invariant c.put_column.ensures

@@ -3,4 +3,4 @@ use Rattle.tw_timeline.proofs.Forests.{around, words_text}
 use Rattle.tw_timeline.proofs.elements.put_words.Goals as goal
 
 pub returns : goal.returns
-returns c = around c.put_close.result _ _ _ _ _ _ _ _ _ refl c.in_ok-put_open.ensures c.in_ok-put_text.ensures (words_text _ _ _) c.put_close.ensures
+returns c = around _ _ _ _ _ _ _ _ _ refl c.put_open.ensures c.put_text.ensures (words_text _ _ _) c.put_close.ensures

@@ -4,4 +4,4 @@ use Rattle.tw_timeline.proofs.heading.put_first_kinds.Goals as goal
 
 pub returns : goal.returns
 returns c =
-    following c.put_kind-4.result _ _ _ _ _ _ _ (cc) c.in_ok-put_kind.ensures (refl) (following c.put_kind-4.result _ _ _ _ _ _ _ (cc) c.in_ok-put_kind-2.ensures (refl) (following c.put_kind-4.result _ _ _ _ _ _ _ (cc) c.in_ok-put_kind-3.ensures (cc) c.put_kind-4.ensures))
+    following _ _ _ _ _ _ _ (cc) c.put_kind.ensures (refl) (following _ _ _ _ _ _ _ (cc) c.put_kind-2.ensures (refl) (following _ _ _ _ _ _ _ (cc) c.put_kind-3.ensures (cc) c.put_kind-4.ensures))

@@ -3,4 +3,4 @@ use Rattle.tw_timeline.proofs.heading.put_kind.Goals as goal
 
 pub returns : goal.returns
 returns c =
-    following c.put_words.result _ _ _ _ _ _ _ (cc) c.in_ok-put_plain.ensures (cc) c.put_words.ensures
+    following _ _ _ _ _ _ _ (cc) c.put_plain.ensures (cc) c.put_words.ensures

@@ -3,4 +3,4 @@ use Rattle.tw_timeline.proofs.heading.put_lines.Goals as goal
 
 pub returns : goal.returns
 returns c =
-    following c.put_shown.result _ _ _ _ _ _ _ (cc) c.in_ok-put_words.ensures (cc) c.put_shown.ensures
+    following _ _ _ _ _ _ _ (cc) c.put_words.ensures (cc) c.put_shown.ensures

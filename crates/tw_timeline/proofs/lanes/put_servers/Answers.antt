@@ -7,4 +7,4 @@ pub loop-number-init : goal.loop-number-init
 loop-number-init c = none_added _ true Nothing refl
 
 pub loop-number-preserved : goal.loop-number-preserved
-loop-number-preserved c = number_added _ _ _ _ _ c.loop-number.invariant c.in_ok-put_lane.ensures
+loop-number-preserved c = number_added _ _ _ _ _ c.loop-number.invariant c.put_lane.ensures

@@ -7,8 +7,8 @@ use Rattle.tw_timeline.proofs.lanes.put_tick.Goals as goal
 
 pub returns : goal.returns
 returns c =
-    following c.put_words.result _ _ _ _ _ _ _
+    following _ _ _ _ _ _ _
     (plain_same _ _ _ (c.tick_row.ensures ∙ ap (λ (x : ℕ). tick_row x c.bottom.result) c.across-x.ensures.value ∙ ap (λ (down : ℕ). tick_row (across c.args.view c.args.event) down) c.bottom.ensures.value))
-    c.in_ok-put_plain.ensures
-    (words_same _ _ _ _ _ (c.labelled.ensures ∙ ap (λ (x : ℕ). labelled word.Number (x + 3) 55) c.across-x.ensures.value) (c.deref.ensures.value ∙ c.in_ok-text.ensures ∙ ap (λ (n : ℕ). decimal n) c.from.ensures))
-    c.put_words.ensures
+    c.put_plain.ensures
+    (words_same _ _ _ _ _ (c.labelled.ensures ∙ ap (λ (x : ℕ). labelled word.Number (x + 3) 55) c.across-x.ensures.value) (ap (λ (n : ℕ). decimal n) c.from.ensures))
+    (c.put_written.ensures (decimal c.from.result) c.numbered-text.ensures)

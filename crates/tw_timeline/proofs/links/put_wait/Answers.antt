@@ -3,4 +3,4 @@ use Rattle.tw_timeline.proofs.links.put_wait.Goals as goal
 
 pub returns : goal.returns
 returns c =
-    following c.put_wait_arrow.result _ _ _ _ _ _ _ (cc) c.in_ok-put_wait_box.ensures (cc) c.put_wait_arrow.ensures
+    following _ _ _ _ _ _ _ (cc) c.put_wait_box.ensures (cc) c.put_wait_arrow.ensures

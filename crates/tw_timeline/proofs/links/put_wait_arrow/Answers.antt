@@ -15,9 +15,9 @@ returns c =
     let to = box_left c.args.wait.now.to in
     let way = c.arrow.ensures ∙ ap (λ (x : ℕ). arrow x c.box_left-next.result (c.bottom-top.result + 30)) left ∙ ap (λ (x : ℕ). arrow from x (c.bottom-top.result + 30)) next ∙ ap (λ (y : ℕ). arrow from to y) top in
     let height = c.arrow_height.ensures ∙ ap (λ (x : ℕ). arrow_height x c.box_left-next.result (c.bottom-top.result + 30)) left ∙ ap (λ (x : ℕ). arrow_height from x (c.bottom-top.result + 30)) next ∙ ap (λ (y : ℕ). arrow_height from to y) top in
-    following c.put_words.result _ _ _ _ _ _ _
+    following _ _ _ _ _ _ _
     (plain_same _ _ _ (c.way_row-row.ensures ∙ ap (λ (v : Value). way_row word.Wait v) way))
-    c.in_ok-put_plain.ensures
+    c.put_plain.ensures
     (words_same _ _ _ _ _ (c.labelled-place.ensures ∙ ap (λ (x : ℕ). labelled word.Number (x + 120) c.arrow_height.result) left ∙ ap (λ (y : ℕ). labelled word.Number (from + 120) y) height)
-    (c.deref.ensures.value ∙ c.in_ok-text.ensures ∙ ap (λ (n : ℕ). codes "datum " ++ decimal n) c.number.ensures))
-    c.put_words.ensures
+    (ap (λ (n : ℕ). codes "datum " ++ decimal n) c.number.ensures))
+    (c.put_written.ensures (codes "datum " ++ decimal c.number.result) c.numbered-text.ensures)

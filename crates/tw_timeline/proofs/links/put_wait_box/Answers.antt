@@ -6,9 +6,9 @@ use Rattle.tw_timeline.proofs.links.put_wait_box.Goals as goal
 
 pub returns : goal.returns
 returns c =
-    following c.put_words.result _ _ _ _ _ _ _
+    following _ _ _ _ _ _ _
     (plain_same _ _ _ (c.rectangle.ensures ∙ ap (λ (left : ℕ). rectangle word.Rule left (c.bottom-top.result + 30) 110 30) c.box_left-left.ensures.value ∙ ap (λ (down : ℕ). rectangle word.Rule (box_left c.args.wait.now.from) (down + 30) 110 30) c.bottom-top.ensures.value))
-    c.in_ok-put_plain.ensures
+    c.put_plain.ensures
     (words_same _ _ _ _ _ (c.labelled.ensures ∙ ap (λ (left : ℕ). labelled word.RuleName (left + 12) (c.bottom-top.result + 30 + 20)) c.box_left-left.ensures.value ∙ ap (λ (down : ℕ). labelled word.RuleName (box_left c.args.wait.now.from + 12) (down + 30 + 20)) c.bottom-top.ensures.value)
-    (c.deref.ensures.value ∙ c.in_ok-text.ensures ∙ ap (λ (n : ℕ). codes "rule " ++ decimal n) c.number.ensures))
-    c.put_words.ensures
+    (ap (λ (n : ℕ). codes "rule " ++ decimal n) c.number.ensures))
+    (c.put_written.ensures (codes "rule " ++ decimal c.number.result) c.numbered-text.ensures)

@@ -3,5 +3,5 @@ use Rattle.tw_timeline.proofs.page.put_drawn.Goals as goal
 
 pub returns : goal.returns
 returns c =
-    around c.put_close.result _ _ _ _ _ _ _ _ _ (cc) c.in_ok-put_open.ensures (both_added _ _ _ _ _ c.in_ok-put_ground.ensures c.in_ok-put_things.ensures) (element_text _ _ _)
+    around _ _ _ _ _ _ _ _ _ (cc) c.put_open.ensures (both_added _ _ _ _ _ c.put_ground.ensures c.put_things.ensures) (element_text _ _ _)
     c.put_close.ensures

@@ -4,4 +4,4 @@ use Rattle.tw_timeline.proofs.page.put_things.Goals as goal
 
 pub returns : goal.returns
 returns c =
-    following c.put_waits.result _ _ _ _ _ _ _ (cc) c.in_ok-put_bars.ensures (refl) (following c.put_waits.result _ _ _ _ _ _ _ (cc) c.in_ok-put_events.ensures (cc) c.put_waits.ensures)
+    following _ _ _ _ _ _ _ (cc) c.put_bars.ensures (refl) (following _ _ _ _ _ _ _ (cc) c.put_events.ensures (cc) c.put_waits.ensures)
