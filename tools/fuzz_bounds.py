@@ -70,7 +70,7 @@ def budgets(program: Program) -> list[int]:
 
 @dataclass(frozen=True)
 class Weights:
-    """The weights of what is counted: each task, instruction, NEW, RULE, event of a rule, and what an instruction adds to the store."""
+    """The weights of what is counted: each task, instruction, NEW, RULE, event of a rule, what an instruction adds to the store, and each text."""
 
     task: int = 0
     instr: int = 0
@@ -132,6 +132,11 @@ def texts_added(procedure: Procedure, instr: Instr) -> int:
     return sum(procedure.registers[instr.number(place)] == TEXT for place in KEPT.get(instr.name, ()))
 
 
+def text_registers(procedure: Procedure) -> int:
+    """Returns how many registers of texts a task has: from the call on, since values that it is given fill the first of them."""
+    return procedure.registers.count(TEXT)
+
+
 def bound(program: Program, weights: Weights, first: int = 0) -> int:
     """Returns the bound of a procedure's task, with all tasks that come of it. Its calls lead to no circle."""
     known: dict[int, int] = {}
@@ -139,7 +144,8 @@ def bound(program: Program, weights: Weights, first: int = 0) -> int:
     def of(number: int) -> int:
         if number not in known:
             procedure = program.procedures[number]
-            known[number] = weights.task + walk(procedure.code, lambda instr: cost(procedure, instr))
+            own = weights.task + weights.text * text_registers(procedure)
+            known[number] = own + walk(procedure.code, lambda instr: cost(procedure, instr))
         return known[number]
 
     def cost(procedure: Procedure, instr: Instr) -> int:
@@ -188,7 +194,7 @@ def limited_lines(program: Program, limit: int) -> list[str]:
         "data": limit if "NEW" in names else 0,
         "members": limit if names & INSERTIONS else 0,
         "rules": limit if any(name.startswith("RULE") for name in names) else 0,
-        "bytes": 4096 * limit * max(texts_added(procedure, instr) for procedure, instr in instrs),
+        "bytes": 4096 * limit * max(*(texts_added(procedure, instr) for procedure, instr in instrs), *map(text_registers, program.procedures)),
         "events": limit,
     }
     return [f"limited {name} {reported(number)}" for name, number in most.items()]

@@ -24,12 +24,11 @@ ENDED = (0, 3, 4)  # quiet, stuck, at the limit
 
 # The table of docs/HOSTING.md, "Memory": bytes for each of one kind.
 RUN = 12_000_000
-READ = 48  # a byte of the program and of its inputs
+READ = 54  # a byte of the program and of its inputs
 LIMIT = 10  # an event that the limit allows
 THREAD = 9_000_000  # a thread with MALLOC_ARENA_MAX=1
 RESERVED = 145_000_000  # a thread otherwise: of this the C library reserves up to 128 MiB
 PRICES = {"tasks": 600, "data": 300, "members": 400, "rules": 3_500}
-ARGUMENT = 4_200  # a text that a task or a rule receives as a value
 BYTE = 1.1
 PRINTED = 80_000  # a text that an output prints of a member
 LISTED = 400  # an event of a trace, of statistics or of a timeline
@@ -76,9 +75,9 @@ def bounds_of(program: str, run: Run) -> dict[str, int]:
     return found
 
 
-def heads_of(program: str, run: Run) -> list[str]:
-    """Returns the parameters of each procedure, main's first."""
-    return re.findall(r"^proc (?:control|leaf)(.*)$", answer_of(program, run, "disasm"), re.M)
+def main_of(program: str, run: Run) -> str:
+    """Returns main's parameters."""
+    return re.findall(r"^proc (?:control|leaf)(.*)$", answer_of(program, run, "disasm"), re.M)[0]
 
 
 def threads_of(words: tuple[str, ...]) -> int:
@@ -97,15 +96,13 @@ def texts_printed(main: str) -> int:
     return max(((by == "t") + (scalar == "text") for by, scalar in outputs), default=0)
 
 
-def bytes_for(bounds: dict[str, int], heads: list[str], run: Run) -> int:
+def bytes_for(bounds: dict[str, int], main: str, run: Run) -> int:
     """Returns the memory that HOSTING.md says for a run with these bounds."""
-    texts = max(head.count(" val text") for head in heads)
     thread = THREAD if ONE_ARENA.items() <= run.environment.items() else RESERVED
     read = RUN + READ * len(run.text + run.inputs) + LIMIT * run.limit + thread * threads_of(run.words)
     kept = sum(bounds[kind] * price for kind, price in PRICES.items()) + int(BYTE * bounds["bytes"])
-    passed = (bounds["tasks"] + bounds["rules"]) * texts * ARGUMENT
-    printed = bounds["members"] * texts_printed(heads[0]) * PRINTED
-    return read + kept + passed + printed + (bounds["events"] * LISTED if LISTS & set(run.words) else 0)
+    printed = bounds["members"] * texts_printed(main) * PRINTED
+    return read + kept + printed + (bounds["events"] * LISTED if LISTS & set(run.words) else 0)
 
 
 def bytes_printed(program: str, run: Run) -> int:
@@ -168,6 +165,14 @@ def waiting(kind: str, times: int) -> str:
     """Makes a main that puts tasks with eight values; all wait until it ends."""
     callee = f"proc control{f' val {kind}' * 8}\nregs{f' {kind}' * 8}\nRET\n"
     return looped(f"proc control\nregs {kind}\n", literal(0, kind), f"PUT 1 0 any{' 0' * 8}\n", "", times) + callee
+
+
+def waiting_with_own_texts(times: int) -> str:
+    """Makes a main that puts tasks with eight texts, which no other task has; all wait until it ends. No datum has a text."""
+    callee = f"proc control{' val text' * 8}\nregs{' text' * 8}\nRET\n"
+    made = "".join(f"SHOW v8 v10\nCAT v{register} v9 v8 +0\nADD v10 v10 v11 +0\n" for register in range(8))
+    start = f'TEXT v9 "{"a" * 4076}"\nINT v10 -9223372036854775808\nINT v11 1\n'
+    return looped(f"proc control\nregs{' text' * 10} int int\n", start, f"{made}PUT 1 0 any 0 1 2 3 4 5 6 7\n", "", times) + callee
 
 
 def waiting_with_data(times: int) -> str:
@@ -263,6 +268,7 @@ def hostile_tasks() -> Iterator[Run]:
     yield Run("tasks with ints", waiting("int", 656), TURN, MANY)
     yield Run("tasks with data", waiting_with_data(166), TURN, MANY)
     yield Run("tasks with texts", waiting("text", 30), TURN, FEW)
+    yield Run("tasks with texts of their own", waiting_with_own_texts(75), TURN, FEW)
     yield Run("texts in registers", texts_in_registers(16), (*TURN, "--workers", "16"))
     yield Run("rules with ints", pending("val int", 328), TURN, MANY)
     yield Run("rules with texts", pending("val text", 30), TURN, FEW)
@@ -325,7 +331,7 @@ def passes(program: str, run: Run) -> bool:
     if not all(kind in bounds for kind in BOUNDS):
         print(f"FAILED {run.name}: no bounds")
         return False
-    most = bytes_for(bounds, heads_of(program, run), run) + bytes_printed(program, run)
+    most = bytes_for(bounds, main_of(program, run), run) + bytes_printed(program, run)
     statuses = {status_of(program, run, most) for _ in range(run.times)}
     well = statuses <= set(ENDED)
     print(f"{'' if well else 'FAILED '}{run.name}: status {' or '.join(map(str, sorted(statuses)))} with {most / 1_000_000:.1f} MB", flush=True)

@@ -1,5 +1,5 @@
 -- Along a run from the opening, what is owed pays for all.
-use Rattle.std.proofs.Common.{◌≡◌, ℕ, zero, suc, ◌+◌, ◌*◌, ◌≤◌, List, [], ◌∷◌, length, Option, Some, ap, arith}
+use Rattle.std.proofs.Common.{◌≡◌, ℕ, zero, suc, ◌+◌, ◌*◌, ◌≤◌, List, [], ◌∷◌, length, Option, Some, refl, ap, subst, arith}
 use Rattle.std.proofs.lemmas.List.Sums.{sum_by-cons}
 use Rattle.std.specs.Cmp.{nat_cmp_total}
 use Rattle.std.specs.FinMap.{empty, get-empty, nat_cmp-IsAntisymmetric}
@@ -22,7 +22,7 @@ use Rattle.tw_code.specs.machine.Opening.{Opened, main_params, main_task, nothin
 use Rattle.tw_code.specs.machine.State.{State}
 use Rattle.tw_soundness.specs.Invariant.{IsHeld}
 use Rattle.tw_soundness.specs.NoTrap.{AreRight}
-use Rattle.tw_soundness.proofs.Safe.{kept_by, opened_held}
+use Rattle.tw_soundness.proofs.Safe.{kept_by, opened_held, reached_is_held}
 use Rattle.tw_soundness.proofs.Sums.{sum_new}
 use Rattle.tw_bounds.specs.declared.weights.Weights.{Weights}
 use Rattle.tw_bounds.specs.Bounds.{AreBounds, bound_at}
@@ -31,18 +31,24 @@ use Rattle.tw_bounds.specs.declared.bound.RunBounds.{RunBounds}
 use Rattle.tw_bounds.specs.Reports.{AreRunBounds, IsRunWithin}
 use Rattle.tw_bounds.specs.Runs.{IsBoundOfMain, IsWithinBound, bytes_alone, data_alone, events_alone, instructions_alone, instructions_by, instructions_in, members_alone, rule_events_by, rule_events_in, rules_alone, tasks_alone, tasks_by, tasks_in, weight_made}
 use Rattle.tw_bounds.proofs.Reporting.{main_bound}
-use Rattle.tw_bounds.proofs.Paying.{AreBounded, HasBound, IsPaid, event_paid, frame_owes, owes, rule_owes, task_owes}
+use Rattle.tw_bounds.specs.Contents.{texts_held}
+use Rattle.tw_bounds.proofs.Paying.{AreBounded, HasBound, IsPaid, event_paid, frame_owes, owes, rule_owes, task_owes, weight_stored}
+use Rattle.tw_bounds.proofs.TextsHeld.{texts_owed}
 
 times : (d x a b : ℕ) → x ≡ a + b → d * x ≡ d * a + d * b
 times d x a b e = rw e (omega arith)
 
 module _ (program : List Procedure) (typings : Typings) (is : IsProgram program) (are : AreRight program typings) (weights : Weights) (bounds : List (Option ℕ)) (all : AreBounds program weights bounds) where
-  run_paid : (layout : ActorCounts) (events : List Event) (s t : State) → IsHeld program typings s → AreBounded program weights bounds s → run program layout events s ≡ Went t
-      → weights.task * tasks_in events + weights.instr * instructions_in events + weights.rule_event * rule_events_in events + weight_made weights t + owes program weights bounds t ≤ weight_made weights s + owes program weights bounds s
+  -- what a state owes after the events
+  record ArePaid (events : List Event) (s t : State) : Type 0 where
+    bounded : AreBounded program weights bounds t
+    by : weights.task * tasks_in events + weights.instr * instructions_in events + weights.rule_event * rule_events_in events + weight_stored weights t + owes program weights bounds t ≤ weight_stored weights s + owes program weights bounds s
+
+  run_paid : (layout : ActorCounts) (events : List Event) (s t : State) → IsHeld program typings s → AreBounded program weights bounds s → run program layout events s ≡ Went t → ArePaid events s t
   unfolding run
   run_paid layout [] s t held bounded e =
-      let same = ap (λ (u : State). weight_made weights u + owes program weights bounds u) (same_went s t e) in
-      omega arith
+      let same = ap (λ (u : State). weight_stored weights u + owes program weights bounds u) (same_went s t e) in
+      record { bounded = subst (AreBounded program weights bounds) (same_went s t e) bounded; by = omega arith }
   run_paid layout (event ∷ events) s t held bounded e =
       let one = went_first (step program layout event s) (run program layout events) t e in
       let now = went_of (step program layout event s) (IsPaid program weights bounds event s) one.0 (event_paid program typings is are weights bounds all s held bounded layout event) one.1 in
@@ -50,7 +56,7 @@ module _ (program : List Procedure) (typings : Typings) (is : IsProgram program)
       let tasks = times weights.task _ _ _ (sum_by-cons tasks_by event events) in
       let instrs = times weights.instr _ _ _ (sum_by-cons instructions_by event events) in
       let follows = times weights.rule_event _ _ _ (sum_by-cons rule_events_by event events) in
-      omega (arith, now.by, rest)
+      record { bounded = rest.bounded; by = omega (arith, now.by, rest.by) }
 
   -- in the opening main's bound is owed
   opened_owes : (o : Opened) → owes program weights bounds (opening_of o) ≡ num_at bounds 0
@@ -81,7 +87,8 @@ module _ (program : List Procedure) (typings : Typings) (is : IsProgram program)
       let every = run_paid layout events (opening program inputs) s (opened_held program typings is are inputs given) (opened_bounded inputs b main) e in
       let first = opening_owes inputs in
       let known = of_known bounds 0 b main in
-      omega arith
+      let owed = texts_owed program typings is are weights bounds all s (reached_is_held program typings is are inputs layout events s given e) every.bounded in
+      omega (arith, every.by, owed, times weights.text (texts_held s) _ _ refl, times weights.text (texts_held (opening program inputs)) _ _ refl)
 
 -- each event that succeeds is at least one step
 one_step : (program : List Procedure) (layout : ActorCounts) (event : Event) (s t : State) → step program layout event s ≡ Went t → 1 ≤ tasks_by event + instructions_by event + rule_events_by event

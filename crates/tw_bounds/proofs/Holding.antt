@@ -26,7 +26,7 @@ use Rattle.tw_types.proofs.SameTypes.{by_container, container_only, same_scalars
 use Rattle.tw_types.proofs.Totals.{total-insert}
 use Rattle.tw_types.proofs.ValueOrder.{value_cmp_total}
 use Rattle.tw_soundness.proofs.Sums.{sum_apart, sum_replaced}
-use Rattle.tw_bounds.specs.Contents.{is_map_to_texts, is_text, is_text_scalar, member_count, members_held, text_count, texts_held}
+use Rattle.tw_bounds.specs.Contents.{is_map_to_texts, is_text, is_text_scalar, member_count, members_held, text_count, texts_stored}
 
 -- ---- a sum over the live data, by types and contents
 
@@ -116,7 +116,7 @@ one_if b = if b then 1 else 0
 -- how many members and texts the later store holds more, at most
 pub record Gains (members texts : ℕ) (s t : Store) : Type 0 where
   pub new_members : members_held t ≤ members_held s + members
-  pub new_texts : texts_held t ≤ texts_held s + texts
+  pub new_texts : texts_stored t ≤ texts_stored s + texts
 
 pub no_gain : (members texts : ℕ) (s : Store) → Gains members texts s s
 no_gain members texts s = record { new_members = omega arith; new_texts = omega arith }

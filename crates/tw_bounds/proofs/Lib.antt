@@ -4,6 +4,7 @@ pub mod Holding
 pub mod Moved
 pub mod Numbers
 pub mod Paying
+pub mod TextsHeld
 pub mod Reporting
 pub mod Along
 pub mod Ending

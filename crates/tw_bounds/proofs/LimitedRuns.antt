@@ -2,24 +2,33 @@
 use Rattle.std.proofs.Common.{◌≡◌, ℕ, zero, suc, ◌+◌, ◌*◌, ◌<◌, ◌≤◌, ◌||◌, Bool, true, false, if◌then◌else◌, is_none, List, [], ◌∷◌, length, map, slice_get, Some, refl, sym, ap, ◌∙◌, subst, arith}
 use Rattle.std.proofs.lemmas.List.Sums.{sum_by-cons}
 use Rattle.std.proofs.lemmas.Option.{same_Some, slice_get_within}
-use Rattle.std.specs.FinMap.{get}
+use Rattle.std.specs.Cmp.{nat_cmp_total}
+use Rattle.std.specs.FinMap.{get, insert, nat_cmp-IsAntisymmetric}
 use Rattle.std.specs.List.{list_all, list_any}
 use Rattle.std.specs.Option.{option_map_or}
+use Rattle.std.specs.Ordering.{nat_cmp}
 use Rattle.std.specs.Prelude.{nat_le}
 use Rattle.tw_types.specs.declared.actor.Actor.{Actor}
 use Rattle.tw_types.specs.declared.cause.Cause.TheVariants.{RightLeft}
 use Rattle.tw_types.specs.declared.data_type.Scalar.{Scalar}
+use Rattle.tw_types.specs.declared.stage.Stage.{Stage}
+use Rattle.tw_types.specs.declared.stage.Stage.TheVariants.{Waiting, Ready}
+use Rattle.tw_types.specs.Actor.{actor_cmp, number_in_kind}
 use Rattle.tw_types.specs.Value.{scalar_of}
 use Rattle.tw_types.specs.declared.event.Event.{Event}
 use Rattle.tw_types.specs.declared.event.Event.TheVariants.{Take, Local, Call, End, Ask, Deliver, Release}
 use Rattle.tw_types.specs.Layout.{ActorCounts}
 use Rattle.tw_types.specs.Outcome.{Went, outcome_of}
 use Rattle.tw_types.specs.Result.{must}
+use Rattle.tw_types.specs.Rule.{Rule, at_stage, task_from}
 use Rattle.tw_types.specs.Store.{Store}
+use Rattle.tw_types.specs.Task.{Task}
+use Rattle.tw_types.specs.Totals.{total}
 use Rattle.tw_types.proofs.ActorOrder.{actor_cmp-IsAntisymmetric, actor_cmp_total}
 use Rattle.tw_types.proofs.Maps.{get_here}
 use Rattle.tw_types.proofs.Outcomes.{IfWent, if_both, if_ok, if_only, if_then, same_went, went_first, went_of}
 use Rattle.tw_types.proofs.Results.{ok_of}
+use Rattle.tw_types.proofs.Totals.{total-insert, total-remove}
 use Rattle.tw_code.specs.declared.instr.DataInstr.{DataInstr}
 use Rattle.tw_code.specs.declared.instr.DataInstr.TheVariants as on_data
 use Rattle.tw_code.specs.declared.instr.Instr.{Instr}
@@ -32,23 +41,25 @@ use Rattle.tw_code.specs.machine.Data.{data_instr}
 use Rattle.tw_code.specs.machine.Holders.{Typings}
 use Rattle.tw_code.specs.machine.Machine.{RunningInstr, call_by, call_event, end_event, is_ret, local_event, run, running_instr_of, step}
 use Rattle.tw_code.specs.machine.Opening.{opening}
-use Rattle.tw_code.specs.machine.State.{Frame, State, context_of}
+use Rattle.tw_code.specs.machine.State.{Frame, State, context_of, gone_after, new_rule}
 use Rattle.tw_code.proofs.Leaving.{IsRunningAt, is_running_at, ask_leaves, deliver_leaves, end_leaves, local_leaves, release_leaves, take_leaves}
 use Rattle.tw_budget.proofs.FrameTheorems.{below_budget}
 use Rattle.tw_soundness.specs.Invariant.{IsHeld}
 use Rattle.tw_soundness.specs.NoTrap.{AreRight}
-use Rattle.tw_soundness.proofs.Safe.{accepts, kept_by, opened_held}
+use Rattle.tw_soundness.proofs.Safe.{accepts, kept_by, opened_held, reached_is_held}
+use Rattle.tw_soundness.proofs.Sums.{sum_apart, sum_replaced}
 use Rattle.tw_bounds.specs.declared.bound.Bound.{Bound}
 use Rattle.tw_bounds.specs.declared.bound.Bound.TheVariants.{AtMost}
 use Rattle.tw_bounds.specs.declared.limited.LimitedBounds.{LimitedBounds}
-use Rattle.tw_bounds.specs.Limited.{AreLimitedBounds, IsLargestBudget, LimitsRuns, adds_member, adds_texts, has_instr, is_on_data, makes_datum, makes_rule, one_each, texts_each}
+use Rattle.tw_bounds.specs.Limited.{AreLimitedBounds, IsLargestBudget, LimitsRuns, adds_member, adds_texts, has_instr, is_on_data, makes_datum, makes_rule, most_text_registers, most_texts, one_each}
 use Rattle.tw_bounds.specs.Bounds.{texts_added}
-use Rattle.tw_bounds.specs.Contents.{is_text, is_text_scalar, members_held, texts_held}
+use Rattle.tw_bounds.specs.Contents.{is_text, is_text_scalar, members_held, rule_texts, task_texts}
 use Rattle.tw_bounds.specs.Reports.{reported}
 use Rattle.tw_bounds.specs.Runs.{instructions_by, instructions_in, tasks_by, tasks_in}
 use Rattle.tw_bounds.proofs.Holding.{Gains, no_gain, one_if}
 use Rattle.tw_bounds.proofs.Moved.{DataGoes, data_goes, for_new, subscribed_gains, subscribed_next, types_fit}
 use Rattle.tw_bounds.proofs.Reporting.{is_exact}
+use Rattle.tw_bounds.proofs.TextsHeld.{frame_registers, registers_in, rule_within, task_within, texts_by_registers, texts_same}
 
 -- ---- instructions of the program
 
@@ -79,13 +90,23 @@ some_one : (b : Bool) → b ≡ true → 1 ≤ one_if b
 some_one true e = omega arith
 some_one false e = cc
 
+-- no procedure has more registers of texts
+registers_few : (program : List Procedure) (k : ℕ) → registers_in (slice_get program k) ≤ most_text_registers program
+registers_few [] k = omega arith
+registers_few (p ∷ program) zero = omega arith
+registers_few (p ∷ program) (suc k) = let rest = registers_few program k in omega (arith, rest)
+
 -- ---- what is made by an event
 
 record IsMade (program : List Procedure) (s t : State) : Type 0 where
   new_data : t.store.next ≤ s.store.next + one_if (has_instr makes_datum program)
   rules : t.next_rule ≤ s.next_rule + one_if (has_instr makes_rule program)
   members : members_held t.store ≤ members_held s.store + one_if (has_instr (is_on_data adds_member) program)
-  texts : texts_held t.store ≤ texts_held s.store + (one_if (list_any (adds_texts 1) program) + one_if (list_any (adds_texts 2) program))
+  texts : texts_by_registers program t ≤ texts_by_registers program s + most_texts program
+
+-- counts the texts of the rules and tasks of a state
+abbrev texts_apart : List Procedure → State → ℕ
+texts_apart program s = total rule_texts s.rules + (total task_texts s.tasks + total (frame_registers program) s.frames)
 
 -- an instruction adds at most two texts
 two_at_most : (registers : List Scalar) (i : DataInstr) → texts_added registers i ≤ 2
@@ -105,15 +126,32 @@ at_most_two (suc (suc (suc n))) h = absurd (omega (arith, h))
 abbrev HasTypes : List Procedure → State → Type 0
 HasTypes program s = (a : Actor) (f : Frame) (p : Procedure) → get s.frames a ≡ Some f → slice_get program f.procedure ≡ Some p → map scalar_of f.position.values ≡ p.registers
 
+-- each rule has at most the texts of its procedure's registers, and so has each waiting task
+record AreFew (program : List Procedure) (s : State) : Type 0 where
+  rules : (number : ℕ) (rule : Rule) → get s.rules number ≡ Some rule → rule_texts rule ≤ registers_in (slice_get program rule.procedure)
+  tasks : (number : ℕ) (task : Task) → get s.tasks number ≡ Some task → task_texts task ≤ registers_in (slice_get program task.procedure)
+
 module _ (program : List Procedure) (s : State) (fits : HasTypes program s) where
   abbrev Made : State → Type 0
-  Made t = IsMade program s t
+  Made t = AreFew program t → IsMade program s t
 
-  same_made : (t : State) → t.store.next ≡ s.store.next → t.next_rule ≡ s.next_rule → Gains 0 0 s.store t.store → IsMade program s t
-  same_made t e f gains = record { new_data = omega (arith, e); rules = omega (arith, f); members = omega (arith, gains.new_members); texts = omega (arith, gains.new_texts) }
+  same_made : (t : State) → t.store.next ≡ s.store.next → t.next_rule ≡ s.next_rule → Gains 0 0 s.store t.store → texts_apart program t ≤ texts_apart program s + most_text_registers program → IsMade program s t
+  same_made t e f gains few = record { new_data = omega (arith, e); rules = omega (arith, f); members = omega (arith, gains.new_members); texts = omega (arith, gains.new_texts, few) }
 
-  same_store : (t : State) → t.store ≡ s.store → t.next_rule ≡ s.next_rule → IsMade program s t
-  same_store t e f = same_made t (ap (λ (u : Store). u.next) e) f (subst (Gains 0 0 s.store) (sym e) (no_gain 0 0 s.store))
+  same_store : (t : State) → t.store ≡ s.store → t.next_rule ≡ s.next_rule → texts_apart program t ≤ texts_apart program s + most_text_registers program → IsMade program s t
+  same_store t e f few = same_made t (ap (λ (u : Store). u.next) e) f (subst (Gains 0 0 s.store) (sym e) (no_gain 0 0 s.store)) few
+
+  -- a frame in place of another of its procedure
+  same_frame : (a : Actor) (f g : Frame) → get s.frames a ≡ Some f → g.procedure ≡ f.procedure → total (frame_registers program) (insert s.frames a g) ≡ total (frame_registers program) s.frames
+  same_frame a f g runs same =
+      let r = sum_replaced actor_cmp actor_cmp_total actor_cmp-IsAntisymmetric (frame_registers program) s.frames a f g runs in
+      omega (arith, r, ap (λ (k : ℕ). registers_in (slice_get program k)) same)
+
+  -- a rule at another stage
+  same_rule : (number : ℕ) (rule : Rule) (parameter : ℕ) (stage : Stage) → get s.rules number ≡ Some rule → total rule_texts (insert s.rules number (at_stage rule parameter stage)) ≡ total rule_texts s.rules
+  same_rule number rule parameter stage pending =
+      let r = sum_replaced nat_cmp nat_cmp_total nat_cmp-IsAntisymmetric rule_texts s.rules number rule (at_stage rule parameter stage) pending in
+      omega (arith, r)
 
   module _ (a : Actor) where
     new_few : (i : DataInstr) (at : RunningInstr) → IsRunningAt program a s at → at.instr ≡ instr.Data i → for_new 1 i ≤ one_if (has_instr makes_datum program)
@@ -148,13 +186,28 @@ module _ (program : List Procedure) (s : State) (fits : HasTypes program s) wher
         let member = adds_few adds_member i at here e (adds_member i) refl in
         let texts = ap (λ registers. texts_added registers i) (fits a at.frame at.procedure here.frame here.procedure) in
         let few_texts = texts_few i at here e in
-        record { is = record { new_data = omega (arith, n, few); rules = omega arith; members = omega (arith, m.gains.new_members, member); texts = omega (arith, m.gains.new_texts, texts, few_texts) } })
+        let frames = same_frame a at.frame (record at.frame { position = c.position; rights = c.rights; spent = at.frame.spent + 1 }) here.frame refl in
+        record { is = λ after. record { new_data = omega (arith, n, few); rules = omega arith; members = omega (arith, m.gains.new_members, member); texts = omega (arith, m.gains.new_texts, texts, few_texts, frames) } })
     by_instr at here (instr.Rule action) e =
         if_ok (called program at.procedure.kind (context_of s at.frame) action) (λ call went.
         let one = some_one (has_instr makes_rule program) (has_at makes_rule program at.frame.procedure at.procedure at.frame.position.place (instr.Rule action) here.procedure (here.instr ∙ ap Some e) refl) in
-        record { is = record { new_data = omega arith; rules = omega arith; members = omega arith; texts = omega arith } })
+        let rule : Rule = new_rule (number_in_kind a) call.params call.task in
+        let frames = same_frame a at.frame (gone_after at.frame call.rights) here.frame refl in
+        let rules = total-insert nat_cmp nat_cmp_total rule_texts s.rules s.next_rule rule in
+        record {
+          is = λ after.
+              let few = after.rules s.next_rule rule (get_here nat_cmp_total nat_cmp-IsAntisymmetric s.rules s.next_rule rule) in
+              record { new_data = omega arith; rules = omega arith; members = omega arith; texts = omega (arith, few, registers_few program rule.procedure) };
+        })
     by_instr at here (instr.Put action) e =
-        if_ok (put_called program at.procedure.kind (context_of s at.frame) action) (λ call went. record { is = same_store _ refl refl })
+        if_ok (put_called program at.procedure.kind (context_of s at.frame) action) (λ call went.
+        let frames = same_frame a at.frame (gone_after at.frame call.rights) here.frame refl in
+        let tasks = total-insert nat_cmp nat_cmp_total task_texts s.tasks s.next_task call.task in
+        record {
+          is = λ after.
+              let few = after.tasks s.next_task call.task (get_here nat_cmp_total nat_cmp-IsAntisymmetric s.tasks s.next_task call.task) in
+              same_store _ refl refl (omega (arith, few, registers_few program call.task.procedure));
+        })
     by_instr at here instr.Ret e = record { is = tt }
 
     call_made : IfWent (call_event program a s) Made
@@ -162,17 +215,29 @@ module _ (program : List Procedure) (s : State) (fits : HasTypes program s) wher
 
   event_made : (layout : ActorCounts) (event : Event) → IfWent (step program layout event s) Made
   unfolding step
-  event_made layout (Take a) = take_leaves program a s layout (λ e frame first begun. same_store _ refl refl)
-  event_made layout (Local a n) = local_leaves program a s n (λ frame at some here. same_store _ refl refl)
+  event_made layout (Take a) = take_leaves program a s layout (λ e frame first begun after.
+      let frames = total-insert actor_cmp actor_cmp_total (frame_registers program) s.frames a frame in
+      let tasks = total-remove nat_cmp nat_cmp_total nat_cmp-IsAntisymmetric task_texts s.tasks e.0 in
+      same_store _ refl refl (omega (arith, frames, tasks, registers_few program frame.procedure)))
+  event_made layout (Local a n) = local_leaves program a s n (λ frame at some here after.
+      let frames = same_frame a frame (record frame { position = at; spent = frame.spent + n }) here refl in
+      same_store _ refl refl (omega (arith, frames)))
   event_made layout (Call a) = call_made a
-  event_made layout (End a) = end_leaves program a s (same_store _ refl refl)
+  event_made layout (End a) = end_leaves program a s (λ after.
+      let frames = total-remove actor_cmp actor_cmp_total actor_cmp-IsAntisymmetric (frame_registers program) s.frames a in
+      same_store _ refl refl (omega (arith, frames)))
   event_made layout (Ask engine rule parameter) = ask_leaves s engine rule parameter
-      (λ r id x u. same_store _ refl refl)
-      (λ r id x u. same_made _ (subscribed_next s.store id (record { rule = rule; parameter = parameter })) refl (subscribed_gains s.store id (record { rule = rule; parameter = parameter })))
+      (λ r id x u after. let rules = same_rule rule r parameter Ready u.pending in same_store _ refl refl (omega (arith, rules)))
+      (λ r id x u after.
+      let rules = same_rule rule r parameter Waiting u.pending in
+      same_made _ (subscribed_next s.store id (record { rule = rule; parameter = parameter })) refl (subscribed_gains s.store id (record { rule = rule; parameter = parameter })) (omega (arith, rules)))
   event_made layout (Deliver server datum rule parameter) = deliver_leaves s layout server (record { datum = datum; rule = rule; parameter = parameter })
-      (λ has none. same_store _ refl refl)
-      (λ r has pending. same_store _ refl refl)
-  event_made layout (Release engine rule) = release_leaves s program engine rule (λ r p pending ready. same_store _ refl refl)
+      (λ has none after. same_store _ refl refl (omega arith))
+      (λ r has pending after. let rules = same_rule rule r parameter Ready pending in same_store _ refl refl (omega (arith, rules)))
+  event_made layout (Release engine rule) = release_leaves s program engine rule (λ r p pending ready after.
+      let rules = sum_apart nat_cmp nat_cmp_total nat_cmp-IsAntisymmetric rule_texts s.rules rule r pending in
+      let tasks = total-insert nat_cmp nat_cmp_total task_texts s.tasks s.next_task (task_from p.kind r) in
+      same_store _ refl refl (omega (arith, rules, tasks)))
 
 -- ---- what is executed by an event
 
@@ -235,7 +300,7 @@ module _ (program : List Procedure) (typings : Typings) (is : IsProgram program)
     new_data : t.store.next ≤ s.store.next + one_each makes_datum program limit
     rules : t.next_rule ≤ s.next_rule + one_each makes_rule program limit
     members : members_held t.store ≤ members_held s.store + one_each (is_on_data adds_member) program limit
-    texts : texts_held t.store ≤ texts_held s.store + texts_each program limit
+    texts : texts_by_registers program t ≤ texts_by_registers program s + limit * most_texts program
 
   run_few : (limit : ℕ) (layout : ActorCounts) (events : List Event) (s t : State) → IsHeld program typings s → length events ≤ limit → run program layout events s ≡ Went t → IsFew limit events s t
   unfolding run
@@ -243,21 +308,22 @@ module _ (program : List Procedure) (typings : Typings) (is : IsProgram program)
       let data_same = ap (λ (u : State). u.store.next) (same_went s t e) in
       let rules_same = ap (λ (u : State). u.next_rule) (same_went s t e) in
       let members_same = ap (λ (u : State). members_held u.store) (same_went s t e) in
-      let texts_same = ap (λ (u : State). texts_held u.store) (same_went s t e) in
+      let texts_same = ap (texts_by_registers program) (same_went s t e) in
       record { instructions = omega arith; new_data = omega (arith, data_same); rules = omega (arith, rules_same); members = omega (arith, members_same); texts = omega (arith, texts_same) }
   run_few zero layout (event ∷ events) s t held fits e = absurd (omega arith)
   run_few (suc limit) layout (event ∷ events) s t held fits e =
       let one = went_first (step program layout event s) (run program layout events) t e in
       let after = kept_by program typings layout event s one.0 is are held one.1 in
       let runs = event_runs s held layout event one.0 after one.1 in
-      let made = went_of (step program layout event s) (IsMade program s) one.0 (event_made program s (λ a f p runs here. types_fit p.registers f.position.values (held.types.values a f p runs here)) layout event) one.1 in
+      let few : AreFew program one.0 = record { rules = rule_within program typings is are one.0 after; tasks = task_within program typings is are one.0 after } in
+      let made = went_of (step program layout event s) (λ u. AreFew program u → IsMade program s u) one.0 (event_made program s (λ a f p runs here. types_fit p.registers f.position.values (held.types.values a f p runs here)) layout event) one.1 few in
       let rest = run_few limit layout events one.0 t after (omega arith) one.2 in
       record {
         instructions = omega (arith, runs, rest.instructions, sum_by-cons instructions_by event events);
         new_data = omega (arith, made.new_data, rest.new_data, one_more (has_instr makes_datum program) limit);
         rules = omega (arith, made.rules, rest.rules, one_more (has_instr makes_rule program) limit);
         members = omega (arith, made.members, rest.members, one_more (has_instr (is_on_data adds_member) program) limit);
-        texts = omega (arith, made.texts, rest.texts, one_more (list_any (adds_texts 1) program) limit, one_more (list_any (adds_texts 2) program) limit);
+        texts = omega (arith, made.texts, rest.texts);
       }
 
 takes_few : (events : List Event) → tasks_in events ≤ length events
@@ -287,7 +353,11 @@ limits_run program typings is are limit bounds b = record {
         new_data = λ n at. let same = number_is bounds.data (one_each makes_datum program limit) n b.new_data at in omega (arith, same, few.new_data);
         rules = λ n at. let same = number_is bounds.rules (one_each makes_rule program limit) n b.rules at in omega (arith, same, few.rules);
         members = λ n at. let same = number_is bounds.members (one_each (is_on_data adds_member) program limit) n b.members at in omega (arith, same, few.members);
-        bytes = λ n at. let same = number_is bounds.bytes (4096 * texts_each program limit) n b.bytes at in omega (arith, same, few.texts);
+        bytes = λ n at.
+            let same = number_is bounds.bytes (4096 * (limit * most_texts program)) n b.bytes at in
+            let first = texts_same program typings is are (opening program inputs) (opened_held program typings is are inputs given) in
+            let last = texts_same program typings is are s (reached_is_held program typings is are inputs layout events s given e) in
+            omega (arith, same, few.texts, first, last);
         few = λ n at. let same = number_is bounds.events limit n b.events at in omega (arith, same, fits);
       };
 }

@@ -1,5 +1,5 @@
 -- One more bound is known; if none can be, some procedures call one another in a circle.
-use Rattle.std.proofs.Common.{◌≡◌, ◌≢◌, ℕ, Bool, true, false, not, zero, suc, ◌+◌, ◌<◌, ◌≤◌, List, [], ◌∷◌, ◌++◌, length, map, min, replicate, set, get_or, Option, Some, None, refl, sym, ap, ◌∙◌, subst, arith, ◌⊎◌, inl, inr}
+use Rattle.std.proofs.Common.{◌≡◌, ◌≢◌, ℕ, Bool, true, false, not, zero, suc, ◌+◌, ◌*◌, ◌<◌, ◌≤◌, List, [], ◌∷◌, ◌++◌, length, map, min, replicate, set, get_or, Option, Some, None, refl, sym, ap, ◌∙◌, subst, arith, ◌⊎◌, inl, inr}
 use Rattle.std.specs.Prelude.{slice_get}
 use Rattle.std.specs.Option.{is_some}
 use Rattle.std.specs.Option.{option_flatten, option_map}
@@ -14,7 +14,7 @@ use Rattle.tw_code.specs.accepting.Flow.{flows}
 use Rattle.tw_budget.specs.Sound.{IsSound}
 use Rattle.tw_bounds.specs.declared.weights.Weights.{Weights}
 use Rattle.tw_bounds.specs.GreatestCost.{greatest_cost}
-use Rattle.tw_bounds.specs.Bounds.{AreBounds, AreCosts, Calls, CallsEnd, IsBoundOf, bound_at, cost_in, weight_of}
+use Rattle.tw_bounds.specs.Bounds.{AreBounds, AreCosts, Calls, CallsEnd, IsBoundOf, bound_at, cost_in, text_registers, weight_of}
 use Rattle.tw_bounds.proofs.Reached.{is_greatest_cost}
 use Rattle.tw_bounds.specs.Solving.{AreCapped, AreCappedBounds, AreWithin, CallsUnknown, IsBoundable, IsCappedBound, IsFixpoint, IsNext}
 use Rattle.tw_bounds.proofs.Numbers.{mapped_some, weighted, same_parts}
@@ -126,16 +126,16 @@ bound_kept : (program : List Procedure) (weights : Weights) (known more : List (
 bound_kept program weights known more p b kept o = record { costs = o.costs; are = costs_kept program weights known more p.registers p.code o.costs kept o.are; walk = o.walk; greatest_cost = o.greatest_cost; sum = o.sum }
 
 -- the number that is computed is a bound
-pub bound_made : (program : List Procedure) (weights : Weights) (known : List (Option ℕ)) (p : Procedure) → IsSound (flows p.code) → (costs : List ℕ) → AreCosts program weights known p.registers p.code costs → IsBoundOf program weights known p (weights.task + greatest_cost (cost_in costs) (flows p.code) 0)
+pub bound_made : (program : List Procedure) (weights : Weights) (known : List (Option ℕ)) (p : Procedure) → IsSound (flows p.code) → (costs : List ℕ) → AreCosts program weights known p.registers p.code costs → IsBoundOf program weights known p (weights.task + weights.text * text_registers p.registers + greatest_cost (cost_in costs) (flows p.code) 0)
 bound_made program weights known p sound costs are = record { costs = costs; are = are; walk = greatest_cost (cost_in costs) (flows p.code) 0; greatest_cost = is_greatest_cost (cost_in costs) (flows p.code) sound; sum = refl }
 
 -- the number that is computed from capped bounds is the exact bound, capped
 pub capped_bound_made : (program : List Procedure) (weights : Weights) (known exact : List (Option ℕ)) (p : Procedure) → AreCapped known exact → IsSound (flows p.code) → (costs : List ℕ) → AreCosts program weights known p.registers p.code costs
-    → (b : ℕ) → b ≡ min (weights.task + min (greatest_cost (cost_in costs) (flows p.code) 0) cap) cap → IsCappedBound program weights exact p b
+    → (b : ℕ) → b ≡ min (weights.task + weights.text * text_registers p.registers + min (greatest_cost (cost_in costs) (flows p.code) 0) cap) cap → IsCappedBound program weights exact p b
 capped_bound_made program weights known exact p is sound costs are b e =
     let others = costs_alike program weights known exact is p.registers p.code costs are in
     let same = greatest_alike (cost_in costs) (cost_in others.0) (flows p.code) others.2 in
-    (weights.task + greatest_cost (cost_in others.0) (flows p.code) 0, bound_made program weights exact p sound others.0 others.1, omega (arith, e, same))
+    (weights.task + weights.text * text_registers p.registers + greatest_cost (cost_in others.0) (flows p.code) 0, bound_made program weights exact p sound others.0 others.1, omega (arith, e, same))
 
 -- ---- known bounds so far
 

@@ -60,11 +60,11 @@ use Rattle.tw_soundness.proofs.Sums.{sum_apart, sum_new, sum_replaced}
 use Rattle.tw_soundness.proofs.TaskEvents.{fresh_rule, fresh_task}
 use Rattle.tw_bounds.specs.GreatestCost.{greatest_cost}
 use Rattle.tw_bounds.specs.declared.weights.Weights.{Weights}
-use Rattle.tw_bounds.specs.Bounds.{AreBounds, bound_at, cost_in, rule_events, texts_added, weight_added}
+use Rattle.tw_bounds.specs.Bounds.{AreBounds, bound_at, cost_in, rule_events, text_registers, texts_added, weight_added}
 use Rattle.tw_bounds.proofs.Numbers.{costs_true, greatest_same, mapped_some, num_at, of_known, weight_at, weight_in, weight_num, weighted}
-use Rattle.tw_bounds.specs.Contents.{members_held, texts_held}
+use Rattle.tw_bounds.specs.Contents.{members_held, texts_stored}
 use Rattle.tw_bounds.specs.Limited.{adds_member}
-use Rattle.tw_bounds.specs.Runs.{rule_events_by, instructions_by, tasks_by, weight_made}
+use Rattle.tw_bounds.specs.Runs.{rule_events_by, instructions_by, tasks_by}
 use Rattle.tw_bounds.proofs.GreatestCost.{left, pays, stop_at}
 use Rattle.tw_bounds.proofs.Holding.{Gains, one_if}
 use Rattle.tw_bounds.proofs.Moved.{DataGoes, GoesBy, StepsBy, data_goes, for_new, step_goes, subscribed_gains, subscribed_next, types_fit}
@@ -78,14 +78,18 @@ new_is weights (on_data.InsertValue map subscript from skip) = omega arith
 new_is weights (on_data.AddValue map subscript from) = omega arith
 new_is weights i = omega arith
 
+-- the weight of the data and rules made so far, and of what the store holds
+abbrev pub weight_stored : Weights → State → ℕ
+weight_stored weights s = weights.datum * s.store.next + weights.rule * s.next_rule + weights.member * members_held s.store + weights.text * texts_stored s.store
+
 -- the weight of what a later store holds
 held_paid : (weights : Weights) (members texts : ℕ) (s t : Store) → Gains members texts s t
-    → weights.member * members_held t + weights.text * texts_held t ≤ weights.member * members_held s + weights.text * texts_held s + weights.member * members + weights.text * texts
+    → weights.member * members_held t + weights.text * texts_stored t ≤ weights.member * members_held s + weights.text * texts_stored s + weights.member * members + weights.text * texts
 held_paid weights members texts s t gains =
     let m = mul-le-mul_left weights.member gains.new_members in
     let x = mul-le-mul_left weights.text gains.new_texts in
     let n : weights.member * (members_held s + members) ≡ weights.member * members_held s + weights.member * members = omega arith in
-    let y : weights.text * (texts_held s + texts) ≡ weights.text * texts_held s + weights.text * texts = omega arith in
+    let y : weights.text * (texts_stored s + texts) ≡ weights.text * texts_stored s + weights.text * texts = omega arith in
     omega (arith, m, x, n, y)
 
 none_is : {A : Type 0} (o : Option A) → is_none o ≡ true → o ≡ None
@@ -136,10 +140,10 @@ times_two d a b c e h =
 -- ---- what a state owes
 
 module _ (program : List Procedure) (weights : Weights) (bounds : List (Option ℕ)) where
-  -- by a task that runs: what is left to it
+  -- by a task that runs: its registers of texts, and what is left to it
   abbrev pub owed_in : Option Procedure → Frame → ℕ
   owed_in None f = 0
-  owed_in (Some p) f = left (weight_at program weights bounds p.registers p.code) (flows p.code) f.position.place f.position.loops
+  owed_in (Some p) f = weights.text * text_registers p.registers + left (weight_at program weights bounds p.registers p.code) (flows p.code) f.position.place f.position.loops
 
   abbrev pub frame_owes : Frame → ℕ
   frame_owes f = owed_in (slice_get program f.procedure) f
@@ -168,7 +172,7 @@ module _ (program : List Procedure) (weights : Weights) (bounds : List (Option �
 
   pub record IsPaid (event : Event) (s t : State) : Type 0 where
     pub bounded : AreBounded t
-    pub by : paid event + weight_made weights t + owes t ≤ weight_made weights s + owes s
+    pub by : paid event + weight_stored weights t + owes t ≤ weight_stored weights s + owes s
 
 -- ---- a task that runs
 
@@ -217,8 +221,8 @@ module _ (program : List Procedure) (typings : Typings) (is : IsProgram program)
   sound_at : (k : ℕ) (p : Procedure) → slice_get program k ≡ Some p → IsSound (flows p.code)
   sound_at k p here = (accepts program typings is are k p here).sound
 
-  -- a task owes its price and what is left at its first place
-  starts : (k b : ℕ) (p : Procedure) → slice_get program k ≡ Some p → bound_at bounds k ≡ Some b → weights.task + greatest_cost (weight_at program weights bounds p.registers p.code) (flows p.code) 0 ≡ num_at bounds k
+  -- a task owes its price, its registers of texts, and what is left at its first place
+  pub starts : (k b : ℕ) (p : Procedure) → slice_get program k ≡ Some p → bound_at bounds k ≡ Some b → weights.task + weights.text * text_registers p.registers + greatest_cost (weight_at program weights bounds p.registers p.code) (flows p.code) 0 ≡ num_at bounds k
   starts k b p here is_bound =
       let o = all.each k p b here is_bound in
       let same = greatest_same (flows p.code) (cost_in o.costs) (weight_at program weights bounds p.registers p.code) o.walk (costs_true program weights bounds p.registers p.code o.costs o.are) o.greatest_cost in
@@ -263,7 +267,7 @@ module _ (program : List Procedure) (typings : Typings) (is : IsProgram program)
         let w = held.budgets.within a f p budget.0 runs here budget.1 in
         record { inside = w.inside; loops = w.fits }
 
-    owes_is : (f : Frame) (p : Procedure) → slice_get program f.procedure ≡ Some p → frame_owes program weights bounds f ≡ left (weight_at program weights bounds p.registers p.code) (flows p.code) f.position.place f.position.loops
+    owes_is : (f : Frame) (p : Procedure) → slice_get program f.procedure ≡ Some p → frame_owes program weights bounds f ≡ weights.text * text_registers p.registers + left (weight_at program weights bounds p.registers p.code) (flows p.code) f.position.place f.position.loops
     owes_is f p here = ap (λ o. owed_in program weights bounds o f) here
 
     -- a frame takes the place of another

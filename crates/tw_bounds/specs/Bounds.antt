@@ -64,13 +64,17 @@ AreCosts program weights bounds registers code costs = map (weight_of program we
 abbrev pub cost_in : List ℕ → ℕ → ℕ
 cost_in costs place = get_or costs place 0
 
--- the bound of a task of the procedure: the task's own weight, and the cost of the most expensive walk
+-- counts the registers of texts: a task has a text in each of them
+abbrev pub text_registers : List Scalar → ℕ
+text_registers registers = length (filter is_text registers)
+
+-- the bound of a task of the procedure: the weight of the task and of its registers, and the cost of the most expensive walk
 pub record IsBoundOf (program : List Procedure) (weights : Weights) (bounds : List (Option ℕ)) (p : Procedure) (bound : ℕ) : Type 0 where
   pub costs : List ℕ
   pub are : AreCosts program weights bounds p.registers p.code costs
   pub walk : ℕ
   pub greatest_cost : IsGreatestCost (flows p.code) (cost_in costs) walk
-  pub sum : bound ≡ weights.task + walk
+  pub sum : bound ≡ weights.task + weights.text * text_registers p.registers + walk
 
 -- each bound in the list is that of its procedure
 pub record AreBounds (program : List Procedure) (weights : Weights) (bounds : List (Option ℕ)) : Type 0 where

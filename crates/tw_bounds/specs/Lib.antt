@@ -1,4 +1,4 @@
--- The definitions that a reader has to trust: costs of walks (Cost), weights of tasks (Bounds), what a store holds (Contents),
+-- The definitions that a reader has to trust: costs of walks (Cost), weights of tasks (Bounds), what a state holds (Contents),
 -- what is counted along runs (Runs), and the ends of runs (Ends). Also reported bounds (Reports), calls that lead back (Circles), bounds by a limit (Limited), and the smaller of both (Least).
 pub mod Contents
 pub mod Cost

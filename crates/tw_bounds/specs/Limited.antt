@@ -1,5 +1,5 @@
 -- The bounds that a limit of events gives. They hold for programs without bounds of their own, too.
-use Rattle.std.specs.Prelude.{◌≡◌, ℕ, ◌+◌, ◌*◌, ◌<◌, ◌≤◌, Bool, true, false, if◌then◌else◌, nat_le, List, length, Some, slice_get}
+use Rattle.std.specs.Prelude.{◌≡◌, ℕ, ◌+◌, ◌*◌, ◌<◌, ◌≤◌, Bool, true, false, if◌then◌else◌, nat_le, max, List, [], ◌∷◌, length, Some, slice_get}
 use Rattle.std.specs.List.{list_any}
 use Rattle.tw_types.specs.declared.event.Event.{Event}
 use Rattle.tw_types.specs.declared.input.Input.{Input}
@@ -17,7 +17,7 @@ use Rattle.tw_code.specs.machine.Opening.{opening, reached}
 use Rattle.tw_code.specs.machine.State.{State}
 use Rattle.tw_bounds.specs.declared.bound.Bound.TheVariants.{AtMost}
 use Rattle.tw_bounds.specs.declared.limited.LimitedBounds.{LimitedBounds}
-use Rattle.tw_bounds.specs.Bounds.{texts_added}
+use Rattle.tw_bounds.specs.Bounds.{text_registers, texts_added}
 use Rattle.tw_bounds.specs.Contents.{bytes_held, members_held}
 use Rattle.tw_bounds.specs.Reports.{reported}
 use Rattle.tw_bounds.specs.Runs.{instructions_in, tasks_in}
@@ -79,14 +79,23 @@ has_instr test program = list_any (λ p. list_any test p.code) program
 abbrev pub one_each : (Instr → Bool) → List Procedure → ℕ → ℕ
 one_each test program limit = if has_instr test program then limit else 0
 
--- returns two for each event if an instruction adds two texts, one if one does, else none
-abbrev pub texts_each : List Procedure → ℕ → ℕ
-texts_each program limit = (if list_any (adds_texts 1) program then limit else 0) + (if list_any (adds_texts 2) program then limit else 0)
+-- returns the most texts that an instruction of the program adds to the data
+abbrev pub most_added : List Procedure → ℕ
+most_added program = (if list_any (adds_texts 1) program then 1 else 0) + (if list_any (adds_texts 2) program then 1 else 0)
+
+-- returns the most registers of texts that a procedure has
+abbrev pub most_text_registers : List Procedure → ℕ
+most_text_registers [] = 0
+most_text_registers (p ∷ program) = max (text_registers p.registers) (most_text_registers program)
+
+-- returns the most texts that an event adds: to the data, or as the registers or arguments of one task
+abbrev pub most_texts : List Procedure → ℕ
+most_texts program = max (most_added program) (most_text_registers program)
 
 -- ---- bounds by the limit
 
--- each event takes at most one task, executes at most the largest budget of instructions, makes at most one datum or rule, and adds
--- at most one member or value and two texts, of at most 4,096 bytes each
+-- Each event takes at most one task, executes at most the largest budget of instructions, and makes at most one datum or rule. It adds at
+-- most one member or value, and the most texts of the program, of at most 4,096 bytes each.
 pub record AreLimitedBounds (program : List Procedure) (limit : ℕ) (bounds : LimitedBounds) : Type 0 where
   pub tasks : bounds.tasks ≡ reported (Some limit)
   pub most : ℕ
@@ -95,7 +104,7 @@ pub record AreLimitedBounds (program : List Procedure) (limit : ℕ) (bounds : L
   pub new_data : bounds.data ≡ reported (Some (one_each makes_datum program limit))
   pub rules : bounds.rules ≡ reported (Some (one_each makes_rule program limit))
   pub members : bounds.members ≡ reported (Some (one_each (is_on_data adds_member) program limit))
-  pub bytes : bounds.bytes ≡ reported (Some (4096 * texts_each program limit))
+  pub bytes : bounds.bytes ≡ reported (Some (4096 * (limit * most_texts program)))
   pub events : bounds.events ≡ reported (Some limit)
 
 -- a run with these events, which led to this state, is within these bounds
@@ -105,7 +114,7 @@ pub record IsRunWithinLimited (program : List Procedure) (bounds : LimitedBounds
   pub new_data : (n : ℕ) → bounds.data ≡ AtMost n → s.store.next ≤ (opening program inputs).store.next + n
   pub rules : (n : ℕ) → bounds.rules ≡ AtMost n → s.next_rule ≤ (opening program inputs).next_rule + n
   pub members : (n : ℕ) → bounds.members ≡ AtMost n → members_held s.store ≤ members_held (opening program inputs).store + n
-  pub bytes : (n : ℕ) → bounds.bytes ≡ AtMost n → bytes_held s.store ≤ bytes_held (opening program inputs).store + n
+  pub bytes : (n : ℕ) → bounds.bytes ≡ AtMost n → bytes_held s ≤ bytes_held (opening program inputs) + n
   pub few : (n : ℕ) → bounds.events ≡ AtMost n → length events ≤ n
 
 -- with any inputs and layout, each run of at most so many events is within the bounds

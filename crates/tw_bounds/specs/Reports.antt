@@ -48,7 +48,7 @@ pub record IsRunWithin (program : List Procedure) (bounds : RunBounds) (inputs :
   pub new_data : (n : ℕ) → IsAtMost bounds.data.items n → s.store.next ≤ (opening program inputs).store.next + n
   pub rules : (n : ℕ) → IsAtMost bounds.rules.items n → s.next_rule ≤ (opening program inputs).next_rule + n
   pub members : (n : ℕ) → IsAtMost bounds.members.items n → members_held s.store ≤ members_held (opening program inputs).store + n
-  pub bytes : (n : ℕ) → IsAtMost bounds.bytes.items n → bytes_held s.store ≤ bytes_held (opening program inputs).store + n
+  pub bytes : (n : ℕ) → IsAtMost bounds.bytes.items n → bytes_held s ≤ bytes_held (opening program inputs) + n
   pub events : (n : ℕ) → IsAtMost bounds.events.items n → length history ≤ n
 
 -- with any inputs, layout and events, each run is within the bounds, and each run ends if its events have a bound

@@ -54,9 +54,9 @@ abbrev pub rule_events_in : List Event → ℕ
 rule_events_in events = sum_by rule_events_by events
 
 -- returns the weight of the data and rules made so far, by the next numbers: each NEW takes one, each RULE takes one;
--- and of the members and texts that the store holds now
+-- and of the members and texts that the state holds now
 abbrev pub weight_made : Weights → State → ℕ
-weight_made weights s = weights.datum * s.store.next + weights.rule * s.next_rule + weights.member * members_held s.store + weights.text * texts_held s.store
+weight_made weights s = weights.datum * s.store.next + weights.rule * s.next_rule + weights.member * members_held s.store + weights.text * texts_held s
 
 -- holds for a bound of main's task
 abbrev pub IsBoundOfMain : List Procedure → Weights → ℕ → Type 0

@@ -40,10 +40,10 @@ pub struct RunBounds {
     pub data: Vec<Bound>,
     /// Rules made by RULE.
     pub rules: Vec<Bound>,
-    /// Members that a store holds beyond those of the inputs, at any time.
+    /// Members that the data hold beyond those of the inputs, at any time.
     pub members: Vec<Bound>,
-    /// Bytes of the texts that a store holds beyond those of the inputs, at any time: 4,096 for each scalar of texts, and for each
-    /// subscript that is a text.
+    /// Bytes of the texts beyond those of the inputs, at any time: 4,096 for each scalar of texts, for each subscript or value that is
+    /// a text, and for each text in the arguments of a waiting task or a rule, or in the registers of a running task.
     pub bytes: Vec<Bound>,
     /// Events of the run.
     pub events: Vec<Bound>,

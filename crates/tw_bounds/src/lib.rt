@@ -1,5 +1,5 @@
 //! Bounds of whole runs: the greatest numbers of tasks, instructions, data, rules and events that a run of a program has. Also how
-//! many members its store holds, and how many bytes of texts.
+//! many members its data hold, and how many bytes of texts there are.
 #![tactic(auto)]
 
 mod bound;

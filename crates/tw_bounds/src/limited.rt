@@ -1,14 +1,15 @@
 //! Bounds that a limit of events gives.
 
-ghost use Rattle.std.specs.Prelude.{◌≡◌, ◌≤◌, ◌+◌, ◌*◌, Some, if◌then◌else◌, max, nat_le};
+ghost use Rattle.std.specs.Prelude.{◌≡◌, ◌≤◌, ◌*◌, Some, if◌then◌else◌, max, nat_le};
 ghost use Rattle.tw_bounds.specs.Bounds.{texts_added};
 ghost use Rattle.std.specs.List.{list_any};
 ghost use Rattle.tw_code.specs.accepting.Walk.{greatest_budget};
-ghost use Rattle.tw_bounds.specs.Limited.{AreLimitedBounds, IsLargestBudget, LimitsRuns, adds_member, adds_texts, has_instr, is_on_data, makes_datum, makes_rule};
+ghost use Rattle.tw_code.specs.format.Program.{IsProgram};
+ghost use Rattle.tw_bounds.specs.Limited.{AreLimitedBounds, IsLargestBudget, LimitsRuns, adds_member, adds_texts, has_instr, is_on_data, makes_datum, makes_rule, most_text_registers, most_texts};
 ghost use Rattle.tw_bounds.specs.Reports.{reported};
 
 use crate::bound::Bound;
-use crate::texts::texts_added;
+use crate::texts::{one_if, text_registers, texts_added};
 use tw_code::{DataInstr, Instr, Procedure};
 use tw_types::Scalar;
 use tw_verify::Verified;
@@ -24,9 +25,9 @@ pub struct LimitedBounds {
     pub data: Bound,
     /// Rules made by RULE.
     pub rules: Bound,
-    /// Members and values that the store holds beyond those of the inputs, at any time.
+    /// Members and values that the data hold beyond those of the inputs, at any time.
     pub members: Bound,
-    /// Bytes of the texts that the store holds beyond those of the inputs, at any time.
+    /// Bytes of the texts beyond those of the inputs, at any time.
     pub bytes: Bound,
     /// Events of the run.
     pub events: Bound,
@@ -149,13 +150,12 @@ fn one_each(makes: bool, limit: u32) -> Bound
     Bound::from_capped(Some(number))
 }
 
-/// Returns the bound of bytes if each event adds a text, or none does, and each a second one, or none does.
-fn bytes_each(adds_one: bool, adds_two: bool, limit: u32) -> Bound
-    ensures { result ≡ reported (Some (4096 * ((if adds_one then limit else 0) + (if adds_two then limit else 0)))) }
+/// Returns the bound of bytes if each event adds so many texts.
+fn bytes_each(texts: u64, limit: u32) -> Bound
+    requires { texts ≤ 16 }
+    ensures { result ≡ reported (Some (4096 * (limit * texts))) }
 {
-    let first = if adds_one { u64::from(limit) } else { 0 };
-    let second = if adds_two { u64::from(limit) } else { 0 };
-    Bound::from_capped(Some(4096 * (first + second)))
+    Bound::from_capped(Some(4096 * (u64::from(limit) * texts)))
 }
 
 /// Returns the larger of two numbers.
@@ -163,6 +163,29 @@ fn larger(a: u64, b: u64) -> u64
     ensures { result ≡ max a b }
 {
     if a < b { b } else { a }
+}
+
+/// Returns the most registers of texts that a procedure has.
+fn most_text_registers(program: &[Procedure]) -> u64
+    requires { IsProgram program.now }
+    ensures is { result ≡ most_text_registers program.now }
+    ensures few { result ≤ 16 }
+{
+    let mut most = 0;
+    for procedure in program.iter() {
+        most = larger(most, text_registers(procedure.registers.as_slice()) as u64);
+    }
+    most
+}
+
+/// Returns the most texts that an event adds.
+fn most_texts(program: &[Procedure]) -> u64
+    requires { IsProgram program.now }
+    ensures is { result ≡ most_texts program.now }
+    ensures few { result ≤ 16 }
+{
+    let added = one_if(adds_texts(1, program)) + one_if(adds_texts(2, program));
+    larger(added, most_text_registers(program))
 }
 
 /// Returns the largest budget of a procedure.
@@ -179,7 +202,7 @@ pub fn largest_budget(verified: &Verified) -> u64
 }
 
 /// Returns the bounds of runs with at most `limit` events. Each event takes at most one task, executes instructions of one task,
-/// makes at most one datum or rule, and adds at most one member or value and two texts.
+/// and makes at most one datum or rule. It adds at most one member or value; and two texts to the data, or those of one task's registers.
 pub fn limited_bounds(verified: &Verified, limit: u32) -> LimitedBounds
     ensures are { AreLimitedBounds verified.now.program limit result }
     ensures runs { LimitsRuns verified.now.program limit result }
@@ -192,7 +215,7 @@ pub fn limited_bounds(verified: &Verified, limit: u32) -> LimitedBounds
         data: one_each(makes_data(procedures), limit),
         rules: one_each(makes_rules(procedures), limit),
         members: one_each(adds_members(procedures), limit),
-        bytes: bytes_each(adds_texts(1, procedures), adds_texts(2, procedures), limit),
+        bytes: bytes_each(most_texts(procedures), limit),
         events: one_each(true, limit),
     }
 }

@@ -1,17 +1,29 @@
 //! Computes the bounds of all procedures.
 
-ghost use Rattle.std.specs.Prelude.{◌≡◌, ◌≤◌, ℕ, IfOk, IfSome, List, None, Option, length, replicate};
+ghost use Rattle.std.specs.Prelude.{◌≡◌, ◌+◌, ◌*◌, ◌^◌, ◌<◌, ◌≤◌, ℕ, IfOk, IfSome, List, None, Option, length, replicate};
 ghost use Rattle.tw_code.specs.accepting.Structure.{IsStructured};
 ghost use Rattle.tw_code.specs.format.Program.{IsProcedure, IsProgram};
+ghost use Rattle.tw_bounds.specs.Bounds.{text_registers};
 ghost use Rattle.tw_bounds.specs.Solving.{AreCapped, AreCappedBounds, AreWithin, CallsUnknown, IsBoundable, IsCappedBound, IsFixpoint, IsNext};
 ghost use Rattle.tw_bounds.specs.Rows.{cap};
 
 use crate::row::capped;
+use crate::texts::text_registers;
 use crate::walk::greatest_walk_cost;
 use crate::weighing::place_costs;
 use crate::weights::Weights;
 use std::alloc::{AllocError, Global};
 use tw_code::Procedure;
+
+/// Returns the weight of a task and of its registers.
+fn task_weight(weights: &Weights, procedure: &Procedure) -> u64
+    requires { IsProcedure procedure.now }
+    ensures is { result ≡ weights.now.task + weights.now.text * text_registers procedure.now.registers }
+    ensures small { result < 2 ^ 40 }
+{
+    let texts = text_registers(procedure.registers.as_slice()) as u64;
+    u64::from(weights.task) + u64::from(weights.text) * texts
+}
 
 /// Returns the bound of a procedure, capped over the greatest one, or `None` if it calls one whose bound isn't known.
 fn bound_of(
@@ -35,7 +47,7 @@ fn bound_of(
         return Ok(None);
     };
     let walk = greatest_walk_cost(alloc, code, &costs)?;
-    Ok(Some(capped(u64::from(weights.task) + walk)))
+    Ok(Some(capped(task_weight(weights, procedure) + walk)))
 }
 
 /// Returns the first procedure whose bound isn't known although its callees' bounds are, and its bound.

@@ -1,8 +1,8 @@
 //! Types whose data are texts, and the texts that an instruction adds.
 
-ghost use Rattle.std.specs.Prelude.{◌≡◌, ◌≤◌, false, if◌then◌else◌, slice_get};
+ghost use Rattle.std.specs.Prelude.{◌≡◌, ◌≤◌, false, if◌then◌else◌, length, slice_get};
 ghost use Rattle.std.specs.Option.{option_map_or};
-ghost use Rattle.tw_bounds.specs.Bounds.{text_in, texts_added};
+ghost use Rattle.tw_bounds.specs.Bounds.{text_in, text_registers, texts_added};
 ghost use Rattle.tw_bounds.specs.Contents.{is_text, is_text_scalar};
 
 use tw_code::DataInstr;
@@ -22,7 +22,8 @@ pub fn is_text_scalar(ty: DataType) -> bool
     ty.is_scalar() && is_text(ty.scalar())
 }
 
-fn one_if(is_one: bool) -> u64
+/// Returns 1 or 0.
+pub fn one_if(is_one: bool) -> u64
     ensures is { result ≡ (if is_one then 1 else 0) }
     ensures few { result ≤ 1 }
 {
@@ -38,6 +39,14 @@ fn text_in(registers: &[Scalar], register: u8) -> u64
         Some(scalar) => one_if(is_text(*scalar)),
         None => 0,
     }
+}
+
+/// Counts the registers of texts.
+pub fn text_registers(registers: &[Scalar]) -> usize
+    ensures is { result ≡ text_registers registers.now }
+    ensures few { result ≤ length registers.now }
+{
+    registers.iter().filter(|scalar| is_text(**scalar)).count()
 }
 
 /// Counts the texts that an instruction adds at most, by the types of the procedure's registers.

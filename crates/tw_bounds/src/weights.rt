@@ -15,6 +15,7 @@ pub struct Weights {
     pub rule_event: u32,
     /// A member that INS inserts, or a value that MINS or MADD puts.
     pub member: u32,
-    /// A scalar of texts that NEW makes, or a subscript or value of INS, MINS or MADD that is a text.
+    /// A text: a scalar of texts that NEW makes, a subscript or value of INS, MINS or MADD that is a text, or a register of texts of a
+    /// task that is taken.
     pub text: u32,
 }

@@ -9,7 +9,7 @@ pub struct Caps {
     pub instructions: u64,
     /// Data made by NEW.
     pub data: u64,
-    /// Bytes of the texts that the store holds at any time, beyond those of the inputs.
+    /// Bytes of the texts of data, rules and tasks at any time, beyond those of the inputs.
     pub bytes: u64,
     /// Instructions of one task.
     pub budget: u64,

@@ -1,8 +1,7 @@
-use Rattle.std.specs.List.{list_any}
-use Rattle.std.proofs.Common.{◌+◌, ◌*◌, ℕ, Bool, if◌then◌else◌, List, Some, ap, ◌∙◌, subst}
+use Rattle.std.proofs.Common.{◌*◌, ℕ, Bool, if◌then◌else◌, List, Some, ap, ◌∙◌, subst}
 use Rattle.tw_code.specs.declared.procedure.Procedure.{Procedure}
 use Rattle.tw_code.specs.format.Program.{IsProgram}
-use Rattle.tw_bounds.specs.Limited.{AreLimitedBounds, adds_member, adds_texts, has_instr, is_on_data, makes_datum, makes_rule}
+use Rattle.tw_bounds.specs.Limited.{AreLimitedBounds, adds_member, has_instr, is_on_data, makes_datum, makes_rule, most_texts}
 use Rattle.tw_bounds.specs.Reports.{reported}
 use Rattle.tw_bounds.proofs.LimitedRuns.{limits_run}
 use Rattle.tw_bounds.proofs.limited.limited_bounds.Goals as goal
@@ -13,8 +12,7 @@ bounds_are c =
     let makes = c.makes_data.ensures ∙ ap (has_instr makes_datum) same in
     let rules = c.makes_rules.ensures ∙ ap (has_instr makes_rule) same in
     let members = c.adds_members.ensures ∙ ap (has_instr (is_on_data adds_member)) same in
-    let one = c.adds_texts.ensures ∙ ap (list_any (adds_texts 1)) same in
-    let two = c.adds_texts-2.ensures ∙ ap (list_any (adds_texts 2)) same in
+    let texts = c.most_texts.ensures.is ∙ ap most_texts same in
     record {
       tasks = c.one_each.ensures;
       most = c.largest_budget.result;
@@ -23,9 +21,7 @@ bounds_are c =
       new_data = c.one_each-2.ensures ∙ ap (λ (b : Bool). reported (Some (if b then c.args.limit else 0))) makes;
       rules = c.one_each-3.ensures ∙ ap (λ (b : Bool). reported (Some (if b then c.args.limit else 0))) rules;
       members = c.one_each-4.ensures ∙ ap (λ (b : Bool). reported (Some (if b then c.args.limit else 0))) members;
-      bytes =
-          c.bytes_each.ensures ∙ ap (λ (b : Bool). reported (Some (4096 * ((if b then c.args.limit else 0) + (if c.adds_texts-2.result then c.args.limit else 0))))) one
-          ∙ ap (λ (b : Bool). reported (Some (4096 * ((if list_any (adds_texts 1) c.args.verified.now.program then c.args.limit else 0) + (if b then c.args.limit else 0))))) two;
+      bytes = c.bytes_each.ensures ∙ ap (λ (n : ℕ). reported (Some (4096 * (c.args.limit * n)))) texts;
       events = c.one_each-5.ensures;
     }
 

@@ -21,4 +21,4 @@ returns-clause-found c = λ exact is.
     let same = ap (λ (xs : List ℕ). greatest_cost (cost_in xs) (flows c.as_slice-code.result.now) 0) c.deref.ensures.value ∙ ap (λ (code : List Instr). greatest_cost (cost_in costs) (flows code) 0) c.as_slice-code.ensures in
     let registers = subst (λ (types : List Scalar). AreCosts c.args.program.now c.args.weights.now c.args.known.now types c.as_slice-code.result.now costs) c.as_slice-registers.ensures h in
     let are = subst (λ (code : List Instr). AreCosts c.args.program.now c.args.weights.now c.args.known.now c.args.procedure.now.registers code costs) c.as_slice-code.ensures registers in
-    capped_bound_made c.args.program.now c.args.weights.now c.args.known.now exact c.args.procedure.now is (sound_flows c.args.procedure.now c.requires.within c.requires.structured) costs are c.capped.result (omega (arith, walk, same, c.from.ensures, c.capped.ensures))
+    capped_bound_made c.args.program.now c.args.weights.now c.args.known.now exact c.args.procedure.now is (sound_flows c.args.procedure.now c.requires.within c.requires.structured) costs are c.capped.result (omega (arith, walk, same, c.task_weight.ensures.is, c.capped.ensures))

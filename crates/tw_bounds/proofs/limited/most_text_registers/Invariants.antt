@@ -1,0 +1,7 @@
+use Rattle.std.proofs.Common.{◌≡◌, ◌≤◌, take}
+use Rattle.tw_bounds.specs.Limited.{most_text_registers}
+use Rattle.tw_bounds.proofs.limited.most_text_registers.Given as goal
+
+-- the most of those so far
+abbrev pub invariant-loop-procedure : goal.invariant-loop-procedure
+invariant-loop-procedure l = (l.most ≡ most_text_registers (take l.procedure-index l.program)) × (l.most ≤ 16)
