@@ -2,9 +2,7 @@
 #![tactic(auto)]
 
 mod deadline;
-mod flag;
 mod signal;
 
 pub use deadline::Deadline;
-pub use flag::{FlagSignal, FlagWord, StopFlag};
 pub use signal::{Never, StopSignal};

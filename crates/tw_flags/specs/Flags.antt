@@ -1,0 +1,31 @@
+-- Calls on a flag. Each holder has seen a prefix of the flag's settings, and sees more with each call. No clause says how soon it sees
+-- what another has set.
+use Rattle.std.specs.Prelude.{◌≡◌, Bool, List, [], ◌∷◌, ◌++◌}
+use Rattle.logbook.specs.Pages.{Book}
+use Rattle.tw_flags.specs.Settings.{is_raised}
+use Rattle.tw_flags.specs.declared.flag.FlagSignal.{FlagSignal}
+use Rattle.tw_flags.specs.declared.flag.StopFlag.{StopFlag}
+
+-- returns which flag the holder has
+abbrev pub book_of : StopFlag → Book
+book_of flag = flag.seen.book
+
+-- returns the settings that the holder has seen
+abbrev pub settings_of : StopFlag → List Bool
+settings_of flag = flag.seen.log
+
+-- another holder has the same flag, and has seen the same settings
+abbrev pub IsShared : StopFlag → StopFlag → Type 0
+IsShared flag other = (book_of other ≡ book_of flag) × (settings_of other ≡ settings_of flag)
+
+-- the flag was set so, after what its holder had seen, and perhaps settings of others
+abbrev pub IsSet : Bool → StopFlag → StopFlag → Type 0
+IsSet raised old new = (book_of new ≡ book_of old) × (others : List Bool) × (settings_of new ≡ settings_of old ++ others ++ raised ∷ [])
+
+-- the signal is of this flag, and has seen what the holder has
+abbrev pub IsFlagOf : StopFlag → FlagSignal → Type 0
+IsFlagOf flag signal = (signal.seen.book ≡ book_of flag) × (signal.seen.log ≡ settings_of flag)
+
+-- a look: the answer is whether the flag was raised after all settings that the run had seen, and perhaps settings of others
+abbrev pub IsSeen : FlagSignal → Bool → FlagSignal → Type 0
+IsSeen old answer new = (new.seen.book ≡ old.seen.book) × (others : List Bool) × (new.seen.log ≡ old.seen.log ++ others) × (answer ≡ is_raised new.seen.log)

@@ -1,0 +1,9 @@
+//! Stop flags, which threads share. A flag's settings are one list, of which each holder has seen a prefix.
+#![tactic(auto)]
+
+mod calls;
+mod flag;
+mod rule;
+
+pub use flag::{FlagSignal, StopFlag};
+pub use rule::FlagRule;
