@@ -1,7 +1,7 @@
 #!/usr/bin/env python3
 # SPDX-License-Identifier: Apache-2.0
 """Breaks each place of the host that decides or makes a wake of an idle thread, in a copy of the repository, and runs the cases of runs there,
-unproved. No contract speaks of waking, so each break must be noticed by a case: as `late wakes N`, or since a run takes too long.
+unproved. The lock's invariant refuses those of `Sleepers`; each break must be noticed by a case, too: as `late wakes N`, or since a run takes too long.
 
 The copy is built once, with all breaks. Each asks whether it is the one that is tried, and the number of that one is written into the program.
 Prints a line for each, ends with `N noticed, M not`, and fails where one isn't, or where a case fails without a break.
@@ -63,11 +63,11 @@ PLACES = (
     ),
     Place(
         SLEEPERS,
-        "if pool.has_own_work(layout.actor_at(index)) {\n                    due |= own;",
-        f"if pool.has_own_work(layout.actor_at(index)) {{\n                    due |= {unless('own_work_wakes_nobody', 'own')};",
+        "if pool.has_own_work(pool.layout().actor_at(index)) {\n            *due = with(*due, index);",
+        f"if pool.has_own_work(pool.layout().actor_at(index)) {{\n            *due |= {unless('own_work_wakes_nobody', 'with(0, index)')};",
     ),
-    Place(SLEEPERS, "                } else if left {\n                    due |= own;", f"                }} else if left {{\n                    due |= {unless('task_wakes_nobody', 'own')};"),
-    Place(SLEEPERS, "of_kind & !self.asleep & !self.out == 0", f"of_kind & !self.asleep & !{unless('who_is_out_looks', 'self.out')} == 0"),
+    Place(SLEEPERS, "} else if *left {\n            *due = with(*due, index);", f"}} else if *left {{\n            *due |= {unless('task_wakes_nobody', 'with(0, index)')};"),
+    Place(SLEEPERS, "nobody_looks(of_kind, self.asleep, self.out)", f"nobody_looks(of_kind, self.asleep, {unless('who_is_out_looks', 'self.out')})"),
     Place(WORK, "self.rules.next_release(engine).is_some()", "(!@releases_wake_nobody@ && self.rules.next_release(engine).is_some())"),
     Place(WORK, "self.store.oldest_notice(server).is_some()", "(!@notices_wake_nobody@ && self.store.oldest_notice(server).is_some())"),
     Place(WORK, " || self.tasks.has_targeted(actor)", " || (!@targets_wake_no_engine@ && self.tasks.has_targeted(actor))"),

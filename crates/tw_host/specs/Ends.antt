@@ -46,6 +46,15 @@ pub record IsDiffering (layout : ActorCounts) (seats : List SeatEvents) (actor :
   pub other : IsOther seats actor list history.events
   pub together : Together seats history.events
 
+-- holds if each actor of the layout has one of these seats, and no other actor has any
+abbrev pub IsOneEach : ActorCounts → List SeatEvents → Type 0
+IsOneEach layout seats = IsPermutation (map (λ (s : SeatEvents). s.actor) seats) (actors_of layout)
+
+-- Holds if a named actor has a seat, with the list that is returned, and made other events.
+abbrev pub IsDifference : List SeatEvents → Closed → Type 0
+IsDifference seats (Ended history final by_seat) = Unit {0}
+IsDifference seats (Differs actor list history) = Contains seats (seen_by actor list.items) × (list.items ≢ events_of actor history.events)
+
 -- holds for the result of closing a run with these seats
 abbrev pub Closes : Run → List SeatEvents → Closed → Type 0
 Closes run seats (Ended history final by_seat) = IsEnded run seats (map (λ v. v.items) by_seat.items) final history

@@ -5,5 +5,6 @@ pub mod Run
 pub mod Sees
 pub mod Holds
 pub mod Ends
--- The invariant of the data under the lock.
+-- The invariant of the data under the lock; Sleeping has its part about sleeping actors.
+pub mod Sleeping
 pub mod Kept

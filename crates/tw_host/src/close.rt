@@ -6,7 +6,7 @@ ghost use Rattle.std.specs.List.Sorted.{IsPermutation};
 ghost use Rattle.tw_types.specs.declared.actor.Actor.{Actor as AnActor};
 ghost use Rattle.tw_types.specs.Actor.{is_in};
 ghost use Rattle.tw_pool.specs.Actors.{events_of};
-ghost use Rattle.tw_host.specs.Ends.{Closes};
+ghost use Rattle.tw_host.specs.Ends.{Closes, IsDifference, IsOneEach};
 ghost use Rattle.tw_host.specs.Seats.{NoneOf, SeatEvents, actor_at, actors_of, actor_count, seen_by};
 
 use crate::host::Host;
@@ -216,7 +216,8 @@ impl<'a, N: Named> Host<'a, N> {
     /// Closes the run, with all its seats in any order. Compares the events of each seat with its actor's events of the run.
     pub fn close(self, seats: Vec<Seat<N>>) -> Closed
         requires all { vec_len seats ≡ actor_count N.run.layout }
-        ensures { Closes N.run (map (λ s. seen_by s.actor s.events.items) seats.items) result }
+        ensures closes { Closes N.run (map (λ s. seen_by s.actor s.events.items) seats.items) result }
+        ensures difference { IsOneEach N.run.layout (map (λ s. seen_by s.actor s.events.items) seats.items) → IsDifference (map (λ s. seen_by s.actor s.events.items) seats.items) result }
     {
         let Host {
             verified: _,

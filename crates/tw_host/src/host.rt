@@ -157,13 +157,11 @@ impl<'a, N: Named> Host<'a, N> {
         if seat.events.reserve(2 * most).is_err() {
             return Ok(Turn::NoMemory(done));
         }
-        let before = seat.events.len();
+        let mut due = 0;
         let mut guard = locked_soon(&self.locked, rt);
         let locked = &mut **guard;
-        locked.check_in(seat, self.progress.is_over());
-        let answer = locked.run_batch(alloc, seat, done, most);
-        let events = seat.events.len() - before;
-        let due = locked.to_wake(seat, events, &answer);
+        let is_over = self.progress.is_over();
+        let answer = locked.run_batch(alloc, seat, done, most, is_over, &mut due);
         self.progress.set_events(locked.len());
         drop(guard);
         if let Ok(Turn::Over(_)) = answer {

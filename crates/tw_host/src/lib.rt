@@ -2,6 +2,7 @@
 #![tactic(auto)]
 
 mod batch;
+mod bits;
 mod close;
 mod host;
 mod locked;
@@ -16,4 +17,4 @@ pub use close::Closed;
 pub use host::Host;
 pub use locked::Strange;
 pub use named::Named;
-pub use seat::Seat;
+pub use seat::{Seat, SentSeat, SentSeats};

@@ -38,7 +38,7 @@ impl<'a, N: Named> Model for Locked<'a, N> {
 
     ghost view = { λ l. l.pool };
 
-    ghost invariant = { λ l. IsKept N.run N.parts l.book.total l.spare.parts l.spare.amount l.pool };
+    ghost invariant = { λ l. IsKept N.run N.parts l.book.total l.spare.parts l.spare.amount l.pool l.sleepers };
 }
 
 impl<'a, N: Named> Locked<'a, N> {
@@ -55,38 +55,16 @@ impl<'a, N: Named> Locked<'a, N> {
         self.pool.history().len()
     }
 
-    /// Marks the seat's actor as awake.
-    pub(crate) fn check_in(&mut self, seat: &Seat<N>, is_over: bool)
-        ensures { self.new ≡ self.old }
-    {
-        self.sleepers
-            .check_in(self.pool.layout(), seat.actor, is_over);
-    }
-
-    /// Returns the actors to be woken after steps of the seat's actor, with this number of events and this result.
-    pub(crate) fn to_wake(
-        &mut self,
-        seat: &Seat<N>,
-        events: usize,
-        answer: &Result<Turn<'_>, Strange<'_>>,
-    ) -> u64
-        ensures { self.new ≡ self.old }
-    {
-        match answer {
-            Ok(answer) => self
-                .sleepers
-                .to_wake(&self.pool, seat.actor, events, answer),
-            Err(_) => 0,
-        }
-    }
-
-    /// Makes steps of the seat's actor, at most `most`. The seat gets the events that they append.
+    /// Makes steps of the seat's actor, at most `most`. The seat gets the events that they append. `is_over` is whether it was published
+    /// that the run is over. Sets `due` to the actors to be woken afterwards.
     pub(crate) fn run_batch(
         &mut self,
         alloc: Global,
         seat: &mut Seat<N>,
         done: Option<Done<'a>>,
         most: usize,
+        is_over: bool,
+        due: &mut u64,
     ) -> Result<Turn<'a>, Strange<'a>>
         requires some { 0 < most }
         requires room { length seat.old.events.items + 2 * most ≤ seat.old.events.capacity }
@@ -95,14 +73,18 @@ impl<'a, N: Named> Locked<'a, N> {
         ensures events { SeesUpTo most N.run seat.old.actor seat.old.events.items seat.new.events.items done.entry result }
         ensures program { IfOk result (IsAnswerOf N.run.program) }
     {
+        let actor = seat.actor;
+        self.sleepers.check_in(self.pool.layout(), actor, is_over);
         let recorded = seat.events.len() as u64;
-        let count = self.pool.count(seat.actor);
+        let count = self.pool.count(actor);
         if count != recorded {
             return Err(Strange { count, done });
         }
         let before = self.pool.history().len();
-        let answer = run_batch(&mut self.pool, alloc, seat.actor, done, most);
+        let answer = run_batch(&mut self.pool, alloc, actor, done, most);
         record_events(self.pool.history(), before, &mut self.book, seat);
+        let events = self.pool.history().len() - before;
+        *due = self.sleepers.to_wake(&self.pool, actor, events, &answer);
         Ok(answer)
     }
 }

@@ -38,6 +38,67 @@ impl<N: Named> Seat<N> {
     }
 }
 
+/// A seat that is sent to a thread and back. What threads get and return must be droppable, and a seat isn't; but without this one its
+/// host can't be closed.
+pub struct SentSeat<N: Named> {
+    pub seat: Seat<N>,
+}
+
+impl<N: Named> SentSeat<N> {
+    /// Returns the seat.
+    pub fn into_seat(self) -> Seat<N>
+        ensures { result ≡ self.seat }
+    {
+        let Self { seat } = self;
+        seat
+    }
+}
+
+impl<N: Named> Drop for SentSeat<N> {
+    fn drop(self) {
+        let Self { seat } = self;
+        let Seat {
+            actor: _,
+            events,
+            share,
+            apart: _,
+        } = seat;
+        drop(events);
+        drop(share);
+    }
+}
+
+/// Drops seats, one by one.
+fn drop_all<N: Named>(seats: Vec<Seat<N>>) {
+    let mut rest = seats.into_iter();
+    while let Some(seat) = rest.next() {
+        drop(SentSeat { seat });
+    }
+    rest.destroy_empty();
+}
+
+/// Like `SentSeat`, of several seats.
+pub struct SentSeats<N: Named> {
+    pub seats: Vec<Seat<N>>,
+}
+
+impl<N: Named> SentSeats<N> {
+    /// Returns the seats.
+    pub fn into_seats(self) -> Vec<Seat<N>>
+        ensures { result ≡ self.seats }
+    {
+        let Self { seats } = self;
+        seats
+    }
+}
+
+impl<N: Named> Drop for SentSeats<N> {
+    fn drop(self) {
+        let Self { seats } = self;
+        drop_all(seats);
+    }
+}
+
 /// Allocates memory for `count` seats, and for their lists of events.
 pub(crate) fn seat_memory<N: Named>(
     alloc: Global,

@@ -1,28 +1,42 @@
 //! Which actors sleep, and which of them have to be woken.
 
-ghost use Rattle.std.specs.Prelude.{◌≡◌, ◌≤◌, ◌<◌, true};
-ghost use Rattle.tw_types.specs.Actor.{is_in, actor_count};
+ghost use Rattle.std.specs.Prelude.{◌≡◌, ◌≤◌, ◌<◌, ◌⊎◌, ◌||◌, ℕ, false, true};
+ghost use Rattle.tw_types.specs.declared.actor.Kind.TheVariants.{Control, Leaf};
+ghost use Rattle.tw_types.specs.Actor.{is_in, actor_count, index_of};
+ghost use Rattle.tw_types.specs.Layout.{IsLayout};
+ghost use Rattle.tw_pool.specs.Work.{AreTargeted, LacksWork};
+ghost use Rattle.tw_host.specs.Sleeping.{AreWoken, Is, IsCleared, IsConsidered, IsKnown, IsMarked, IsOver, Isnt, TakesNone, Wakes, WakesAfter, WakesKind, WakesOne, WakesOwn, WakesServers, end_of, first_of, has_job, is_idle, says_over};
 
+use crate::bits::{bit, bits, has, nobody_looks, with, without, without_all};
 use tw_pool::{Pool, Turn};
 use tw_types::{Actor, Kind, Layout};
 
-/// Returns the bit of an index.
-fn bit(index: usize) -> u64
-    requires { index < 1000 }
+/// Returns whether an actor has a job to run.
+fn has_job(answer: &Turn<'_>) -> bool
+    ensures { result ≡ has_job answer.now }
 {
-    1u64.wrapping_shl(index as u32)
+    matches!(answer, Turn::Run(_))
 }
 
-/// Returns the bits of the indices from `from` on, before `to`.
-fn bits(from: usize, to: usize) -> u64
-    requires from { from < 1000 }
-    requires to { to < 1000 }
+/// Returns whether nothing was due for an actor.
+fn is_idle(answer: &Turn<'_>) -> bool
+    ensures { result ≡ is_idle answer.now }
 {
-    bit(to).wrapping_sub(1) & !bit(from).wrapping_sub(1)
+    matches!(answer, Turn::Idle)
+}
+
+/// Returns whether the run is over.
+fn says_over(answer: &Turn<'_>) -> bool
+    ensures { result ≡ says_over answer.now }
+{
+    matches!(answer, Turn::Over(_))
 }
 
 /// Returns the bits of the actors that may do the same untargeted work as this actor.
-fn peers(layout: Layout, actor: Actor) -> u64 {
+fn peers(layout: Layout, actor: Actor) -> u64
+    requires layout { IsLayout layout }
+    requires actor { is_in layout actor ≡ true }
+{
     let engines = usize::from(layout.engines());
     let servers = engines + usize::from(layout.servers());
     match actor {
@@ -33,13 +47,8 @@ fn peers(layout: Layout, actor: Actor) -> u64 {
 }
 
 /// Records which actors sleep and which run a job, with one bit for each at its index in the layout. All others look for work:
-/// they make a step before they sleep. It is changed under the same lock as the pool, so no wake is lost:
-///
-/// - while work waits that only one actor may do, that actor doesn't sleep;
-/// - while a task without a target waits, an actor of its kind looks for work, or none of that kind sleeps;
-/// - once the run is over nobody sleeps.
-///
-/// No event depends on it.
+/// they make a step before they sleep. It is changed under the same lock as the pool, whose invariant (`AreWoken`) says that no wake is
+/// lost. No event depends on it.
 #[derive(Clone, Copy)]
 pub(crate) struct Sleepers {
     asleep: u64,
@@ -54,7 +63,9 @@ pub(crate) struct Sleepers {
 }
 
 impl Sleepers {
-    pub(crate) fn new() -> Sleepers {
+    pub(crate) fn new() -> Sleepers
+        ensures { (result.asleep ≡ 0) × (result.is_over ≡ false) }
+    {
         Sleepers {
             asleep: 0,
             out: 0,
@@ -65,38 +76,52 @@ impl Sleepers {
         }
     }
 
+    /// Adds the sleeper at an index to those that are due if it has work of its own, or else if a task without a target is left.
+    fn consider(&self, pool: &Pool<'_>, index: usize, due: &mut u64, left: &mut bool)
+        requires index { index < actor_count pool.now.layout }
+        requires layout { IsLayout pool.now.layout }
+        ensures { IsConsidered pool.now self.now.asleep index due.old due.new left.old left.new }
+    {
+        if !has(self.asleep, index) {
+            return;
+        }
+        if pool.has_own_work(pool.layout().actor_at(index)) {
+            *due = with(*due, index);
+        } else if *left {
+            *due = with(*due, index);
+            *left = false;
+        }
+    }
+
     /// Returns the sleepers at the indices from `from` on before `to` that have work of their own. If a task without a target is left,
     /// adds one more.
     fn due_among(&self, pool: &Pool<'_>, from: usize, to: usize, task: bool) -> u64
-        requires { to ≤ actor_count pool.now.layout }
+        requires to { to ≤ actor_count pool.now.layout }
+        requires layout { IsLayout pool.now.layout }
+        ensures own { WakesOwn pool.now self.now.asleep result from to }
+        ensures one { task ≡ true → (i : ℕ) → from ≤ i → i < to → Is self.now.asleep i → WakesOne self.now.asleep result from to }
     {
-        let layout = pool.layout();
         let mut due = 0;
         let mut left = task;
         for index in from..to {
-            let own = bit(index);
-            if self.asleep & own != 0 {
-                if pool.has_own_work(layout.actor_at(index)) {
-                    due |= own;
-                } else if left {
-                    due |= own;
-                    left = false;
-                }
-            }
+            self.consider(pool, index, &mut due, &mut left);
         }
         due
     }
 
     /// Returns whether a task without a target waits for these actors of its kind, and none of them looks for work.
-    fn lacks(&self, pool: &Pool<'_>, kind: Kind, of_kind: u64) -> bool {
-        of_kind & !self.asleep & !self.out == 0 && pool.has_untargeted(kind)
+    fn lacks(&self, pool: &Pool<'_>, kind: Kind, of_kind: u64) -> bool
+        ensures { result ≡ false → AreTargeted pool.now kind ⊎ ((i : ℕ) × (i < 64) × Is of_kind i × Isnt self.now.asleep i × Isnt self.now.out i) }
+    {
+        nobody_looks(of_kind, self.asleep, self.out) && pool.has_untargeted(kind)
     }
 
     /// Returns the sleepers of a kind, which are at these indices, that have to be woken.
     fn due_of(&self, pool: &Pool<'_>, kind: Kind, from: usize, to: usize) -> u64
-        requires to { to ≤ actor_count pool.now.layout }
-        requires from { from ≤ to }
-        requires small { to < 1000 }
+        requires from { from ≡ first_of kind pool.now.layout }
+        requires to { to ≡ end_of kind pool.now.layout }
+        requires layout { IsLayout pool.now.layout }
+        ensures { WakesKind pool.now self.now.asleep self.now.out result kind }
     {
         let of_kind = bits(from, to);
         if self.asleep & of_kind == 0 {
@@ -106,19 +131,28 @@ impl Sleepers {
         self.due_among(pool, from, to, task)
     }
 
-    fn due_engines(&self, pool: &Pool<'_>) -> u64 {
+    fn due_engines(&self, pool: &Pool<'_>) -> u64
+        requires { IsLayout pool.now.layout }
+        ensures { WakesKind pool.now self.now.asleep self.now.out result Control }
+    {
         let engines = usize::from(pool.layout().engines());
         self.due_of(pool, Kind::Control, 0, engines)
     }
 
-    fn due_servers(&self, pool: &Pool<'_>) -> u64 {
+    fn due_servers(&self, pool: &Pool<'_>) -> u64
+        requires { IsLayout pool.now.layout }
+        ensures { WakesServers pool.now self.now.asleep result }
+    {
         let layout = pool.layout();
         let engines = usize::from(layout.engines());
         let servers = engines + usize::from(layout.servers());
         self.due_among(pool, engines, servers, false)
     }
 
-    fn due_workers(&self, pool: &Pool<'_>) -> u64 {
+    fn due_workers(&self, pool: &Pool<'_>) -> u64
+        requires { IsLayout pool.now.layout }
+        ensures { WakesKind pool.now self.now.asleep self.now.out result Leaf }
+    {
         let layout = pool.layout();
         let servers = usize::from(layout.engines()) + usize::from(layout.servers());
         self.due_of(pool, Kind::Leaf, servers, layout.actor_count())
@@ -126,7 +160,10 @@ impl Sleepers {
 
     /// Returns the sleepers for which events of an actor may have made work, or one that has to look for work instead of an actor that
     /// is out.
-    fn due_by(&self, pool: &Pool<'_>, actor: Actor, is_out: bool) -> u64 {
+    fn due_by(&self, pool: &Pool<'_>, actor: Actor, is_out: bool) -> u64
+        requires { IsLayout pool.now.layout }
+        ensures { Wakes pool.now self.now.asleep self.now.out result actor is_out }
+    {
         match actor {
             Actor::Engine(_) => {
                 self.due_engines(pool) | self.due_servers(pool) | self.due_workers(pool)
@@ -143,7 +180,10 @@ impl Sleepers {
     }
 
     /// Returns the sleepers that have to be woken after steps of an actor with this number of events.
-    fn due_after(&self, pool: &Pool<'_>, actor: Actor, events: usize, is_out: bool) -> u64 {
+    fn due_after(&self, pool: &Pool<'_>, actor: Actor, events: usize, is_out: bool) -> u64
+        requires { IsLayout pool.now.layout }
+        ensures { WakesAfter pool.now self.now.asleep self.now.out self.now.is_over result actor events is_out }
+    {
         if self.asleep == 0 {
             return 0;
         }
@@ -157,26 +197,73 @@ impl Sleepers {
     }
 
     /// Marks sleepers as awake.
-    fn wake(&mut self, due: u64) -> u64 {
-        self.asleep &= !due;
+    fn wake(&mut self, due: u64) -> u64
+        ensures due { result ≡ due }
+        ensures asleep { IsCleared due self.old.asleep self.new.asleep }
+        ensures others { (self.new.out ≡ self.old.out) × (self.new.is_over ≡ self.old.is_over) }
+    {
+        self.asleep = without_all(self.asleep, due);
         self.wakes = self.wakes.wrapping_add(u64::from(due.count_ones()));
         due
     }
 
-    /// Counts a wake that came too late.
-    fn count_late(&mut self) {
-        self.late = self.late.wrapping_add(1);
+    /// Counts a wake that came too late, if there was one.
+    fn count_late(&mut self, is_late: bool)
+        ensures { (self.new.asleep ≡ self.old.asleep) × (self.new.out ≡ self.old.out) × (self.new.is_over ≡ self.old.is_over) }
+    {
+        if is_late {
+            self.late = self.late.wrapping_add(1);
+        }
     }
 
     /// Marks an actor as awake before its step. Once it is published that the run is over, all should have been woken.
-    pub(crate) fn check_in(&mut self, layout: Layout, actor: Actor, is_over: bool) {
-        let own = bit(layout.index_of(actor));
-        let is_unwoken = self.asleep & own != 0;
-        self.is_unasked = is_unwoken && peers(layout, actor) & !self.asleep & !self.out == 0;
-        if is_unwoken && is_over {
-            self.count_late();
+    pub(crate) fn check_in(&mut self, layout: Layout, actor: Actor, is_over: bool)
+        requires layout { IsLayout layout }
+        requires actor { is_in layout actor ≡ true }
+        ensures asleep { IsMarked (index_of layout actor) false self.old.asleep self.new.asleep }
+        ensures none { self.old.asleep ≡ 0 → self.new.asleep ≡ 0 }
+        ensures others { (self.new.out ≡ self.old.out) × (self.new.is_over ≡ self.old.is_over) }
+    {
+        let index = layout.index_of(actor);
+        let is_unwoken = has(self.asleep, index);
+        self.is_unasked = is_unwoken && nobody_looks(peers(layout, actor), self.asleep, self.out);
+        self.count_late(is_unwoken && is_over);
+        self.asleep = without(self.asleep, index);
+    }
+
+    /// Records whether an actor runs a job.
+    fn set_out(&mut self, index: usize, is_out: bool)
+        requires { index < 64 }
+        ensures out { IsMarked index is_out self.old.out self.new.out }
+        ensures others { (self.new.asleep ≡ self.old.asleep) × (self.new.is_over ≡ self.old.is_over) }
+    {
+        self.out = if is_out {
+            with(self.out, index)
+        } else {
+            without(self.out, index)
+        };
+    }
+
+    /// Records that the run is over, if the answer says so.
+    fn note_end(&mut self, answer: &Turn<'_>)
+        ensures over { self.new.is_over ≡ (self.old.is_over || says_over answer.now) }
+        ensures others { (self.new.asleep ≡ self.old.asleep) × (self.new.out ≡ self.old.out) }
+    {
+        if says_over(answer) {
+            self.is_over = true;
         }
-        self.asleep &= !own;
+    }
+
+    /// Marks an actor as asleep if it is idle.
+    fn sleep_if(&mut self, index: usize, is_idle: bool)
+        requires { index < 64 }
+        ensures asleep { is_idle ≡ true → IsMarked index true self.old.asleep self.new.asleep }
+        ensures awake { is_idle ≡ false → self.new.asleep ≡ self.old.asleep }
+        ensures others { (self.new.out ≡ self.old.out) × (self.new.is_over ≡ self.old.is_over) }
+    {
+        if is_idle {
+            self.asleep = with(self.asleep, index);
+        }
     }
 
     /// Returns the actors to be woken after steps of an actor, with this number of events and this result. An idle actor sleeps from now
@@ -187,28 +274,31 @@ impl Sleepers {
         actor: Actor,
         events: usize,
         answer: &Turn<'_>,
-    ) -> u64 {
-        let own = bit(pool.layout().index_of(actor));
-        let is_out = matches!(answer, Turn::Run(_));
-        self.out &= !own;
-        if is_out {
-            self.out |= own;
-        }
-        if let Turn::Over(_) = answer {
-            self.is_over = true;
-        }
-        if self.is_unasked && events != 0 {
-            self.count_late();
-        }
+    ) -> u64
+        requires layout { IsLayout pool.now.layout }
+        requires actor { is_in pool.now.layout actor ≡ true }
+        requires awake { Isnt self.old.asleep (index_of pool.now.layout actor) }
+        requires known { IsKnown pool.now self.old.asleep self.old.out actor events }
+        requires idle { is_idle answer.now ≡ true → (self.old.is_over ≡ false) × LacksWork pool.now actor × TakesNone pool.now actor }
+        requires over { says_over answer.now ≡ true → IsOver pool.now }
+        requires ended { self.old.is_over ≡ true → IsOver pool.now }
+        ensures { AreWoken pool.now self.new.asleep self.new.out self.new.is_over }
+    {
+        let index = pool.layout().index_of(actor);
+        let is_out = has_job(answer);
+        self.set_out(index, is_out);
+        self.note_end(answer);
+        self.count_late(self.is_unasked && events != 0);
         let due = self.due_after(pool, actor, events, is_out);
-        if let Turn::Idle = answer {
-            self.asleep |= own;
-        }
+        self.sleep_if(index, is_idle(answer));
         self.wake(due)
     }
 
     /// Returns the actors to be woken once the run is over.
-    pub(crate) fn end(&mut self) -> u64 {
+    pub(crate) fn end(&mut self) -> u64
+        ensures asleep { self.new.asleep ≡ 0 }
+        ensures over { self.new.is_over ≡ true }
+    {
         self.is_over = true;
         let asleep = self.asleep;
         self.wake(asleep)

@@ -9,3 +9,4 @@ mod Keeping
 mod Freely
 mod Handing
 mod Turning
+mod Working

@@ -7,6 +7,8 @@ pub mod PoolView
 pub mod Openings
 pub mod Turns
 pub mod Ends
+-- Work says whether work waits for an actor.
+pub mod Work
 -- Definitions for private functions: reports of pending rules (Pendings), encoded events (Words), and invariants of pools (Kept).
 pub mod Pendings
 pub mod Words

@@ -40,3 +40,4 @@ pub mod Filled
 mod MainParameters
 mod Openings
 mod PartNames
+mod Fronts

@@ -11,6 +11,7 @@ pub mod Coming
 pub mod Events
 pub mod Opening
 pub mod Memory
+pub mod Work
 -- Definitions for private functions.
 pub mod Copies
 pub mod Data

@@ -8,3 +8,4 @@ pub mod Rooms
 pub mod Indexing
 pub mod Entries
 pub mod BestTask
+pub mod Targeted

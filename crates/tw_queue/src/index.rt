@@ -1,9 +1,10 @@
 //! The order of waiting tasks: a rank (priority, number, slot) for each.
 
-ghost use Rattle.std.specs.Prelude.{◌≡◌, ℕ, [], IfNone, IfOk, IfSome, IsOk, OnErr, OnOk, true};
+ghost use Rattle.std.specs.Prelude.{◌≡◌, ℕ, [], IfNone, IfOk, IfSome, IsOk, OnErr, OnOk, false, true};
 ghost use Rattle.tw_types.specs.declared.actor.Kind.{Kind};
 ghost use Rattle.tw_queue.specs.RankIndex.{ranks_of, has_room_for, IsRankBest, IsRankAdded, IsRankRemoved, KeepsRoom};
 ghost use Rattle.tw_queue.specs.Queues.{IsTarget, queue_of};
+ghost use Rattle.tw_queue.specs.Targets.{HasNoRank};
 
 use crate::queues_by_target::QueuesByTarget;
 use crate::rank::Rank;
@@ -81,7 +82,9 @@ impl RankIndex {
     }
 
     /// Returns whether there is a rank for this actor alone.
-    pub fn has_targeted(&self, actor: Actor) -> bool {
+    pub fn has_targeted(&self, actor: Actor) -> bool
+        ensures { result ≡ false → HasNoRank actor (ranks_of self.now) }
+    {
         match actor {
             Actor::Engine(number) => self.control.has_targeted(number),
             Actor::Worker(number) => self.leaf.has_targeted(number),
@@ -90,7 +93,9 @@ impl RankIndex {
     }
 
     /// Returns whether there is a rank of this kind without a target.
-    pub fn has_untargeted(&self, kind: Kind) -> bool {
+    pub fn has_untargeted(&self, kind: Kind) -> bool
+        ensures { result ≡ false → ranks_of self.now kind 16 ≡ [] }
+    {
         match kind {
             Kind::Control => self.control.has_untargeted(),
             Kind::Leaf => self.leaf.has_untargeted(),

@@ -1,11 +1,12 @@
 //! The task queues.
 
-ghost use Rattle.std.specs.Prelude.{◌≡◌, IsOk, IfOk, IfErr, OnOk, OnErr, None, true, option_map};
+ghost use Rattle.std.specs.Prelude.{◌≡◌, IsOk, IfOk, IfErr, OnOk, OnErr, None, false, true, option_map};
 ghost use Rattle.std.specs.FinMap as map;
 ghost use Rattle.std.specs.FinMap.{get};
 ghost use Rattle.std.specs.Option.{option_copied};
 ghost use Rattle.tw_types.specs.Task.{best};
 ghost use Rattle.tw_queue.specs.Queues.{IsRoomKept, IsTarget, handed_out, room_for, waiting, without};
+ghost use Rattle.tw_queue.specs.Targets.{HaveTargets, IsNoTarget};
 
 use crate::index::RankIndex;
 use crate::rank::Rank;
@@ -146,12 +147,16 @@ impl TaskQueues {
     }
 
     /// Returns whether a task waits that only this actor may take.
-    pub fn has_targeted(&self, actor: Actor) -> bool {
+    pub fn has_targeted(&self, actor: Actor) -> bool
+        ensures { result ≡ false → IsNoTarget actor self.now.tasks }
+    {
         self.index.has_targeted(actor)
     }
 
     /// Returns whether a task of this kind waits that has no target.
-    pub fn has_untargeted(&self, kind: Kind) -> bool {
+    pub fn has_untargeted(&self, kind: Kind) -> bool
+        ensures { result ≡ false → HaveTargets kind self.now.tasks }
+    {
         self.index.has_untargeted(kind)
     }
 

@@ -1,6 +1,6 @@
 //! The ranks of the tasks of one kind.
 
-ghost use Rattle.std.specs.Prelude.{◌≡◌, ◌<◌, ◌≤◌, [], IsOk, IfOk, IfSome, IfNone, OnOk, OnErr, replicate, true};
+ghost use Rattle.std.specs.Prelude.{◌≡◌, ◌<◌, ◌≤◌, [], IsOk, IfOk, IfSome, IfNone, OnOk, OnErr, replicate, false, true};
 ghost use Rattle.tw_queue.specs.QueuesByTarget.{ranks_at, AreRoomsKept, IsPushed, IsFirstAt, IsBestQueue, IsBest, IsTaken};
 ghost use Rattle.tw_queue.specs.Queues.{queue_of, room_at};
 
@@ -90,12 +90,16 @@ impl QueuesByTarget {
     }
 
     /// Returns whether there is a rank for this target alone.
-    pub fn has_targeted(&self, number: u8) -> bool {
+    pub fn has_targeted(&self, number: u8) -> bool
+        ensures { result ≡ false → ranks_at self.now.queues number ≡ [] }
+    {
         self.first(usize::from(number)).is_some()
     }
 
     /// Returns whether there is a rank without a target.
-    pub fn has_untargeted(&self) -> bool {
+    pub fn has_untargeted(&self) -> bool
+        ensures { result ≡ false → ranks_at self.now.queues 16 ≡ [] }
+    {
         self.first(QueuesByTarget::ANY).is_some()
     }
 

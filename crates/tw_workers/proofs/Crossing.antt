@@ -5,12 +5,12 @@ use denote.Slice.{ShrSlice}
 use denote.Param.Send.{IsSend, IsSync, sendable}
 use mir.Syntax.{Lifetime, Sym}
 use denote.Param.{param}
-use denote.Struct.Field.{shr_ref_field, mut_ref_field}
+use denote.Struct.Field.{shr_ref_field}
 use denote.Struct.Tuple.{TupleAt}
 use mathlib.Core.List.{[], ◌∷◌}
 use Rattle.std.specs.contracts.alloc.Global
-use Rattle.tw_host.specs.contracts.seat.Seat
-use Rattle.tw_host.proofs.seat.Seat.TheSendSync as OfSeat
+use Rattle.tw_host.specs.contracts.seat.SentSeat
+use Rattle.tw_host.proofs.seat.SentSeat.TheSendSync as OfSent
 use base.Fml.{Lft}
 use Rattle.std.specs.declared.sync.ledger.Ledger as Ledger
 use Rattle.std.proofs.Crossing
@@ -58,17 +58,14 @@ module _ (κ : NamedLft) (N : RattleType) (named : Named.Ghosts N.Denot) (ledger
   host : IsSync (Host.the_row κ N named ledger)
   host = search (locked, OfProgress.the_sync, OfVerified.the_sync, OfEvent.the_sync, Crossing.crosses, sendable) depth 60 fits 20000
 
-  seat : IsSend N → IsSend (Seat.the_row N named ledger)
-  seat s = search (OfSeat.the_send, sendable, Crossing.crosses) depth 60 fits 20000
-
   -- everything that a seat's thread takes with it
-  module _ (name : Sym) (a b c d : NamedLft) (G R : RattleType) (seat_crosses : IsSend N) (gate : IsSync (param 1 G)) (runtime : IsSync (param 2 R)) where
+  module _ (name : Sym) (a b d : NamedLft) (G R : RattleType) (gate : IsSync (param 1 G)) (runtime : IsSync (param 2 R)) where
     shown : IsSend (shr_ref_field b (Host.the_row κ N named ledger) tt).row
     shown = search (host, sendable)
 
-    lent : IsSend (mut_ref_field c (Seat.the_row N named ledger) tt).row
-    lent = search (seat, sendable)
+    sent : IsSend (SentSeat.the_row N named ledger)
+    sent = search (OfSent.the_send, sendable, Crossing.crosses) depth 60 fits 20000
 
-    pub work : IsSend (TupleAt name ((shr_ref_field a (param 2 R) tt).row ∷ Global.the_row ∷ (shr_ref_field b (Host.the_row κ N named ledger) tt).row ∷ (mut_ref_field c (Seat.the_row N named ledger) tt).row
+    pub work : IsSend (TupleAt name ((shr_ref_field a (param 2 R) tt).row ∷ Global.the_row ∷ (shr_ref_field b (Host.the_row κ N named ledger) tt).row ∷ SentSeat.the_row N named ledger
         ∷ (shr_ref_field d (param 1 G) tt).row ∷ []))
-    work = search (Crossing.send, shown, lent, sendable) depth 60 fits 20000
+    work = search (Crossing.send, shown, sent, sendable) depth 60 fits 20000

@@ -1,4 +1,3 @@
 mod Crossing
-mod Lists
 pub mod Driving
 mod Threading

@@ -141,21 +141,6 @@ pub fn drive_at<'a, D: DriverCalls<'a>, R: Wait + Clock>(
     unreachable!()
 }
 
-/// Drives a borrowed seat. Returns whether an allocation failed.
-pub(crate) fn drive_borrowed<'a, N: Named, G: Gate, R: Wait + Clock>(
-    rt: &R,
-    alloc: Global,
-    host: &Host<'a, N>,
-    seat: &mut Seat<N>,
-    gate: &G,
-) -> bool
-    ensures actor { seat.new.actor ≡ seat.old.actor }
-    ensures driven { (steps : List Step) × FoldsTo (AtSeat N.run G.unwatched G.stoppable) (seen_by seat.old.actor seat.old.events.items) steps (seen_by seat.new.actor seat.new.events.items) × Drives None steps result }
-{
-    let guarded = ObservedHost { host, gate };
-    drive_at(rt, alloc, &guarded, seat)
-}
-
 /// Drives a seat until the run is over. Stops the run if an allocation fails, or if a result of the host isn't one that a driver
 /// expects.
 pub fn drive<'a, N: Named, G: Gate, R: Wait + Clock>(
@@ -169,6 +154,6 @@ pub fn drive<'a, N: Named, G: Gate, R: Wait + Clock>(
     ensures driven { (steps : List Step) × FoldsTo (AtSeat N.run G.unwatched G.stoppable) (seen_by seat.actor seat.events.items) steps (seen_by result.seat.actor result.seat.events.items) × Drives None steps result.memory }
 {
     let mut seat = seat;
-    let memory = drive_borrowed(rt, alloc, host, &mut seat, gate);
+    let memory = drive_at(rt, alloc, &ObservedHost { host, gate }, &mut seat);
     Driven { seat, memory }
 }

@@ -1,12 +1,13 @@
 //! Runs in threads.
 
-ghost use Rattle.std.specs.Prelude.{◌≡◌, List, [], IfErr, IfOk, length, map, vec_len};
+ghost use Rattle.std.specs.Prelude.{◌≡◌, List, [], IfErr, IfOk, map, reverse, vec_len, vec_capacity};
 ghost use Rattle.tw_pool.specs.Openings.{IsRejection, MayOpen};
-ghost use Rattle.tw_host.specs.Ends.{Closes};
+ghost use Rattle.tw_host.specs.Ends.{Closes, IsDifference, IsOneEach};
+ghost use Rattle.tw_host.specs.Run.{Run};
 ghost use Rattle.tw_host.specs.Seats.{SeatEvents, actor_count, actors_of, seen_by};
 ghost use Rattle.tw_workers.specs.Threads.{AllDrove, Drove};
 
-use crate::driver::drive_borrowed;
+use crate::driver::{Driven, drive};
 use crate::gate::Gate;
 use std::alloc::Global;
 use std::marker::{Brand, PhantomData};
@@ -16,26 +17,44 @@ use std::sync::ledger::Blank;
 use std::thread;
 use std::thread::{Promise, PromisedHandle, Scope, SpawnError, Threads};
 use std::time::Clock;
-use tw_host::{Closed, Host, Named, Seat};
+use tw_host::{Closed, Host, Named, Seat, SentSeat, SentSeats};
 use tw_pool::OpenError;
 use tw_types::{Input, Layout};
 use tw_verify::Verified;
 
-/// The promise of a seat's driver: it drove the seat from there, and returns whether an allocation failed.
+/// The result of a driver's thread: the seat that it left, and whether an allocation failed.
+#[derive(Drop)]
+struct Returned<N: Named> {
+    sent: SentSeat<N>,
+    memory: bool,
+}
+
+/// The promise of a seat's driver: it drove the seat from there.
 #[derive(Drop)]
 struct DriverPromise<N: Named, G: Gate> {
     seat: Snapshot<Seat<N>>,
     gate: PhantomData<G>,
 }
 
-impl<N: Named, G: Gate> Promise<bool> for DriverPromise<N, G> {
-    ghost kept_by = { λ b memory. Drove N.run G.unwatched G.stoppable (seen_by b.seat.value.actor b.seat.value.events.items) memory };
+impl<N: Named, G: Gate> Promise<Returned<N>> for DriverPromise<N, G> {
+    ghost kept_by = { λ b r. Drove N.run G.unwatched G.stoppable (seen_by b.seat.value.actor b.seat.value.events.items) (seen_by r.sent.seat.actor r.sent.seat.events.items) r.memory };
 }
 
-/// A seat that had no thread and was driven by its starter, and whether an allocation failed.
-#[derive(Drop)]
-struct SpawnFailed {
-    memory: bool,
+/// Drives a seat until the run is over.
+fn drive_sent<'a, N: Named, G: Gate, R: Wait + Clock>(
+    rt: &R,
+    alloc: Global,
+    host: &Host<'a, N>,
+    sent: SentSeat<N>,
+    gate: &G,
+) -> Returned<N>
+    ensures { Drove N.run G.unwatched G.stoppable (seen_by sent.seat.actor sent.seat.events.items) (seen_by result.sent.seat.actor result.sent.seat.events.items) result.memory }
+{
+    let Driven { seat, memory } = drive(rt, alloc, host, sent.into_seat(), gate);
+    Returned {
+        sent: SentSeat { seat },
+        memory,
+    }
 }
 
 /// Starts to drive a seat in its own thread. If there is none, stops the run and drives the seat here.
@@ -44,90 +63,105 @@ fn begin<'s, 'e, 'a, N: Named + Send + Sync, G: Gate + Sync, R: Threads + Wait +
     alloc: Global,
     scope: &Scope<'s, &'e ()>,
     host: &'e Host<'a, N>,
-    seat: &'e mut Seat<N>,
+    seat: Seat<N>,
     gate: &'e G,
-) -> Result<PromisedHandle<bool, DriverPromise<N, G>>, SpawnFailed>
-    ensures there { IfOk result (λ driver. driver.promise.seat.value ≡ seat.old) }
-    ensures here { IfErr result (λ here. Drove N.run G.unwatched G.stoppable (seen_by seat.old.actor seat.old.events.items) here.memory) }
+) -> Result<PromisedHandle<Returned<N>, DriverPromise<N, G>>, Returned<N>>
+    ensures there { IfOk result (λ driver. driver.promise.seat.value ≡ seat) }
+    ensures here { IfErr result (λ here. Drove N.run G.unwatched G.stoppable (seen_by seat.actor seat.events.items) (seen_by here.sent.seat.actor here.sent.seat.events.items) here.memory) }
 {
     let begun = DriverPromise::<N, G> {
-        seat: Snapshot::of(seat),
+        seat: Snapshot::of(&seat),
         gate: PhantomData,
     };
-    let work = move || -> bool
-        ensures { Drove N.run G.unwatched G.stoppable (seen_by seat.entry.now.actor seat.entry.now.events.items) result }
-    { drive_borrowed(rt, alloc, host, seat, gate) };
+    let sent = SentSeat { seat };
+    let work = move || -> Returned<N>
+        ensures { Drove N.run G.unwatched G.stoppable (seen_by sent.seat.actor sent.seat.events.items) (seen_by result.sent.seat.actor result.sent.seat.events.items) result.memory }
+    { drive_sent(rt, alloc, host, sent, gate) };
     match scope.spawn_with(begun, work) {
         Ok(driver) => Ok(driver),
         Err(back) => {
             host.stop(rt);
-            let SpawnError { value: mut work } = back;
-            Err(SpawnFailed { memory: work() })
+            let SpawnError { value: work } = back;
+            Err(work())
         }
     }
 }
 
-/// Drives each of these seats in its own thread, lets the observer monitor the run, and joins the threads. Returns whether an allocation
-/// failed or a seat had no thread.
+/// Drives each of these seats in its own thread, from the last on, lets the observer monitor the run, and joins the threads. Each seat
+/// is then where it was. Returns whether an allocation failed or a seat had no thread.
 fn drive_each<'s, 'e, 'a, N: Named + Send + Sync, G: Gate + Sync, R: Threads + Wait + Clock + Sync>(
     rt: &'e R,
     alloc: Global,
     scope: &Scope<'s, &'e ()>,
     host: &'e Host<'a, N>,
-    seats: &'e mut [Seat<N>],
+    seats: &mut Vec<Seat<N>>,
     gate: &'e G,
 ) -> bool
-    ensures { AllDrove N.run G.unwatched G.stoppable (map (λ s. seen_by s.actor s.events.items) seats.old) result }
+    ensures drove { AllDrove N.run G.unwatched G.stoppable (map (λ s. seen_by s.actor s.events.items) (reverse seats.old.items)) (map (λ s. seen_by s.actor s.events.items) (reverse seats.new.items)) result }
+    ensures len { vec_len seats.new ≡ vec_len seats.old }
+    ensures capacity { vec_capacity seats.new ≡ vec_capacity seats.old }
 {
-    let Some((seat, others)) = seats.split_first_mut() else {
+    let Some(seat) = seats.pop() else {
         gate.monitor(rt, host);
         return false;
     };
     match begin(rt, alloc, scope, host, seat, gate) {
         Ok(driver) => {
-            let memory = drive_each(rt, alloc, scope, host, others, gate);
-            driver.join(rt) || memory
+            let others = drive_each(rt, alloc, scope, host, seats, gate);
+            let Returned { sent, memory } = driver.join(rt);
+            seats.push_reserved(sent.into_seat());
+            memory || others
         }
-        Err(_) => {
-            drive_each(rt, alloc, scope, host, others, gate);
+        Err(Returned { sent, memory: _ }) => {
+            drive_each(rt, alloc, scope, host, seats, gate);
+            seats.push_reserved(sent.into_seat());
             true
         }
     }
 }
 
-/// Drives each seat in its own thread. Returns whether an allocation failed or a seat had no thread.
+/// Drives each seat in its own thread, from the first on. Returns the seats, and whether an allocation failed or a seat had no thread.
 fn drive_all<'a, N: Named + Send + Sync, G: Gate + Sync, R: Threads + Wait + Clock + Sync>(
     rt: &R,
     alloc: Global,
     host: &Host<'a, N>,
-    seats: &mut [Seat<N>],
+    seats: Vec<Seat<N>>,
     gate: &G,
-) -> bool
-    ensures { AllDrove N.run G.unwatched G.stoppable (map (λ s. seen_by s.actor s.events.items) seats.old) result }
+) -> (Vec<Seat<N>>, bool)
+    ensures drove { AllDrove N.run G.unwatched G.stoppable (map (λ s. seen_by s.actor s.events.items) seats.items) (map (λ s. seen_by s.actor s.events.items) result.0.items) result.1 }
+    ensures len { vec_len result.0 ≡ vec_len seats }
 {
+    let sent = SentSeats { seats };
     thread::scope(
         thread::scope_env(),
         rt,
-        |scope| -> bool
-            ensures { AllDrove N.run G.unwatched G.stoppable (map (λ s. seen_by s.actor s.events.items) seats.entry.now) result }
-        { drive_each(rt, alloc, scope, host, seats, gate) },
+        |scope| -> (Vec<Seat<N>>, bool)
+            ensures drove { AllDrove N.run G.unwatched G.stoppable (map (λ s. seen_by s.actor s.events.items) sent.seats.items) (map (λ s. seen_by s.actor s.events.items) result.0.items) result.1 }
+            ensures len { vec_len result.0 ≡ vec_len sent.seats }
+        {
+            let mut seats = sent.into_seats();
+            seats.reverse();
+            let memory = drive_each(rt, alloc, scope, host, &mut seats, gate);
+            seats.reverse();
+            (seats, memory)
+        },
     )
 }
 
-/// Drives all seats in their own threads until the run is over, and closes the host. Also returns whether an allocation failed
-/// or a seat had no thread.
+/// Drives all seats in their own threads until the run is over, and closes the host with the seats as they are then. Also returns whether
+/// an allocation failed or a seat had no thread.
 pub fn run_all<'a, N: Named + Send + Sync, G: Gate + Sync, R: Threads + Wait + Clock + Sync>(
     rt: &R,
     alloc: Global,
     host: Host<'a, N>,
-    mut seats: Vec<Seat<N>>,
+    seats: Vec<Seat<N>>,
     gate: &G,
 ) -> (Closed, bool)
     requires all { vec_len seats ≡ actor_count N.run.layout }
-    ensures closes { (seats : List SeatEvents) × (length seats ≡ actor_count N.run.layout) × Closes N.run seats result.0 }
-    ensures memory { AllDrove N.run G.unwatched G.stoppable (map (λ s. seen_by s.actor s.events.items) seats.items) result.1 }
+    ensures { (lefts : List SeatEvents) × AllDrove N.run G.unwatched G.stoppable (map (λ s. seen_by s.actor s.events.items) seats.items) lefts result.1 × Closes N.run lefts result.0
+        × (IsOneEach N.run.layout lefts → IsDifference lefts result.0) }
 {
-    let memory = drive_all(rt, alloc, &host, seats.as_mut_slice(), gate);
+    let (seats, memory) = drive_all(rt, alloc, &host, seats, gate);
     gate.missed_wakes(host.missed_wakes(rt));
     (host.close(seats), memory)
 }
@@ -146,8 +180,7 @@ fn run_named<N: Named + Send + Sync, G: Gate + Sync, R: Threads + Wait + Clock +
     requires ledger { (blank.name ≡ N.name) × (blank.parts ≡ N.parts) × (blank.parts ≡ actor_count layout) }
     requires run { N.run ≡ record { program = verified.now; inputs = inputs.now; layout = layout; limit = limit } }
     ensures allowed { IfOk result (λ _. MayOpen verified.now.program inputs.now layout limit) }
-    ensures closes { IfOk result (λ r. (seats : List SeatEvents) × (length seats ≡ actor_count layout) × Closes N.run seats r.0) }
-    ensures memory { IfOk result (λ r. AllDrove N.run G.unwatched G.stoppable (map (λ a. seen_by a []) (actors_of layout)) r.1) }
+    ensures closes { IfOk result (λ r. (lefts : List SeatEvents) × AllDrove N.run G.unwatched G.stoppable (map (λ a. seen_by a []) (actors_of layout)) lefts r.1 × Closes N.run lefts r.0 × IsDifference lefts r.0) }
     ensures refused { IfErr result (IsRejection verified.now.program inputs.now layout limit) }
 {
     let (host, seats) = Host::<N>::open(alloc, blank, verified, inputs, layout, limit)?;
@@ -165,8 +198,8 @@ pub fn run<G: Gate + Sync, R: Threads + Wait + Clock + Sync>(
     gate: &G,
 ) -> Result<(Closed, bool), OpenError>
     ensures allowed { IfOk result (λ _. MayOpen verified.now.program inputs.now layout limit) }
-    ensures closes { IfOk result (λ r. (seats : List SeatEvents) × (length seats ≡ actor_count layout) × Closes (record { program = verified.now; inputs = inputs.now; layout = layout; limit = limit }) seats r.0) }
-    ensures memory { IfOk result (λ r. AllDrove (record { program = verified.now; inputs = inputs.now; layout = layout; limit = limit }) G.unwatched G.stoppable (map (λ a. seen_by a []) (actors_of layout)) r.1) }
+    ensures closes { let run : Run = record { program = verified.now; inputs = inputs.now; layout = layout; limit = limit } in IfOk result
+        (λ r. (lefts : List SeatEvents) × AllDrove run G.unwatched G.stoppable (map (λ a. seen_by a []) (actors_of layout)) lefts r.1 × Closes run lefts r.0 × IsDifference lefts r.0) }
     ensures refused { IfErr result (IsRejection verified.now.program inputs.now layout limit) }
 {
     let blank = Blank::new(layout.actor_count() as u64);

@@ -1,6 +1,8 @@
 use Rattle.std.proofs.Common.{◌≡◌, ◌++◌, ◌≤◌, ◌*◌, sym, ap, subst, ◌∙◌, arith, length, drop}
 use Rattle.tw_pool.specs.Actors.{events_of}
 use Rattle.tw_host.specs.Sees.{IsAnswerOf, IsDoneOf}
+use Rattle.tw_host.specs.Sleeping.{AreWoken}
+use Rattle.tw_host.proofs.Batching as batching
 use Rattle.tw_host.proofs.Holding as holding
 use Rattle.tw_host.proofs.locked.Locked.run_batch.Goals as goal
 
@@ -22,8 +24,8 @@ record_events-requires-clause-before g c =
     let longer = holding.longer old c.run_batch-answer.new.pool c.args.seat.now.actor c.run_batch-answer.result _ a in
     omega (arith, longer, c.len-before.ensures, ap length c.history.ensures.events, ap length c.history-2.ensures.events)
 
-pub invariant_of-self : goal.invariant_of-self
-invariant_of-self g c =
+pub invariant_of-self-2 : goal.invariant_of-self-2
+invariant_of-self-2 g c =
     let inv = c.self.invariant in
     let old = c.self.inside.pool in
     let new = c.run_batch-answer.new.pool in
@@ -36,11 +38,13 @@ invariant_of-self g c =
       of_run = holding.same_run old new c.args.seat.now.actor c.run_batch-answer.result _ a ∙ inv.of_run;
       layout = inv.layout;
       given = inv.given;
+      targets = inv.targets;
       within = omega (arith, low, limit);
       counted = omega (arith, c.record_events.ensures.total, inv.counted, c.len-before.ensures, ap length c.history.ensures.events, ap length c.history-2.ensures.events);
       seats = inv.seats;
       no_part = inv.no_part;
       no_amount = inv.no_amount;
+      woken = c.to_wake.ensures;
     }
 
 pub returns-clause-events : goal.returns-clause-events
@@ -63,3 +67,138 @@ returns-clause-program g c =
     let t = c.run_batch-answer.ensures in
     let a = holding.all t.0 c.self.inside.pool c.run_batch-answer.new.pool c.args.seat.now.actor c.args.done c.run_batch-answer.result t.2 (subst (λ program. IsDoneOf program c.args.done) (sym is) c.requires.program) in
     subst (λ program. IsAnswerOf program c.run_batch-answer.result) is a.answers
+
+pub check_in-requires-clause-layout : goal.check_in-requires-clause-layout
+check_in-requires-clause-layout g c =
+    let inv = c.self.invariant in
+    let old = c.self.inside.pool in
+    batching.shown_layout g.N.Named.run old inv.of_run inv.layout inv.targets c.args.seat.now.actor c.args.seat.now.in_layout c.layout.result c.layout.ensures
+
+pub check_in-requires-clause-actor : goal.check_in-requires-clause-actor
+check_in-requires-clause-actor g c =
+    let inv = c.self.invariant in
+    let old = c.self.inside.pool in
+    batching.shown_there g.N.Named.run old inv.of_run inv.layout inv.targets c.args.seat.now.actor c.args.seat.now.in_layout c.layout.result c.layout.ensures
+
+pub invariant_of-self : goal.invariant_of-self
+invariant_of-self g c =
+    let inv = c.self.invariant in
+    let old = c.self.inside.pool in
+    let was = c.self.inside.sleepers in
+    let s = c.check_in.new.self in
+    let w = subst (λ b. AreWoken old was.asleep s.out b) (sym c.check_in.ensures.others.1) (subst (λ o. AreWoken old was.asleep o was.is_over) (sym c.check_in.ensures.others.0) inv.woken) in
+    record {
+      of_run = inv.of_run;
+      layout = inv.layout;
+      given = inv.given;
+      targets = inv.targets;
+      within = inv.within;
+      counted = inv.counted;
+      seats = inv.seats;
+      no_part = inv.no_part;
+      no_amount = inv.no_amount;
+      woken = batching.checked_in g.N.Named.run old inv.of_run inv.layout inv.targets c.args.seat.now.actor c.args.seat.now.in_layout c.layout.result c.layout.ensures was.asleep s.asleep s.out s.is_over w c.check_in.ensures.asleep c.check_in.ensures.none;
+    }
+
+pub overflow_sub-events : goal.overflow_sub-events
+overflow_sub-events g c =
+    let inv = c.self.invariant in
+    let old = c.self.inside.pool in
+    let new = c.run_batch-answer.new.pool in
+    let t = c.run_batch-answer.ensures in
+    let is = ap (λ r. r.program) inv.of_run in
+    let a = holding.all t.0 old new c.args.seat.now.actor c.args.done c.run_batch-answer.result t.2 (subst (λ program. IsDoneOf program c.args.done) (sym is) c.requires.program) in
+    let longer = holding.longer old new c.args.seat.now.actor c.run_batch-answer.result _ a in
+    omega (arith, longer, c.len-before.ensures, ap length c.history.ensures.events, c.len.ensures, ap length c.history-3.ensures.events)
+
+pub to_wake-requires-clause-layout : goal.to_wake-requires-clause-layout
+to_wake-requires-clause-layout g c =
+    let inv = c.self.invariant in
+    let old = c.self.inside.pool in
+    let was = c.self.inside.sleepers in
+    let s = c.check_in.new.self in
+    let w = subst (λ b. AreWoken old was.asleep s.out b) (sym c.check_in.ensures.others.1) (subst (λ o. AreWoken old was.asleep o was.is_over) (sym c.check_in.ensures.others.0) inv.woken) in
+    let new = c.run_batch-answer.new.pool in
+    let t = c.run_batch-answer.ensures in
+    let is = ap (λ r. r.program) inv.of_run in
+    let a = holding.all t.0 old new c.args.seat.now.actor c.args.done c.run_batch-answer.result t.2 (subst (λ program. IsDoneOf program c.args.done) (sym is) c.requires.program) in
+    batching.new_layout g.N.Named.run old inv.of_run inv.layout inv.targets c.args.seat.now.actor c.args.seat.now.in_layout c.layout.result c.layout.ensures was.asleep s.asleep s.out s.is_over w c.check_in.ensures.asleep new c.args.done t.0 c.run_batch-answer.result t.2 _ a
+
+pub to_wake-requires-clause-actor : goal.to_wake-requires-clause-actor
+to_wake-requires-clause-actor g c =
+    let inv = c.self.invariant in
+    let old = c.self.inside.pool in
+    let was = c.self.inside.sleepers in
+    let s = c.check_in.new.self in
+    let w = subst (λ b. AreWoken old was.asleep s.out b) (sym c.check_in.ensures.others.1) (subst (λ o. AreWoken old was.asleep o was.is_over) (sym c.check_in.ensures.others.0) inv.woken) in
+    let new = c.run_batch-answer.new.pool in
+    let t = c.run_batch-answer.ensures in
+    let is = ap (λ r. r.program) inv.of_run in
+    let a = holding.all t.0 old new c.args.seat.now.actor c.args.done c.run_batch-answer.result t.2 (subst (λ program. IsDoneOf program c.args.done) (sym is) c.requires.program) in
+    batching.new_there g.N.Named.run old inv.of_run inv.layout inv.targets c.args.seat.now.actor c.args.seat.now.in_layout c.layout.result c.layout.ensures was.asleep s.asleep s.out s.is_over w c.check_in.ensures.asleep new c.args.done t.0 c.run_batch-answer.result t.2 _ a
+
+pub to_wake-requires-clause-awake : goal.to_wake-requires-clause-awake
+to_wake-requires-clause-awake g c =
+    let inv = c.self.invariant in
+    let old = c.self.inside.pool in
+    let was = c.self.inside.sleepers in
+    let s = c.check_in.new.self in
+    let w = subst (λ b. AreWoken old was.asleep s.out b) (sym c.check_in.ensures.others.1) (subst (λ o. AreWoken old was.asleep o was.is_over) (sym c.check_in.ensures.others.0) inv.woken) in
+    let new = c.run_batch-answer.new.pool in
+    let t = c.run_batch-answer.ensures in
+    let is = ap (λ r. r.program) inv.of_run in
+    let a = holding.all t.0 old new c.args.seat.now.actor c.args.done c.run_batch-answer.result t.2 (subst (λ program. IsDoneOf program c.args.done) (sym is) c.requires.program) in
+    batching.awake g.N.Named.run old inv.of_run inv.layout inv.targets c.args.seat.now.actor c.args.seat.now.in_layout c.layout.result c.layout.ensures was.asleep s.asleep s.out s.is_over w c.check_in.ensures.asleep new c.args.done t.0 c.run_batch-answer.result t.2 _ a
+
+pub to_wake-requires-clause-known : goal.to_wake-requires-clause-known
+to_wake-requires-clause-known g c =
+    let inv = c.self.invariant in
+    let old = c.self.inside.pool in
+    let was = c.self.inside.sleepers in
+    let s = c.check_in.new.self in
+    let w = subst (λ b. AreWoken old was.asleep s.out b) (sym c.check_in.ensures.others.1) (subst (λ o. AreWoken old was.asleep o was.is_over) (sym c.check_in.ensures.others.0) inv.woken) in
+    let new = c.run_batch-answer.new.pool in
+    let t = c.run_batch-answer.ensures in
+    let is = ap (λ r. r.program) inv.of_run in
+    let a = holding.all t.0 old new c.args.seat.now.actor c.args.done c.run_batch-answer.result t.2 (subst (λ program. IsDoneOf program c.args.done) (sym is) c.requires.program) in
+    let longer = holding.longer old new c.args.seat.now.actor c.run_batch-answer.result _ a in
+    batching.known g.N.Named.run old inv.of_run inv.layout inv.targets c.args.seat.now.actor c.args.seat.now.in_layout c.layout.result c.layout.ensures was.asleep s.asleep s.out s.is_over w c.check_in.ensures.asleep new c.args.done t.0 c.run_batch-answer.result t.2 _ a _ (omega (arith, longer, c.len-before.ensures, ap length c.history.ensures.events, ap length c.history-2.ensures.events, c.len.ensures, ap length c.history-3.ensures.events))
+
+pub to_wake-requires-clause-idle : goal.to_wake-requires-clause-idle
+to_wake-requires-clause-idle g c =
+    let inv = c.self.invariant in
+    let old = c.self.inside.pool in
+    let was = c.self.inside.sleepers in
+    let s = c.check_in.new.self in
+    let w = subst (λ b. AreWoken old was.asleep s.out b) (sym c.check_in.ensures.others.1) (subst (λ o. AreWoken old was.asleep o was.is_over) (sym c.check_in.ensures.others.0) inv.woken) in
+    let new = c.run_batch-answer.new.pool in
+    let t = c.run_batch-answer.ensures in
+    let is = ap (λ r. r.program) inv.of_run in
+    let a = holding.all t.0 old new c.args.seat.now.actor c.args.done c.run_batch-answer.result t.2 (subst (λ program. IsDoneOf program c.args.done) (sym is) c.requires.program) in
+    batching.idle g.N.Named.run old inv.of_run inv.layout inv.targets c.args.seat.now.actor c.args.seat.now.in_layout c.layout.result c.layout.ensures was.asleep s.asleep s.out s.is_over w c.check_in.ensures.asleep new c.args.done t.0 c.run_batch-answer.result t.2 _ a
+
+pub to_wake-requires-clause-over : goal.to_wake-requires-clause-over
+to_wake-requires-clause-over g c =
+    let inv = c.self.invariant in
+    let old = c.self.inside.pool in
+    let was = c.self.inside.sleepers in
+    let s = c.check_in.new.self in
+    let w = subst (λ b. AreWoken old was.asleep s.out b) (sym c.check_in.ensures.others.1) (subst (λ o. AreWoken old was.asleep o was.is_over) (sym c.check_in.ensures.others.0) inv.woken) in
+    let new = c.run_batch-answer.new.pool in
+    let t = c.run_batch-answer.ensures in
+    let is = ap (λ r. r.program) inv.of_run in
+    let a = holding.all t.0 old new c.args.seat.now.actor c.args.done c.run_batch-answer.result t.2 (subst (λ program. IsDoneOf program c.args.done) (sym is) c.requires.program) in
+    batching.says g.N.Named.run old inv.of_run inv.layout inv.targets c.args.seat.now.actor c.args.seat.now.in_layout c.layout.result c.layout.ensures was.asleep s.asleep s.out s.is_over w c.check_in.ensures.asleep new c.args.done t.0 c.run_batch-answer.result t.2 _ a
+
+pub to_wake-requires-clause-ended : goal.to_wake-requires-clause-ended
+to_wake-requires-clause-ended g c =
+    let inv = c.self.invariant in
+    let old = c.self.inside.pool in
+    let was = c.self.inside.sleepers in
+    let s = c.check_in.new.self in
+    let w = subst (λ b. AreWoken old was.asleep s.out b) (sym c.check_in.ensures.others.1) (subst (λ o. AreWoken old was.asleep o was.is_over) (sym c.check_in.ensures.others.0) inv.woken) in
+    let new = c.run_batch-answer.new.pool in
+    let t = c.run_batch-answer.ensures in
+    let is = ap (λ r. r.program) inv.of_run in
+    let a = holding.all t.0 old new c.args.seat.now.actor c.args.done c.run_batch-answer.result t.2 (subst (λ program. IsDoneOf program c.args.done) (sym is) c.requires.program) in
+    batching.ended g.N.Named.run old inv.of_run inv.layout inv.targets c.args.seat.now.actor c.args.seat.now.in_layout c.layout.result c.layout.ensures was.asleep s.asleep s.out s.is_over w c.check_in.ensures.asleep new c.args.done t.0 c.run_batch-answer.result t.2 _ a

@@ -1,0 +1,69 @@
+-- A batch under the lock: no sleeper has to be woken after it.
+use Rattle.std.proofs.Common.{◌≡◌, ℕ, Bool, true, false, List, length, Option, refl, sym, ap, subst}
+use Rattle.tw_types.specs.declared.actor.Actor.{Actor}
+use Rattle.tw_types.specs.Actor.{index_of, is_in}
+use Rattle.tw_types.specs.Layout.{ActorCounts, IsLayout}
+use Rattle.tw_code.specs.accepting.Needs.{HasTargets}
+use Rattle.tw_frame.specs.Jobs.{DoneView}
+use Rattle.tw_pool.specs.declared.answer.Turn.{Turn}
+use Rattle.tw_pool.specs.PoolView.{PoolView}
+use Rattle.tw_pool.specs.Work.{LacksWork}
+use Rattle.tw_host.specs.Holds.{AreTurns}
+use Rattle.tw_host.specs.Run.{Run, run_of}
+use Rattle.tw_host.specs.Sleeping.{AreWoken, IsKnown, IsMarked, IsOver, Isnt, TakesNone, is_idle, says_over}
+use Rattle.tw_host.proofs.Holding.{Adds}
+use Rattle.tw_host.proofs.Knowing as knowing
+use Rattle.tw_host.proofs.Reported.{idle_not_over, idle_says, over_says, over_stays}
+
+module _ (run : Run) (old : PoolView) (of_run : run_of old ≡ run) (layout_is : IsLayout run.layout) (targets_are : HasTargets run.program.program run.layout) (actor : Actor) (seated : is_in run.layout actor ≡ true) (shown : ActorCounts)
+    (shown_is : shown ≡ old.layout) where
+  layout : IsLayout old.layout
+  layout = subst (λ (r : Run). IsLayout r.layout) (sym of_run) layout_is
+
+  targets : HasTargets old.program.program old.layout
+  targets = subst (λ (r : Run). HasTargets r.program.program r.layout) (sym of_run) targets_are
+
+  there : is_in old.layout actor ≡ true
+  there = subst (λ (r : Run). is_in r.layout actor ≡ true) (sym of_run) seated
+
+  pub shown_layout : IsLayout shown
+  shown_layout = subst IsLayout (sym shown_is) layout
+
+  pub shown_there : is_in shown actor ≡ true
+  shown_there = subst (λ (l : ActorCounts). is_in l actor ≡ true) (sym shown_is) there
+
+  module _ (before asleep out : ℕ) (over : Bool) (w : AreWoken old before out over) (marked : IsMarked (index_of shown actor) false before asleep) where
+    own : IsMarked (index_of old.layout actor) false before asleep
+    own = subst (λ (l : ActorCounts). IsMarked (index_of l actor) false before asleep) shown_is marked
+
+    pub checked_in : (before ≡ 0 → asleep ≡ 0) → AreWoken old asleep out over
+    checked_in = knowing.checked_in old layout targets actor there before asleep out over w own
+
+    module _ (new : PoolView) (given : Option DoneView) (turns : List Turn) (answer : Turn) (t : AreTurns old actor given turns answer new) (count : ℕ) (a : Adds old new actor answer count) where
+      same : new.layout ≡ old.layout
+      same = ap (λ (p : PoolView). p.layout) a.appended
+
+      pub new_layout : IsLayout new.layout
+      new_layout = subst IsLayout (sym same) layout
+
+      pub new_there : is_in new.layout actor ≡ true
+      new_there = subst (λ (l : ActorCounts). is_in l actor ≡ true) (sym same) there
+
+      pub awake : Isnt asleep (index_of new.layout actor)
+      awake = subst (λ (l : ActorCounts). Isnt asleep (index_of l actor)) (sym same) own.here
+
+      pub known : (events : ℕ) → events ≡ length a.es → IsKnown new asleep out actor events
+      known events long = knowing.known old layout targets actor there before asleep out over w own new a.es a.appended a.own events long
+
+      pub ended : over ≡ true → IsOver new
+      ended is = subst IsOver (sym (over_stays turns old new actor given answer (w.ended is) t).1) (w.ended is)
+
+      pub idle : is_idle answer ≡ true → (over ≡ false) × LacksWork new actor × TakesNone new actor
+      idle is = let h = idle_says turns old new actor given answer t is in (by over refl, h.0, h.1)
+        where
+          by : (b : Bool) → over ≡ b → over ≡ false
+          by true e = absurd (idle_not_over answer is (over_stays turns old new actor given answer (w.ended e) t).0)
+          by false e = e
+
+      pub says : says_over answer ≡ true → IsOver new
+      says is = over_says turns old new actor given answer t is
