@@ -63,7 +63,7 @@ WHOLES: tuple[Whole, ...] = (
             "tw_determinism/proofs/Contesting.antt", "tw_determinism/proofs/CoreEffects.antt", "tw_determinism/proofs/DataShown.antt",
             "tw_determinism/proofs/Keeping.antt", "tw_copies/proofs/DataSpare.antt", "tw_copies/proofs/Fitting.antt", "tw_copies/proofs/Marked.antt",
             "tw_copies/proofs/Registers.antt", "tw_copies/proofs/Summing.antt", "tw_copies/proofs/Tracking.antt",
-            "tw_certificate/src/contests.rt", "tw_certificate/proofs/Placing.antt",
+            "tw_certificate/src/contests.rt", "tw_certificate/proofs/Placing.antt", "tw_isolation/proofs/Keeping.antt",
         ),
     }.items() for path in paths),
 )

@@ -1,0 +1,2 @@
+-- Isolation of tasks.
+pub mod Isolation
