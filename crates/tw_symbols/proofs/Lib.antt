@@ -26,4 +26,5 @@ pub mod BlankLines
 pub mod UnchangedLines
 pub mod EachLine
 pub mod NoHeads
+pub mod UnreadLines
 mod TextNames

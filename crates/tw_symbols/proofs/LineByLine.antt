@@ -1,12 +1,13 @@
 -- An expansion has as many lines as its text, and is in UTF-8 if the text is.
-use Rattle.std.proofs.Common.{[], ◌≡◌, ◌==◌, ◌<◌, ◌-◌, ◌+◌, ℕ, suc, Bool, true, false, cond, List, ◌∷◌, ◌++◌, length, take, drop, get_or, Result, Ok, Err, inl, inr, refl, sym, ap, subst, ◌∙◌, append_assoc, append-nil, arith}
-use Rattle.tw_symbols.proofs.TextNames.{AllByRecursion, AreTaken, Broken, IsTaken, IsUtf8, Line, Names, Procedures, Rejection, Said, Says, StartWith, Worded, at_number, ended, line_rest, line_words, lines, lines_of_parts, lines_say, no_names, onto_first, procedures_of, slice_index, slice_split, strip_carriage_return, take-append-drop, taken_says}
+use Rattle.std.proofs.Common.{[], ◌≡◌, ◌==◌, ◌<◌, ◌-◌, ◌+◌, ℕ, suc, Bool, true, false, cond, List, ◌∷◌, ◌++◌, length, take, drop, get_or, Result, Ok, Err, inl, inr, refl, sym, ap, subst, ◌∙◌, append_assoc, append-nil, codes, arith, Option, Some, None}
+use Rattle.tw_symbols.proofs.TextNames.{AllByRecursion, AreTaken, Broken, IsTaken, IsUtf8, Line, Names, Procedures, Rejection, Said, Says, StartWith, Worded, at_number, ended, line_rest, line_words, lines, lines_of_parts, lines_say, no_names, onto_first, or_unread, procedures_of, read_says, slice_index, slice_split, strip_carriage_return, take-append-drop, taken_says, unread}
 use Rattle.std.proofs.lemmas.Bool.{eqb-true}
 use Rattle.std.proofs.lemmas.List.Splits.{slice_split-cons_no}
 use Rattle.std.proofs.lemmas.Str.{IsCharBoundary-before_ascii, IsUtf8-append, IsUtf8-nil, IsUtf8-take}
 use Rattle.tw_lexer.proofs.Breaks.{HasNoLineFeed}
 use Rattle.tw_lexer.proofs.Utf8.{cut_front, cut_rest, one_ascii}
 use Rattle.tw_symbols.specs.Theorems.{AsManyLines, InUtf8}
+use Rattle.tw_symbols.specs.Unread.{is_open_call, is_past, reads_heads}
 use Rattle.tw_symbols.proofs.KeptTexts.{AllKept, IsKept, all_kept, either, feeds_front, feeds_kept, utf8_kept}
 use Rattle.tw_symbols.proofs.SaidTexts.{line_kept, ok_is, went_then}
 use Rattle.tw_symbols.proofs.Walk.{taken_length}
@@ -61,13 +62,34 @@ module _ (Q : List ℕ → Type 0) (kept : IsKept Q) where
         subst (λ (x : Names × List ℕ). AllKept Q x.0.types) is one.3,
       )
 
+  ret_kept : Q (codes "RET")
+  ret_kept = kept.both (82 ∷ []) (69 ∷ 84 ∷ []) (kept.byte 82 (omega arith) (omega arith)) (kept.both (69 ∷ []) (84 ∷ []) (kept.byte 69 (omega arith) (omega arith)) (kept.byte 84 (omega arith) (omega arith)))
+
+  abbrev IfUnread : Option (List ℕ) → Type 0
+  IfUnread None = Unit {0}
+  IfUnread (Some text) = Q text
+
+  unread_kept : (p : Procedures) (n : ℕ) (names : Names) (words : List (List ℕ)) → IfUnread (unread p n names words)
+  unread_kept p n names words =
+      either IfUnread (is_past p n) _ _ kept.none (either IfUnread (reads_heads p) _ _ tt (either IfUnread (is_open_call p names words) _ _ ret_kept tt))
+
+  read_kept : (p : Procedures) (n : ℕ) (names : Names) (front : List ℕ) (t : Line) (said : Names × List ℕ) → AllKept Q names.types → LineKept Q t → read_says p n names front t ≡ Ok said
+      → (line : List ℕ) × (said.1 ≡ front ++ (line ++ 10 ∷ [])) × Q line × AllKept Q said.0.types
+  read_kept p n names front t said h k = by (unread p n names (line_words t)) (unread_kept p n names (line_words t))
+    where
+      by : (u : Option (List ℕ)) → IfUnread u → or_unread u names front (taken_says p n names front t) ≡ Ok said → (line : List ℕ) × (said.1 ≡ front ++ (line ++ 10 ∷ [])) × Q line × AllKept Q said.0.types
+      by None u e = ended_kept p n names front t said h k e
+      by (Some text) u e =
+          let is = ok_is (names, front ++ ended text) said e in
+          (text, ap (λ (x : Names × List ℕ). x.1) (sym is), u, subst (λ (x : Names × List ℕ). AllKept Q x.0.types) is h)
+
   -- each line expands to one line
   lines_kept : (p : Procedures) (n : ℕ) (names : Names) (front : List ℕ) (all : List Line) (plain : List ℕ) → AllKept Q names.types → AllByRecursion (LineKept Q) all → lines_say p n names front all ≡ Ok plain
       → (ls : List (List ℕ)) × (plain ≡ front ++ joined ls) × AllKept Q ls × (length ls ≡ length all)
   lines_kept p n names front [] plain h k e = ([], sym (plain_is front plain e) ∙ sym (append-nil front), tt, refl)
   lines_kept p n names front (t ∷ others) plain h k e =
-      let went = number_then n (taken_says p n names front t) (λ (said : Names × List ℕ). lines_say p (n + 1) said.0 said.1 others) plain e in
-      let one = ended_kept p n names front t went.0 h k.0 went.1 in
+      let went = number_then n (read_says p n names front t) (λ (said : Names × List ℕ). lines_say p (n + 1) said.0 said.1 others) plain e in
+      let one = read_kept p n names front t went.0 h k.0 went.1 in
       let more = lines_kept p (n + 1) went.0.0 went.0.1 others plain one.3 k.1 went.2 in (
         one.0 ∷ more.0,
         more.1 ∙ ap (λ (x : List ℕ). x ++ joined more.0) one.1 ∙ append_assoc front (one.0 ++ 10 ∷ []) (joined more.0) ∙ ap (λ (x : List ℕ). front ++ x) (append_assoc one.0 (10 ∷ []) (joined more.0)),

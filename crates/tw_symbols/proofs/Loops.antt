@@ -1,6 +1,6 @@
 -- The loops over a text's lines.
 use Rattle.std.proofs.Common.{[], ◌≡◌, ◌⊎◌, ◌≤◌, ℕ, suc, ◌+◌, List, ◌∷◌, ◌++◌, length, map, drop, Ok, Err, refl, sym, ap, subst, ◌∙◌, inl, inr, arith}
-use Rattle.tw_symbols.proofs.TextNames.{AreTaken, Bor, IsMemory, IsTaken, Line, Names, Procedures, Rejection, drop_all, length-append, lines_say, map-append, no_names, procedures_of, taken_says, seen_rejection, with_line}
+use Rattle.tw_symbols.proofs.TextNames.{AreTaken, Bor, IsMemory, IsTaken, Line, Names, Procedures, Rejection, drop_all, length-append, lines_say, map-append, no_names, procedures_of, read_says, seen_rejection, with_line}
 use Rattle.tw_symbols.specs.declared.rejection.NameError.{NameError}
 use Rattle.tw_symbols.proofs.Walk.{taken_at, taken_length, taken_more, with_lines_more}
 
@@ -37,26 +37,26 @@ HasCome p ls n names front = (all : List Line) → AreTaken all ls → lines_say
 
 pub come_more : (p : Procedures) (ls before others : List (List ℕ)) (line : List ℕ) (index : ℕ) (names after : Names) (front text : List ℕ) → ls ≡ before ++ line ∷ others → index ≡ length before
     → HasCome p ls (length before) names front
-    → ((t : Line) → IsTaken t line → taken_says p (index + 1) names front t ≡ Ok (after, text))
+    → ((t : Line) → IsTaken t line → read_says p (index + 1) names front t ≡ Ok (after, text))
     → HasCome p ls (suc (length before)) after text
 come_more p ls before others line index names after front text parts at so_far here all are =
     let one = taken_at all before line others (subst (AreTaken all) parts are) in
-    let said : taken_says p (length before + 1) names front one.0 ≡ Ok (after, text) = subst (λ (k : ℕ). taken_says p (k + 1) names front one.0 ≡ Ok (after, text)) at (here one.0 one.1) in
+    let said : read_says p (length before + 1) names front one.0 ≡ Ok (after, text) = subst (λ (k : ℕ). read_says p (k + 1) names front one.0 ≡ Ok (after, text)) at (here one.0 one.1) in
     let number : suc (length before) + 1 ≡ (length before + 1) + 1 = omega arith in
     so_far all are ∙ ap (lines_say p (length before + 1) names front) one.2 ∙ goes p (length before + 1) names front one.0 after text (drop (suc (length before)) all) said
     ∙ ap (λ (k : ℕ). lines_say p k after text (drop (suc (length before)) all)) (sym number)
   where
-    goes : (p : Procedures) (n : ℕ) (names : Names) (front : List ℕ) (t : Line) (after : Names) (text : List ℕ) (others : List Line) → taken_says p n names front t ≡ Ok (after, text)
+    goes : (p : Procedures) (n : ℕ) (names : Names) (front : List ℕ) (t : Line) (after : Names) (text : List ℕ) (others : List Line) → read_says p n names front t ≡ Ok (after, text)
         → lines_say p n names front (t ∷ others) ≡ lines_say p (n + 1) after text others
     goes p n names front t after text others e = rw e refl
 
-stops : (p : Procedures) (n : ℕ) (names : Names) (front : List ℕ) (t : Line) (rejection : Rejection) (others : List Line) → rejection.line ≡ n → taken_says p n names front t ≡ Err (record { no = rejection.no; word = rejection.word })
+stops : (p : Procedures) (n : ℕ) (names : Names) (front : List ℕ) (t : Line) (rejection : Rejection) (others : List Line) → rejection.line ≡ n → read_says p n names front t ≡ Err (record { no = rejection.no; word = rejection.word })
     → lines_say p n names front (t ∷ others) ≡ Err rejection
 stops p n names front t rejection others at e = rw e (ap (λ (k : ℕ). Err (record { line = k; no = rejection.no; word = rejection.word })) (sym at))
 
 pub stopped : (p : Procedures) (ls before others : List (List ℕ)) (line : List ℕ) (index : ℕ) (names : Names) (front : List ℕ) (f : NameError) → ls ≡ before ++ line ∷ others → index ≡ length before
     → HasCome p ls (length before) names front
-    → ((t : Line) → IsTaken t line → IsMemory f ⊎ ((f.line ≡ index + 1) × (taken_says p (index + 1) names front t ≡ Err (record { no = f.no; word = f.word.now }))))
+    → ((t : Line) → IsTaken t line → IsMemory f ⊎ ((f.line ≡ index + 1) × (read_says p (index + 1) names front t ≡ Err (record { no = f.no; word = f.word.now }))))
     → (all : List Line) → AreTaken all ls → IsMemory f ⊎ (lines_say p 1 no_names [] all ≡ Err (seen_rejection f))
 stopped p ls before others line index names front f parts at so_far here all are = by (here one.0 one.1)
   where
@@ -66,11 +66,11 @@ stopped p ls before others line index names front f parts at so_far here all are
     same : index + 1 ≡ length before + 1
     same = ap (λ (k : ℕ). k + 1) at
 
-    by : IsMemory f ⊎ ((f.line ≡ index + 1) × (taken_says p (index + 1) names front one.0 ≡ Err (record { no = f.no; word = f.word.now }))) → IsMemory f ⊎ (lines_say p 1 no_names [] all ≡ Err (seen_rejection f))
+    by : IsMemory f ⊎ ((f.line ≡ index + 1) × (read_says p (index + 1) names front one.0 ≡ Err (record { no = f.no; word = f.word.now }))) → IsMemory f ⊎ (lines_say p 1 no_names [] all ≡ Err (seen_rejection f))
     by (inl memory) = inl memory
     by (inr (number, says)) =
         inr (so_far all are ∙ ap (lines_say p (length before + 1) names front) one.2
-        ∙ stops p (length before + 1) names front one.0 (seen_rejection f) (drop (suc (length before)) all) (number ∙ same) (subst (λ (k : ℕ). taken_says p k names front one.0 ≡ Err (record { no = f.no; word = f.word.now })) same says))
+        ∙ stops p (length before + 1) names front one.0 (seen_rejection f) (drop (suc (length before)) all) (number ∙ same) (subst (λ (k : ℕ). read_says p k names front one.0 ≡ Err (record { no = f.no; word = f.word.now })) same says))
 
 pub come_end : (p : Procedures) (ls : List (List ℕ)) (n : ℕ) (names : Names) (front : List ℕ) → HasCome p ls n names front → n ≡ length ls → (all : List Line) → AreTaken all ls → lines_say p 1 no_names [] all ≡ Ok front
 come_end p ls n names front come e all are =

@@ -10,11 +10,12 @@ use Rattle.tw_code.specs.format.Table.{forms_of, opcode_in, opcode_of}
 use Rattle.tw_code.specs.declared.opcode.Opcode.{Opcode}
 use Rattle.tw_code.specs.declared.opcode.Opcode.TheVariants as opcode
 use Rattle.tw_code.specs.declared.version.Version.TheVariants.{Four}
-use Rattle.tw_symbols.proofs.TextNames.{TokenError, Line, Names, Procedures, Rejection, Said, and_then, asked_by, at_number, ended, flat_map, head_says, is_name, is_names_line, known, line_rest, line_words, lines_say, made_say, no_names, pieces, procedures_of, taken_says, with_line, with_lines, with_register, words_say}
+use Rattle.tw_symbols.proofs.TextNames.{TokenError, Line, Names, Procedures, Rejection, Said, and_then, asked_by, at_number, ended, flat_map, head_says, is_name, is_names_line, known, line_rest, line_words, lines_say, made_say, no_names, or_unread, pieces, procedures_of, read_says, reads_heads, taken_says, unread, with_line, with_lines, with_register, words_say}
 use Rattle.tw_symbols.specs.Meanings.{Head}
 use Rattle.tw_symbols.specs.LineExpansion.{line_says, banks_at, banks_of, body_says, callee, constant_says, instruction_says, is_empty, let_says, made_word, makes, named, only_names, registers_say, with_word, word_says}
 use Rattle.tw_symbols.specs.Expansion.{with_head, with_words}
-use Rattle.tw_symbols.specs.Renaming.{Either, AreLineWords, AreRenamed, AreRenamedLines, IsRenamedBody, IsRenamedLine, IsTextRenaming, TextsRenamedAlike, renamed_operands}
+use Rattle.tw_symbols.specs.Renaming.{Either, AreLineWords, AreRenamed, AreRenamedLines, IfRead, IsRenamedBody, IsRenamedLine, IsRenamedRead, IsTextRenaming, TextsRenamedAlike, renamed_first, renamed_head, renamed_listed, renamed_operands}
+use Rattle.tw_symbols.specs.Unread.{begins_unknown, calls_unknown, is_call, is_open_call, is_past}
 use Rattle.tw_symbols.specs.Theorems.{renamed_words}
 use Rattle.tw_symbols.specs.declared.meaning.Expected.{Expected}
 use Rattle.tw_symbols.specs.declared.meaning.Expected.TheVariants as asked
@@ -27,6 +28,7 @@ use Rattle.tw_symbols.proofs.Renamed.{known_kept, word_kept, words_kept}
 use Rattle.tw_symbols.proofs.RenamedWords.{const_kept, let_kept, r, register_kept, registers_kept, rn, rp}
 use Rattle.tw_symbols.proofs.RenamedHeads.{head_kept, with_head_kept}
 use Rattle.tw_symbols.proofs.SaidTexts.{ok_is, went_then, word_made}
+use Rattle.tw_symbols.proofs.UnreadLines.{call_adds_none, full_past, full_words, no_proc}
 
 -- ---- tests
 
@@ -93,6 +95,48 @@ kind_of opcode.PutComputed = inr (refl, λ a. (_, refl))
 kind_of opcode.InsertValue = inl (λ a b. refl)
 kind_of opcode.GetValue = inl (λ a b. refl)
 kind_of opcode.AddValue = inl (λ a b. refl)
+
+-- an instruction's first operand is a procedure, or no call is one
+call_of : (o : Opcode) → (is_call (forms_of o) ≡ false) ⊎ IsCall o
+call_of opcode.Rule = inr (refl, λ a. (_, refl))
+call_of opcode.Put = inr (refl, λ a. (_, refl))
+call_of opcode.RuleComputed = inr (refl, λ a. (_, refl))
+call_of opcode.PutComputed = inr (refl, λ a. (_, refl))
+call_of opcode.Int = inl refl
+call_of opcode.Text = inl refl
+call_of opcode.Copy = inl refl
+call_of opcode.Add = inl refl
+call_of opcode.Subtract = inl refl
+call_of opcode.Multiply = inl refl
+call_of opcode.Divide = inl refl
+call_of opcode.Remainder = inl refl
+call_of opcode.Concatenate = inl refl
+call_of opcode.Length = inl refl
+call_of opcode.Show = inl refl
+call_of opcode.ReadInt = inl refl
+call_of opcode.Jump = inl refl
+call_of opcode.JumpEqual = inl refl
+call_of opcode.JumpLess = inl refl
+call_of opcode.Repeat = inl refl
+call_of opcode.End = inl refl
+call_of opcode.New = inl refl
+call_of opcode.Store = inl refl
+call_of opcode.Get = inl refl
+call_of opcode.Insert = inl refl
+call_of opcode.Look = inl refl
+call_of opcode.Size = inl refl
+call_of opcode.SubscriptAt = inl refl
+call_of opcode.CopyRead = inl refl
+call_of opcode.CopyWrite = inl refl
+call_of opcode.DropRead = inl refl
+call_of opcode.DropWrite = inl refl
+call_of opcode.Ret = inl refl
+call_of opcode.InsertByText = inl refl
+call_of opcode.LookByText = inl refl
+call_of opcode.SubscriptAtByText = inl refl
+call_of opcode.InsertValue = inl refl
+call_of opcode.GetValue = inl refl
+call_of opcode.AddValue = inl refl
 
 cut : (k : ℕ) (f : List ℕ → List ℕ) (ws : List (List ℕ)) (E : List Expected) → (take k (map f (take k ws) ++ renamed_words f E (drop k ws)) ≡ map f (take k ws)) × (drop k (map f (take k ws) ++ renamed_words f E (drop k ws)) ≡ renamed_words f E (drop k ws))
 cut zero f ws E = (refl, refl)
@@ -216,6 +260,18 @@ module _ (f : List ℕ → List ℕ) (is : IsTextRenaming f) where
   unfolding opcode_of
   none_so_called = refl
 
+  no_const : opcode_in Four (codes "const") ≡ None
+  unfolding opcode_of
+  no_const = refl
+
+  no_let : opcode_in Four (codes "let") ≡ None
+  unfolding opcode_of
+  no_let = refl
+
+  no_regs : opcode_in Four (codes "regs") ≡ None
+  unfolding opcode_of
+  no_regs = refl
+
   -- the line `names` stays as it is
   names_line : (p : Procedures) (n : Names) (front first : List ℕ) (ws more : List (List ℕ)) → AreRenamed f p n front first ws more → is_names_line first more ≡ is_names_line first ws
   names_line p n front first ws more are = by (bytes_eq first (codes "names")) refl
@@ -256,11 +312,90 @@ module _ (f : List ℕ → List ℕ) (is : IsTextRenaming f) where
       (λ g said e. ap (registers_say (rp f is p) (rn f is n) (front ++ first)) (if_true _ _ (bytes_eq first (codes "regs")) last g) ∙ registers_kept f is p n (front ++ first) (flat_map pieces ws) said e)
       (λ g. body_kept p n (front ++ first) (opcode_in Four first) ws more (if_false _ _ (bytes_eq first (codes "regs")) last g))))))))
 
+  -- ---- a line that isn't read
+
+  none_called : (name first : List ℕ) → opcode_in Four name ≡ None → bytes_eq first name ≡ true → opcode_in Four first ≡ None
+  none_called name first none e = ap (opcode_in Four) ((bytes_eq-Decides first name).0 e) ∙ none
+
+  unknown_kept : (p : Procedures) (n : Names) (rest : List Expected) (ws : List (List ℕ)) → begins_unknown (rp f is p) (rn f is n) (renamed_words f (asked.Procedure ∷ rest) ws) ≡ begins_unknown p n ws
+  unknown_kept p n rest [] = refl
+  unknown_kept p n rest (w ∷ ws) =
+      ap (λ (t : Bool). t && is_none (known (rp f is p) (rn f is n) (f w))) ((r f is).names w) ∙ ap (λ (k : Option Binding). is_name w && is_none k) (known_kept f (r f is) p n w)
+
+  call_kept : (p : Procedures) (n : Names) (front : List ℕ) (o : Option Opcode) (ws more : List (List ℕ)) → IsRenamedBody f p n front o ws more → calls_unknown (rp f is p) (rn f is n) o more ≡ calls_unknown p n o ws
+  call_kept p n front None ws more are = refl
+  call_kept p n front (Some o) ws more are = by (call_of o)
+    where
+      W : List (List ℕ)
+      W = flat_map pieces ws
+
+      E : List Expected
+      E = flat_map (asked_by (banks_of p n W)) (forms_of o)
+
+      by : (is_call (forms_of o) ≡ false) ⊎ IsCall o → (is_call (forms_of o) && begins_unknown (rp f is p) (rn f is n) (flat_map pieces more)) ≡ (is_call (forms_of o) && begins_unknown p n W)
+      by (inl none) = ap (λ (t : Bool). t && begins_unknown (rp f is p) (rn f is n) (flat_map pieces more)) none ∙ sym (ap (λ (t : Bool). t && begins_unknown p n W) none)
+      by (inr call) =
+          let first = call.1 (banks_of p n W) in
+          let here = are (n, front) (ap (λ (k : ℕ). made_say p n front (take k W)) call.0) in
+          ap (λ (x : List (List ℕ)). is_call (forms_of o) && begins_unknown (rp f is p) (rn f is n) x)
+          (here ∙ ap (λ (k : ℕ). map f (take k W) ++ renamed_words f (drop k E) (drop k W)) call.0 ∙ ap (λ (x : List Expected). renamed_words f x W) first.1)
+          ∙ ap (λ (t : Bool). is_call (forms_of o) && t) (unknown_kept p n first.0 W)
+
+  open_kept : (p : Procedures) (n : Names) (front : List ℕ) (ws others : List (List ℕ)) → AreLineWords f p n front ws others → is_open_call (rp f is p) (rn f is n) others ≡ is_open_call p n ws
+  open_kept p n front [] others are = ap (is_open_call (rp f is p) (rn f is n)) are
+  open_kept p n front (first ∷ ws) others (more, same, are) = ap (is_open_call (rp f is p) (rn f is n)) same ∙ by (either_one first) refl are
+    where
+      no_call : opcode_in Four first ≡ None → calls_unknown (rp f is p) (rn f is n) (opcode_in Four first) more ≡ calls_unknown p n (opcode_in Four first) ws
+      no_call none = ap (λ (o : Option Opcode). calls_unknown (rp f is p) (rn f is n) o more) none ∙ sym (ap (λ (o : Option Opcode). calls_unknown p n o ws) none)
+
+      either_called : (s t : Bool) → (s || t) ≡ true → (s ≡ true) ⊎ (t ≡ true)
+      either_called true t e = inl refl
+      either_called false t e = inr e
+
+      assigned : (bytes_eq first (codes "const") ≡ true) ⊎ (bytes_eq first (codes "let") ≡ true) → calls_unknown (rp f is p) (rn f is n) (opcode_in Four first) more ≡ calls_unknown p n (opcode_in Four first) ws
+      assigned (inl e) = no_call (none_called (codes "const") first no_const e)
+      assigned (inr e) = no_call (none_called (codes "let") first no_let e)
+
+      body : (t : Bool) → bytes_eq first (codes "regs") ≡ t → Either t (flat_map pieces more ≡ map (renamed_listed f) (flat_map pieces ws)) (IsRenamedBody f p n (front ++ first) (opcode_in Four first) ws more)
+          → calls_unknown (rp f is p) (rn f is n) (opcode_in Four first) more ≡ calls_unknown p n (opcode_in Four first) ws
+      body true e a = no_call (none_called (codes "regs") first no_regs e)
+      body false e a = call_kept p n (front ++ first) (opcode_in Four first) ws more a
+
+      headed : (t : Bool) → bytes_eq first (codes "proc") ≡ t
+          → Either t (flat_map pieces more ≡ renamed_head f (flat_map pieces ws)) (Either (bytes_eq first (codes "regs")) (flat_map pieces more ≡ map (renamed_listed f) (flat_map pieces ws)) (IsRenamedBody f p n (front ++ first) (opcode_in Four first) ws more))
+          → calls_unknown (rp f is p) (rn f is n) (opcode_in Four first) more ≡ calls_unknown p n (opcode_in Four first) ws
+      headed true e a = no_call (none_called (codes "proc") first no_proc e)
+      headed false e a = body (bytes_eq first (codes "regs")) refl a
+
+      by : (t : Bool) → either_one first ≡ t
+          → Either t (more ≡ renamed_first f ws) (Either (bytes_eq first (codes "proc")) (flat_map pieces more ≡ renamed_head f (flat_map pieces ws)) (Either (bytes_eq first (codes "regs")) (flat_map pieces more ≡ map (renamed_listed f) (flat_map pieces ws)) (IsRenamedBody f p n (front ++ first) (opcode_in Four first) ws more)))
+          → calls_unknown (rp f is p) (rn f is n) (opcode_in Four first) more ≡ calls_unknown p n (opcode_in Four first) ws
+      by true e a = assigned (either_called (bytes_eq first (codes "const")) (bytes_eq first (codes "let")) e)
+      by false e a = headed (bytes_eq first (codes "proc")) refl a
+
+  read_too : (p : Procedures) (number : ℕ) (n : Names) (front : List ℕ) (line other : Line) → IsRenamedLine f p n front line other → unread (rp f is p) number (rn f is n) (line_words other) ≡ unread p number n (line_words line)
+  read_too p number n front line other (rest, are) =
+      ap (λ (t : Bool). cond (is_past p number) (Some []) (cond (reads_heads p) None (cond t (Some (codes "RET")) None))) (open_kept p n front (line_words line) (line_words other) are)
+
   taken_kept : (p : Procedures) (number : ℕ) (n : Names) (front : List ℕ) (line other : Line) → IsRenamedLine f p n front line other → Goes (taken_says p number n front line) (taken_says (rp f is p) number (rn f is n) front other)
   taken_kept p number n front line other (rest, are) said e =
       let went = went_then (line_says p number n front (line_words line)) (λ (s : Names × List ℕ). Ok (s.0, s.1 ++ ended (line_rest line))) said e in
       ap (λ (m : Said). and_then m (λ (s : Names × List ℕ). Ok (s.0, s.1 ++ ended (line_rest other)))) (line_kept p number n front (line_words line) (line_words other) are went.0 went.1)
       ∙ ap (λ (x : List ℕ). Ok (rn f is went.0.0, went.0.1 ++ ended x)) rest ∙ ap (λ (s : Names × List ℕ). Ok (rn f is s.0, s.1)) (ok_is (went.0.0, went.0.1 ++ ended (line_rest line)) said went.2)
+
+  read_kept : (p : Procedures) (number : ℕ) (n : Names) (front : List ℕ) (line other : Line) → IsRenamedRead f p number n front line other → Goes (read_says p number n front line) (read_says (rp f is p) number (rn f is n) front other)
+  read_kept p number n front line other = by (unread p number n (line_words line)) refl
+    where
+      says : Said
+      says = taken_says p number n front line
+
+      said_too : Said
+      said_too = taken_says (rp f is p) number (rn f is n) front other
+
+      by : (u : Option (List ℕ)) → unread p number n (line_words line) ≡ u → IfRead u (unread (rp f is p) number (rn f is n) (line_words other)) (IsRenamedLine f p n front line other)
+          → Goes (or_unread u n front says) (or_unread (unread (rp f is p) number (rn f is n) (line_words other)) (rn f is n) front said_too)
+      by None e a = subst (λ (u : Option (List ℕ)). Goes says (or_unread u (rn f is n) front said_too)) (sym (read_too p number n front line other a ∙ e)) (taken_kept p number n front line other a)
+      by (Some text) e a = subst (λ (u : Option (List ℕ)). Goes (Ok (n, front ++ ended text)) (or_unread u (rn f is n) front said_too)) (sym a) (nothing_kept n (front ++ ended text))
 
   -- ---- lines
 
@@ -273,8 +408,8 @@ module _ (f : List ℕ → List ℕ) (is : IsTextRenaming f) where
   lines_kept p number n front [] others plain are e = ap (lines_say (rp f is p) number (rn f is n) front) are ∙ e
   lines_kept p number n front (line ∷ all) [] plain are e = absurd are
   lines_kept p number n front (line ∷ all) (other ∷ others) plain (now, later) e =
-      let went = at_went number (taken_says p number n front line) (λ (s : Names × List ℕ). lines_say p (number + 1) s.0 s.1 all) plain e in
-      ap (λ (x : Said). at_number number x (λ (s : Names × List ℕ). lines_say (rp f is p) (number + 1) s.0 s.1 others)) (taken_kept p number n front line other now went.0 went.1)
+      let went = at_went number (read_says p number n front line) (λ (s : Names × List ℕ). lines_say p (number + 1) s.0 s.1 all) plain e in
+      ap (λ (x : Said). at_number number x (λ (s : Names × List ℕ). lines_say (rp f is p) (number + 1) s.0 s.1 others)) (read_kept p number n front line other now went.0 went.1)
       ∙ lines_kept p (number + 1) went.0.0 went.0.1 all others plain (later went.0 went.1) went.2
 
   -- ---- the procedures
@@ -282,28 +417,50 @@ module _ (f : List ℕ → List ℕ) (is : IsTextRenaming f) where
   line_head : (p q : Procedures) (number : ℕ) (n : Names) (front : List ℕ) (line other : Line) → IsRenamedLine f p n front line other → with_line (rp f is q) number other ≡ rp f is (with_line q number line)
   line_head p q number n front line other (rest, are) = words_head (line_words line) (line_words other) are
     where
+      reads : (t : Bool) (x y : Procedures) → x ≡ rp f is y → cond t x (rp f is q) ≡ rp f is (cond t y q)
+      reads true x y e = e
+      reads false x y e = refl
+
       by : (first : List ℕ) (ws more : List (List ℕ)) → AreRenamed f p n front first ws more → (t : Bool) → bytes_eq first (codes "proc") ≡ t
-          → cond t (with_head (rp f is q) number (flat_map pieces more)) (rp f is q) ≡ rp f is (cond t (with_head q number (flat_map pieces ws)) q)
+          → cond (t && reads_heads q) (with_head (rp f is q) number (flat_map pieces more)) (rp f is q) ≡ rp f is (cond (t && reads_heads q) (with_head q number (flat_map pieces ws)) q)
       by first ws more are true e =
           let here = subst (λ (w : List ℕ). AreRenamed f p n front w ws more) ((bytes_eq-Decides first (codes "proc")).0 e) are in
-          ap (with_head (rp f is q) number) here ∙ with_head_kept f is q number (flat_map pieces ws)
+          reads (reads_heads q) (with_head (rp f is q) number (flat_map pieces more)) (with_head q number (flat_map pieces ws)) (ap (with_head (rp f is q) number) here ∙ with_head_kept f is q number (flat_map pieces ws))
       by first ws more are false e = refl
 
       words_head : (ws others : List (List ℕ)) → AreLineWords f p n front ws others → with_words (rp f is q) number others ≡ rp f is (with_words q number ws)
       words_head [] others are = ap (with_words (rp f is q) number) are
       words_head (first ∷ ws) others (more, same, are) = ap (with_words (rp f is q) number) same ∙ by first ws more are (bytes_eq first (codes "proc")) refl
 
-  heads_kept : (p q : Procedures) (number : ℕ) (n : Names) (front : List ℕ) (all others : List Line) (plain : List ℕ) → AreRenamedLines f p number n front all others → lines_say p number n front all ≡ Ok plain
-      → with_lines (rp f is q) number others ≡ rp f is (with_lines q number all)
-  heads_kept p q number n front [] others plain are e = ap (with_lines (rp f is q) number) are
-  heads_kept p q number n front (line ∷ all) [] plain are e = absurd are
-  heads_kept p q number n front (line ∷ all) (other ∷ others) plain (now, later) e =
-      let went = at_went number (taken_says p number n front line) (λ (s : Names × List ℕ). lines_say p (number + 1) s.0 s.1 all) plain e in
-      ap (λ (x : Procedures). with_lines x (number + 1) others) (line_head p q number n front line other now)
-      ∙ heads_kept p (with_line q number line) (number + 1) went.0.0 went.0.1 all others plain (later went.0 went.1) went.2
+  -- a line that isn't read adds no procedure
+  unread_head : (p q : Procedures) (number : ℕ) (n : Names) (ws : List (List ℕ)) (text : List ℕ) → (is_past p number ≡ true → reads_heads q ≡ false) → unread p number n ws ≡ Some text → with_words q number ws ≡ q
+  unread_head p q number n ws text full = by (is_past p number) (reads_heads p) (is_open_call p n ws) refl refl
+    where
+      by : (s t o : Bool) → is_past p number ≡ s → is_open_call p n ws ≡ o → cond s (Some []) (cond t None (cond o (Some (codes "RET")) None)) ≡ Some text → with_words q number ws ≡ q
+      by true t o past calls e = full_words q number ws (full past)
+      by false true o past calls e = absurd cc
+      by false false true past calls e = call_adds_none p q number n ws calls
+      by false false false past calls e = absurd cc
+
+  read_head : (p q : Procedures) (number : ℕ) (n : Names) (front : List ℕ) (line other : Line) → (is_past p number ≡ true → reads_heads q ≡ false) → IsRenamedRead f p number n front line other
+      → with_line (rp f is q) number other ≡ rp f is (with_line q number line)
+  read_head p q number n front line other full = by (unread p number n (line_words line)) refl
+    where
+      by : (u : Option (List ℕ)) → unread p number n (line_words line) ≡ u → IfRead u (unread (rp f is p) number (rn f is n) (line_words other)) (IsRenamedLine f p n front line other) → with_line (rp f is q) number other ≡ rp f is (with_line q number line)
+      by None e a = line_head p q number n front line other a
+      by (Some text) e a = unread_head (rp f is p) (rp f is q) number (rn f is n) (line_words other) text full a ∙ ap (rp f is) (sym (unread_head p q number n (line_words line) text full e))
+
+  heads_kept : (p q : Procedures) (number : ℕ) (n : Names) (front : List ℕ) (all others : List Line) (plain : List ℕ) → p ≡ with_lines q number all → AreRenamedLines f p number n front all others
+      → lines_say p number n front all ≡ Ok plain → with_lines (rp f is q) number others ≡ rp f is (with_lines q number all)
+  heads_kept p q number n front [] others plain whole are e = ap (with_lines (rp f is q) number) are
+  heads_kept p q number n front (line ∷ all) [] plain whole are e = absurd are
+  heads_kept p q number n front (line ∷ all) (other ∷ others) plain whole (now, later) e =
+      let went = at_went number (read_says p number n front line) (λ (s : Names × List ℕ). lines_say p (number + 1) s.0 s.1 all) plain e in
+      ap (λ (x : Procedures). with_lines x (number + 1) others) (read_head p q number n front line other (λ past. full_past q number (line ∷ all) (subst (λ (x : Procedures). is_past x number ≡ true) whole past)) now)
+      ∙ heads_kept p (with_line q number line) (number + 1) went.0.0 went.0.1 all others plain whole (later went.0 went.1) went.2
 
 pub texts_renamed_alike : TextsRenamedAlike
 texts_renamed_alike f is all others plain are e =
     let none : Procedures = record { table = []; heads = [] } in
     let p = procedures_of all in
-    ap (λ (q : Procedures). lines_say q 1 no_names [] others) (heads_kept f is p none 1 no_names [] all others plain are e) ∙ lines_kept f is p 1 no_names [] all others plain are e
+    ap (λ (q : Procedures). lines_say q 1 no_names [] others) (heads_kept f is p none 1 no_names [] all others plain refl are e) ∙ lines_kept f is p 1 no_names [] all others plain are e

@@ -8,7 +8,7 @@ use Rattle.std.proofs.lemmas.Slice.Eq.{bytes_eq-Decides}
 use Rattle.tw_lexer.specs.Names.{all_in_name, before_colon, is_in_name, is_letter}
 use Rattle.tw_lexer.specs.Names as words
 use Rattle.tw_lexer.proofs.Colons.{before, found_before}
-use Rattle.tw_symbols.proofs.TextNames.{TokenError, Names, Procedures, Table, and_then, is_name, known, map-append, may_name, name_register, nat_lt, refused, with_constant, with_register, bank_of_mode, followed_by, is_unnamed, list_says, value_types}
+use Rattle.tw_symbols.proofs.TextNames.{TokenError, Names, Procedures, Table, and_then, is_name, known, map-append, may_name, name_register, nat_lt, not_taken, refused, with_constant, with_register, bank_of_mode, followed_by, is_unnamed, list_says, value_types}
 use Rattle.tw_symbols.specs.Meanings.{is_listed, lists, with_listed}
 use Rattle.tw_symbols.specs.LineExpansion.{begins, begins_first, constant_says, counted, has_colon, is_listed_word, let_says, list_name, name_before, number_in, number_of, register_of, registers_say, unnamed_says, value_after}
 use Rattle.tw_symbols.specs.Renaming.{IsTextRenaming, renamed_before, renamed_first, renamed_listed}
@@ -171,23 +171,23 @@ module _ (f : List ℕ → List ℕ) (is : IsTextRenaming f) where
 
   -- ---- one more name
 
-  abbrev may_by : Bool → Bool → List ℕ → Result (Unit {0}) TokenError
-  may_by t s word = cond t (cond s (refused no.Twice word) (Ok tt)) (refused no.NoName word)
+  abbrev may_by : Bool → Option Binding → List ℕ → Result (Unit {0}) TokenError
+  may_by t k word = cond t (not_taken word k) (refused no.NoName word)
 
-  may_too : (t s : Bool) (word other : List ℕ) (u : Unit {0}) → may_by t s word ≡ Ok u → may_by t s other ≡ Ok u
-  may_too true true word other u e = absurd cc
-  may_too true false word other u e = e
-  may_too false s word other u e = absurd cc
+  may_too : (t : Bool) (k : Option Binding) (word other : List ℕ) (u : Unit {0}) → may_by t k word ≡ Ok u → may_by t k other ≡ Ok u
+  may_too true (Some x) word other u e = absurd cc
+  may_too true None word other u e = e
+  may_too false k word other u e = absurd cc
 
-  may_is : (t s : Bool) (word : List ℕ) (u : Unit {0}) → may_by t s word ≡ Ok u → t ≡ true
-  may_is true s word u e = refl
-  may_is false s word u e = absurd cc
+  may_is : (t : Bool) (k : Option Binding) (word : List ℕ) (u : Unit {0}) → may_by t k word ≡ Ok u → t ≡ true
+  may_is true k word u e = refl
+  may_is false k word u e = absurd cc
 
   may_kept : (p : Procedures) (n : Names) (name : List ℕ) (u : Unit {0}) → may_name p n name ≡ Ok u → may_name (rp p) (rn n) (f name) ≡ Ok u
   may_kept p n name u e =
-      ap (λ (t : Bool). may_by t (is_some (known (rp p) (rn n) (f name))) (f name)) (r.names name)
-      ∙ ap (λ (k : Option Binding). may_by (is_name name) (is_some k) (f name)) (known_kept f r p n name)
-      ∙ may_too (is_name name) (is_some (known p n name)) name (f name) u e
+      ap (λ (t : Bool). may_by t (known (rp p) (rn n) (f name)) (f name)) (r.names name)
+      ∙ ap (λ (k : Option Binding). may_by (is_name name) k (f name)) (known_kept f r p n name)
+      ∙ may_too (is_name name) (known p n name) name (f name) u e
 
   pub table_more : (table : Table) (entry : List ℕ × Binding) → renamed_table f (table ++ entry ∷ []) ≡ renamed_table f table ++ (f entry.0, entry.1) ∷ []
   table_more table entry = map-append (λ (e : List ℕ × Binding). (f e.0, e.1)) table (entry ∷ [])
@@ -227,7 +227,7 @@ module _ (f : List ℕ → List ℕ) (is : IsTextRenaming f) where
       by true h = absurd cc
       by false h =
           let went = went_then (may_name p n name) (λ (_ : Unit {0}). cond (nat_lt number 16) (Ok (name_register n name b number origin.Listed)) (refused no.Limit name)) after h in
-          (may_is (is_name name) (is_some (known p n name)) name went.0 went.1, register_kept p n name b number origin.Listed after h)
+          (may_is (is_name name) (known p n name) name went.0 went.1, register_kept p n name b number origin.Listed after h)
 
   constant_kept : (p : Procedures) (n : Names) (name : List ℕ) (x : Binding) (after : Names) → with_constant p n name x ≡ Ok after → with_constant (rp p) (rn n) (f name) x ≡ Ok (rn after)
   constant_kept p n name x after e =
@@ -273,7 +273,7 @@ module _ (f : List ℕ → List ℕ) (is : IsTextRenaming f) where
   not_named_kept : (n : Names) (word : List ℕ) (after : Names) → unnamed_says n word ≡ Ok after → unnamed_says (rn n) word ≡ Ok (rn after)
   not_named_kept n word after e = by (is_name word && not (is_listed_word word)) (has_colon word) e
     where
-      by : (s t : Bool) → cond s (refused no.Unknown word) (cond t (refused no.Form word) (Ok n)) ≡ Ok after → cond s (refused no.Unknown word) (cond t (refused no.Form word) (Ok (rn n))) ≡ Ok (rn after)
+      by : (s t : Bool) → cond s (refused no.Unlisted word) (cond t (refused no.Form word) (Ok n)) ≡ Ok after → cond s (refused no.Unlisted word) (cond t (refused no.Form word) (Ok (rn n))) ≡ Ok (rn after)
       by true t h = absurd cc
       by false true h = absurd cc
       by false false h = ap (λ (x : Names). Ok (rn x)) (ok_is n after h)

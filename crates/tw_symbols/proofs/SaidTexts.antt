@@ -79,7 +79,7 @@ list_name_types p names values rights word (c ∷ name) (Some b) = listed_types 
 
 before_types : (p : Procedures) (l : Listed) (names : Names) (values rights : ℕ) (word : List ℕ) (words : List (List ℕ)) (name : Option (List ℕ)) → SameTypes names (name_before p l names values rights word words name)
 before_types p l names values rights word words None =
-    either (SameTypes names) (is_name word && not (is_listed_word word)) _ _ (none_named names (record { no = no.Unknown; word = word }))
+    either (SameTypes names) (is_name word && not (is_listed_word word)) _ _ (none_named names (record { no = no.Unlisted; word = word }))
     (either (SameTypes names) (has_colon word) _ _ (none_named names (record { no = no.Form; word = word })) (same_names names))
 before_types p l names values rights word words (Some name) = list_name_types p names values rights word name (begins_first l words)
 

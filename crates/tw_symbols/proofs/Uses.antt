@@ -11,7 +11,7 @@ use Rattle.tw_lexer.specs.declared.numbers.TokenError as numbers
 use Rattle.tw_lexer.specs.Names.{before_colon}
 use Rattle.tw_lexer.proofs.Colons.{before}
 use Rattle.tw_lexer.proofs.Readings.{digits_same}
-use Rattle.tw_symbols.proofs.TextNames.{TokenError, Names, Procedures, Table, is_name, is_some, known, list_says, may_name, meaning, name_register, nat_lt, or_else, refused}
+use Rattle.tw_symbols.proofs.TextNames.{TokenError, Names, Procedures, Table, is_name, known, list_says, may_name, meaning, name_register, nat_lt, not_taken, or_else, refused}
 use Rattle.tw_symbols.specs.Theorems.{ListedByPlace, NamesStay, UsesAreRegisters, begun, read_in}
 use Rattle.tw_symbols.specs.Meanings.{is_bank, is_listed, with_listed, with_register}
 use Rattle.tw_symbols.specs.LineExpansion.{begins, counted, fitting, list_name, name_before, named, number_in, register_in, expands, with_word}
@@ -65,7 +65,7 @@ new_found name (k ∷ table) x e = by (bytes_eq name k.0) e (new_found name tabl
     by true h more = absurd cc
     by false h more = more h
 
-unknown : (name : List ℕ) (u : Unit {0}) (a : Bool) (k : Option Binding) → cond a (cond (is_some k) (refused {A = Unit {0}} no.Twice name) (Ok tt)) (refused no.NoName name) ≡ Ok u → k ≡ None
+unknown : (name : List ℕ) (u : Unit {0}) (a : Bool) (k : Option Binding) → cond a (not_taken name k) (refused no.NoName name) ≡ Ok u → k ≡ None
 unknown name u true None e = refl
 unknown name u true (Some x) e = absurd cc
 unknown name u false k e = absurd cc

@@ -1,6 +1,6 @@
 -- A text is read line by line.
-use Rattle.std.proofs.Common.{[], ◌≡◌, ℕ, suc, ◌+◌, List, ◌∷◌, ◌++◌, length, drop, refl, ap, ◌∙◌, inl, inr, arith}
-use Rattle.tw_symbols.proofs.TextNames.{AreTaken, AreWords, HasNames, IsTaken, Line, Procedures, codes, with_line, with_lines}
+use Rattle.std.proofs.Common.{[], ◌≡◌, ℕ, zero, suc, ◌+◌, List, ◌∷◌, ◌++◌, length, drop, Some, None, refl, ap, subst, ◌∙◌, inl, inr, arith}
+use Rattle.tw_symbols.proofs.TextNames.{AreTaken, AreWords, HasNames, IsTaken, Line, Procedures, codes, slice_get, with_line, with_lines}
 use Rattle.tw_symbols.proofs.Taking.{words_once}
 
 pub with_lines_more : (p : Procedures) (n : ℕ) (all : List Line) (t : Line) → with_lines p n (all ++ t ∷ []) ≡ with_line (with_lines p n all) (n + length all) t
@@ -58,3 +58,22 @@ pub after_names : (before : List (List ℕ)) (others : List (List ℕ)) → AreB
 after_names [] others are has = has
 after_names (l ∷ before) others (first, more) (inl (rest, names)) = absurd (not_blank [] (codes "names") l rest names first)
 after_names (l ∷ before) others (first, more) (inr (_, has)) = after_names before others more has
+
+-- ---- the line at an index
+
+some_is : (a b : List ℕ) → Some a ≡ Some b → a ≡ b
+some_is a b e = cc
+
+pub taken_some : (all : List Line) (ls : List (List ℕ)) (i : ℕ) (line : List ℕ) → AreTaken all ls → slice_get ls i ≡ Some line → (t : Line) × IsTaken t line × (slice_get all i ≡ Some t)
+taken_some [] [] i line are e = absurd cc
+taken_some [] (l ∷ ls) i line are e = absurd are
+taken_some (t ∷ all) [] i line are e = absurd are
+taken_some (t ∷ all) (l ∷ ls) zero line (is, more) e = (t, subst (IsTaken t) (some_is l line e) is, refl)
+taken_some (t ∷ all) (l ∷ ls) (suc i) line (is, more) e = taken_some all ls i line more e
+
+pub taken_none : (all : List Line) (ls : List (List ℕ)) (i : ℕ) → AreTaken all ls → slice_get ls i ≡ None → slice_get all i ≡ None
+taken_none [] [] i are e = refl
+taken_none [] (l ∷ ls) i are e = absurd are
+taken_none (t ∷ all) [] i are e = absurd are
+taken_none (t ∷ all) (l ∷ ls) zero (is, more) e = absurd cc
+taken_none (t ∷ all) (l ∷ ls) (suc i) (is, more) e = taken_none all ls i more e

@@ -22,13 +22,15 @@ use Rattle.tw_symbols.specs.declared.rejection.NameError.{NameError}
 use Rattle.tw_symbols.specs.declared.rejection.Rejection.{Rejection}
 use Rattle.tw_symbols.specs.declared.rejection.Rejection.TheVariants as rejection
 
--- returns the number of N01 to N07; N03 is both for a name and for a register that is taken
+-- returns the number of N01 to N07
 abbrev pub name_number : NameNo → ℕ
 name_number no.Form = 1
 name_number no.NoName = 2
 name_number no.Twice = 3
+name_number (no.Taken x) = 3
 name_number no.Listed = 3
-name_number no.Unknown = 4
+name_number (no.Unknown a) = 4
+name_number no.Unlisted = 4
 name_number (no.Kind x a) = 5
 name_number no.Limit = 6
 name_number no.NoMemory = 7

@@ -1,11 +1,12 @@
 -- The expansion of a symbolic assembly text, or its first error.
-use Rattle.std.specs.Prelude.{◌≡◌, ◌+◌, ℕ, List, [], ◌∷◌, ◌++◌, ◌⊎◌, length, codes, Option, Some, None, Result, Ok, Err, is_some, if◌then◌else◌}
+use Rattle.std.specs.Prelude.{◌≡◌, ◌+◌, ◌&&◌, ℕ, List, [], ◌∷◌, ◌++◌, ◌⊎◌, length, codes, Option, Some, None, Result, Ok, Err, is_some, if◌then◌else◌}
 use Rattle.std.specs.List.{filter_map, flat_map}
 use Rattle.std.specs.Str.{bytes_eq}
 use Rattle.std.specs.Str.Lines.{lines}
-use Rattle.tw_symbols.specs.Lines.{AreTaken, AreWords, Line, line_rest, line_words, pieces}
+use Rattle.tw_symbols.specs.Lines.{AreTaken, AreWords, IsTaken, Line, line_rest, line_words, pieces}
 use Rattle.tw_symbols.specs.Meanings.{Names, Procedures, Table, and_then, meaning, no_names}
 use Rattle.tw_symbols.specs.LineExpansion.{Said, bank_of_mode, line_says, procedure_name}
+use Rattle.tw_symbols.specs.Unread.{reads_heads, unread}
 use Rattle.tw_symbols.specs.declared.meaning.Binding.TheVariants as binding
 use Rattle.tw_symbols.specs.declared.rejection.NameNo.{NameNo}
 
@@ -25,7 +26,7 @@ with_head procedures number words = record {
 
 abbrev pub with_words : Procedures → ℕ → List (List ℕ) → Procedures
 with_words procedures number [] = procedures
-with_words procedures number (first ∷ words) = if bytes_eq first (codes "proc") then with_head procedures number (flat_map pieces words) else procedures
+with_words procedures number (first ∷ words) = if bytes_eq first (codes "proc") && reads_heads procedures then with_head procedures number (flat_map pieces words) else procedures
 
 abbrev pub with_line : Procedures → ℕ → Line → Procedures
 with_line procedures number line = with_words procedures number (line_words line)
@@ -34,6 +35,10 @@ with_line procedures number line = with_words procedures number (line_words line
 abbrev pub with_lines : Procedures → ℕ → List Line → Procedures
 with_lines procedures number [] = procedures
 with_lines procedures number (line ∷ others) = with_lines (with_line procedures number line) (number + 1) others
+
+-- holds if a line adds no procedure
+abbrev pub AddsNone : Procedures → List ℕ → Type 0
+AddsNone procedures line = (taken : Line) × IsTaken taken line × ((number : ℕ) → procedures ≡ with_line procedures number taken)
 
 abbrev pub procedures_of : List Line → Procedures
 procedures_of all = with_lines (record { table = []; heads = [] }) 1 all
@@ -52,6 +57,14 @@ ended line = line ++ codes "\n"
 abbrev pub taken_says : Procedures → ℕ → Names → List ℕ → Line → Said
 taken_says procedures number names front line = and_then (line_says procedures number names front (line_words line)) (λ said. Ok (said.0, said.1 ++ ended (line_rest line)))
 
+abbrev pub or_unread : Option (List ℕ) → Names → List ℕ → Said → Said
+or_unread None names front said = said
+or_unread (Some text) names front said = Ok (names, front ++ ended text)
+
+-- returns the expansion of a line, if it is read; the names stay if it isn't
+abbrev pub read_says : Procedures → ℕ → Names → List ℕ → Line → Said
+read_says procedures number names front line = or_unread (unread procedures number names (line_words line)) names front (taken_says procedures number names front line)
+
 -- returns an error with the number of its line
 abbrev pub at_number : ℕ → Said → (Names × List ℕ → Result (List ℕ) Rejection) → Result (List ℕ) Rejection
 at_number number (Ok said) next = next said
@@ -60,7 +73,7 @@ at_number number (Err flaw) next = Err (record { line = number; no = flaw.no; wo
 -- returns a text with the expansion of lines from this number on
 abbrev pub lines_say : Procedures → ℕ → Names → List ℕ → List Line → Result (List ℕ) Rejection
 lines_say procedures number names front [] = Ok front
-lines_say procedures number names front (line ∷ others) = at_number number (taken_says procedures number names front line) (λ said. lines_say procedures (number + 1) said.0 said.1 others)
+lines_say procedures number names front (line ∷ others) = at_number number (read_says procedures number names front line) (λ said. lines_say procedures (number + 1) said.0 said.1 others)
 
 abbrev pub text_says : List Line → Result (List ℕ) Rejection
 text_says all = lines_say (procedures_of all) 1 no_names [] all

@@ -55,7 +55,7 @@ fitting front word a x None = refused (no.Kind x a) word
 fitting front word a x (Some text) = Ok (with_word front text)
 
 abbrev pub named : List ℕ → List ℕ → Option Binding → Expected → Result (List ℕ) TokenError
-named front word None a = refused no.Unknown word
+named front word None a = refused (no.Unknown a) word
 named front word (Some x) a = fitting front word a x (expands a x)
 
 -- returns a text with the expansion of a word, which is the word itself if no name is required or it is none
@@ -220,7 +220,7 @@ has_colon word = not (begins_quoted word) && list_any (λ b. b == 58) word
 -- returns an error if the word is a name without `:`, or has more after its `:`
 abbrev pub unnamed_says : Names → List ℕ → Result Names TokenError
 unnamed_says names word =
-    if is_name word && not (is_listed_word word) then refused no.Unknown word else
+    if is_name word && not (is_listed_word word) then refused no.Unlisted word else
     if has_colon word then refused no.Form word else
     Ok names
 

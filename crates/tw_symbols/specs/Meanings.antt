@@ -1,5 +1,5 @@
 -- The meanings of names.
-use Rattle.std.specs.Prelude.{◌==◌, ◌+◌, ◌&&◌, ◌||◌, ℕ, Bool, true, false, not, List, [], ◌∷◌, ◌++◌, length, codes, Option, Some, None, Result, Ok, Err, is_some, nat_lt, if◌then◌else◌}
+use Rattle.std.specs.Prelude.{◌==◌, ◌+◌, ◌&&◌, ◌||◌, ℕ, Bool, true, false, not, List, [], ◌∷◌, ◌++◌, length, codes, Option, Some, None, Result, Ok, Err, nat_lt, if◌then◌else◌}
 use Rattle.std.specs.Map.{lookup}
 use Rattle.std.specs.Str.{bytes_eq}
 use Rattle.tw_lexer.specs.Digits.{are_digits}
@@ -81,10 +81,13 @@ and_then (Err flaw) next = Err flaw
 
 -- ---- one more name
 
+abbrev pub not_taken : List ℕ → Option Binding → Result (Unit {0}) TokenError
+not_taken name None = Ok tt
+not_taken name (Some x) = refused (no.Taken x) name
+
 -- succeeds if it is a name, and has no meaning yet
 abbrev pub may_name : Procedures → Names → List ℕ → Result (Unit {0}) TokenError
-may_name procedures names name =
-    if is_name name then (if is_some (known procedures names name) then refused no.Twice name else Ok tt) else refused no.NoName name
+may_name procedures names name = if is_name name then not_taken name (known procedures names name) else refused no.NoName name
 
 abbrev pub with_constant : Procedures → Names → List ℕ → Binding → Result Names TokenError
 with_constant procedures names name x = and_then (may_name procedures names name) (λ _. Ok (record names { constants = names.constants ++ (name, x) ∷ [] }))

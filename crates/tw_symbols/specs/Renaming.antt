@@ -9,8 +9,9 @@ use Rattle.tw_code.specs.declared.version.Version.TheVariants.{Four}
 use Rattle.tw_symbols.specs.Lines.{Line, line_rest, line_words, pieces}
 use Rattle.tw_symbols.specs.Meanings.{Names, Procedures, no_names}
 use Rattle.tw_symbols.specs.LineExpansion.{asked_by, bank_of_mode, banks_of, made_say, makes}
-use Rattle.tw_symbols.specs.Expansion.{procedures_of, taken_says, text_says}
-use Rattle.tw_symbols.specs.Theorems.{IsRenaming, renamed_words}
+use Rattle.tw_symbols.specs.Expansion.{procedures_of, read_says, text_says}
+use Rattle.tw_symbols.specs.Unread.{unread}
+use Rattle.tw_symbols.specs.Theorems.{IsRenaming, renamed_names, renamed_procedures, renamed_words}
 
 -- a renaming that keeps the modes `val`, `closed`, `ref` and `write`, and gives no name of theirs
 pub record IsTextRenaming (f : List ℕ → List ℕ) : Type 0 where
@@ -72,6 +73,16 @@ AreLineWords f procedures names front (first ∷ words) others = (more : List (L
 abbrev pub IsRenamedLine : (List ℕ → List ℕ) → Procedures → Names → List ℕ → Line → Line → Type 0
 IsRenamedLine f procedures names front line other = (line_rest other ≡ line_rest line) × AreLineWords f procedures names front (line_words line) (line_words other)
 
+-- holds by the statement, if a line is read; or else if the second line isn't read either, and expands to the same
+abbrev pub IfRead : Option (List ℕ) → Option (List ℕ) → Type 0 → Type 0
+IfRead None other R = R
+IfRead (Some text) other R = other ≡ Some text
+
+-- holds if the second line has other names; nothing more is required of one that isn't read
+abbrev pub IsRenamedRead : (List ℕ → List ℕ) → Procedures → ℕ → Names → List ℕ → Line → Line → Type 0
+IsRenamedRead f procedures number names front line other =
+    IfRead (unread procedures number names (line_words line)) (unread (renamed_procedures f procedures) number (renamed_names f names) (line_words other)) (IsRenamedLine f procedures names front line other)
+
 -- ---- texts
 
 -- holds if the second lines are the first with other names, from the line of this number on
@@ -79,7 +90,7 @@ abbrev pub AreRenamedLines : (List ℕ → List ℕ) → Procedures → ℕ → 
 AreRenamedLines f procedures number names front [] others = others ≡ []
 AreRenamedLines f procedures number names front (line ∷ lines) [] = ⊥
 AreRenamedLines f procedures number names front (line ∷ lines) (other ∷ others) =
-    IsRenamedLine f procedures names front line other × ((said : Names × List ℕ) → taken_says procedures number names front line ≡ Ok said → AreRenamedLines f procedures (number + 1) said.0 said.1 lines others)
+    IsRenamedRead f procedures number names front line other × ((said : Names × List ℕ) → read_says procedures number names front line ≡ Ok said → AreRenamedLines f procedures (number + 1) said.0 said.1 lines others)
 
 -- holds if a text expands to the same after each name was replaced by another for the same thing
 abbrev pub TextsRenamedAlike : Type 0

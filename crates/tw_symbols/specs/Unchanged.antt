@@ -1,12 +1,13 @@
 -- Lines that have at most a label. They expand to themselves whatever the names are, and name nothing.
-use Rattle.std.specs.Prelude.{◌≡◌, ◌<◌, ◌++◌, ℕ, Bool, true, false, List, Option, Ok}
+use Rattle.std.specs.Prelude.{◌≡◌, ◌<◌, ◌++◌, ℕ, Bool, true, false, List, None, Option, Ok}
 use Rattle.std.specs.Option.{is_some}
 use Rattle.tw_lexer.specs.Names.{before_colon}
 use Rattle.tw_lexer.specs.Words.{Bare, Quoted, Word}
-use Rattle.tw_symbols.specs.Expansion.{ended, taken_says}
+use Rattle.tw_symbols.specs.Expansion.{ended, read_says, taken_says}
 use Rattle.tw_symbols.specs.Lines.{IsTaken, Line, line_words}
 use Rattle.tw_symbols.specs.Meanings.{Names, Procedures}
 use Rattle.tw_symbols.specs.RightNames.{IsReady, begins_procedure, names_of}
+use Rattle.tw_symbols.specs.Unread.{unread}
 use Rattle.tw_symbols.specs.declared.right_names.Reader.{Reader}
 
 -- returns whether a word is a label: it isn't quoted, and ends with `:`
@@ -27,6 +28,11 @@ Stays line text = (old : List ℕ) → Extends line old (old ++ ended text)
 abbrev pub IsAdded : List ℕ → List ℕ → List ℕ → Bool → Type 0
 IsAdded line old new true = Extends line old new
 IsAdded line old new false = new ≡ old
+
+-- holds if a line was added that isn't read, or has at most a label; if none was, the text is as it was, and the line is read
+abbrev pub IsApart : Procedures → ℕ → Names → List ℕ → List ℕ → List ℕ → Bool → Type 0
+IsApart procedures number names line old new true = (t : Line) → IsTaken t line → read_says procedures number names old t ≡ Ok (names, new)
+IsApart procedures number names line old new false = (new ≡ old) × ((t : Line) → IsTaken t line → unread procedures number names (line_words t) ≡ None)
 
 -- holds if a reader of `count` lines has read the line of this number; if it hasn't, it is ready for this line
 abbrev pub IsPassed : (ℕ → ℕ → List ℕ) → List (List ℕ) → ℕ → ℕ → Option Reader → Bool → Type 0

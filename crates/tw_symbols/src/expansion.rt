@@ -15,7 +15,7 @@ use crate::names::Names;
 use crate::operand_text::put_ended;
 use crate::procedures::{Procedures, procedures_of};
 use crate::rejection::{NameError, Rejection};
-use crate::unchanged::put_unchanged;
+use crate::unread::put_apart;
 use std::alloc::{AllocError, Global};
 
 /// Returns whether these words are just `names`; `None` if there are none.
@@ -135,8 +135,9 @@ fn expanded_lines<'a>(
     let mut out = Vec::new(alloc);
     let mut names = Names::new(alloc, procedures.hash);
     for (index, line) in text.lines().enumerate() {
-        if !put_unchanged(alloc, &mut out, line)? {
-            put_numbered_line(alloc, procedures, index + 1, &mut names, &mut out, line)?;
+        let number = index + 1;
+        if !put_apart(alloc, procedures, number, &names, &mut out, line)? {
+            put_numbered_line(alloc, procedures, number, &mut names, &mut out, line)?;
         }
     }
     Ok(out)

@@ -62,14 +62,21 @@ fn expected_in(alloc: Global, banks: &[Bank], forms: &[Form]) -> Result<Vec<Expe
     Ok(asked)
 }
 
+/// Returns the number of the procedure with this meaning, or else by the digits of a word.
+pub fn callee_of(binding: Option<Binding>, word: &[u8]) -> Option<usize>
+    ensures { result ≡ callee binding (result_ok (digits_in 0 255 word.now)) }
+{
+    match binding {
+        Some(Binding::Procedure(number)) => Some(number),
+        _ => natural(word, LAST_PROCEDURE),
+    }
+}
+
 /// Returns the number of a procedure that is named or numbered by a word.
 fn callee(procedures: &Procedures<'_>, names: &Names<'_>, word: &[u8]) -> Option<usize>
     ensures { result ≡ callee (known (seen_procedures procedures.now) (seen_names names.now) word.now) (result_ok (digits_in 0 255 word.now)) }
 {
-    match known(procedures, names, word) {
-        Some(Binding::Procedure(number)) => Some(number),
-        _ => natural(word, LAST_PROCEDURE),
-    }
+    callee_of(known(procedures, names, word), word)
 }
 
 /// Returns the banks of the parameters of a procedure; none if there is no such procedure.

@@ -5,6 +5,7 @@
 #![tactic(auto)]
 
 mod assigned;
+mod called;
 mod expansion;
 mod heads;
 mod instruction;
@@ -23,7 +24,9 @@ mod right_names;
 mod symbols;
 mod theorems;
 mod unchanged;
+mod unread;
 
+pub use called::called_head;
 pub use expansion::expanded_text;
 pub use meaning::{Bank, Binding, Expected, Origin};
 pub use registers::put_with_name;

@@ -83,7 +83,7 @@ fn check_unnamed<'a>(word: &'a [u8]) -> Result<(), Rejection<'a>>
     ensures { (known : Known) → Gives (λ _. known) result (unnamed_says known word.now) }
 {
     if is_name(word) && !is_listed_word(word) {
-        Err(Rejection::Flawed(NameNo::Unknown, word))
+        Err(Rejection::Flawed(NameNo::Unlisted, word))
     } else if has_colon(word) {
         Err(Rejection::Flawed(NameNo::Form, word))
     } else {

@@ -142,11 +142,11 @@ pub fn may_name<'a>(
     ensures { Gives (λ u. u) result (may_name (seen_procedures procedures.now) (seen_names names.now) name.now) }
 {
     if !is_name(name) {
-        Err(Rejection::Flawed(NameNo::NoName, name))
-    } else if known(procedures, names, name).is_some() {
-        Err(Rejection::Flawed(NameNo::Twice, name))
-    } else {
-        Ok(())
+        return Err(Rejection::Flawed(NameNo::NoName, name));
+    }
+    match known(procedures, names, name) {
+        Some(binding) => Err(Rejection::Flawed(NameNo::Taken(binding), name)),
+        None => Ok(()),
     }
 }
 

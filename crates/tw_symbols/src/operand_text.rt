@@ -143,7 +143,7 @@ fn put_named<'a>(
     ensures { Gives (λ _. out.new.items) result (named out.old.items word.now binding asked) }
 {
     let Some(binding) = binding else {
-        return Err(Rejection::Flawed(NameNo::Unknown, word));
+        return Err(Rejection::Flawed(NameNo::Unknown(asked), word));
     };
     let Some(operand) = operand_text_of(asked, binding) else {
         return Err(Rejection::Flawed(NameNo::Kind(binding, asked), word));

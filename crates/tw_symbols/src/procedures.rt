@@ -1,11 +1,12 @@
 //! The procedures of a text.
 
-ghost use Rattle.std.specs.Prelude.{◌≡◌, List, IfOk, OnOk};
+ghost use Rattle.std.specs.Prelude.{◌≡◌, List, IfOk, OnOk, false};
 ghost use Rattle.std.specs.Option.{option_map};
 ghost use Rattle.std.specs.Str.Lines.{lines};
 ghost use Rattle.tw_symbols.specs.Lines.{AreTaken, IsTaken, Line};
 ghost use Rattle.tw_symbols.specs.Seen.{now, seen_procedures, seen_table, texts};
-ghost use Rattle.tw_symbols.specs.Expansion.{procedures_of, with_head, with_line, with_name, with_words};
+ghost use Rattle.tw_symbols.specs.Expansion.{AddsNone, procedures_of, with_head, with_line, with_name, with_words};
+ghost use Rattle.tw_symbols.specs.Unread.{reads_heads};
 
 use crate::heads::{banks_of_modes, procedure_name};
 use crate::line::{may_begin_procedure, take_line};
@@ -14,6 +15,7 @@ use crate::names::{Table, meaning, put_name};
 use crate::pieces::pieces_of;
 use indexmap::IndexMap;
 use std::alloc::{AllocError, Global};
+use tw_code::Program;
 use tw_lexer::TextHash;
 
 /// A procedure: the banks of its parameters, and the line at which it begins.
@@ -24,12 +26,21 @@ pub struct Head {
 }
 
 /// The procedures of a text, and the meanings of their names.
+///
+/// Of those past the limit only the first is kept, since the text is rejected there.
 #[derive(Drop)]
 pub struct Procedures<'a> {
     /// The hash function of the text's names.
     pub hash: TextHash,
     pub table: Table<'a>,
     pub heads: Vec<Head>,
+}
+
+/// Returns whether one more head is read.
+pub fn reads_heads(procedures: &Procedures<'_>) -> bool
+    ensures { result ≡ reads_heads (seen_procedures procedures.now) }
+{
+    procedures.heads.len() <= usize::from(Program::MAX_PROCEDURES)
 }
 
 /// Adds the name of a procedure, unless an earlier one has it.
@@ -67,7 +78,7 @@ fn add_head<'a>(
     Ok(())
 }
 
-/// Adds the procedure that begins with these words of a line, if one does.
+/// Adds the procedure that begins with these words of a line, if one does and is read.
 fn add_words<'a>(
     alloc: Global,
     procedures: &mut Procedures<'a>,
@@ -77,7 +88,7 @@ fn add_words<'a>(
     ensures { OnOk result (seen_procedures procedures.new ≡ with_words (seen_procedures procedures.old) number (texts words.now)) }
 {
     match words {
-        [first, others @ ..] if *first == b"proc".as_slice() => {
+        [first, others @ ..] if *first == b"proc".as_slice() && reads_heads(procedures) => {
             let pieces = pieces_of(alloc, others)?;
             add_head(alloc, procedures, number, &pieces)
         }
@@ -98,7 +109,14 @@ fn add_line<'a>(
     add_words(alloc, procedures, number, &taken.words)
 }
 
-/// Returns the procedures of a text.
+/// Returns whether a line may add a procedure.
+fn may_add(procedures: &Procedures<'_>, line: &str) -> bool
+    ensures { result ≡ false → AddsNone (seen_procedures procedures.now) line.now }
+{
+    reads_heads(procedures) && may_begin_procedure(line)
+}
+
+/// Returns the procedures of a text, up to the first one past the limit.
 pub fn procedures_of(alloc: Global, text: &str) -> Result<Procedures<'_>, AllocError>
     ensures { IfOk result (λ procedures. (all : List Line) × AreTaken all (lines text.now) × (seen_procedures procedures ≡ procedures_of all)) }
 {
@@ -109,7 +127,7 @@ pub fn procedures_of(alloc: Global, text: &str) -> Result<Procedures<'_>, AllocE
         heads: Vec::new(alloc),
     };
     for (index, line) in text.lines().enumerate() {
-        if may_begin_procedure(line) {
+        if may_add(&procedures, line) {
             add_line(alloc, &mut procedures, index + 1, line)?;
         }
     }

@@ -15,12 +15,16 @@ pub enum NameNo {
     Form,
     /// N02: the word to be defined isn't a name.
     NoName,
-    /// N03: the name is taken.
+    /// N03: an earlier procedure has the name.
     Twice,
+    /// N03: the name has this meaning already.
+    Taken(Binding),
     /// N03: the register has been listed by another name.
     Listed,
-    /// N04: the name has no meaning here.
-    Unknown,
+    /// N04: the name has no meaning here, where this is required.
+    Unknown(Expected),
+    /// N04: in a list of registers, a name that `:` doesn't follow.
+    Unlisted,
     /// N05: the name has this meaning, but another kind of operand is required.
     Kind(Binding, Expected),
     /// N06: a name would mean a register past the last.
@@ -37,8 +41,8 @@ impl NameNo {
         match self {
             NameNo::Form => 1,
             NameNo::NoName => 2,
-            NameNo::Twice | NameNo::Listed => 3,
-            NameNo::Unknown => 4,
+            NameNo::Twice | NameNo::Taken(_) | NameNo::Listed => 3,
+            NameNo::Unknown(_) | NameNo::Unlisted => 4,
             NameNo::Kind(_, _) => 5,
             NameNo::Limit => 6,
             NameNo::NoMemory => 7,

@@ -102,6 +102,13 @@ impl Symbols {
         Ok(Symbols { procedures })
     }
 
+    /// Returns the names of all procedures.
+    pub fn names(&self) -> &[Items<u8>]
+        ensures { result.now ≡ self.entry.now }
+    {
+        self.procedures.as_slice()
+    }
+
     /// Returns the name of the procedure of this number, or an empty one if it has none.
     pub fn procedure(&self, number: usize) -> &[u8]
         ensures { result.now ≡ name_at self.entry.now number }

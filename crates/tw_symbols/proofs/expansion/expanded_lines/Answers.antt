@@ -1,11 +1,11 @@
-use Rattle.std.proofs.Common.{◌≡◌, ◌+◌, List, ℕ, length, rules, subst, ap}
+use Rattle.std.proofs.Common.{◌≡◌, ◌+◌, ◌∙◌, List, ℕ, length, rules, subst, sym, ap}
 use Rattle.tw_symbols.proofs.TextNames.{lines, seen_names, seen_procedures}
 use Rattle.std.proofs.lemmas.Iterator.Consumers.{YieldsList-at, YieldsList-end, YieldsList-from_enumerate, YieldsList-so_far, YieldsList-turn}
 use Rattle.std.proofs.lemmas.Iterator.Splits.{YieldsList-from_lines}
 use Rattle.std.proofs.lemmas.Result.{err_from_is_err_and}
 use Rattle.tw_lexer.proofs.LineLoops.{all_lines, line_turn}
 use Rattle.tw_symbols.proofs.Loops.{HasCome, come_end, come_more, lines_in, one_more_length, stopped}
-use Rattle.tw_symbols.proofs.UnchangedLines.{added_says, not_added}
+use Rattle.tw_symbols.proofs.UnreadLines.{apart_says, not_apart, read_line, read_refused}
 use Rattle.tw_symbols.proofs.expansion.expanded_lines.Goals as goal
 
 pub returns : goal.returns
@@ -21,22 +21,22 @@ returns-in_err-put_numbered_line c = λ all are.
     let t = YieldsList-turn road c.loop-index.yielded _ c.loop-index.yielded_by _ _ (c.in-Some.index, c.in-Some.line) c.in-Some.is c.next.ensures.steps in
     let at = line_turn (lines c.args.text.now) c.loop-index.yielded c.in-Some.index c.in-Some.line.now (YieldsList-so_far road c.loop-index.yielded _ c.loop-index.yielded_by) t.0 t.1 in
     let p = err_from_is_err_and c.from_residual-in_err-put_numbered_line.result c.from_residual-in_err-put_numbered_line.ensures.1 in
-    let same = not_added c.in-Some.line.now c.loop-index.out.items c.put_unchanged.new.out.items c.in_ok-put_unchanged.field-0 c.in_ok-put_unchanged.ensures c.if-not-branch.true in
-    let come = subst (λ (out : List ℕ). HasCome (seen_procedures c.args.procedures.now) (lines c.args.text.now) (length (lines_in c.loop-index.yielded)) (seen_names c.loop-index.names) out) same c.loop-index.invariant.come in
-    rw (p.1, p.2) (stopped (seen_procedures c.args.procedures.now) (lines c.args.text.now) (lines_in c.loop-index.yielded) at.others c.in-Some.line.now c.in-Some.index (seen_names c.loop-index.names) c.put_unchanged.new.out.items c.in_err-put_numbered_line.field-0.0 at.parts at.index_is come c.in_err-put_numbered_line.ensures all are)
+    let apart = not_apart (seen_procedures c.args.procedures.now) (c.in-Some.index + 1) (seen_names c.loop-index.names) c.in-Some.line.now c.loop-index.out.items c.put_apart.new.out.items c.in_ok-put_apart.field-0 c.in_ok-put_apart.ensures c.if-not-branch.true in
+    let come = subst (λ (out : List ℕ). HasCome (seen_procedures c.args.procedures.now) (lines c.args.text.now) (length (lines_in c.loop-index.yielded)) (seen_names c.loop-index.names) out) (sym apart.0) c.loop-index.invariant.come in
+    rw (p.1, p.2) (stopped (seen_procedures c.args.procedures.now) (lines c.args.text.now) (lines_in c.loop-index.yielded) at.others c.in-Some.line.now c.in-Some.index (seen_names c.loop-index.names) c.put_apart.new.out.items c.in_err-put_numbered_line.field-0.0 at.parts at.index_is come (λ t is. read_refused (seen_procedures c.args.procedures.now) (c.in-Some.index + 1) (seen_names c.loop-index.names) c.put_apart.new.out.items t c.in_err-put_numbered_line.field-0.0 (apart.1 t is) (c.in_err-put_numbered_line.ensures t is)) all are)
 
 pub loop-index-preserved-in_ok-put_numbered_line : goal.loop-index-preserved-in_ok-put_numbered_line
 loop-index-preserved-in_ok-put_numbered_line c =
     let road = YieldsList-at c.into_iter-index-iterator.ensures.into_iter_gives (YieldsList-from_enumerate (YieldsList-at c.enumerate-index-items.ensures.source (YieldsList-from_lines c.args.text.now c.lines.ensures.rest)) c.enumerate-index-items.ensures.count) in
     let t = YieldsList-turn road c.loop-index.yielded _ c.loop-index.yielded_by _ _ (c.in-Some.index, c.in-Some.line) c.in-Some.is c.next.ensures.steps in
     let at = line_turn (lines c.args.text.now) c.loop-index.yielded c.in-Some.index c.in-Some.line.now (YieldsList-so_far road c.loop-index.yielded _ c.loop-index.yielded_by) t.0 t.1 in
-    let same = not_added c.in-Some.line.now c.loop-index.out.items c.put_unchanged.new.out.items c.in_ok-put_unchanged.field-0 c.in_ok-put_unchanged.ensures c.if-not-branch.true in
-    let come = subst (λ (out : List ℕ). HasCome (seen_procedures c.args.procedures.now) (lines c.args.text.now) (length (lines_in c.loop-index.yielded)) (seen_names c.loop-index.names) out) same c.loop-index.invariant.come in
+    let apart = not_apart (seen_procedures c.args.procedures.now) (c.in-Some.index + 1) (seen_names c.loop-index.names) c.in-Some.line.now c.loop-index.out.items c.put_apart.new.out.items c.in_ok-put_apart.field-0 c.in_ok-put_apart.ensures c.if-not-branch.true in
+    let come = subst (λ (out : List ℕ). HasCome (seen_procedures c.args.procedures.now) (lines c.args.text.now) (length (lines_in c.loop-index.yielded)) (seen_names c.loop-index.names) out) (sym apart.0) c.loop-index.invariant.come in
     record {
       next = search rules;
       finite = search rules;
       come = subst (λ (n : ℕ). HasCome (seen_procedures c.args.procedures.now) (lines c.args.text.now) n (seen_names c.put_numbered_line.new.names) c.put_numbered_line.new.out.items) (one_more_length c.loop-index.yielded (c.in-Some.index, c.in-Some.line))
-          (come_more (seen_procedures c.args.procedures.now) (lines c.args.text.now) (lines_in c.loop-index.yielded) at.others c.in-Some.line.now c.in-Some.index (seen_names c.loop-index.names) (seen_names c.put_numbered_line.new.names) c.put_unchanged.new.out.items c.put_numbered_line.new.out.items at.parts at.index_is come c.in_ok-put_numbered_line.ensures);
+          (come_more (seen_procedures c.args.procedures.now) (lines c.args.text.now) (lines_in c.loop-index.yielded) at.others c.in-Some.line.now c.in-Some.index (seen_names c.loop-index.names) (seen_names c.put_numbered_line.new.names) c.put_apart.new.out.items c.put_numbered_line.new.out.items at.parts at.index_is come (λ t is. read_line (seen_procedures c.args.procedures.now) (c.in-Some.index + 1) (seen_names c.loop-index.names) c.put_apart.new.out.items t (apart.1 t is) ∙ c.in_ok-put_numbered_line.ensures t is));
     }
 
 pub loop-index-preserved : goal.loop-index-preserved
@@ -44,10 +44,10 @@ loop-index-preserved c =
     let road = YieldsList-at c.into_iter-index-iterator.ensures.into_iter_gives (YieldsList-from_enumerate (YieldsList-at c.enumerate-index-items.ensures.source (YieldsList-from_lines c.args.text.now c.lines.ensures.rest)) c.enumerate-index-items.ensures.count) in
     let t = YieldsList-turn road c.loop-index.yielded _ c.loop-index.yielded_by _ _ (c.in-Some.index, c.in-Some.line) c.in-Some.is c.next.ensures.steps in
     let at = line_turn (lines c.args.text.now) c.loop-index.yielded c.in-Some.index c.in-Some.line.now (YieldsList-so_far road c.loop-index.yielded _ c.loop-index.yielded_by) t.0 t.1 in
-    let says = added_says (seen_procedures c.args.procedures.now) (c.in-Some.index + 1) (seen_names c.loop-index.names) c.in-Some.line.now c.loop-index.out.items c.put_unchanged.new.out.items c.in_ok-put_unchanged.field-0 c.in_ok-put_unchanged.ensures c.if-not-branch.false in
+    let says = apart_says (seen_procedures c.args.procedures.now) (c.in-Some.index + 1) (seen_names c.loop-index.names) c.in-Some.line.now c.loop-index.out.items c.put_apart.new.out.items c.in_ok-put_apart.field-0 c.in_ok-put_apart.ensures c.if-not-branch.false in
     record {
       next = search rules;
       finite = search rules;
-      come = subst (λ (n : ℕ). HasCome (seen_procedures c.args.procedures.now) (lines c.args.text.now) n (seen_names c.loop-index.names) c.put_unchanged.new.out.items) (one_more_length c.loop-index.yielded (c.in-Some.index, c.in-Some.line))
-          (come_more (seen_procedures c.args.procedures.now) (lines c.args.text.now) (lines_in c.loop-index.yielded) at.others c.in-Some.line.now c.in-Some.index (seen_names c.loop-index.names) (seen_names c.loop-index.names) c.loop-index.out.items c.put_unchanged.new.out.items at.parts at.index_is c.loop-index.invariant.come says);
+      come = subst (λ (n : ℕ). HasCome (seen_procedures c.args.procedures.now) (lines c.args.text.now) n (seen_names c.loop-index.names) c.put_apart.new.out.items) (one_more_length c.loop-index.yielded (c.in-Some.index, c.in-Some.line))
+          (come_more (seen_procedures c.args.procedures.now) (lines c.args.text.now) (lines_in c.loop-index.yielded) at.others c.in-Some.line.now c.in-Some.index (seen_names c.loop-index.names) (seen_names c.loop-index.names) c.loop-index.out.items c.put_apart.new.out.items at.parts at.index_is c.loop-index.invariant.come says);
     }

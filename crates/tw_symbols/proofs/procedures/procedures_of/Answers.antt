@@ -4,8 +4,7 @@ use Rattle.std.proofs.lemmas.Iterator.Consumers.{YieldsList-at, YieldsList-end, 
 use Rattle.std.proofs.lemmas.Iterator.Splits.{YieldsList-from_lines}
 use Rattle.tw_lexer.proofs.LineLoops.{all_lines, line_turn}
 use Rattle.tw_symbols.proofs.Loops.{AreGathered, gather_more, lines_in, one_line_in}
-use Rattle.tw_symbols.proofs.NoHeads.{no_procedure}
-use Rattle.tw_symbols.specs.RightNames.{HasNoHead}
+use Rattle.tw_symbols.specs.Expansion.{AddsNone}
 use Rattle.tw_symbols.proofs.procedures.procedures_of.Goals as goal
 
 pub loop-index-preserved-in-Continue-1 : goal.loop-index-preserved-in-Continue-1
@@ -25,13 +24,13 @@ loop-index-preserved c =
     let road = YieldsList-at c.into_iter-index-iterator.ensures.into_iter_gives (YieldsList-from_enumerate (YieldsList-at c.enumerate-index-items.ensures.source (YieldsList-from_lines c.args.text.now c.lines.ensures.rest)) c.enumerate-index-items.ensures.count) in
     let t = YieldsList-turn road c.loop-index.yielded _ c.loop-index.yielded_by _ _ (c.in-Some.index, c.in-Some.line) c.in-Some.is c.next.ensures.steps in
     let at = line_turn (lines c.args.text.now) c.loop-index.yielded c.in-Some.index c.in-Some.line.now (YieldsList-so_far road c.loop-index.yielded _ c.loop-index.yielded_by) t.0 t.1 in
-    let none : HasNoHead c.in-Some.line.now = c.may_begin_procedure.ensures c.if-may_begin_procedure.false in
+    let none : AddsNone (seen_procedures c.loop-index.procedures) c.in-Some.line.now = c.may_add.ensures c.if-may_add.false in
     record {
       next = search rules;
       finite = search rules;
       gathered = subst (λ (ls : List (List ℕ)). AreGathered ls (seen_procedures c.loop-index.procedures)) (sym (one_line_in c.loop-index.yielded (c.in-Some.index, c.in-Some.line)))
           (gather_more (lines_in c.loop-index.yielded) c.in-Some.line.now c.in-Some.index (seen_procedures c.loop-index.procedures) (seen_procedures c.loop-index.procedures) at.index_is c.loop-index.invariant.gathered
-          (none.0, none.1, no_procedure (seen_procedures c.loop-index.procedures) (c.in-Some.index + 1) none.0 none.2));
+          (none.0, none.1, none.2 (c.in-Some.index + 1)));
     }
 
 pub returns : goal.returns

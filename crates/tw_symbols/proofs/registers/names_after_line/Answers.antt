@@ -5,7 +5,7 @@ use Rattle.std.proofs.lemmas.Iterator.Splits.{YieldsList-from_lines}
 use Rattle.tw_lexer.proofs.LineLoops.{all_lines, line_turn}
 use Rattle.tw_symbols.proofs.Loops.{lines_in, one_more_length}
 use Rattle.tw_symbols.specs.Answers.{IsAccepted}
-use Rattle.tw_symbols.proofs.TextNames.{Line, Said, taken_says}
+use Rattle.tw_symbols.proofs.TextNames.{taken_says}
 use Rattle.tw_symbols.proofs.RegisterNames.{HasGone, gone_end, gone_here, gone_more, gone_refused}
 use Rattle.tw_symbols.proofs.registers.names_after_line.Goals as goal
 

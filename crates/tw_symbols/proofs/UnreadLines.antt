@@ -1,0 +1,137 @@
+-- Lines that aren't read.
+use Rattle.std.proofs.Common.{[], ◌≡◌, ◌≤◌, ◌+◌, ◌⊎◌, ℕ, zero, suc, Bool, true, false, cond, List, ◌∷◌, ◌++◌, length, Option, Some, None, Ok, Err, refl, sym, ap, subst, ◌∙◌, append_assoc, append-nil, codes, arith}
+use Rattle.std.specs.List.{filter_map}
+use Rattle.std.specs.Option.{option_map_or}
+use Rattle.std.specs.Prelude.{◌&&◌}
+use Rattle.std.specs.Str.{bytes_eq}
+use Rattle.std.proofs.lemmas.Bool.Decides.{nat_tests}
+use Rattle.std.proofs.lemmas.Slice.Eq.{bytes_eq-Decides}
+use Rattle.tw_code.specs.declared.opcode.Opcode.{Opcode}
+use Rattle.tw_code.specs.declared.version.Version.TheVariants.{Four}
+use Rattle.tw_code.specs.format.Table.{opcode_in, opcode_of}
+use Rattle.tw_symbols.proofs.EachLine.{line_of}
+use Rattle.tw_symbols.proofs.NoHeads.{no_procedure}
+use Rattle.tw_symbols.proofs.TextNames.{AllByRecursion, IsMemory, IsTaken, Line, Names, Procedures, Said, bank_of_mode, ended, flat_map, line_words, nat_lt, or_unread, pieces, read_says, reads_heads, slice_get, taken_says, unread, with_line, with_lines}
+use Rattle.tw_symbols.specs.Expansion.{AddsNone, with_head, with_words}
+use Rattle.tw_symbols.specs.Meanings.{Head}
+use Rattle.tw_symbols.specs.RightNames.{HasNoHead}
+use Rattle.tw_symbols.specs.Unchanged.{IsAdded, IsApart}
+use Rattle.tw_symbols.specs.Unread.{calls_unknown, is_open_call, is_past}
+use Rattle.tw_symbols.specs.declared.rejection.NameError.{NameError}
+
+-- ---- procedures
+
+pub full_words : (q : Procedures) (number : ℕ) (ws : List (List ℕ)) → reads_heads q ≡ false → with_words q number ws ≡ q
+full_words q number [] full = refl
+full_words q number (first ∷ ws) full = by (bytes_eq first (codes "proc")) (reads_heads q) full
+  where
+    by : (t s : Bool) → s ≡ false → cond (t && s) (with_head q number (flat_map pieces ws)) q ≡ q
+    by t true e = absurd cc
+    by true false e = refl
+    by false false e = refl
+
+pub full_adds_none : (q : Procedures) (line : List ℕ) → reads_heads q ≡ false → AddsNone q line
+full_adds_none q line full = let found = line_of line in (found.0, found.1, λ number. sym (full_words q number (line_words found.0) full))
+
+pub headless_adds_none : (q : Procedures) (line : List ℕ) → HasNoHead line → AddsNone q line
+headless_adds_none q line none = (none.0, none.1, λ number. no_procedure q number none.0 none.2)
+
+pub no_proc : opcode_in Four (codes "proc") ≡ None
+unfolding opcode_of
+no_proc = refl
+
+pub call_adds_none : (p q : Procedures) (number : ℕ) (n : Names) (ws : List (List ℕ)) → is_open_call p n ws ≡ true → with_words q number ws ≡ q
+call_adds_none p q number n [] calls = refl
+call_adds_none p q number n (first ∷ ws) calls = by (bytes_eq first (codes "proc")) refl
+  where
+    by : (t : Bool) → bytes_eq first (codes "proc") ≡ t → cond (t && reads_heads q) (with_head q number (flat_map pieces ws)) q ≡ q
+    by true e =
+        let none : opcode_in Four first ≡ None = ap (opcode_in Four) ((bytes_eq-Decides first (codes "proc")).0 e) ∙ no_proc in
+        let closed : false ≡ true = sym (ap (λ (o : Option Opcode). calls_unknown p n o ws) none) ∙ calls in
+        absurd cc
+    by false e = refl
+
+-- ---- the lines of heads
+
+abbrev FromLine : ℕ → Head → Type 0
+FromLine number head = number ≤ head.line
+
+from_next : (number : ℕ) (hs : List Head) → AllByRecursion (FromLine (number + 1)) hs → AllByRecursion (FromLine number) hs
+from_next number [] h = tt
+from_next number (head ∷ hs) h = (omega (arith, h.0), from_next number hs h.1)
+
+abbrev HasMore : ℕ → Procedures → Procedures → Type 0
+HasMore number q p = (more : List Head) × (p.heads ≡ q.heads ++ more) × AllByRecursion (FromLine number) more
+
+words_more : (q p : Procedures) (number : ℕ) (ws : List (List ℕ)) → HasMore (number + 1) (with_words q number ws) p → HasMore number q p
+words_more q p number [] (more, parts, from) = (more, parts, from_next number more from)
+words_more q p number (first ∷ ws) h = by (bytes_eq first (codes "proc") && reads_heads q) h
+  where
+    by : (t : Bool) → HasMore (number + 1) (cond t (with_head q number (flat_map pieces ws)) q) p → HasMore number q p
+    by true (more, parts, from) =
+        let head : Head = record { banks = filter_map bank_of_mode (flat_map pieces ws); line = number } in
+        (head ∷ more, parts ∙ append_assoc q.heads (head ∷ []) more, (omega arith, from_next number more from))
+    by false (more, parts, from) = (more, parts, from_next number more from)
+
+later_heads : (q : Procedures) (number : ℕ) (all : List Line) → HasMore number q (with_lines q number all)
+later_heads q number [] = ([], sym (append-nil q.heads), tt)
+later_heads q number (line ∷ all) = words_more q (with_lines (with_line q number line) (number + 1) all) number (line_words line) (later_heads (with_line q number line) (number + 1) all)
+
+abbrev IfFrom : ℕ → Option Head → Type 0
+IfFrom number None = Unit {0}
+IfFrom number (Some head) = FromLine number head
+
+one_from : (number : ℕ) (more : List Head) (i : ℕ) → AllByRecursion (FromLine number) more → IfFrom number (slice_get more i)
+one_from number [] i h = tt
+one_from number (head ∷ more) zero h = h.0
+one_from number (head ∷ more) (suc i) h = one_from number more i h.1
+
+past_from : (number : ℕ) (hs more : List Head) (i : ℕ) → AllByRecursion (FromLine number) more → length hs ≤ i → IfFrom number (slice_get (hs ++ more) i)
+past_from number [] more i h low = one_from number more i h
+past_from number (head ∷ hs) more zero h low = absurd (omega (arith, low))
+past_from number (head ∷ hs) more (suc i) h low = past_from number hs more i h (omega (arith, low))
+
+not_past : (number : ℕ) (o : Option Head) → IfFrom number o → option_map_or (λ (head : Head). nat_lt head.line number) o false ≡ false
+not_past number None h = refl
+not_past number (Some head) h = grind (arith, nat_tests, h)
+
+pub full_past : (q : Procedures) (number : ℕ) (all : List Line) → is_past (with_lines q number all) number ≡ true → reads_heads q ≡ false
+full_past q number all past = by (reads_heads q) refl
+  where
+    by : (t : Bool) → reads_heads q ≡ t → t ≡ false
+    by true e =
+        let few : length q.heads ≤ 64 = grind (arith, nat_tests, e) in
+        let found = later_heads q number all in
+        let none : is_past (with_lines q number all) number ≡ false =
+        not_past number (slice_get (with_lines q number all).heads 64) (subst (λ (hs : List Head). IfFrom number (slice_get hs 64)) (sym found.1) (past_from number q.heads found.0 64 found.2 few)) in
+        absurd cc
+    by false e = refl
+
+-- ---- a line that was added
+
+pub unread_apart : (p : Procedures) (number : ℕ) (n : Names) (line old new text : List ℕ) → ((t : Line) → IsTaken t line → Some text ≡ unread p number n (line_words t)) → new ≡ old ++ ended text → IsApart p number n line old new true
+unread_apart p number n line old new text is e t taken =
+    ap (λ (u : Option (List ℕ)). or_unread u n old (taken_says p number n old t)) (sym (is t taken)) ∙ ap (λ (x : List ℕ). Ok (n, x)) (sym e)
+
+pub read_apart : (p : Procedures) (number : ℕ) (n : Names) (line old new : List ℕ) (added : Bool) → ((t : Line) → IsTaken t line → None ≡ unread p number n (line_words t)) → IsAdded line old new added → IsApart p number n line old new added
+read_apart p number n line old new true is extends = λ t taken. ap (λ (u : Option (List ℕ)). or_unread u n old (taken_says p number n old t)) (sym (is t taken)) ∙ (extends t taken).1 p number n
+read_apart p number n line old new false is same = (same, λ t taken. sym (is t taken))
+
+pub apart_says : (p : Procedures) (number : ℕ) (n : Names) (line old new : List ℕ) (added : Bool) → IsApart p number n line old new added → added ≡ true → (t : Line) → IsTaken t line → read_says p number n old t ≡ Ok (n, new)
+apart_says p number n line old new true is e = is
+apart_says p number n line old new false is e = absurd cc
+
+pub not_apart : (p : Procedures) (number : ℕ) (n : Names) (line old new : List ℕ) (added : Bool) → IsApart p number n line old new added → added ≡ false → IsApart p number n line old new false
+not_apart p number n line old new true is e = absurd cc
+not_apart p number n line old new false is e = is
+
+-- ---- a line that is read
+
+pub read_line : (p : Procedures) (number : ℕ) (n : Names) (front : List ℕ) (t : Line) → unread p number n (line_words t) ≡ None → read_says p number n front t ≡ taken_says p number n front t
+read_line p number n front t e = ap (λ (u : Option (List ℕ)). or_unread u n front (taken_says p number n front t)) e
+
+pub read_refused : (p : Procedures) (number : ℕ) (n : Names) (front : List ℕ) (t : Line) (f : NameError) → unread p number n (line_words t) ≡ None
+    → IsMemory f ⊎ ((f.line ≡ number) × (taken_says p number n front t ≡ Err (record { no = f.no; word = f.word.now })))
+    → IsMemory f ⊎ ((f.line ≡ number) × (read_says p number n front t ≡ Err (record { no = f.no; word = f.word.now })))
+read_refused p number n front t f e says =
+    subst (λ (x : Said). IsMemory f ⊎ ((f.line ≡ number) × (x ≡ Err (record { no = f.no; word = f.word.now })))) (sym (read_line p number n front t e)) says
