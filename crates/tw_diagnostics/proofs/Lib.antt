@@ -1,13 +1,17 @@
 pub mod Asking
+pub mod Assigning
+pub mod Breaking
 pub mod Bringing
 pub mod Classes
 pub mod Differing
+pub mod Emptying
 pub mod Fewness
 pub mod Forms
 pub mod Getting
 pub mod GoingOn
 pub mod Heads
 pub mod Labelling
+pub mod Limiting
 pub mod Lines
 pub mod LoopEnds
 pub mod Matched

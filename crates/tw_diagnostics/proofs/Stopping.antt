@@ -1,5 +1,5 @@
 -- Where a line stops, its words so far begin a statement, and with what is there they begin none.
-use Rattle.std.proofs.Common.{◌≡◌, ◌+◌, ℕ, true, false, List, [], ◌∷◌, ◌++◌, length, Option, None, Some, refl, sym, ap, subst, ◌∙◌, append_assoc}
+use Rattle.std.proofs.Common.{◌≡◌, ◌+◌, ℕ, true, false, List, [], ◌∷◌, ◌++◌, length, Option, None, Some, is_some, refl, sym, ap, subst, ◌∙◌, append_assoc}
 use Rattle.std.specs.Borrow.{Bor}
 use Rattle.std.specs.Prelude.{MatchOption}
 use Rattle.tw_diagnostics.proofs.ReasonNames.{AllByRecursion, AreFirstWords, Bare, Begin, Ends, HasWords, HaveForm, IsBlank, IsExpected, IsFirstWord, IsFound, IsText, Quoted, Version, Word, append-nil, blank_no_word, first_word_once, first_words_more, length-append, statement_in}
@@ -10,7 +10,12 @@ use Rattle.tw_diagnostics.specs.declared.step.Read.{Read}
 use Rattle.tw_diagnostics.specs.declared.error_position.Token.{Token}
 use Rattle.tw_diagnostics.specs.declared.error_position.Token.TheVariants as found
 use Rattle.tw_diagnostics.specs.declared.error_position.ErrorPosition.{ErrorPosition}
+use Rattle.tw_diagnostics.specs.MayCome.{due_after}
+use Rattle.tw_diagnostics.specs.Stops.{IsDue}
+use Rattle.tw_diagnostics.specs.declared.due.Due.{Due}
+use Rattle.tw_diagnostics.proofs.GoingOn.{untrue}
 use Rattle.tw_diagnostics.proofs.Judging.{formed, unformed}
+use Rattle.tw_diagnostics.proofs.Limiting.{is_due, may_come}
 use Rattle.tw_diagnostics.proofs.Starting.{can_end, starts}
 
 fine_text : (ws : List Word) → AllByRecursion IsText ws → AllByRecursion IsFine ws
@@ -83,6 +88,37 @@ module _ (version : Version) (expected : First) (first line rest : List ℕ) (co
   pub vain_end : (here : List ℕ) → may_end version now ≡ false → Ends version (Bare f.word.now ∷ f.others) here found.End
   vain_end here e form =
       unformed version f.word.now (f.others ++ []) (fine_both f.others [] f.fine tt) (form_is [] ∙ e) (subst (λ (ws : List Word). HaveForm version (Bare f.word.now ∷ ws)) (sym (append-nil f.others)) form)
+
+  -- a word that begins no statement may not come, and each other may
+  only : (w : Word) (others : List Word) → IsText w → AllByRecursion IsText others → HaveForm version (Bare f.word.now ∷ (f.others ++ w ∷ others)) → is_some (after version now w) ≡ true
+  only w others text texts form = by (after version now w) refl
+    where
+      by : (r : Option Read) → after version now w ≡ r → is_some r ≡ true
+      by None e =
+          absurd (unformed version f.word.now (f.others ++ w ∷ others) (fine_both f.others (w ∷ others) f.fine (fine_text (w ∷ others) (text, texts))) (form_is (w ∷ others) ∙ ap (λ (o : Option Read). go_on o (λ r. goes version r others)) e) form)
+      by (Some next) e = refl
+
+  all : (w : Word) → IsText w → is_some (after version now w) ≡ true → Begin version (Bare f.word.now ∷ (f.others ++ w ∷ []))
+  all w text some = by (after version now w) refl some
+    where
+      by : (r : Option Read) → after version now w ≡ r → is_some r ≡ true → Begin version (Bare f.word.now ∷ (f.others ++ w ∷ []))
+      by None e g = absurd (untrue g)
+      by (Some next) e g =
+          let (ws, ends, fine) = can_end version next in
+          let goes_on = form_is (w ∷ ws) ∙ ap (λ (o : Option Read). go_on o (λ r. goes version r ws)) e ∙ ends in
+          let both = fine_both f.others (w ∷ ws) f.fine (fine_both (w ∷ []) ws (fine_text (w ∷ []) (text, tt)) fine) in
+          (ws, subst (λ (vs : List Word). HaveForm version (Bare f.word.now ∷ vs)) (sym (append_assoc f.others (w ∷ []) ws)) (formed version f.word.now (f.others ++ w ∷ ws) both goes_on))
+
+  -- what is due is what may come
+  pub is_due_there : IsDue version (Bare f.word.now ∷ f.others) (due_after version now)
+  is_due_there = by (due_after version now) refl
+    where
+      there : (d : Option Due) → due_after version now ≡ d → (w : Word) → is_some (after version now w) ≡ is_due version d w
+      there d e w = may_come version now w ∙ ap (λ (o : Option Due). is_due version o w) e
+
+      by : (d : Option Due) → due_after version now ≡ d → IsDue version (Bare f.word.now ∷ f.others) d
+      by None e = λ w others texts form. untrue (sym (there None e w) ∙ only w others texts.0 texts.1 form)
+      by (Some d) e = λ w text. (λ others texts form. sym (there (Some d) e w) ∙ only w others text texts form, λ kind. all w text (there (Some d) e w ∙ kind))
 
   pub whole : IsBlank rest → may_end version now ≡ true → HasWords version line
   whole blank e = (

@@ -4,6 +4,7 @@ use Rattle.tw_diagnostics.proofs.ReasonNames.{Bare, Begins, HasWords, IsExpected
 use Rattle.tw_asm.specs.declared.fault.FaultNo.{FaultNo}
 use Rattle.tw_asm.specs.declared.fault.FaultNo.TheVariants as fault
 use Rattle.tw_asm.specs.declared.statement.First.{First}
+use Rattle.tw_diagnostics.specs.Assignment.{SaysAssignment}
 use Rattle.tw_diagnostics.specs.Hints.{first_hint, hint_text}
 use Rattle.tw_diagnostics.specs.Labels.{IsLabelBefore, IsTwinBefore}
 use Rattle.tw_diagnostics.specs.LineRole.{situation_of, stage_text}
@@ -26,14 +27,14 @@ situation_is text number now s reached (before, others, said, parts, count, sayi
 -- ---- A01
 
 -- the first word, what may begin the line, and which instruction was meant
-pub first_why : (text : List ℕ) (number : ℕ) (line : List ℕ) (stop : ErrorPosition) (expected : Bor (List ℕ)) (hint : Hint) (now : declared.ParserState) → IsErrorPosition line stop → stop.word ≡ 1
-    → expected.now ≡ stage_text now.stage → hint_text hint ≡ first_hint now.stage now.version (found_word stop.found) → IsStateThere text number now → IsWhy text fault.Word number line (At stop (Expected expected None hint))
-first_why text number line stop expected hint now is one staged hinted reached =
-    (is, (one, λ s before. said ∙ ap first_said (situation_is text number now s reached before)))
+pub first_why : (text : List ℕ) (number : ℕ) (line : List ℕ) (stop : ErrorPosition) (expected : Bor (List ℕ)) (hint : Hint) (assigns : Bool) (now : declared.ParserState) → IsErrorPosition line stop → stop.word ≡ 1 → SaysAssignment line assigns
+    → expected.now ≡ stage_text now.stage → hint_text hint ≡ first_hint assigns now.stage now.version (found_word stop.found) → IsStateThere text number now → IsWhy text fault.Word number line (At stop (Expected expected None hint))
+first_why text number line stop expected hint assigns now is one says staged hinted reached =
+    (is, (one, (assigns, says, λ s before. said ∙ ap first_said (situation_is text number now s reached before))))
   where
     -- what is printed of the first word in a state of the parser
     first_said : declared.ParserState → List ℕ
-    first_said state = expected_text (stage_text state.stage) stop.found ++ first_hint state.stage state.version (found_word stop.found)
+    first_said state = expected_text (stage_text state.stage) stop.found ++ first_hint assigns state.stage state.version (found_word stop.found)
 
     said : said_text (Expected expected None hint) stop.found ≡ first_said now
     said = ap (λ (t : List ℕ). expected_text t stop.found ++ hint_text hint) staged ∙ ap (λ (t : List ℕ). expected_text (stage_text now.stage) stop.found ++ t) hinted
@@ -60,14 +61,14 @@ known_there text number line now s Holds reached before wrong known =
     let (expected, (first, rest, is_first, is_expected, may), none) = operand_by number s line fault.Operand number wrong refl in
     subst Holds v (known expected first rest is_first (subst (λ (x : Version). IsExpected x expected first) (sym v) is_expected))
 
-pub operand_why : (text : List ℕ) (number : ℕ) (line : List ℕ) (stop : ErrorPosition) (say : Diagnostic) (now : declared.ParserState) → IsErrorPosition line stop → Known now.version line (λ v. IsFirstStop v line stop) → IsStateThere text number now
-    → said_text say stop.found ≡ due_said stop.due stop.found → IsWhy text fault.Operand number line (At stop say)
-operand_why text number line stop say now is known reached said =
-    (is, λ s before wrong. (known_there text number line now s (λ v. IsFirstStop v line stop) reached before wrong known, said))
+pub operand_why : (text : List ℕ) (number : ℕ) (line : List ℕ) (first stop : ErrorPosition) (say : Diagnostic) (now : declared.ParserState) → IsErrorPosition line first → first.word ≡ 1 → IsErrorPosition line stop
+    → Known now.version line (λ v. IsFirstStop v line stop) → IsStateThere text number now → said_text say stop.found ≡ due_said (found_word first.found) stop.due stop.found → IsWhy text fault.Operand number line (At stop say)
+operand_why text number line first stop say now begins one is known reached said =
+    (is, λ s before wrong. (first, begins, one, (known_there text number line now s (λ v. IsFirstStop v line stop) reached before wrong known, said)))
 
 pub no_operand_why : (text : List ℕ) (number : ℕ) (line : List ℕ) (now : declared.ParserState) → Known now.version line (λ v. HasWords v line) → IsStateThere text number now → IsWhy text fault.Operand number line Nothing
 no_operand_why text number line now known reached =
-    (tt, λ s before wrong. (operand_by number s line fault.Operand number wrong refl).2 (known_there text number line now s (λ v. HasWords v line) reached before wrong known))
+    (tt, λ s before wrong. absurd ((operand_by number s line fault.Operand number wrong refl).2 (known_there text number line now s (λ v. HasWords v line) reached before wrong known)))
 
 -- ---- A03 and A05: the last word
 
@@ -99,11 +100,15 @@ twice_why text number line stop at expected is one label words =
 pub long_why : (text : List ℕ) (number : ℕ) (line : List ℕ) (first : ErrorPosition) (most : Bor (List ℕ)) → IsErrorPosition line first → first.word ≡ 1 → is_long_label (before_colon (found_word first.found)) ≡ true → most.now ≡ codes "64 bytes"
     → IsWhy text fault.Limit number line (At first (Limit most))
 long_why text number line first most is one long words =
-    (is, (first, is, one, subst (λ (b : Bool). IsPastFirst first b (At first (Limit most))) (sym long) (refl, ap (λ (t : List ℕ). limit_text t first.found) words)))
+    (is, (first, is, one, subst (λ (b : Bool). IsPastFirst text number line first b (At first (Limit most))) (sym long) (refl, ap (λ (t : List ℕ). limit_text t first.found) words)))
 
 pub past_why : (text : List ℕ) (number : ℕ) (line : List ℕ) (first : ErrorPosition) (r : Reason) → IsErrorPosition line first → first.word ≡ 1 → is_long_label (before_colon (found_word first.found)) ≡ false
-    → IsIn line r × IsPast (found_word first.found) r → IsWhy text fault.Limit number line r
-past_why text number line first r is one short past = (past.0, (first, is, one, subst (λ (b : Bool). IsPastFirst first b r) (sym short) past.1))
+    → IsIn line r × IsPast text number line (found_word first.found) r → IsWhy text fault.Limit number line r
+past_why text number line first r is one short past = (past.0, (first, is, one, subst (λ (b : Bool). IsPastFirst text number line first b r) (sym short) past.1))
+
+-- what is so in the version that was found is so in that of the parser's state
+pub version_there : (text : List ℕ) (number : ℕ) (now : declared.ParserState) (Holds : Version → Type 0) → IsStateThere text number now → Holds now.version → (s : ParserState) → IsBefore text number s → Holds s.version
+version_there text number now Holds reached holds s before = subst Holds (ap (λ (x : declared.ParserState). x.version) (situation_is text number now s reached before)) holds
 
 -- ---- a line without words
 

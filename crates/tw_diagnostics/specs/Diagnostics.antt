@@ -10,11 +10,12 @@ use Rattle.tw_asm.specs.Fault.{LineFault, LinesSay, ParserState, at_start, situa
 use Rattle.tw_asm.specs.Statement.{Statement}
 use Rattle.tw_asm.specs.declared.fault.FaultNo.{FaultNo}
 use Rattle.tw_asm.specs.declared.fault.FaultNo.TheVariants as fault
+use Rattle.tw_diagnostics.specs.Assignment.{SaysAssignment}
 use Rattle.tw_diagnostics.specs.DueWords.{due_text, limit_of}
 use Rattle.tw_diagnostics.specs.Hints.{first_hint, hint_text, word_hint}
 use Rattle.tw_diagnostics.specs.Labels.{IsLabelBefore, IsTwinBefore}
 use Rattle.tw_diagnostics.specs.LineRole.{stage_of, stage_text}
-use Rattle.tw_diagnostics.specs.Stops.{IsFirstStop, IsErrorPosition}
+use Rattle.tw_diagnostics.specs.Stops.{HasNoExcess, IsErrorPosition, IsFirstExcess, IsFirstStop}
 use Rattle.tw_diagnostics.specs.declared.breaks.Break.{Break}
 use Rattle.tw_diagnostics.specs.declared.breaks.Break.TheVariants.{Unclosed, Escape, AfterQuote}
 use Rattle.tw_diagnostics.specs.declared.due.Due.{Due}
@@ -93,7 +94,7 @@ line_text (Some line) = codes " of line " ++ decimal line
 -- returns what was expected, with the line of a label, and what was meant; or that there is one word too many; or which limit is exceeded
 abbrev pub said_text : Diagnostic → Token → List ℕ
 said_text (said.Expected expected line hint) found = expected_text expected.now found ++ (line_text line ++ hint_text hint)
-said_text said.TooMany found = too_many_text found
+said_text (said.TooMany hint) found = too_many_text found ++ hint_text hint
 said_text (said.Limit limit) found = limit_text limit.now found
 
 -- returns the line for a position, with this text about it
@@ -125,18 +126,19 @@ IsBefore text number s =
     × (lines text ≡ before ++ others) × (number ≡ length before + 1) × LinesSay 1 at_start before said × (s ≡ situation said)
 
 -- holds for A01: the first word, what may begin the line, and which instruction was meant
-abbrev pub IsFirst : List ℕ → ℕ → Reason → Type 0
-IsFirst text number r = IsAt r (λ stop said. (stop.word ≡ 1) × ((s : ParserState) → IsBefore text number s
-    → said ≡ expected_text (stage_text (stage_of s.stage)) stop.found ++ first_hint (stage_of s.stage) s.version (found_word stop.found)))
+abbrev pub IsFirst : List ℕ → ℕ → List ℕ → Reason → Type 0
+IsFirst text number line r = IsAt r (λ stop said. (stop.word ≡ 1) × ((assigns : Bool) × SaysAssignment line assigns × ((s : ParserState) → IsBefore text number s
+    → said ≡ expected_text (stage_text (stage_of s.stage)) stop.found ++ first_hint assigns (stage_of s.stage) s.version (found_word stop.found))))
 
--- returns what is printed of the word at which the line stops, by what may come there
-abbrev pub due_said : Option Due → Token → List ℕ
-due_said None found = too_many_text found
-due_said (Some due) found = expected_text (due_text due) found ++ word_hint (Some due) (found_word found)
+-- returns what is printed of the word at which a line with this first word stops, by what may come there
+abbrev pub due_said : List ℕ → Option Due → Token → List ℕ
+due_said first None found = too_many_text found ++ word_hint first None (found_word found)
+due_said first (Some due) found = expected_text (due_text due) found ++ word_hint first (Some due) (found_word found)
 
 -- holds for A02: the first word with which the line doesn't continue as a statement, or its end if it has too few words
 abbrev pub IsOperand : ParserState → List ℕ → Reason → Type 0
-IsOperand s line r = IsAt r (λ stop said. IsFirstStop s.version line stop × (said ≡ due_said stop.due stop.found))
+IsOperand s line r = (first : ErrorPosition) × IsErrorPosition line first × (first.word ≡ 1)
+    × IsAt r (λ stop said. IsFirstStop s.version line stop × (said ≡ due_said (found_word first.found) stop.due stop.found))
 
 -- ---- by the line's last word, which is the goal of a skip
 
@@ -172,30 +174,32 @@ whole_limit first =
     if length first == 0 then codes "the text has no procedure" else
     codes "4096 instructions come before it, or the text has no procedure"
 
--- holds for a word of the line, with the limit of what may come there, or for the limit of the whole
-abbrev pub IsPast : List ℕ → Reason → Type 0
-IsPast first (reason.At stop say) = said_text say stop.found ≡ limit_text (limit_of stop.due) stop.found
-IsPast first (reason.Whole whole) = whole.now ≡ whole_limit first
-IsPast first reason.Nothing = ⊥
+-- holds for the first word of the line that exceeds a limit, with the limit of what may come there; if none does, for the limit of
+-- the whole
+abbrev pub IsPast : List ℕ → ℕ → List ℕ → List ℕ → Reason → Type 0
+IsPast text number line first (reason.At stop say) =
+    ((s : ParserState) → IsBefore text number s → IsFirstExcess s.version line stop) × (said_text say stop.found ≡ limit_text (limit_of stop.due) stop.found)
+IsPast text number line first (reason.Whole whole) = ((s : ParserState) → IsBefore text number s → HasNoExcess s.version line) × (whole.now ≡ whole_limit first)
+IsPast text number line first reason.Nothing = ⊥
 
 -- holds for a label that is too long; else like `IsPast`
-abbrev pub IsPastFirst : ErrorPosition → Bool → Reason → Type 0
-IsPastFirst first true r = IsAt r (λ stop said. (stop ≡ first) × (said ≡ limit_text (codes "64 bytes") first.found))
-IsPastFirst first false r = IsPast (found_word first.found) r
+abbrev pub IsPastFirst : List ℕ → ℕ → List ℕ → ErrorPosition → Bool → Reason → Type 0
+IsPastFirst text number line first true r = IsAt r (λ stop said. (stop ≡ first) × (said ≡ limit_text (codes "64 bytes") first.found))
+IsPastFirst text number line first false r = IsPast text number line (found_word first.found) r
 
-abbrev pub IsLimit : List ℕ → Reason → Type 0
-IsLimit line r = (first : ErrorPosition) × IsErrorPosition line first × (first.word ≡ 1) × IsPastFirst first (is_long_label (before_colon (found_word first.found))) r
+abbrev pub IsLimit : List ℕ → ℕ → List ℕ → Reason → Type 0
+IsLimit text number line r = (first : ErrorPosition) × IsErrorPosition line first × (first.word ≡ 1) × IsPastFirst text number line first (is_long_label (before_colon (found_word first.found))) r
 
 -- ---- each row is a fault
 
 -- holds for the line with this number
 abbrev pub IsReasonOf : FaultNo → List ℕ → ℕ → List ℕ → Reason → Type 0
-IsReasonOf fault.Word text number line r = IsFirst text number r
+IsReasonOf fault.Word text number line r = IsFirst text number line r
 IsReasonOf fault.Operand text number line r = (s : ParserState) → IsBefore text number s → LineFault number s line fault.Operand number → IsOperand s line r
 IsReasonOf fault.UnknownLabel text number line r = IsUnknown line r
 IsReasonOf fault.LabelTwice text number line r = IsTwice text number r
 IsReasonOf fault.LabelNotForward text number line r = IsBackward text number line r
-IsReasonOf fault.Limit text number line r = IsLimit line r
+IsReasonOf fault.Limit text number line r = IsLimit text number line r
 IsReasonOf fault.NoMemory text number line r = r ≡ reason.Nothing
 
 -- holds if this is why the line with this number is rejected with a fault

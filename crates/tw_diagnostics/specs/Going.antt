@@ -1,4 +1,4 @@
--- Progress in a line, word by word: whether some statement continues so, limits aside. No public clause reaches this file.
+-- Progress in a line, word by word: whether some statement continues so, limits aside.
 use Rattle.std.specs.Prelude.{◌+◌, ℕ, Bool, true, false, ◌||◌, if◌then◌else◌, List, [], ◌∷◌, codes, Option, Some, None, Result, Ok, Err, slice_get}
 use Rattle.std.specs.Borrow.{Bor}
 use Rattle.std.specs.Option.{option_and_then}

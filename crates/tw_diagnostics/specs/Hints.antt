@@ -10,6 +10,7 @@ use Rattle.tw_code.specs.declared.opcode.TheConstants.{OPCODES}
 use Rattle.tw_code.specs.declared.version.Version.{Version}
 use Rattle.tw_code.specs.declared.version.Version.TheVariants.{Two, Four}
 use Rattle.tw_code.specs.format.Table.{has_opcode, opcode_in, word_of}
+use Rattle.tw_lexer.specs.Names.{before_colon}
 use Rattle.tw_diagnostics.specs.declared.due.Due.{Due}
 use Rattle.tw_diagnostics.specs.declared.due.Due.TheVariants as due
 use Rattle.tw_diagnostics.specs.declared.hints.Hint.{Hint}
@@ -72,15 +73,19 @@ instruction_hint version word =
 abbrev pub is_comment_sign : List ℕ → Bool
 is_comment_sign word = starts_with nat_eq word (codes "#") || starts_with nat_eq word (codes "//")
 
-abbrev pub stage_hint : Stage → Version → List ℕ → List ℕ
-stage_hint stage.Start version word = []
-stage_hint stage.AfterVersion version word = []
-stage_hint stage.AfterHead version word = []
-stage_hint stage.InBody version word = instruction_hint version word
+-- returns the hint where an instruction may be, for an assignment or another line
+abbrev pub body_hint : Bool → Version → List ℕ → List ℕ
+body_hint assigns version word = if assigns then note_text (codes "INT puts a number into a register, and COPY a value") else instruction_hint version word
 
--- returns the hint for a line's first word
-abbrev pub first_hint : Stage → Version → List ℕ → List ℕ
-first_hint stage version word = if is_comment_sign word then note_text (codes "a comment begins with ;") else stage_hint stage version word
+abbrev pub stage_hint : Bool → Stage → Version → List ℕ → List ℕ
+stage_hint assigns stage.Start version word = []
+stage_hint assigns stage.AfterVersion version word = []
+stage_hint assigns stage.AfterHead version word = []
+stage_hint assigns stage.InBody version word = body_hint assigns version word
+
+-- returns the hint for a line's first word, if this says whether it is an assignment
+abbrev pub first_hint : Bool → Stage → Version → List ℕ → List ℕ
+first_hint assigns stage version word = if is_comment_sign word then note_text (codes "a comment begins with ;") else stage_hint assigns stage version word
 
 -- ---- words of heads and types
 
@@ -116,9 +121,14 @@ begins_number (first ∷ others) = is_ascii_digit first || (first == 45)
 abbrev pub value_hint : List ℕ → List ℕ
 value_hint word = if begins_number word then note_text (codes "INT puts a number into a register") else []
 
+-- returns the hint for a value register in the place of a number of iterations
+abbrev pub iterations_hint : List ℕ → List ℕ
+iterations_hint word = if starts_with nat_eq word (codes "v") then note_text (codes "REPEAT takes a constant; a skip to END ends an iteration") else []
+
 abbrev pub operand_hint : Form → List ℕ → List ℕ
 operand_hint form.TypeOf word = type_hint word
 operand_hint form.Value word = value_hint word
+operand_hint form.Iterations word = iterations_hint word
 operand_hint f word = []
 
 -- returns the hint for a word in lower case, by what may come there
@@ -132,7 +142,11 @@ due_hint due.Values word = scalar_hint word (near_text (codes "sum") word [])
 due_hint due.ParamScalar word = scalar_hint word []
 due_hint due.Register word = scalar_hint word []
 
--- returns the hint for any word
-abbrev pub word_hint : Option Due → List ℕ → List ℕ
-word_hint None word = []
-word_hint (Some d) word = due_hint d (map to_ascii_lowercase word)
+-- returns the hint where the line may only end, by its first word
+abbrev pub end_hint : List ℕ → List ℕ
+end_hint first = if is_some (before_colon first) then note_text (codes "a label is alone in its line") else []
+
+-- returns the hint for any word of a line with this first word
+abbrev pub word_hint : List ℕ → Option Due → List ℕ → List ℕ
+word_hint first None word = end_hint first
+word_hint first (Some d) word = due_hint d (map to_ascii_lowercase word)

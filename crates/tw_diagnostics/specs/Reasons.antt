@@ -10,7 +10,8 @@ use Rattle.tw_code.specs.declared.flow.Flow.TheVariants.{Straight, Branch, Jump,
 use Rattle.tw_code.specs.declared.instr.Instr.{Instr}
 use Rattle.tw_code.specs.declared.instr.Instr.TheVariants as instr
 use Rattle.tw_code.specs.declared.procedure.Procedure.{Procedure}
-use Rattle.tw_code.specs.accepting.Flow.{flow_of}
+use Rattle.tw_code.specs.accepting.Flow.{flow_of, flows}
+use Rattle.tw_code.specs.accepting.Structure.{end_of}
 use Rattle.tw_code.specs.accepting.MainShape.{is_main_param}
 use Rattle.tw_code.specs.machine.Arguments.{params_of}
 use Rattle.tw_code.specs.machine.Rights.{RightType, Typing}
@@ -20,7 +21,8 @@ use Rattle.tw_verify.specs.declared.rejection.VerifyError.{VerifyError}
 use Rattle.tw_verify.specs.declared.rejection.VerifyError.TheVariants as rejection
 use Rattle.tw_diagnostics.specs.RegisterCheck.{checks_at, first_unmet}
 use Rattle.tw_diagnostics.specs.Meetings.{IsChange, IsMeeting}
-use Rattle.tw_diagnostics.specs.Words.{asked_line, held_text, param_text, right_text}
+use Rattle.tw_diagnostics.specs.Since.{IsEmptySince}
+use Rattle.tw_diagnostics.specs.Words.{asked_text, held_text, param_text, right_text}
 use Rattle.tw_diagnostics.specs.declared.register_check.RegisterCheck.{RegisterCheck}
 use Rattle.tw_diagnostics.specs.declared.register_check.RegisterState.TheVariants as held
 use Rattle.tw_diagnostics.specs.declared.meeting.Difference.{Difference}
@@ -28,25 +30,37 @@ use Rattle.tw_diagnostics.specs.declared.meeting.Meeting.{Meeting}
 
 -- ---- V01 to V04, V10, V15
 
-abbrev pub check_line : Option RegisterCheck → List ℕ
-check_line None = []
-check_line (Some a) = asked_line a
+-- returns the text for a place: its line of the text if that is known
+abbrev pub place_text : Option ℕ → ℕ → List ℕ
+place_text None place = codes "place " ++ decimal place
+place_text (Some line) place = codes "line " ++ decimal line
 
--- returns the line of the first unmet check with this code, if a typing is known
-abbrev pub vain_line : ℕ → List Procedure → Procedure → ℕ → Instr → Option Typing → List ℕ
-vain_line number program p place i None = []
-vain_line number program p place i (Some typing) = check_line (first_unmet number (checks_at program p place i typing))
+-- returns the text for the place at which a register lost its right
+abbrev pub since_text : List (List ℕ) → ℕ → Option ℕ → List ℕ
+since_text lines procedure None = []
+since_text lines procedure (Some place) = codes " after " ++ place_text (at_place lines procedure place) place
+
+-- returns the line of an unmet check
+abbrev pub asked_line : List (List ℕ) → ℕ → Option ℕ → RegisterCheck → List ℕ
+asked_line lines procedure since a = held_text a.register a.held ++ (since_text lines procedure since ++ asked_text a.wanted a.held)
+
+-- holds for that line, with the place at which the register lost its right, if it is empty
+abbrev pub PrintsCheck : List (List ℕ) → Procedure → ℕ → ℕ → List Typing → Option RegisterCheck → List ℕ → Type 0
+PrintsCheck lines p procedure place typings None text = text ≡ []
+PrintsCheck lines p procedure place typings (Some a) text =
+    (since : Option ℕ) × IsEmptySince p.code typings place a.register a.held since × (text ≡ asked_line lines procedure since a)
+
+-- holds for the line of the first unmet check with this code, if the typing of the place is known
+abbrev pub PrintsUnmet : ℕ → List (List ℕ) → List Procedure → Procedure → ℕ → ℕ → Instr → List Typing → Option Typing → List ℕ → Type 0
+PrintsUnmet number lines program p procedure place i typings None text = text ≡ []
+PrintsUnmet number lines program p procedure place i typings (Some typing) text =
+    PrintsCheck lines p procedure place typings (first_unmet number (checks_at program p place i typing)) text
 
 -- ---- V07
 
 abbrev pub holding_text : Option RightType → List ℕ
 holding_text None = codes "empty"
 holding_text (Some right) = right_text right
-
--- returns the text for a place: its line of the text if that is known
-abbrev pub place_text : Option ℕ → ℕ → List ℕ
-place_text None place = codes "place " ++ decimal place
-place_text (Some line) place = codes "line " ++ decimal line
 
 -- returns what the register holds on one path
 abbrev pub side_text : List (List ℕ) → ℕ → ℕ → Option RightType → List ℕ
@@ -88,11 +102,19 @@ skip_of (Begin iterations) = 0
 skip_of Close = 0
 skip_of Stop = 0
 
-abbrev pub outside_text : ℕ → ℕ → List ℕ
-outside_text goal count = if nat_lt goal count then codes ", which is not in the same loop; a skip to END ends an iteration\n" else codes ", the code has " ++ (decimal count ++ codes "\n")
+-- returns the text for the END of the loop around the skip, if there is one
+abbrev pub end_text : List (List ℕ) → ℕ → Option ℕ → List ℕ
+end_text lines procedure None = codes "\n"
+end_text lines procedure (Some end) = codes "; a skip to END in " ++ (place_text (at_place lines procedure end) end ++ codes " ends an iteration\n")
 
-abbrev pub goal_line : ℕ → ℕ → List ℕ
-goal_line goal count = codes "the skip leads to place " ++ (decimal goal ++ outside_text goal count)
+abbrev pub outside_text : List (List ℕ) → ℕ → List Instr → ℕ → ℕ → List ℕ
+outside_text lines procedure code place goal =
+    if nat_lt goal (length code)
+    then codes ", which is not in the same loop" ++ end_text lines procedure (end_of (flows code) (place + 1))
+    else codes ", the code has " ++ (decimal (length code) ++ codes "\n")
+
+abbrev pub goal_line : List (List ℕ) → ℕ → List Instr → ℕ → ℕ → List ℕ
+goal_line lines procedure code place goal = codes "the skip leads to " ++ (place_text (at_place lines procedure goal) goal ++ outside_text lines procedure code place goal)
 
 -- returns the procedure that is named, and how many arguments follow it
 abbrev pub named_by : Instr → ℕ × ℕ
@@ -125,21 +147,21 @@ misplaced_line flow = codes "the last instruction must be RET\n"
 
 -- holds for a diagnostic of an error at the place of an instruction, whose procedure has these typings as far as they are known
 abbrev pub IsReason : VerifyError → List (List ℕ) → List Procedure → Procedure → ℕ → ℕ → Instr → List Typing → List ℕ → Type 0
-IsReason rejection.UndeclaredValue lines program p procedure place i typings text = text ≡ vain_line 1 program p place i (slice_get typings place)
-IsReason rejection.WrongValueType lines program p procedure place i typings text = text ≡ vain_line 2 program p place i (slice_get typings place)
-IsReason rejection.RightNotEmpty lines program p procedure place i typings text = text ≡ vain_line 3 program p place i (slice_get typings place)
-IsReason rejection.WrongRight lines program p procedure place i typings text = text ≡ vain_line 4 program p place i (slice_get typings place)
-IsReason rejection.SkipLeavesBlock lines program p procedure place i typings text = text ≡ goal_line (place + 1 + skip_of (flow_of i)) (length p.code)
+IsReason rejection.UndeclaredValue lines program p procedure place i typings text = PrintsUnmet 1 lines program p procedure place i typings (slice_get typings place) text
+IsReason rejection.WrongValueType lines program p procedure place i typings text = PrintsUnmet 2 lines program p procedure place i typings (slice_get typings place) text
+IsReason rejection.RightNotEmpty lines program p procedure place i typings text = PrintsUnmet 3 lines program p procedure place i typings (slice_get typings place) text
+IsReason rejection.WrongRight lines program p procedure place i typings text = PrintsUnmet 4 lines program p procedure place i typings (slice_get typings place) text
+IsReason rejection.SkipLeavesBlock lines program p procedure place i typings text = text ≡ goal_line lines procedure p.code place (place + 1 + skip_of (flow_of i))
 IsReason rejection.Unmatched lines program p procedure place i typings text = text ≡ unmatched_line (flow_of i)
 IsReason rejection.TypingsDiffer lines program p procedure place i typings text = PrintsMeeting lines program p procedure typings place text ⊎ ((text ≡ []) × HasNoMeeting program p typings place)
 IsReason rejection.TypingChanged lines program p procedure place i typings text = PrintsChange p typings place text ⊎ ((text ≡ []) × HasNoChange p typings place)
 IsReason rejection.Unreached lines program p procedure place i typings text = text ≡ codes "no path leads here\n"
-IsReason rejection.RightLeft lines program p procedure place i typings text = text ≡ vain_line 10 program p place i (slice_get typings place)
+IsReason rejection.RightLeft lines program p procedure place i typings text = PrintsUnmet 10 lines program p procedure place i typings (slice_get typings place) text
 IsReason rejection.MisplacedRet lines program p procedure place i typings text = text ≡ misplaced_line (flow_of i)
 IsReason rejection.UnknownProcedure lines program p procedure place i typings text = text ≡ unknown_line (named_by i).0 (length program - 1)
 IsReason rejection.ArgumentCount lines program p procedure place i typings text = text ≡ count_line (named_by i).1 (length (params_of program (named_by i).0))
 IsReason rejection.ActionInLeaf lines program p procedure place i typings text = text ≡ codes "the procedure is a leaf, required: control\n"
-IsReason rejection.ScalarWrite lines program p procedure place i typings text = text ≡ vain_line 15 program p place i (slice_get typings place)
+IsReason rejection.ScalarWrite lines program p procedure place i typings text = PrintsUnmet 15 lines program p procedure place i typings (slice_get typings place) text
 IsReason rejection.MainShape lines program p procedure place i typings text = text ≡ []
 IsReason rejection.BudgetTooLarge lines program p procedure place i typings text = text ≡ codes "some walk is longer than 1000000000 instructions\n"
 IsReason rejection.NoMemory lines program p procedure place i typings text = text ≡ []
@@ -147,6 +169,11 @@ IsReason rejection.NoMemory lines program p procedure place i typings text = tex
 -- holds if such a diagnostic is added to the output
 abbrev pub AddsReason : VerifyError → List (List ℕ) → List Procedure → Procedure → ℕ → ℕ → Instr → List Typing → List ℕ → List ℕ → Type 0
 AddsReason which lines program p procedure place i typings old new = (text : List ℕ) × IsReason which lines program p procedure place i typings text × (new ≡ old ++ text)
+
+-- like `AddsReason`, for an unmet check of a register
+abbrev pub AddsUnmet : ℕ → List (List ℕ) → List Procedure → Procedure → ℕ → ℕ → Instr → List Typing → List ℕ → List ℕ → Type 0
+AddsUnmet number lines program p procedure place i typings old new =
+    (text : List ℕ) × PrintsUnmet number lines program p procedure place i typings (slice_get typings place) text × (new ≡ old ++ text)
 
 -- holds if this is printed for the rejected place, by the typings that are known of its procedure
 abbrev pub PrintsReason : VerifyError → List (List ℕ) → List Procedure → ℕ → ℕ → List ℕ → Type 0

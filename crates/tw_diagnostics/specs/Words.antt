@@ -9,7 +9,6 @@ use Rattle.tw_types.specs.declared.param.Param.{Param}
 use Rattle.tw_asm.specs.Parts.{container_word, map_word, mode_word, scalar_word, type_words}
 use Rattle.tw_code.specs.machine.Rights.{RightType}
 use Rattle.tw_diagnostics.specs.RegisterCheck.{lacks_closing}
-use Rattle.tw_diagnostics.specs.declared.register_check.RegisterCheck.{RegisterCheck}
 use Rattle.tw_diagnostics.specs.declared.register_check.RegisterState.{RegisterState}
 use Rattle.tw_diagnostics.specs.declared.register_check.RegisterState.TheVariants as held
 use Rattle.tw_diagnostics.specs.declared.requirement.Requirement.{Requirement}
@@ -82,7 +81,7 @@ wanted_text (wanted.ReadOf (Some ty)) = codes "closed or ref " ++ type_text ty
 wanted_text (wanted.Param waits param) = requirement_text waits param.mode ++ (codes " " ++ type_text param.ty)
 
 abbrev pub closing_text : Bool → List ℕ
-closing_text true = codes "; RULE waits: pass it to a closed parameter"
+closing_text true = codes "; pass it to a procedure with a closed parameter, by RULE"
 closing_text false = []
 
 -- returns what else can be done with a register that isn't as required
@@ -93,7 +92,3 @@ way_out want state = []
 
 abbrev pub asked_text : Requirement → RegisterState → List ℕ
 asked_text want state = codes ", required: " ++ (wanted_text want ++ (way_out want state ++ codes "\n"))
-
--- returns the line of an unmet check
-abbrev pub asked_line : RegisterCheck → List ℕ
-asked_line a = held_text a.register a.held ++ asked_text a.wanted a.held

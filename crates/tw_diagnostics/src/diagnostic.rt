@@ -1,7 +1,7 @@
 //! Why a line is rejected, as text: mostly the position at which it stops being a statement.
 
 ghost use Rattle.std.specs.Prelude.{◌≡◌, ◌++◌, OnOk, codes};
-ghost use Rattle.tw_diagnostics.specs.Diagnostics.{break_text, expected_text, found_text, has_part, hidden_text, line_text, reason_text, said_text, stop_line, where_text, word_text};
+ghost use Rattle.tw_diagnostics.specs.Diagnostics.{break_text, expected_text, found_text, has_part, hidden_text, line_text, reason_text, said_text, stop_line, too_many_text, where_text, word_text};
 
 use crate::breaks::Break;
 use crate::error_position::{ErrorPosition, Token};
@@ -102,12 +102,20 @@ fn put_found(out: &mut Vec<u8>, found: &Token<'_>) -> Result<(), AllocError>
     }
 }
 
+fn put_too_many(out: &mut Vec<u8>, found: &Token<'_>) -> Result<(), AllocError>
+    ensures { OnOk result (out.new.items ≡ out.old.items ++ too_many_text found.now) }
+{
+    put(out, "one word too many")?;
+    put_found(out, found)
+}
+
 /// A diagnostic of the position at which a line stops.
 #[derive(Clone, Copy)]
 pub(crate) enum Diagnostic<'a> {
     /// This was expected, with the line of a label, and the word that was meant.
     Expected(&'a str, Option<usize>, Hint),
-    TooMany,
+    /// There is one word too many, with what is to be known about it.
+    TooMany(Hint),
     Limit(&'a str),
 }
 
@@ -134,9 +142,9 @@ fn put_diagnostic(
             put_line_of(alloc, out, *line)?;
             put_hint(out, *hint)
         }
-        Diagnostic::TooMany => {
-            put(out, "one word too many")?;
-            put_found(out, found)
+        Diagnostic::TooMany(hint) => {
+            put_too_many(out, found)?;
+            put_hint(out, *hint)
         }
         Diagnostic::Limit(limit) => {
             put_both(out, "the limit is ", limit)?;

@@ -1,7 +1,7 @@
 //! Positions at which a line stops being a statement.
 
 ghost use Rattle.std.specs.Prelude.{◌≡◌, ◌+◌, ◌≤◌, [], ℕ, List, false, true, IfOk, IfSome, IsUtf8, MatchOption, length};
-ghost use Rattle.tw_lexer.specs.Words.{AreFirstWords, Bare, IsBlank, IsFirstWord, IsLine, Word as AWord};
+ghost use Rattle.tw_lexer.specs.Words.{AreFirstWords, Bare, IsAtWord, IsBlank, IsFirstWord, IsLine, Word as AWord};
 ghost use Rattle.tw_asm.specs.Fault.{HasWords};
 ghost use Rattle.tw_asm.specs.Statement.{IsExpected};
 ghost use Rattle.tw_asm.specs.declared.statement.First.{First};
@@ -10,7 +10,10 @@ ghost use Rattle.tw_lexer.specs.Seen.{seen};
 ghost use Rattle.tw_lexer.specs.reading.Next.{IsAfterGap};
 ghost use Rattle.tw_diagnostics.specs.Going.{may_end};
 ghost use Rattle.tw_diagnostics.specs.declared.error_position.Token.TheVariants as found;
-ghost use Rattle.tw_diagnostics.specs.Stops.{Begin, Ends, IsFirstStop, IsFound, IsErrorPosition, column_after};
+ghost use Rattle.tw_diagnostics.specs.Limits.{AreWithin};
+ghost use Rattle.tw_diagnostics.specs.MayCome.{due_after};
+ghost use Rattle.tw_diagnostics.specs.Stops.{Begin, Ends, Exceeds, HasNoExcess, IsDue, IsErrorPosition, IsFirstExcess, IsFirstStop, IsFound, column_after};
+ghost use Rattle.tw_diagnostics.specs.declared.step.LineProgress.{LineProgress as AProgress};
 ghost use Rattle.tw_diagnostics.specs.Diagnostics.{found_word, is_long_label};
 ghost use Rattle.tw_lexer.specs.Names.{before_colon};
 
@@ -72,7 +75,10 @@ fn stop_with<'a>(
         → before ≡ length words → IsFound found.entry here.entry.now → IsErrorPosition line.entry.now result }
     ensures first { (version : AVersion) (words : List AWord) (after : List ℕ) → AreFirstWords words line.entry.now after → IsAfterGap after here.entry.now
         → before ≡ length words → IsFound found.entry here.entry.now → Begin version words → Ends version words here.entry.now found.entry
-        → IsFirstStop version line.entry.now result }
+        → IsDue version words due → IsFirstStop version line.entry.now result }
+    ensures excess { (version : AVersion) (words : List AWord) (after : List ℕ) (p : AProgress) → AreFirstWords words line.entry.now after
+        → IsAfterGap after here.entry.now → before ≡ length words → IsFound found.entry here.entry.now → AreWithin version words p → due ≡ due_after version p.read
+        → Exceeds version p here.entry.now found.entry → IsFirstExcess version line.entry.now result }
 {
     let front = &line[..line.len().saturating_sub(here.len())];
     ErrorPosition {
@@ -103,7 +109,10 @@ fn end_stop<'a>(
         → before ≡ length words → IsBlank here.entry.now → IfSome result (IsErrorPosition line.entry.now) }
     ensures first { (words : List AWord) (after : List ℕ) → AreFirstWords words line.entry.now after → IsAfterGap after here.entry.now
         → before ≡ length words → IsBlank here.entry.now → Begin version words → (may_end version ahead.entry.read ≡ false → Ends version words here.entry.now found.End)
-        → MatchOption result (may_end version ahead.entry.read ≡ true) (IsFirstStop version line.entry.now) }
+        → IsDue version words (due_after version ahead.entry.read) → MatchOption result (may_end version ahead.entry.read ≡ true) (IsFirstStop version line.entry.now) }
+    ensures excess { (words : List AWord) (after : List ℕ) → AreFirstWords words line.entry.now after → IsAfterGap after here.entry.now
+        → before ≡ length words → IsBlank here.entry.now → AreWithin version words ahead.entry
+        → MatchOption result (may_end version ahead.entry.read ≡ true) (IsFirstExcess version line.entry.now) }
 {
     if ahead.may_end(version) {
         return None;
@@ -126,6 +135,7 @@ fn position_after<'a>(
     ensures reached { IfOk result (λ stop. IfSome stop (IsErrorPosition line.entry.now)) }
     ensures first { ask ≡ Ask.Form → (expected : First) → IsExpected version expected first.entry.now
         → IfOk result (λ stop. MatchOption stop (HasWords version line.entry.now) (IsFirstStop version line.entry.now)) }
+    ensures excess { ask ≡ Ask.Limits → IfOk result (λ stop. MatchOption stop (HasNoExcess version line.entry.now) (IsFirstExcess version line.entry.now)) }
 {
     let mut ahead = LineProgress::after_first(first);
     let mut rest = after;
@@ -156,7 +166,8 @@ fn position_after<'a>(
 
 /// Returns the first token of bytes that don't begin with a gap.
 fn found_in<'a>(alloc: Global, here: &'a [u8]) -> Result<Token<'a>, AllocError>
-    requires { IsUtf8 here.now }
+    requires utf8 { IsUtf8 here.now }
+    requires at_word { IsAtWord here.now }
     ensures { IfOk result (λ found. IsFound found here.entry.now) }
 {
     match next_word(alloc, here)? {
@@ -191,6 +202,7 @@ fn word_stop<'a>(
     ensures reached { IfOk result (λ stop. IfSome stop (IsErrorPosition line.entry.now)) }
     ensures first { ask ≡ Ask.Form → (expected : First) (word rest : List ℕ) → IsFirstWord (Bare word) line.entry.now rest → IsExpected version expected word
         → IfOk result (λ stop. MatchOption stop (HasWords version line.entry.now) (IsFirstStop version line.entry.now)) }
+    ensures excess { ask ≡ Ask.Limits → IfOk result (λ stop. MatchOption stop (HasNoExcess version line.entry.now) (IsFirstExcess version line.entry.now)) }
 {
     match word {
         Word::Bare(first) => position_after(alloc, ask, version, line, first, after),
@@ -209,6 +221,7 @@ pub(crate) fn line_stop<'a>(
     ensures reached { IfOk result (λ stop. IfSome stop (IsErrorPosition line.entry.now)) }
     ensures first { ask ≡ Ask.Form → (expected : First) (word rest : List ℕ) → IsFirstWord (Bare word) line.entry.now rest → IsExpected version expected word
         → IfOk result (λ stop. MatchOption stop (HasWords version line.entry.now) (IsFirstStop version line.entry.now)) }
+    ensures excess { ask ≡ Ask.Limits → IfOk result (λ stop. MatchOption stop (HasNoExcess version line.entry.now) (IsFirstExcess version line.entry.now)) }
 {
     match next_word(alloc, line)? {
         Next::Found(word, after) => word_stop(alloc, ask, version, line, &word, after),

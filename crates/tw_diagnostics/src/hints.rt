@@ -1,14 +1,14 @@
 //! Hints: which word was meant by one that can't be where it is.
 
 ghost use Rattle.std.specs.Prelude.{◌≡◌, ◌++◌, IfOk, OnOk, drop, take};
-ghost use Rattle.tw_diagnostics.specs.Hints.{begins_number, capitals_hint, container_hint, due_hint, first_hint, hint_text, instruction_hint, is_comment_sign, is_map_word, is_near, is_one_edit, is_swapped, known_hint, meant_text, near_text, opcode_near, opcode_text, operand_hint, scalar_hint, stage_hint, type_hint, value_hint, word_hint};
+ghost use Rattle.tw_diagnostics.specs.Hints.{begins_number, body_hint, capitals_hint, container_hint, due_hint, end_hint, first_hint, hint_text, instruction_hint, is_comment_sign, is_map_word, is_near, is_one_edit, is_swapped, iterations_hint, known_hint, meant_text, near_text, opcode_near, opcode_text, operand_hint, scalar_hint, stage_hint, type_hint, value_hint, word_hint};
 ghost use Rattle.tw_diagnostics.specs.declared.due.Due.TheVariants as dues;
 
 use crate::due::Due;
 use crate::parser_state::{ParserState, Stage};
 use std::alloc::{AllocError, Global};
 use tw_code::{Form, OPCODES, Opcode, Version, opcode_in, word_of};
-use tw_lexer::{put, put_both};
+use tw_lexer::{before_colon, put, put_both};
 
 /// A hint at the word that was meant.
 #[derive(Clone, Copy)]
@@ -28,7 +28,7 @@ fn first_letter(word: &[u8]) -> &[u8]
 }
 
 /// Returns the letters after the first.
-fn later_letters(word: &[u8]) -> &[u8]
+pub(crate) fn later_letters(word: &[u8]) -> &[u8]
     ensures { result.now ≡ drop 1 word.now }
 {
     if word.is_empty() { word } else { &word[1..] }
@@ -55,7 +55,7 @@ fn is_one_edit(name: &[u8], word: &[u8]) -> bool
 }
 
 /// Returns whether a word is this name with at most one mistake.
-fn is_near(name: &[u8], word: &[u8]) -> bool
+pub fn is_near(name: &[u8], word: &[u8]) -> bool
     ensures { result ≡ is_near name.now word.now }
 {
     match name {
@@ -123,27 +123,49 @@ fn is_comment_sign(word: &[u8]) -> bool
     word.starts_with(b"#") || word.starts_with(b"//")
 }
 
-fn stage_hint(alloc: Global, situation: ParserState, word: &[u8]) -> Result<Hint, AllocError>
-    ensures { IfOk result (λ hint. hint_text hint ≡ stage_hint situation.stage situation.version word.now) }
+/// Returns what was meant where an instruction may be, in an assignment or another line.
+fn body_hint(
+    alloc: Global,
+    assigns: bool,
+    version: Version,
+    word: &[u8],
+) -> Result<Hint, AllocError>
+    ensures { IfOk result (λ hint. hint_text hint ≡ body_hint assigns version word.now) }
+{
+    if assigns {
+        Ok(Hint::Note("INT puts a number into a register, and COPY a value"))
+    } else {
+        instruction_hint(alloc, version, word)
+    }
+}
+
+fn stage_hint(
+    alloc: Global,
+    assigns: bool,
+    situation: ParserState,
+    word: &[u8],
+) -> Result<Hint, AllocError>
+    ensures { IfOk result (λ hint. hint_text hint ≡ stage_hint assigns situation.stage situation.version word.now) }
 {
     match situation.stage {
         Stage::Start | Stage::AfterVersion | Stage::AfterHead => Ok(Hint::Nothing),
-        Stage::InBody => instruction_hint(alloc, situation.version, word),
+        Stage::InBody => body_hint(alloc, assigns, situation.version, word),
     }
 }
 
 /// Returns what was meant by the first word of a line.
 pub(crate) fn first_hint(
     alloc: Global,
+    assigns: bool,
     situation: ParserState,
     word: &[u8],
 ) -> Result<Hint, AllocError>
-    ensures { IfOk result (λ hint. hint_text hint ≡ first_hint situation.stage situation.version word.now) }
+    ensures { IfOk result (λ hint. hint_text hint ≡ first_hint assigns situation.stage situation.version word.now) }
 {
     if is_comment_sign(word) {
         Ok(Hint::Note("a comment begins with ;"))
     } else {
-        stage_hint(alloc, situation, word)
+        stage_hint(alloc, assigns, situation, word)
     }
 }
 
@@ -221,12 +243,24 @@ fn value_hint(word: &[u8]) -> Hint
     }
 }
 
+/// Returns the hint for a value register in the place of a number of iterations.
+fn iterations_hint(word: &[u8]) -> Hint
+    ensures { hint_text result ≡ iterations_hint word.now }
+{
+    if word.starts_with(b"v") {
+        Hint::Note("REPEAT takes a constant; a skip to END ends an iteration")
+    } else {
+        Hint::Nothing
+    }
+}
+
 fn operand_hint(form: Form, word: &[u8]) -> Hint
     ensures { hint_text result ≡ operand_hint form word.now }
 {
     match form {
         Form::TypeOf => type_hint(word),
         Form::Value => value_hint(word),
+        Form::Iterations => iterations_hint(word),
         _ => Hint::Nothing,
     }
 }
@@ -258,16 +292,31 @@ fn small_hint(due: Due, word: &[u8]) -> Hint
     }
 }
 
-/// Returns what was meant by a word, if this may come there.
-pub(crate) fn word_hint(alloc: Global, due: Option<Due>, word: &[u8]) -> Result<Hint, AllocError>
-    ensures { IfOk result (λ hint. hint_text hint ≡ word_hint due word.now) }
+/// Returns the hint where a line may only end.
+fn end_hint(first: &[u8]) -> Hint
+    ensures { hint_text result ≡ end_hint first.now }
+{
+    match before_colon(first) {
+        Some(_) => Hint::Note("a label is alone in its line"),
+        None => Hint::Nothing,
+    }
+}
+
+/// Returns what was meant by a word of a line with this first word, if this may come there.
+pub(crate) fn word_hint(
+    alloc: Global,
+    first: &[u8],
+    due: Option<Due>,
+    word: &[u8],
+) -> Result<Hint, AllocError>
+    ensures { IfOk result (λ hint. hint_text hint ≡ word_hint first.now due word.now) }
 {
     match due {
         Some(due) => {
             let small = word.to_ascii_lowercase(alloc)?;
             Ok(small_hint(due, &small))
         }
-        None => Ok(Hint::Nothing),
+        None => Ok(end_hint(first)),
     }
 }
 

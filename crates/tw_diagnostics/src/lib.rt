@@ -4,7 +4,9 @@
 //! * Of a program: `put_program_diagnostic` adds the register that is wrong, what it holds and what is required of it.
 #![tactic(auto)]
 
+mod assignment;
 mod breaks;
+mod check_diagnostic;
 mod data_checks;
 mod diagnostic;
 mod due;
@@ -22,11 +24,14 @@ mod program_diagnostic;
 mod register_check;
 mod requirement;
 mod rights;
+mod since;
+mod skip_diagnostic;
 mod step;
 mod text_diagnostic;
 mod theorems;
 mod words;
 
+pub use hints::is_near;
 pub use main_diagnostic::put_main_diagnostic;
 pub use parser_state::{LineRole, head_line, line_role};
 pub use program_diagnostic::put_program_diagnostic;

@@ -37,7 +37,7 @@ fn inner_after(inner: usize, flow: Flow) -> usize
 }
 
 /// Returns the place of the END of the loop with this first place.
-fn loop_end(code: &[Instr], first: usize) -> Option<usize>
+pub(crate) fn loop_end(code: &[Instr], first: usize) -> Option<usize>
     requires { length code.now ≤ 4096 }
     ensures { result ≡ end_of (flows code.now) first }
 {

@@ -58,7 +58,7 @@ pub(crate) fn first_difference(first: &Typing, second: &Typing) -> Option<Differ
 }
 
 /// Returns whether an instruction at one place continues at another with this outcome.
-fn goes_on(way: Way, before: usize, instr: &Instr, place: usize) -> bool
+pub(crate) fn goes_on(way: Way, before: usize, instr: &Instr, place: usize) -> bool
     requires { before < 2 ^ 32 }
     ensures goes { IsTrue result → onward way before (flow_of instr.now) ≡ Some place }
     ensures stays { result ≡ false → onward way before (flow_of instr.now) ≢ Some place }

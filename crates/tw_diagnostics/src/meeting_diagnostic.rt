@@ -13,7 +13,7 @@ use tw_lexer::{put, put_numbered};
 use tw_verify::RightType;
 
 /// Adds the line of the text from which the instruction at a place comes; if it isn't known, adds the place.
-fn put_place(
+pub(crate) fn put_place(
     alloc: Global,
     out: &mut Vec<u8>,
     lines: &LineNumbers,

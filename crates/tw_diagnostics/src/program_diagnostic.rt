@@ -4,46 +4,18 @@ ghost use Rattle.std.specs.Prelude.{◌≡◌, ◌<◌, ◌+◌, ◌-◌, ◌++�
 ghost use Rattle.tw_code.specs.format.Program.{IsInstr, IsProcedure};
 ghost use Rattle.tw_code.specs.machine.Arguments.{params_of};
 ghost use Rattle.tw_verify.specs.declared.rejection.VerifyError.TheVariants as rejection;
-ghost use Rattle.tw_diagnostics.specs.Reasons.{AddsReason, AddsDiagnostic, arguments_text, count_line, goal_line, misplaced_line, named_by, outside_text, skip_of, check_line, unknown_line, unmatched_line, vain_line};
+ghost use Rattle.tw_diagnostics.specs.Reasons.{AddsReason, AddsDiagnostic, arguments_text, count_line, misplaced_line, named_by, skip_of, unknown_line, unmatched_line};
 
-use crate::find::unmet_at;
+use crate::check_diagnostic::put_unmet_at;
 use crate::loops::changed_at;
 use crate::meeting::meeting_at;
 use crate::meeting_diagnostic::{put_changed, put_meeting};
-use crate::register_check::{RegisterCheck, put_check};
+use crate::skip_diagnostic::put_goal;
 use std::alloc::{AllocError, Global};
 use tw_asm::LineNumbers;
 use tw_code::{Flow, Instr, Procedure};
 use tw_lexer::{put, put_decimal, put_numbered};
 use tw_verify::{Refused, Typing, VerifyError};
-
-// ---- a register with an unmet check
-
-fn put_unmet(
-    alloc: Global,
-    out: &mut Vec<u8>,
-    check: Option<RegisterCheck>,
-) -> Result<(), AllocError>
-    ensures { OnOk result (out.new.items ≡ out.old.items ++ check_line check) }
-{
-    match check {
-        Some(check) => put_check(alloc, out, &check),
-        None => Ok(()),
-    }
-}
-
-/// Adds the first unmet check at a place.
-#[rattlefmt::skip]
-fn put_unmet_at(alloc: Global, out: &mut Vec<u8>, number: u8, procedures: &[Procedure], procedure: &Procedure, place: usize, instr: &Instr, typings: &[Typing]) -> Result<(), AllocError>
-    requires is { IsProcedure procedure.now }
-    requires instr { IsInstr instr.now }
-    ensures { OnOk result (out.new.items ≡ out.old.items ++ vain_line number procedures.now procedure.now place instr.now (slice_get typings.now place)) }
-{
-    match typings.get(place) {
-        Some(typing) => put_unmet(alloc, out, unmet_at(number, procedures, procedure, place, instr, typing)),
-        None => Ok(()),
-    }
-}
 
 // ---- goals, ends and calls
 
@@ -55,39 +27,6 @@ fn skip_of(flow: Flow) -> usize
         Flow::Branch(skip) | Flow::Jump(skip) => skip as usize,
         Flow::Straight | Flow::Begin(_) | Flow::Close | Flow::Stop => 0,
     }
-}
-
-fn is_inside(goal: usize, count: usize) -> bool
-    ensures { result ≡ nat_lt goal count }
-{
-    goal < count
-}
-
-/// Adds why a goal is invalid: it is outside the loop, or outside the code.
-fn put_outside(
-    alloc: Global,
-    out: &mut Vec<u8>,
-    goal: usize,
-    count: usize,
-) -> Result<(), AllocError>
-    ensures { OnOk result (out.new.items ≡ out.old.items ++ outside_text goal count) }
-{
-    if is_inside(goal, count) {
-        put(
-            out,
-            ", which is not in the same loop; a skip to END ends an iteration\n",
-        )
-    } else {
-        put_numbered(alloc, out, ", the code has ", count)?;
-        put(out, "\n")
-    }
-}
-
-fn put_goal(alloc: Global, out: &mut Vec<u8>, goal: usize, count: usize) -> Result<(), AllocError>
-    ensures { OnOk result (out.new.items ≡ out.old.items ++ goal_line goal count) }
-{
-    put_numbered(alloc, out, "the skip leads to place ", goal)?;
-    put_outside(alloc, out, goal, count)
 }
 
 fn put_unmatched(out: &mut Vec<u8>, flow: Flow) -> Result<(), AllocError>
@@ -212,23 +151,23 @@ fn put_at(alloc: Global, out: &mut Vec<u8>, lines: &LineNumbers, refused: &Refus
     ensures { OnOk result (AddsReason refused.now.no lines.now.procedures refused.now.program.procedures procedure.now refused.now.procedure refused.now.place instr.now typings.now out.old.items out.new.items) }
 {
     let procedures = refused.program.procedures();
-    let place = refused.place;
+    let (number, place) = (refused.procedure, refused.place);
     match refused.no {
-        VerifyError::UndeclaredValue => put_unmet_at(alloc, out, 1, procedures, procedure, place, instr, typings),
-        VerifyError::WrongValueType => put_unmet_at(alloc, out, 2, procedures, procedure, place, instr, typings),
-        VerifyError::RightNotEmpty => put_unmet_at(alloc, out, 3, procedures, procedure, place, instr, typings),
-        VerifyError::WrongRight => put_unmet_at(alloc, out, 4, procedures, procedure, place, instr, typings),
-        VerifyError::SkipLeavesBlock => put_goal(alloc, out, place + 1 + skip_of(instr.flow()), procedure.code.as_slice().len()),
+        VerifyError::UndeclaredValue => put_unmet_at(alloc, out, 1, lines, procedures, number, procedure, place, instr, typings),
+        VerifyError::WrongValueType => put_unmet_at(alloc, out, 2, lines, procedures, number, procedure, place, instr, typings),
+        VerifyError::RightNotEmpty => put_unmet_at(alloc, out, 3, lines, procedures, number, procedure, place, instr, typings),
+        VerifyError::WrongRight => put_unmet_at(alloc, out, 4, lines, procedures, number, procedure, place, instr, typings),
+        VerifyError::SkipLeavesBlock => put_goal(alloc, out, lines, number, procedure.code.as_slice(), place, place + 1 + skip_of(instr.flow())),
         VerifyError::Unmatched => put_unmatched(out, instr.flow()),
-        VerifyError::TypingsDiffer => put_differing(alloc, out, lines, procedures, refused.procedure, procedure, place, instr, typings),
-        VerifyError::TypingChanged => put_loop(alloc, out, lines, procedures, refused.procedure, procedure, place, instr, typings),
+        VerifyError::TypingsDiffer => put_differing(alloc, out, lines, procedures, number, procedure, place, instr, typings),
+        VerifyError::TypingChanged => put_loop(alloc, out, lines, procedures, number, procedure, place, instr, typings),
         VerifyError::Unreached => put(out, "no path leads here\n"),
-        VerifyError::RightLeft => put_unmet_at(alloc, out, 10, procedures, procedure, place, instr, typings),
+        VerifyError::RightLeft => put_unmet_at(alloc, out, 10, lines, procedures, number, procedure, place, instr, typings),
         VerifyError::MisplacedRet => put_misplaced(out, instr.flow()),
         VerifyError::UnknownProcedure => put_unknown(alloc, out, named_by(instr).0, last_of(procedures)),
         VerifyError::ArgumentCount => put_count(alloc, out, named_by(instr).1, param_count(procedures, named_by(instr).0)),
         VerifyError::ActionInLeaf => put(out, "the procedure is a leaf, required: control\n"),
-        VerifyError::ScalarWrite => put_unmet_at(alloc, out, 15, procedures, procedure, place, instr, typings),
+        VerifyError::ScalarWrite => put_unmet_at(alloc, out, 15, lines, procedures, number, procedure, place, instr, typings),
         VerifyError::BudgetTooLarge => put(out, "some walk is longer than 1000000000 instructions\n"),
         VerifyError::MainShape | VerifyError::NoMemory => Ok(()),
     }

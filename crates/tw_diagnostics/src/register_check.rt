@@ -2,7 +2,7 @@
 
 ghost use Rattle.std.specs.Prelude.{◌≡◌, ◌<◌, ◌++◌, OnOk, decimal, slice_get};
 ghost use Rattle.tw_diagnostics.specs.RegisterCheck.{are_two, has_type, holds, if_needed, is_declared, is_of, scalar_requirement};
-ghost use Rattle.tw_diagnostics.specs.Words.{asked_line, closing_text, held_text, way_out};
+ghost use Rattle.tw_diagnostics.specs.Words.{asked_text, closing_text, held_text, way_out};
 
 use crate::requirement::{Requirement, put_required};
 use crate::rights::{put_right, scalar_word};
@@ -169,7 +169,7 @@ fn closing_text(lacks_closing: bool) -> &'static str
     ensures { result.now ≡ closing_text lacks_closing }
 {
     if lacks_closing {
-        "; RULE waits: pass it to a closed parameter"
+        "; pass it to a procedure with a closed parameter, by RULE"
     } else {
         ""
     }
@@ -186,14 +186,9 @@ fn way_out(wanted: Requirement, held: RegisterState) -> &'static str
     }
 }
 
-/// Adds what a register holds and what is required of it.
-pub(crate) fn put_check(
-    alloc: Global,
-    out: &mut Vec<u8>,
-    check: &RegisterCheck,
-) -> Result<(), AllocError>
-    ensures { OnOk result (out.new.items ≡ out.old.items ++ asked_line check.now) }
+/// Adds the end of a line: what is required of a register, and what else can be done with it.
+pub(crate) fn put_asked(out: &mut Vec<u8>, check: &RegisterCheck) -> Result<(), AllocError>
+    ensures { OnOk result (out.new.items ≡ out.old.items ++ asked_text check.now.wanted check.now.held) }
 {
-    put_held(alloc, out, check.register, check.held)?;
     put_required(out, check.wanted, way_out(check.wanted, check.held))
 }

@@ -1,13 +1,14 @@
 //! Progress in a line, word by word.
 
-ghost use Rattle.std.specs.Prelude.{◌≡◌, ◌<◌, IfSome, option_map};
+ghost use Rattle.std.specs.Prelude.{◌≡◌, ◌<◌, IfSome};
 ghost use Rattle.tw_lexer.specs.Seen.{seen};
-ghost use Rattle.tw_diagnostics.specs.Going.{after, after_map, after_mode, after_operand, after_type, ends_at, first_read, may_end, only_if};
-ghost use Rattle.tw_diagnostics.specs.declared.words.Ask.TheVariants as asked;
+ghost use Rattle.tw_diagnostics.specs.Going.{ends_at, first_read, may_end};
+ghost use Rattle.tw_diagnostics.specs.Limits.{begun, deeper, if_fits, map_on, mode_on, one_more, operand_on, type_on, with_read, word_on};
+ghost use Rattle.tw_diagnostics.specs.MayCome.{due_after};
 ghost use Rattle.tw_diagnostics.specs.declared.step.Read.TheVariants as read;
 
 use crate::due::Due;
-use crate::words::{Ask, is_natural, is_operand};
+use crate::words::{Ask, has_form, is_natural, is_operand};
 use tw_asm::{container_of, is_sum, kind_of, map_of, mode_of, scalar_of, version_number};
 use tw_code::{Form, Version, form_at};
 use tw_lexer::{TokenError, Word};
@@ -72,7 +73,7 @@ fn ends_at(form: Option<Form>) -> bool
 impl<'a> LineProgress<'a> {
     /// Returns the progress after the first word of a statement.
     pub(crate) fn after_first(word: &'a [u8]) -> LineProgress<'a>
-        ensures { result.read ≡ first_read word.entry }
+        ensures { result ≡ begun word.entry }
     {
         LineProgress {
             read: first_read(word),
@@ -82,7 +83,9 @@ impl<'a> LineProgress<'a> {
     }
 
     /// Returns what may come next, if anything.
-    pub(crate) fn due(self, version: Version) -> Option<Due> {
+    pub(crate) fn due(self, version: Version) -> Option<Due>
+        ensures { result ≡ due_after version self.entry.read }
+    {
         match self.read {
             Read::Operands(name, place) => match form_at(version, name, place) {
                 Some(form) => Some(Due::Operand(form)),
@@ -112,7 +115,7 @@ impl<'a> LineProgress<'a> {
     }
 
     fn with(self, read: Read<'a>) -> LineProgress<'a>
-        ensures { result.read ≡ read.entry }
+        ensures { result ≡ with_read self.entry read.entry }
     {
         LineProgress {
             read,
@@ -123,7 +126,7 @@ impl<'a> LineProgress<'a> {
 
     /// Returns the progress with `read`, if it passes.
     fn only_if(self, passes: bool, read: Read<'a>) -> Option<LineProgress<'a>>
-        ensures { option_map (λ a. a.read) result ≡ only_if passes read.entry }
+        ensures { result ≡ if_fits self.entry passes read.entry }
     {
         if passes { Some(self.with(read)) } else { None }
     }
@@ -136,10 +139,10 @@ impl<'a> LineProgress<'a> {
         passes: bool,
         read: Read<'a>,
     ) -> Option<LineProgress<'a>>
-        ensures { ask ≡ asked.Form → option_map (λ a. a.read) result ≡ only_if passes read.entry }
+        ensures { result ≡ one_more ask self.entry most passes read.entry }
     {
-        let items = self.items.saturating_add(1);
-        if passes && ask.has_room(items, most) {
+        if passes {
+            let items = ask.counted(self.items, most)?;
             Some(LineProgress {
                 read,
                 items,
@@ -152,10 +155,10 @@ impl<'a> LineProgress<'a> {
 
     /// Returns the progress with one more container, if it passes and isn't nested too deeply.
     fn deeper(self, ask: Ask, passes: bool) -> Option<LineProgress<'a>>
-        ensures { ask ≡ asked.Form → option_map (λ a. a.read) result ≡ only_if passes self.entry.read }
+        ensures { result ≡ deeper ask self.entry passes }
     {
-        let depth = self.depth.saturating_add(1);
-        if passes && ask.has_room(depth, 3) {
+        if passes {
+            let depth = ask.counted(self.depth, 3)?;
             Some(LineProgress {
                 read: self.read,
                 items: self.items,
@@ -175,22 +178,22 @@ impl<'a> LineProgress<'a> {
         values: Read<'a>,
         whole: Read<'a>,
     ) -> Option<LineProgress<'a>>
-        ensures { ask ≡ asked.Form → option_map (λ a. a.read) result ≡ after_type version (seen word.now) self.entry.read values.entry whole.entry }
+        ensures { result ≡ type_on ask version self.entry (seen word.now) values.entry whole.entry }
     {
-        if ask.takes(scalar_of(word)) {
+        if has_form(scalar_of(word)) {
             Some(self.with(whole))
-        } else if ask.takes(map_of(version, word)) {
+        } else if has_form(map_of(version, word)) {
             Some(self.with(values))
         } else {
-            self.deeper(ask, ask.takes(container_of(version, word)))
+            self.deeper(ask, has_form(container_of(version, word)))
         }
     }
 
     /// Returns the progress after the word of a map's values.
-    fn after_map(self, ask: Ask, word: &Word<'_>, whole: Read<'a>) -> Option<LineProgress<'a>>
-        ensures { ask ≡ asked.Form → option_map (λ a. a.read) result ≡ after_map (seen word.now) whole.entry }
+    fn after_map(self, word: &Word<'_>, whole: Read<'a>) -> Option<LineProgress<'a>>
+        ensures { result ≡ map_on self.entry (seen word.now) whole.entry }
     {
-        self.only_if(ask.takes(scalar_of(word)) || is_sum(word), whole)
+        self.only_if(has_form(scalar_of(word)) || is_sum(word), whole)
     }
 
     fn after_operand(
@@ -202,9 +205,8 @@ impl<'a> LineProgress<'a> {
         form: Option<Form>,
         word: &Word<'_>,
     ) -> Option<LineProgress<'a>>
-        requires read { self.read ≡ read.Operands name place }
-        requires few { IfSome form (λ _. place < 4) }
-        ensures { ask ≡ asked.Form → option_map (λ a. a.read) result ≡ after_operand version name.entry place (seen word.now) form }
+        requires { IfSome form (λ _. place < 4) }
+        ensures { result ≡ operand_on ask version self.entry name.entry place (seen word.now) form }
     {
         match form {
             None => None,
@@ -221,7 +223,7 @@ impl<'a> LineProgress<'a> {
     }
 
     fn after_mode(self, ask: Ask, mode: Result<Mode, TokenError>) -> Option<LineProgress<'a>>
-        ensures { ask ≡ asked.Form → option_map (λ a. a.read) result ≡ after_mode mode }
+        ensures { result ≡ mode_on ask self.entry mode }
     {
         match mode {
             Err(_) => None,
@@ -235,18 +237,18 @@ impl<'a> LineProgress<'a> {
     /// Returns the progress after one more word, if that may come here.
     #[rattlefmt::skip]
     pub(crate) fn advanced(self, ask: Ask, version: Version, word: &Word<'_>) -> Option<LineProgress<'a>>
-        ensures { ask ≡ asked.Form → option_map (λ a. a.read) result ≡ after version self.entry.read (seen word.now) }
+        ensures { result ≡ word_on ask version self.entry (seen word.now) }
     {
         match self.read {
             Read::Operands(name, place) => self.after_operand(ask, version, name, place, form_at(version, name, place), word),
-            Read::MapOperand(name, next) => self.after_map(ask, word, Read::Operands(name, next)),
+            Read::MapOperand(name, next) => self.after_map(word, Read::Operands(name, next)),
             Read::Version => self.only_if(ask.takes(version_number(word)), Read::Whole),
-            Read::Head => self.only_if(ask.takes(kind_of(word)), Read::Params),
+            Read::Head => self.only_if(has_form(kind_of(word)), Read::Params),
             Read::Params => self.after_mode(ask, mode_of(word)),
             Read::RightMode => self.after_type(ask, version, word, Read::RightMap, Read::Params),
-            Read::RightMap => self.after_map(ask, word, Read::Params),
-            Read::Val => self.only_if(ask.takes(scalar_of(word)), Read::Params),
-            Read::Registers => self.one_more(ask, 16, ask.takes(scalar_of(word)), self.read),
+            Read::RightMap => self.after_map(word, Read::Params),
+            Read::Val => self.only_if(has_form(scalar_of(word)), Read::Params),
+            Read::Registers => self.one_more(ask, 16, has_form(scalar_of(word)), self.read),
             Read::Whole => None,
         }
     }

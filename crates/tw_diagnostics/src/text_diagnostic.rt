@@ -7,6 +7,7 @@ ghost use Rattle.tw_diagnostics.specs.ErrorWord.{IsErrorWord, numbers_of};
 ghost use Rattle.tw_diagnostics.specs.Hints.{hint_text, word_hint};
 ghost use Rattle.tw_diagnostics.specs.declared.error_position.Token.{Token as AFound};
 
+use crate::assignment::is_assignment;
 use crate::diagnostic::{Diagnostic, Reason, put_reason};
 use crate::due::{Due, limit_of};
 use crate::error_position::{first_stop, found_word, is_long_label, last_stop, line_stop};
@@ -30,17 +31,18 @@ fn first_reason<'a>(
 {
     let situation = situation_before(alloc, text, number)?;
     let stop = first_stop(alloc, line)?;
-    let hint = first_hint(alloc, situation, found_word(&stop.found))?;
+    let assigns = is_assignment(alloc, line)?;
+    let hint = first_hint(alloc, assigns, situation, found_word(&stop.found))?;
     let said = Diagnostic::Expected(situation.stage.text(), None, hint);
     Ok(Reason::At(stop, said))
 }
 
 fn said_of(due: Option<Due>, hint: Hint) -> Diagnostic<'static>
-    ensures { (found : AFound) → hint_text hint ≡ word_hint due (found_word found) → said_text result found ≡ due_said due found }
+    ensures { (first : List ℕ) (found : AFound) → hint_text hint ≡ word_hint first due (found_word found) → said_text result found ≡ due_said first due found }
 {
     match due {
         Some(due) => Diagnostic::Expected(due.text(), None, hint),
-        None => Diagnostic::TooMany,
+        None => Diagnostic::TooMany(hint),
     }
 }
 
@@ -55,9 +57,11 @@ fn operand_reason<'a>(
     ensures { IfOk result (IsWhy text.now fault.Operand number line.entry.now) }
 {
     let situation = situation_before(alloc, text, number)?;
+    let first = first_stop(alloc, line)?;
     match line_stop(alloc, Ask::Form, situation.version, line)? {
         Some(stop) => {
-            let hint = word_hint(alloc, stop.due, found_word(&stop.found))?;
+            let word = found_word(&stop.found);
+            let hint = word_hint(alloc, found_word(&first.found), stop.due, word)?;
             Ok(Reason::At(stop, said_of(stop.due, hint)))
         }
         None => Ok(Reason::Nothing),
@@ -136,7 +140,7 @@ fn past_reason<'a>(
     first: &[u8],
 ) -> Result<Reason<'a>, AllocError>
     requires { IsUtf8 line.now }
-    ensures { IfOk result (λ r. IsIn line.entry.now r × IsPast first.now r) }
+    ensures { IfOk result (λ r. IsIn line.entry.now r × IsPast text.now number line.entry.now first.now r) }
 {
     let situation = situation_before(alloc, text, number)?;
     match line_stop(alloc, Ask::Limits, situation.version, line)? {

@@ -1,9 +1,10 @@
 //! Tests of one word by the assembler's readers: whether it may be there.
 
-ghost use Rattle.std.specs.Prelude.{◌≡◌, true};
+ghost use Rattle.std.specs.Prelude.{◌≡◌};
 ghost use Rattle.tw_lexer.specs.Seen.{seen};
 ghost use Rattle.tw_asm.specs.reading.Operands.{natural_in};
-ghost use Rattle.tw_diagnostics.specs.Going.{has_form, is_operand, is_quoted};
+ghost use Rattle.tw_diagnostics.specs.Going.{has_form};
+ghost use Rattle.tw_diagnostics.specs.Limits.{counted, fits, fits_literal, fits_operand, has_room};
 
 use tw_asm::{byte_of, goal_of, iterations_of, number_of, right_of, target_of, value_of};
 use tw_code::Form;
@@ -16,48 +17,57 @@ pub(crate) enum Ask {
     Limits,
 }
 
-impl Ask {
-    /// Returns whether a number that exceeds its limits passes.
-    fn takes_any(self) -> bool
-        ensures { self ≡ Ask.Form → result ≡ true }
-    {
-        match self {
-            Ask::Form => true,
-            Ask::Limits => false,
-        }
+/// Returns whether a word has the form of what was read; whether it is within its limits isn't tested.
+pub(crate) fn has_form<N: Drop>(read: Result<N, TokenError>) -> bool
+    ensures { result ≡ has_form read }
+{
+    match read {
+        Ok(_) | Err(TokenError::Limit) => true,
+        Err(TokenError::Form) => false,
     }
+}
 
+impl Ask {
     /// Returns whether what was read passes.
     pub(crate) fn takes<N: Drop>(self, read: Result<N, TokenError>) -> bool
-        ensures { self ≡ Ask.Form → result ≡ has_form read }
+        ensures { result ≡ fits self read }
     {
-        match read {
-            Ok(_) => true,
-            Err(TokenError::Form) => false,
-            Err(TokenError::Limit) => self.takes_any(),
+        match self {
+            Ask::Form => has_form(read),
+            Ask::Limits => read.is_ok(),
         }
     }
 
-    /// Returns whether `count` items pass, of which `most` are allowed.
-    pub(crate) fn has_room(self, count: usize, most: usize) -> bool
-        ensures { self ≡ Ask.Form → result ≡ true }
+    /// Returns whether `count` bytes pass, of which `most` are allowed.
+    fn has_room(self, count: usize, most: usize) -> bool
+        ensures { result ≡ has_room self count most }
     {
         match self {
             Ask::Form => true,
-            Ask::Limits => count <= most,
+            Ask::Limits => !(most < count),
+        }
+    }
+
+    /// Returns the count with one more item, of which `most` are allowed. By form alone nothing is counted.
+    pub(crate) fn counted(self, count: usize, most: usize) -> Option<usize>
+        ensures { result ≡ counted self count most }
+    {
+        match self {
+            Ask::Form => Some(count),
+            Ask::Limits => { if count < most { Some(count + 1) } else { None } }
         }
     }
 }
 
 pub(crate) fn is_natural(ask: Ask, low: u8, high: u8, word: &Word<'_>) -> bool
-    ensures { ask ≡ Ask.Form → result ≡ has_form (natural_in low high (seen word.now)) }
+    ensures { result ≡ fits ask (natural_in low high (seen word.now)) }
 {
     ask.takes(byte_of(low, high, word))
 }
 
 /// Returns whether a word is a text between quotes.
 fn is_literal(ask: Ask, word: &Word<'_>) -> bool
-    ensures { ask ≡ Ask.Form → result ≡ is_quoted (seen word.now) }
+    ensures { result ≡ fits_literal ask (seen word.now) }
 {
     match word {
         Word::Bare(_) => false,
@@ -68,7 +78,7 @@ fn is_literal(ask: Ask, word: &Word<'_>) -> bool
 /// Returns whether a word is an operand of a form that has one word; a type and arguments may have more.
 #[rattlefmt::skip]
 pub(crate) fn is_operand(ask: Ask, form: Form, word: &Word<'_>) -> bool
-    ensures { ask ≡ Ask.Form → result ≡ is_operand form (seen word.now) }
+    ensures { result ≡ fits_operand ask form (seen word.now) }
 {
     match form {
         Form::Value => ask.takes(value_of(word)),

@@ -1,3 +1,4 @@
+use Rattle.std.proofs.Common.{inr}
 use Rattle.tw_diagnostics.proofs.ReasonNames.{Bare, IsBlank, IsBroken, blank_no_word, seen}
 use Rattle.tw_lexer.proofs.Texts.{rest_utf8}
 use Rattle.tw_diagnostics.proofs.error_position.line_stop.Goals as goal
@@ -14,3 +15,13 @@ pub returns-in-Broken-clause-first : goal.returns-in-Broken-clause-first
 returns-in-Broken-clause-first c = λ form expected word rest is ex.
     let broken : IsBroken c.args.line.now = rw c.in-Broken.is at c.in_ok-word.ensures in
     absurd (broken.1 (Bare word) rest is)
+
+pub returns-in-End-clause-excess : goal.returns-in-End-clause-excess
+returns-in-End-clause-excess c = λ limits.
+    let blank : IsBlank c.args.line.now = rw c.in-End.is at c.in_ok-word.ensures in
+    inr (λ word rest is. blank_no_word (Bare word) c.args.line.now rest blank is)
+
+pub returns-in-Broken-clause-excess : goal.returns-in-Broken-clause-excess
+returns-in-Broken-clause-excess c = λ limits.
+    let broken : IsBroken c.args.line.now = rw c.in-Broken.is at c.in_ok-word.ensures in
+    inr (λ word rest is. broken.1 (Bare word) rest is)

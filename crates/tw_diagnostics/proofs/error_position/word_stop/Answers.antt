@@ -1,4 +1,4 @@
-use Rattle.std.proofs.Common.{subst, sym}
+use Rattle.std.proofs.Common.{inr, subst, sym}
 use Rattle.tw_diagnostics.proofs.ReasonNames.{Bare, IsExpected, IsFirstWord, Quoted, first_word_once}
 use Rattle.tw_asm.proofs.Spelled.{bare_is}
 use Rattle.tw_diagnostics.proofs.Saying.{quoted_apart}
@@ -14,3 +14,8 @@ pub returns-in-Quoted-clause-first : goal.returns-in-Quoted-clause-first
 returns-in-Quoted-clause-first c = λ form expected word rest is ex.
     let here : IsFirstWord (Quoted c.in-Quoted.field-0.bytes.items) c.args.line.now c.args.after.now = rw c.in-Quoted.is at c.requires.first in
     absurd (quoted_apart c.in-Quoted.field-0.bytes.items word (sym (first_word_once (Bare word) (Quoted c.in-Quoted.field-0.bytes.items) c.args.line.now rest c.args.after.now is here).0))
+
+pub returns-in-Quoted-clause-excess : goal.returns-in-Quoted-clause-excess
+returns-in-Quoted-clause-excess c = λ limits.
+    let here : IsFirstWord (Quoted c.in-Quoted.field-0.bytes.items) c.args.line.now c.args.after.now = rw c.in-Quoted.is at c.requires.first in
+    inr (λ word rest is. quoted_apart c.in-Quoted.field-0.bytes.items word (sym (first_word_once (Bare word) (Quoted c.in-Quoted.field-0.bytes.items) c.args.line.now rest c.args.after.now is here).0))

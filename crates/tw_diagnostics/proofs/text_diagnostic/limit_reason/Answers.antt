@@ -15,5 +15,5 @@ returns-else-is_long_label c =
     let short = ap (λ (w : List ℕ). is_long_label (before_colon w)) (sym c.found_word.ensures) ∙ sym c.is_long_label.ensures ∙ c.if-is_long_label.false in
     IfOk-weaker c.past_reason.result _ _
     (λ r past. past_why c.args.text.now c.args.number c.args.line.now c.in_ok-first.first r c.in_ok-first.ensures.reached c.in_ok-first.ensures.word short
-    (past.0, subst (λ (w : List ℕ). IsPast w r) c.found_word-else-is_long_label.ensures past.1))
+    (past.0, subst (λ (w : List ℕ). IsPast c.args.text.now c.args.number c.args.line.now w r) c.found_word-else-is_long_label.ensures past.1))
     c.past_reason.ensures
