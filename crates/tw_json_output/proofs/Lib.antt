@@ -1,2 +1,3 @@
 pub mod Floats
 pub mod Members
+pub mod OneLine

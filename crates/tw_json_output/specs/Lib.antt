@@ -2,3 +2,5 @@
 pub mod Outputs
 pub mod Run
 pub mod Texts
+-- Texts of one line.
+pub mod Lines

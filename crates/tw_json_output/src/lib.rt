@@ -7,8 +7,10 @@ mod outputs;
 mod printed_lines;
 mod run_object;
 mod text_object;
+mod theorems;
 mod values;
 
 pub use printed_lines::lines_value;
 pub use run_object::{RunEnd, RunNumbers, end_members, line_of, run_line};
 pub use text_object::{Printed, explanation_line, members_with, printed_line, text_value};
+pub use theorems::one_line;

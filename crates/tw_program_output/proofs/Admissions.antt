@@ -94,7 +94,7 @@ module _ (program : List Procedure) (limit : Option ℕ) (caps : Caps) where
               tasks = within_cap (λ m. tasks_in events ≤ m) (λ n m le h. omega arith) tasks bounds.tasks caps.tasks no_t w.tasks;
               instructions = within_cap (λ m. instructions_in events ≤ m) (λ n m le h. omega arith) (codes "instructions") bounds.instructions caps.instructions no_i w.instructions;
               new_data = within_cap (λ m. s.store.next ≤ (opening program inputs).store.next + m) (λ n m le h. omega arith) (codes "data") bounds.«data» caps.«data» no_d w.new_data;
-              bytes = within_cap (λ m. bytes_held s.store ≤ bytes_held (opening program inputs).store + m) (λ n m le h. omega arith) (codes "bytes") bounds.bytes caps.bytes no_y w.bytes;
+              bytes = within_cap (λ m. bytes_held s ≤ bytes_held (opening program inputs) + m) (λ n m le h. omega arith) (codes "bytes") bounds.bytes caps.bytes no_y w.bytes;
               members = within_cap (λ x. members_held s.store ≤ members_held (opening program inputs).store + x) (λ n x le h. omega arith) (codes "members") bounds.members caps.members no_m w.members;
             };
         budgets = λ given k p n here is.

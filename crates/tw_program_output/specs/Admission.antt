@@ -69,7 +69,7 @@ pub record IsRunWithinCaps (program : List Procedure) (caps : Caps) (inputs : Li
   pub tasks : caps.tasks < greatest_cap → tasks_in events ≤ caps.tasks
   pub instructions : caps.instructions < greatest_cap → instructions_in events ≤ caps.instructions
   pub new_data : caps.«data» < greatest_cap → s.store.next ≤ (opening program inputs).store.next + caps.«data»
-  pub bytes : caps.bytes < greatest_cap → bytes_held s.store ≤ bytes_held (opening program inputs).store + caps.bytes
+  pub bytes : caps.bytes < greatest_cap → bytes_held s ≤ bytes_held (opening program inputs) + caps.bytes
   pub members : caps.members < greatest_cap → members_held s.store ≤ members_held (opening program inputs).store + caps.members
 
 -- with any inputs and layout, each run that the limit allows is within the caps, and so is each budget

@@ -11,6 +11,7 @@ use Rattle.tw_order.specs.declared.form.Assembling.TheVariants as assembling
 use Rattle.tw_order.specs.declared.order.Source.TheVariants.{Assembly}
 use Rattle.tw_asm.specs.declared.fault.FaultNo.{FaultNo}
 use Rattle.tw_source.specs.Failure.{coded, failed}
+use Rattle.tw_source.specs.FaultWord.{IsWordIn}
 use Rattle.tw_source.specs.Names.{RepliesByPlain}
 use Rattle.tw_source.specs.Reply.{Reply, reply}
 use Rattle.tw_source.specs.Text.{RepliesByUtf8}
@@ -18,11 +19,15 @@ use Rattle.tw_source.specs.declared.close.Close.TheVariants.{Success}
 use Rattle.tw_source.specs.declared.failure.Position.TheVariants as position
 use Rattle.tw_source.specs.Program.{RepliesBySource}
 
+-- holds for the line of a fault; its word and column are of the error alone
+abbrev pub IsFaultReply : List ℕ → FaultNo → ℕ → Reply → Type 0
+IsFaultReply input which line r = (at : ℕ × ℕ) × IsWordIn input which line at × (r ≡ failed (coded 65 (asm.fault_number which) (position.Line line at.0 at.1)))
+
 -- like `RepliesBySource`, for an assembly text whose bytes are requested: it has no names, and an error prints only its line
 abbrev pub RepliesByText : List ℕ → (Versioned → Reply → Type 0) → Reply → Type 0
 RepliesByText input Answers r =
     RepliesByUtf8 input (((program : Versioned) × SpellsProgram program input × Answers program r)
-    ⊎ ((which : FaultNo) × (line : ℕ) × HasFault input which line × (r ≡ failed (coded 65 (asm.fault_number which) (position.Line line))))) r
+    ⊎ ((which : FaultNo) × (line : ℕ) × HasFault input which line × IsFaultReply input which line r)) r
 
 -- holds for a program's bytes, in hex digits
 abbrev pub IsWritten : Versioned → Reply → Type 0

@@ -1,5 +1,5 @@
 -- The object of an error, made from its value.
-use Rattle.std.specs.Prelude.{ℕ, List, codes, drop, take, Option, Some, None}
+use Rattle.std.specs.Prelude.{◌==◌, ℕ, List, codes, drop, if◌then◌else◌, take, Option, Some, None}
 use Rattle.serde_json.specs.Data as json
 use Rattle.tw_json_output.specs.Texts.{lines_json, whole_json, with_status}
 use Rattle.tw_source.specs.Failure.{code_text, uncoded}
@@ -49,10 +49,14 @@ abbrev pub with_line : Option ℕ → json.Members → json.Members
 with_line None members = members
 with_line (Some line) members = with_number (codes "line") line members
 
+-- a column counts from 1; 0 is none
+abbrev pub with_column : ℕ → json.Members → json.Members
+with_column column members = if column == 0 then members else with_number (codes "column") column members
+
 abbrev pub with_position : Position → json.Members → json.Members
 with_position position.Nowhere members = members
 with_position (position.Byte offset) members = with_number (codes "byte") offset members
-with_position (position.Line line) members = with_number (codes "line") line members
+with_position (position.Line line word column) members = with_column column (with_number (codes "line") line members)
 with_position (position.Place procedure place line) members = with_line line (with_number (codes "place") place (with_number (codes "procedure") procedure members))
 with_position (position.Input input) members = with_number (codes "input") input members
 with_position (position.Event event) members = with_number (codes "event") event members

@@ -1,13 +1,10 @@
 //! Output of `asm`: a program in hex, or expanded text.
 
-ghost use Rattle.std.specs.Prelude.{◌≡◌, IfOk};
-ghost use Rattle.tw_asm.specs.Fault.{fault_number};
+ghost use Rattle.std.specs.Prelude.{IfOk};
 ghost use Rattle.tw_order.specs.declared.order.Source.TheVariants.{Assembly};
-ghost use Rattle.tw_source.specs.Failure.{coded, failed};
-ghost use Rattle.tw_program_output.specs.Assembled.{IsWritten, RepliesByAssembling, RepliesByText};
+ghost use Rattle.tw_program_output.specs.Assembled.{IsFaultReply, IsWritten, RepliesByAssembling, RepliesByText};
 ghost use Rattle.tw_source.specs.Program.{RepliesBySource};
 ghost use Rattle.tw_source.specs.Reply.{reply};
-ghost use Rattle.tw_source.specs.declared.failure.Position.TheVariants as position;
 
 use std::alloc::{AllocError, Global};
 use tw_asm::{AsmFault, assemble};
@@ -17,7 +14,7 @@ use tw_lexer::put;
 use tw_order::{Assembling, Source};
 use tw_source::{
     Close, Failure, Position, Reply, failed_reply, not_utf8_reply, parse_error_reply, plain_reply,
-    read_program,
+    read_program, word_in,
 };
 
 /// Returns a program as hex digits, in one line.
@@ -36,10 +33,12 @@ fn hex_reply(alloc: Global, program: &Program) -> Result<Reply, AllocError>
 }
 
 /// Returns the line of a text's first fault.
-fn fault_reply(alloc: Global, fault: AsmFault) -> Result<Reply, AllocError>
-    ensures { IfOk result (λ r. reply r.text.items r.close ≡ failed (coded 65 (fault_number fault.no) (position.Line fault.line))) }
+fn fault_reply(alloc: Global, text: &str, fault: AsmFault) -> Result<Reply, AllocError>
+    ensures { IfOk result (λ r. IsFaultReply text.now fault.no fault.line (reply r.text.items r.close)) }
 {
-    let position = Position::Line(fault.line);
+    let (word, column) = word_in(alloc, text, fault)?;
+    let line = fault.line;
+    let position = Position::Line { line, word, column };
     failed_reply(alloc, Failure::coded(b'A', fault.no.number(), position))
 }
 
@@ -51,7 +50,7 @@ fn text_reply(alloc: Global, text: &str) -> Result<Reply, AllocError>
         Ok(program) => hex_reply(alloc, &program),
         Err(fault) => match fault.no {
             tw_asm::FaultNo::NoMemory => Err(AllocError),
-            _ => fault_reply(alloc, fault),
+            _ => fault_reply(alloc, text, fault),
         },
     }
 }

@@ -4,7 +4,7 @@ ghost use Rattle.std.specs.Prelude.{◌≡◌, IfOk, OnOk, drop, string_bytes, t
 ghost use Rattle.serde_json.specs.Data.{object};
 ghost use Rattle.serde_json.specs.View.{members_view, view};
 ghost use Rattle.tw_json_output.specs.Run.{json_line};
-ghost use Rattle.tw_program_output.specs.ErrorJson.{error_json, error_members, error_status, failure_in, failure_members, listed_error_json, listed_members, or_uncoded, with_code, with_line, with_number, with_position};
+ghost use Rattle.tw_program_output.specs.ErrorJson.{error_json, error_members, error_status, failure_in, failure_members, listed_error_json, listed_members, or_uncoded, with_code, with_column, with_line, with_number, with_position};
 ghost use Rattle.tw_source.specs.Reply.{reply};
 
 use serde_json::{Map, Value as Json};
@@ -88,6 +88,20 @@ fn put_line(
     }
 }
 
+/// Adds a column, which counts from 1; 0 is none.
+fn put_column(
+    alloc: Global,
+    members: &mut Map<String, Json>,
+    column: usize,
+) -> Result<(), AllocError>
+    ensures { OnOk result (members_view members.new.entries ≡ with_column column (members_view members.old.entries)) }
+{
+    if column == 0 {
+        return Ok(());
+    }
+    put_number(alloc, members, "column", column)
+}
+
 /// Adds where an error is.
 fn put_position(
     alloc: Global,
@@ -99,7 +113,10 @@ fn put_position(
     match position {
         Position::Nowhere => Ok(()),
         Position::Byte(offset) => put_number(alloc, members, "byte", offset),
-        Position::Line(line) => put_number(alloc, members, "line", line),
+        Position::Line { line, column, .. } => {
+            put_number(alloc, members, "line", line)?;
+            put_column(alloc, members, column)
+        }
         Position::Input(input) => put_number(alloc, members, "input", input),
         Position::Event(event) => put_number(alloc, members, "event", event),
         Position::Place {

@@ -6,3 +6,5 @@ pub mod NamedTexts
 pub mod Faults
 mod ReplyNames
 mod ExampleWords
+mod FaultWords
+mod NamePlaces

@@ -1,6 +1,6 @@
 -- Details after the line with the reason why there is no program.
 use Rattle.std.proofs.Common.{◌≡◌, ◌≢◌, ◌++◌, ℕ, List, [], IsUtf8, inr, refl, sym}
-use Rattle.tw_source.proofs.ReplyNames.{Assembly, Hex, AreFaultDetails, AreParseErrorDetails, NoProgram, RepliesBySource, SpellsNone, Spoken as Reply, ExpandsTo, Versioned, append-nil, failed_with, failure_of, name_details}
+use Rattle.tw_source.proofs.ReplyNames.{Assembly, Hex, AreFaultDetails, AreNameDetails, AreParseErrorDetails, NoProgram, RepliesBySource, SpellsNone, Spoken as Reply, ExpandsTo, Versioned, Failure, IsFailure, append-nil, failed_with}
 use Rattle.tw_asm.specs.declared.fault.AsmFault.{AsmFault}
 use Rattle.tw_order.specs.declared.order.Source.{Source}
 use Rattle.tw_symbols.specs.declared.rejection.NameError.{NameError}
@@ -14,9 +14,9 @@ pub reason_added : (input old new : List ℕ) (f : AsmFault)
 reason_added input old new f printed Hex none = absurd none
 reason_added input old new f printed Assembly none = printed none.0 none.1.0 none.1.1
 
-pub rejection_added : (input old new : List ℕ) (f : NameError) → (IsUtf8 input → new ≡ old ++ name_details input f.no f.line f.word.now) → Adds input (Named f) old new
+pub rejection_added : (input old new : List ℕ) (f : NameError) → (IsUtf8 input → (more : List ℕ) × AreNameDetails input f.no f.line f.word.now more × (new ≡ old ++ more)) → Adds input (Named f) old new
 rejection_added input old new f printed Hex none = absurd none
-rejection_added input old new f printed Assembly none = (name_details input f.no f.line f.word.now, refl, printed none.0)
+rejection_added input old new f printed Assembly none = printed none.0
 
 pub nothing_added : (input old : List ℕ) (why : NoProgram) → ((f : AsmFault) → why ≡ Text f → ⊥) → ((f : NameError) → why ≡ Named f → ⊥) → Adds input why old old
 nothing_added input old NotHex other unnamed source none = ([], refl, sym (append-nil old))
@@ -28,7 +28,7 @@ nothing_added input old NoMemory other unnamed source none = ([], refl, sym (app
 
 -- holds if a reply has the reason why there is none
 abbrev pub PrintsWhy : List ℕ → NoProgram → Reply → Type 0
-PrintsWhy input why r = (why ≢ NoMemory) × ((source : Source) → SpellsNone source input why → (more : List ℕ) × AreParseErrorDetails input why more × (r ≡ failed_with (failure_of why) more))
+PrintsWhy input why r = (why ≢ NoMemory) × ((source : Source) → SpellsNone source input why → (failure : Failure) × (more : List ℕ) × IsFailure input why failure × AreParseErrorDetails input why more × (r ≡ failed_with failure more))
 
 pub none_printed : (source : Source) (input : List ℕ) (why : NoProgram) (Answers : Versioned → Reply → Type 0) (r : Reply) → (why ≢ NoMemory → SpellsNone source input why) → PrintsWhy input why r → RepliesBySource source input Answers r
-none_printed source input why Answers r none (other, printed) = let n = none other in let t = printed source n in inr (why, t.0, n, t.1, t.2)
+none_printed source input why Answers r none (other, printed) = let n = none other in let t = printed source n in inr (why, t.0, t.1, n, t.2, t.3, t.4)

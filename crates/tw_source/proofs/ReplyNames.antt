@@ -9,15 +9,13 @@ pub use Rattle.tw_order.specs.declared.order.Source.TheVariants.{Assembly, Hex}
 pub use Rattle.tw_source.specs.declared.close.Close.TheVariants.{Refused, Success}
 pub use Rattle.tw_source.specs.declared.failure.Failure.{Failure}
 pub use Rattle.tw_source.specs.Failure.{coded, failed_with, failure_line}
-pub use Rattle.tw_source.specs.declared.inputs.Section.TheVariants.{Inputs, Program, Rest}
 pub use Rattle.tw_source.specs.declared.program.NoProgram.{NoProgram}
 pub use Rattle.tw_source.specs.declared.reply.Reply.{Reply}
 pub use Rattle.tw_asm.specs.Fault.{LinesSay, ParserState, after_line, at_start}
 pub use Rattle.tw_asm.specs.Origins.{AreOrigins, ComesFrom, at_place, instr_at}
 pub use Rattle.tw_symbols.specs.Expansion.{HasNames, IsFirstRejection, ExpandsTo}
-pub use Rattle.tw_source.specs.Names.{AreFaultDetails, RepliesByPlain, name_details, written_text}
-pub use Rattle.tw_source.specs.Parts.{after_lines, parts, seen}
-pub use Rattle.tw_source.specs.Program.{AreParseErrorDetails, RepliesBySource, Spells, SpellsNone, SpellsText, failure_of}
+pub use Rattle.tw_source.specs.Names.{AreFaultDetails, AreNameDetails, RepliesByPlain, written_text}
+pub use Rattle.tw_source.specs.Program.{AreParseErrorDetails, RepliesBySource, Spells, SpellsNone, SpellsText, IsFailure}
 pub use Rattle.tw_source.specs.Reply.{Reply as Spoken, reply}
 pub use Rattle.tw_source.specs.Source.{plain_of, text_of}
 pub use Rattle.tw_source.specs.Text.{ArePlaceDetails, AreTextDetails, text_line}

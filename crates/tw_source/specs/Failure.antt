@@ -29,7 +29,7 @@ code_text code = if code.letter == 67 then codes "C" ++ decimal code.number else
 abbrev pub position_text : Position → List ℕ
 position_text position.Nowhere = []
 position_text (position.Byte offset) = codes " at byte " ++ decimal offset
-position_text (position.Line line) = codes " at line " ++ decimal line
+position_text (position.Line line word column) = codes " at line " ++ decimal line
 position_text (position.Place procedure place line) = codes " in procedure " ++ (decimal procedure ++ (codes " at place " ++ decimal place))
 position_text (position.Input input) = []
 position_text (position.Event event) = codes " at event " ++ decimal event

@@ -1,7 +1,8 @@
 -- Inputs that follow the program in what is read: after it a line `inputs`, and then a line for each word.
-use Rattle.std.specs.Prelude.{◌≡◌, ◌⊎◌, ◌==◌, ◌++◌, ℕ, List, [], ◌∷◌, codes, decimal, length, if◌then◌else◌}
+use Rattle.std.specs.Prelude.{◌≡◌, ◌⊎◌, ◌==◌, ◌++◌, ◌||◌, ℕ, Bool, List, [], ◌∷◌, Option, Some, None, codes, decimal, length, if◌then◌else◌}
+use Rattle.std.specs.List.{join_with_byte, slice_split}
+use Rattle.std.specs.Option.{option_map, option_map_or}
 use Rattle.std.specs.Str.{bytes_eq}
-use Rattle.std.specs.Str.Lines.{lines}
 use Rattle.clap.specs.Words.{Text}
 use Rattle.tw_types.specs.declared.input.Input.{Input}
 use Rattle.tw_inputs.specs.declared.json_inputs.Place.{Place}
@@ -11,20 +12,29 @@ use Rattle.tw_source.specs.Failure.{uncoded}
 use Rattle.tw_source.specs.declared.failure.Position.{Position}
 use Rattle.tw_source.specs.declared.failure.Position.TheVariants as position
 use Rattle.tw_source.specs.Reply.{Reply, reply}
-use Rattle.tw_source.specs.Text.{RepliesByUtf8}
 use Rattle.tw_source.specs.declared.close.Close.TheVariants.{Unreadable}
 
 -- ---- lines
 
--- returns the program's lines, each with a line feed
-abbrev pub before_inputs : List Text → List ℕ
-before_inputs [] = []
-before_inputs (line ∷ others) = if bytes_eq line (codes "inputs") then [] else (line ++ 10 ∷ []) ++ before_inputs others
+-- returns the lines of what is read, without their line feeds
+abbrev pub lines_in : List ℕ → List (List ℕ)
+lines_in text = slice_split (λ b. b == 10) text
 
--- returns those after the line `inputs`
-abbrev pub after_inputs : List Text → List Text
-after_inputs [] = []
-after_inputs (line ∷ others) = if bytes_eq line (codes "inputs") then others else after_inputs others
+-- returns whether inputs follow a line, with a carriage return or without
+abbrev pub begins_inputs : List ℕ → Bool
+begins_inputs line = bytes_eq line (codes "inputs") || bytes_eq line (codes "inputs\r")
+
+-- returns what precedes the first line `inputs`, and what follows it, if there is such a line
+abbrev pub cut_inputs : List (List ℕ) → Option (List ℕ × List ℕ)
+cut_inputs [] = None
+cut_inputs (line ∷ others) = if begins_inputs line then Some ([], join_with_byte 10 others) else option_map (λ cut. (line ++ 10 ∷ cut.0, cut.1)) (cut_inputs others)
+
+-- return the program, and the inputs after it; without a line `inputs` all is the program
+abbrev pub before_inputs : List ℕ → List ℕ
+before_inputs text = option_map_or (λ cut. cut.0) (cut_inputs (lines_in text)) text
+
+abbrev pub after_inputs : List ℕ → List ℕ
+after_inputs text = option_map_or (λ cut. cut.1) (cut_inputs (lines_in text)) []
 
 -- returns the words: the lines up to `end`, without the empty ones
 abbrev pub words_in : List Text → List Text
@@ -55,8 +65,3 @@ unreadable at text = reply text (Unreadable (uncoded (fault_position at)))
 abbrev pub RepliesByWords : List Text → (List Input → Reply → Type 0) → Reply → Type 0
 RepliesByWords words Answers r =
     ((given : List Input) × AreSpelled given words × Answers given r) ⊎ ((refused : RefusedWord) × IsRefusedWord words refused × PrintsInputWord refused r)
-
--- holds if what is read is UTF-8, and this is the reply to the program's lines and the inputs; or if it isn't UTF-8
-abbrev pub RepliesByInputs : List ℕ → (List ℕ → List Input → Reply → Type 0) → Reply → Type 0
-RepliesByInputs text Answers r =
-    RepliesByUtf8 text (RepliesByWords (words_in (after_inputs (lines text))) (Answers (before_inputs (lines text))) r) r

@@ -1,13 +1,16 @@
--- Programs and inputs that are read, and their errors. Replies are in Reply, errors in Failure, lines of a text in Text and symbolic assembly in Names.
--- Program has the program that is read, Inputs the inputs, Examples words that encode such.
+-- Programs and inputs that are read, and their errors. Replies are in Reply, errors in Failure, their words in FaultWord and NamePlace, lines of a text in Text and symbolic assembly in Names.
+-- NameHint has what was meant by a name. Program has the program that is read, Inputs the inputs, Examples words that encode such.
 pub mod Input
 pub mod Reply
 pub mod Failure
+pub mod FaultWord
+pub mod NamePlace
+pub mod NameHint
 pub mod Examples
 pub mod Program
 pub mod Names
 pub mod Text
 pub mod Inputs
--- The model of what the code keeps of a text, and of lines with inputs.
+-- The model of what the code keeps of a text, and of its first line.
 pub mod Source
-pub mod Parts
+pub mod FirstLine

@@ -15,7 +15,9 @@ use Rattle.tw_symbols.specs.Answers.{name_number, seen_rejection}
 use Rattle.tw_symbols.specs.Expansion.{IsFirstRejection, ExpandsTo}
 use Rattle.tw_source.specs.Failure.{coded, failed_with}
 use Rattle.tw_source.specs.Input.{digits_in}
-use Rattle.tw_source.specs.Names.{AreFaultDetails, name_details}
+use Rattle.tw_source.specs.FaultWord.{IsFaultWord}
+use Rattle.tw_source.specs.NamePlace.{IsNamePlace}
+use Rattle.tw_source.specs.Names.{AreFaultDetails, AreNameDetails}
 use Rattle.tw_source.specs.Reply.{Reply}
 use Rattle.tw_source.specs.declared.program.NoProgram.{NoProgram}
 use Rattle.tw_source.specs.declared.program.NoProgram.TheVariants.{NotHex, NotUtf8, Bytes, Text, Named, NoMemory}
@@ -49,14 +51,14 @@ SpellsNone Assembly input (Text f) = IsUtf8 input × TextHasFault input f.no f.l
 SpellsNone Assembly input (Named f) = IsUtf8 input × IsFirstRejection input (seen_rejection f)
 SpellsNone Assembly input NoMemory = ⊥
 
--- returns the error
-abbrev pub failure_of : NoProgram → Failure
-failure_of NotHex = coded 72 1 position.Nowhere
-failure_of NotUtf8 = coded 72 3 position.Nowhere
-failure_of (Bytes f) = coded 70 (fault.fault_number f.no) (position.Byte f.offset)
-failure_of (Text f) = coded 65 (asm.fault_number f.no) (position.Line f.line)
-failure_of (Named f) = coded 78 (name_number f.no) (position.Line f.line)
-failure_of NoMemory = coded 77 0 position.Nowhere
+-- holds for the error, with the word of a text at which it is
+abbrev pub IsFailure : List ℕ → NoProgram → Failure → Type 0
+IsFailure input NotHex failure = failure ≡ coded 72 1 position.Nowhere
+IsFailure input NotUtf8 failure = failure ≡ coded 72 3 position.Nowhere
+IsFailure input (Bytes f) failure = failure ≡ coded 70 (fault.fault_number f.no) (position.Byte f.offset)
+IsFailure input (Text f) failure = (at : ℕ × ℕ) × IsFaultWord input f.no f.line at × (failure ≡ coded 65 (asm.fault_number f.no) (position.Line f.line at.0 at.1))
+IsFailure input (Named f) failure = (at : ℕ × ℕ) × IsNamePlace input f.line f.word.now at × (failure ≡ coded 78 (name_number f.no) (position.Line f.line at.0 at.1))
+IsFailure input NoMemory failure = ⊥
 
 -- holds for what follows its first line: the line of a rejected text, and the reason
 abbrev pub AreParseErrorDetails : List ℕ → NoProgram → List ℕ → Type 0
@@ -64,14 +66,15 @@ AreParseErrorDetails input NotHex more = more ≡ []
 AreParseErrorDetails input NotUtf8 more = more ≡ []
 AreParseErrorDetails input (Bytes f) more = more ≡ []
 AreParseErrorDetails input (Text f) more = AreFaultDetails input f.no f.line more
-AreParseErrorDetails input (Named f) more = more ≡ name_details input f.no f.line f.word.now
+AreParseErrorDetails input (Named f) more = AreNameDetails input f.no f.line f.word.now more
 AreParseErrorDetails input NoMemory more = more ≡ []
 
 -- holds if this is the reply to the program, or has the reason why there is none
 abbrev pub RepliesBySource : Source → List ℕ → (Versioned → Reply → Type 0) → Reply → Type 0
 RepliesBySource source input Answers r =
     ((program : Versioned) × Spells source input program × Answers program r)
-    ⊎ ((why : NoProgram) × (more : List ℕ) × SpellsNone source input why × AreParseErrorDetails input why more × (r ≡ failed_with (failure_of why) more))
+    ⊎ ((why : NoProgram) × (failure : Failure) × (more : List ℕ) × SpellsNone source input why × IsFailure input why failure × AreParseErrorDetails input why more
+    × (r ≡ failed_with failure more))
 
 -- returns the text as it is written, if the program was read from one
 abbrev pub source_text : Source → List ℕ → Option (List ℕ)

@@ -2,6 +2,7 @@
 
 ghost use Rattle.std.specs.Prelude.{◌≡◌, ◌++◌, OnOk};
 ghost use Rattle.tw_source.specs.Failure.{code_text, coded, failure_line, position_text, uncoded};
+ghost use Rattle.tw_source.specs.declared.failure.Position.TheVariants as position;
 
 use std::alloc::{AllocError, Global};
 use tw_lexer::{put, put_numbered};
@@ -20,8 +21,12 @@ pub enum Position {
     Nowhere,
     /// At a byte of a program, from 0.
     Byte(usize),
-    /// In a line of a text or of a trace, from 1.
-    Line(usize),
+    /// In a line of a text or of a trace, from 1; at a word of it, from 1, and at the character at which that begins, or at none if these are 0.
+    Line {
+        line: usize,
+        word: usize,
+        column: usize,
+    },
     /// At an instruction of a program.
     Place {
         procedure: usize,
@@ -43,6 +48,19 @@ pub struct Failure {
     pub position: Position,
     /// The number of bytes before the error's lines: those of a listing.
     pub before: usize,
+}
+
+impl Position {
+    /// Returns the position in this line, and at no word of it.
+    pub fn in_line(line: usize) -> Position
+        ensures { result ≡ position.Line line 0 0 }
+    {
+        Position::Line {
+            line,
+            word: 0,
+            column: 0,
+        }
+    }
 }
 
 impl Failure {
@@ -90,7 +108,7 @@ fn put_position(alloc: Global, out: &mut Vec<u8>, position: Position) -> Result<
     match position {
         Position::Nowhere | Position::Input(_) => Ok(()),
         Position::Byte(offset) => put_numbered(alloc, out, " at byte ", offset),
-        Position::Line(line) => put_numbered(alloc, out, " at line ", line),
+        Position::Line { line, .. } => put_numbered(alloc, out, " at line ", line),
         Position::Event(event) => put_numbered(alloc, out, " at event ", event),
         Position::Place {
             procedure,

@@ -1,14 +1,14 @@
 //! Inputs that follow the program in what is read.
 
-ghost use Rattle.std.specs.Prelude.{◌≡◌, ◌++◌, ◌∷◌, [], List, map, IfOk, OnOk};
+ghost use Rattle.std.specs.Prelude.{◌≡◌, ◌++◌, List, map, IfOk, OnOk};
+ghost use Rattle.std.specs.Option.{option_map};
 ghost use Rattle.std.specs.Str.Lines.{lines};
 ghost use Rattle.clap.specs.Words.{Text};
 ghost use Rattle.tw_inputs.specs.InputWords.{IsRefusedWord, RefusedWord, refused_word};
 ghost use Rattle.tw_inputs.specs.WordErrors.{IsInputReason};
-ghost use Rattle.tw_source.specs.Inputs.{PrintsInputWord, before_inputs, after_inputs, fault_position, input_word_line, unreadable, words_in};
-ghost use Rattle.tw_source.specs.Parts.{after_in, after_line, seen};
+ghost use Rattle.tw_source.specs.Inputs.{PrintsInputWord, begins_inputs as begins_inputs_is, cut_inputs as cut_inputs_is, fault_position, input_word_line, lines_in, unreadable, words_in as words_in_is};
+ghost use Rattle.tw_source.specs.FirstLine.{IsFirstLine};
 ghost use Rattle.tw_source.specs.Reply.{reply};
-ghost use Rattle.tw_source.specs.declared.inputs.Section.TheVariants as section;
 
 use crate::close::Close;
 use crate::failure::{Failure, Position};
@@ -17,87 +17,56 @@ use std::alloc::{AllocError, Global};
 use tw_inputs::{Place, WordError};
 use tw_lexer::{put, put_numbered};
 
-/// A section of what is read, by its lines.
-#[derive(Clone, Copy)]
-pub enum Section {
-    Program,
-    Inputs,
-    /// All after the inputs' line `end`.
-    Rest,
-}
-
-/// A program's text and the input words after it, as far as their lines have been read.
-#[derive(Drop)]
-pub struct InputParts<'a> {
-    pub section: Section,
-    pub program: Vec<u8>,
-    pub words: Vec<&'a str>,
-}
-
-fn put_program_line(program: &mut Vec<u8>, line: &str) -> Result<(), AllocError>
-    ensures { OnOk result (program.new.items ≡ program.old.items ++ (line.now ++ 10 ∷ [])) }
+/// Returns the first line, and what follows its line feed, if it has one.
+fn first_line(text: &[u8]) -> (&[u8], Option<&[u8]>)
+    ensures { IsFirstLine text.now result.0.now (option_map (λ rest. rest.now) result.1) }
 {
-    put(program, line)?;
-    put(program, "\n")
-}
-
-fn take_program_line<'a>(
-    mut parts: InputParts<'a>,
-    line: &'a str,
-) -> Result<InputParts<'a>, AllocError>
-    requires { parts.section ≡ section.Program }
-    ensures { IfOk result (λ after. seen after ≡ after_in section.Program (seen parts.entry).program (seen parts.entry).words line.entry.now) }
-{
-    if line == "inputs" {
-        parts.section = Section::Inputs;
-        return Ok(parts);
-    }
-    put_program_line(&mut parts.program, line)?;
-    Ok(parts)
-}
-
-fn take_input_line<'a>(
-    mut parts: InputParts<'a>,
-    line: &'a str,
-) -> Result<InputParts<'a>, AllocError>
-    requires { parts.section ≡ section.Inputs }
-    ensures { IfOk result (λ after. seen after ≡ after_in section.Inputs (seen parts.entry).program (seen parts.entry).words line.entry.now) }
-{
-    if line == "end" {
-        parts.section = Section::Rest;
-        return Ok(parts);
-    }
-    if line.is_empty() {
-        return Ok(parts);
-    }
-    parts.words.push(line)?;
-    Ok(parts)
-}
-
-fn take_line<'a>(parts: InputParts<'a>, line: &'a str) -> Result<InputParts<'a>, AllocError>
-    ensures { IfOk result (λ after. seen after ≡ after_line (seen parts.entry) line.entry.now) }
-{
-    match parts.section {
-        Section::Program => take_program_line(parts, line),
-        Section::Inputs => take_input_line(parts, line),
-        Section::Rest => Ok(parts),
+    match text.iter().position(|byte| *byte == b'\n') {
+        Some(at) => (&text[..at], Some(&text[at + 1..])),
+        None => (text, None),
     }
 }
 
-/// Splits a text into the lines of the program and the input words after them.
-pub fn input_parts<'a>(alloc: Global, text: &'a str) -> Result<InputParts<'a>, AllocError>
-    ensures program { IfOk result (λ p. p.program.items ≡ before_inputs (lines text.entry.now)) }
-    ensures words { IfOk result (λ p. map (λ word. word.now) p.words.items ≡ words_in (after_inputs (lines text.entry.now))) }
+/// Returns whether inputs follow a line.
+fn begins_inputs(line: &[u8]) -> bool
+    ensures { result ≡ begins_inputs_is line.now }
 {
-    let mut parts = InputParts {
-        section: Section::Program,
-        program: Vec::new(alloc),
-        words: Vec::new(alloc),
-    };
-    for line in text.lines() {
-        parts = take_line(parts, line)?;
+    line == b"inputs".as_slice() || line == b"inputs\r".as_slice()
+}
+
+/// Cuts what is read at its first line `inputs`: into what precedes that line, and what follows it.
+pub fn cut_inputs(text: &[u8]) -> Option<(&[u8], &[u8])>
+    ensures { option_map (λ cut. (cut.0.now, cut.1.now)) result ≡ cut_inputs_is (lines_in text.now) }
+{
+    let mut count = 0;
+    let mut rest = text;
+    loop {
+        let (line, after) = first_line(rest);
+        if begins_inputs(line) {
+            return Some((&text[..count], after.unwrap_or(&[])));
+        }
+        let Some(others) = after else {
+            return None;
+        };
+        count += line.len() + 1;
+        rest = others;
     }
-    Ok(parts)
+}
+
+/// Returns the input words: the lines up to `end`, without the empty ones.
+pub fn words_in<'a>(alloc: Global, inputs: &'a str) -> Result<Vec<&'a str>, AllocError>
+    ensures { IfOk result (λ words. map (λ word. word.now) words.items ≡ words_in_is (lines inputs.entry.now)) }
+{
+    let mut words = Vec::new(alloc);
+    for line in inputs.lines() {
+        if line == "end" {
+            return Ok(words);
+        }
+        if !line.is_empty() {
+            words.push(line)?;
+        }
+    }
+    Ok(words)
 }
 
 /// Adds the first line about an input word that can't be parsed; the words count from 1.

@@ -5,7 +5,10 @@ mod close;
 mod digits;
 mod examples;
 mod failure;
+mod fault_word;
 mod inputs;
+mod name_hint;
+mod name_place;
 mod names;
 mod program;
 mod reply;
@@ -15,9 +18,10 @@ mod text_lines;
 pub use close::Close;
 pub use examples::{example_lines, example_word, put_examples};
 pub use failure::{ErrorCode, Failure, Position, put_code, put_failure_line};
-pub use inputs::{input_parts, input_word_reply, refused_words_reply, unreadable_reply};
+pub use fault_word::word_in;
+pub use inputs::{cut_inputs, input_word_reply, refused_words_reply, unreadable_reply, words_in};
 pub use names::plain_reply;
-pub use program::{NoProgram, ReadProgram, parse_error_reply, read_program};
+pub use program::{NoProgram, ReadProgram, parse_error_reply, parse_failure, read_program};
 pub use reply::{Reply, failed_reply, fixed_reply, not_utf8_reply, refused_by};
 pub use source::{
     SourceText, line_in, put_place_line, put_rejection_details, put_text_line, symbols_of,

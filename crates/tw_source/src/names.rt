@@ -5,15 +5,18 @@ ghost use Rattle.std.specs.Str.Lines.{lines};
 ghost use Rattle.tw_diagnostics.specs.Diagnostics.{IsTextReason};
 ghost use Rattle.tw_symbols.specs.Answers.{seen_rejection};
 ghost use Rattle.tw_symbols.specs.Expansion.{IsFirstRejection, ExpandsTo};
-ghost use Rattle.tw_source.specs.Names.{AreFaultDetails, RepliesByPlain, expected_words, fixed_diagnostic, form_diagnostic, is_same_line, kind_diagnostic, kind_hint, line_text, name_details, name_diagnostic, binding_words, separator, written_text};
+ghost use Rattle.tw_source.specs.NameHint.{IsHeadIf, IsNameHint};
+ghost use Rattle.tw_source.specs.Names.{AreFaultDetails, AreNameDetails, RepliesByPlain, expected_words, fixed_diagnostic, form_diagnostic, is_operand, is_same_line, kind_diagnostic, kind_hint, line_text, name_diagnostic, binding_words, separator, unknown_diagnostic, word_diagnostic, word_reason, written_text};
 ghost use Rattle.tw_lexer.specs.Shown.{shortened};
 ghost use Rattle.tw_source.specs.Reply.{reply};
 
 use crate::close::Close;
 use crate::failure::{Failure, Position, put_failure_line};
+use crate::name_hint::{is_argument, put_head_if, put_name_hint};
+use crate::name_place::text_place;
 use crate::reply::{Reply, fixed_reply, not_utf8_reply, refused_by};
 use std::alloc::{AllocError, Global};
-use tw_asm::AsmFault;
+use tw_asm::{AsmFault, FaultNo};
 use tw_diagnostics::put_text_diagnostic;
 use tw_lexer::{line_numbered, put, put_both, put_shortened};
 use tw_symbols::{Bank, Binding, Expected, NameError, NameNo, expanded_text};
@@ -95,16 +98,28 @@ fn form_diagnostic(word: &[u8]) -> &'static str
     }
 }
 
+/// Says that a name has no meaning, where this is required.
+fn unknown_diagnostic(asked: Expected) -> &'static str
+    ensures { result.now ≡ unknown_diagnostic asked }
+{
+    match asked {
+        Expected::Procedure => "no procedure has this name",
+        _ => "the name means nothing here",
+    }
+}
+
 fn fixed_diagnostic(no: NameNo) -> &'static str
     ensures { result.now ≡ fixed_diagnostic no }
 {
     match no {
         NameNo::NoName => "this can't be a name",
-        NameNo::Twice => "the name is taken",
+        NameNo::Twice => "an earlier procedure has this name",
+        NameNo::Unlisted => {
+            "neither a mode nor a type; after a name there is a colon, as in total: int"
+        }
         NameNo::Listed => "its register has a name already; a procedure has one line regs",
-        NameNo::Unknown => "the name means nothing here",
         NameNo::Limit => "there is no register left for it",
-        NameNo::Form | NameNo::Kind(_, _) | NameNo::NoMemory => "",
+        _ => "",
     }
 }
 
@@ -115,6 +130,8 @@ fn put_diagnostic(out: &mut Vec<u8>, word: &[u8], no: NameNo) -> Result<(), Allo
     match no {
         NameNo::Form => put(out, form_diagnostic(word)),
         NameNo::Kind(binding, asked) => put_kind(out, binding, asked),
+        NameNo::Taken(binding) => put_both(out, "the name is taken by ", binding_words(binding)),
+        NameNo::Unknown(asked) => put(out, unknown_diagnostic(asked)),
         _ => put(out, fixed_diagnostic(no)),
     }
 }
@@ -126,25 +143,52 @@ fn separator(word: &[u8]) -> &'static str
     if word.ends_with(b":") { " " } else { ": " }
 }
 
-fn put_word_diagnostic(out: &mut Vec<u8>, word: &[u8], no: NameNo) -> Result<(), AllocError>
-    ensures { OnOk result (out.new.items ≡ out.old.items ++ (shortened word.now ++ (separator word.now ++ (name_diagnostic word.now no ++ codes "\n")))) }
+/// Adds a word, and what is wrong with it.
+fn put_word_reason(out: &mut Vec<u8>, word: &[u8], no: NameNo) -> Result<(), AllocError>
+    ensures { OnOk result (out.new.items ≡ out.old.items ++ word_reason word.now no) }
 {
     put_shortened(out, word)?;
     put(out, separator(word))?;
-    put_diagnostic(out, word, no)?;
+    put_diagnostic(out, word, no)
+}
+
+/// Adds the line of a word: what is wrong with it, and what was meant.
+fn put_word_diagnostic(
+    alloc: Global,
+    out: &mut Vec<u8>,
+    text: &str,
+    word: &[u8],
+    no: NameNo,
+) -> Result<(), AllocError>
+    ensures { OnOk result ((hint : List ℕ) × IsNameHint text.now no word.now hint × (out.new.items ≡ out.old.items ++ word_diagnostic word.now no hint)) }
+{
+    put_word_reason(out, word, no)?;
+    put_name_hint(alloc, out, text, no, word)?;
     put(out, "\n")
 }
 
-/// Adds the rejected line as it was written, and what is wrong with which word of it.
+/// Adds the rejected line as it was written, what is wrong with which word of it, and the head of the procedure that is called.
 pub fn put_name_details(
+    alloc: Global,
     out: &mut Vec<u8>,
     text: &str,
     rejection: NameError<'_>,
 ) -> Result<(), AllocError>
-    ensures { OnOk result (out.new.items ≡ out.old.items ++ name_details text.now rejection.entry.no rejection.entry.line rejection.entry.word.now) }
+    ensures { OnOk result ((more : List ℕ) × AreNameDetails text.now rejection.entry.no rejection.entry.line rejection.entry.word.now more × (out.new.items ≡ out.old.items ++ more)) }
 {
     put_line(out, text, rejection.line)?;
-    put_word_diagnostic(out, rejection.word, rejection.no)
+    put_word_diagnostic(alloc, out, text, rejection.word, rejection.no)?;
+    put_head_if(alloc, out, is_argument(rejection.no), text, rejection.line)
+}
+
+/// Returns whether operands are wrong.
+fn is_operand(no: FaultNo) -> bool
+    ensures { result ≡ is_operand no }
+{
+    match no {
+        FaultNo::Operand => true,
+        _ => false,
+    }
 }
 
 fn is_same_line(line: Option<&str>, other: Option<&str>) -> bool
@@ -170,7 +214,7 @@ fn put_written(out: &mut Vec<u8>, text: &str, plain: &str, number: usize) -> Res
     put(out, "expands to: ")
 }
 
-/// Adds the line as it was written, and why its expanded line is rejected.
+/// Adds the line as it was written, why its expanded line is rejected, and the head of the procedure that is called.
 fn put_written_fault(
     alloc: Global,
     out: &mut Vec<u8>,
@@ -178,11 +222,12 @@ fn put_written_fault(
     plain: &str,
     fault: AsmFault,
 ) -> Result<(), AllocError>
-    ensures { OnOk result ((reason : List ℕ) × IsTextReason plain.now fault.no fault.line reason
-        × (out.new.items ≡ out.old.items ++ (written_text (slice_get (lines text.now) (fault.line - 1)) (slice_get (lines plain.now) (fault.line - 1)) ++ reason))) }
+    ensures { OnOk result ((reason : List ℕ) × (head : List ℕ) × IsTextReason plain.now fault.no fault.line reason × IsHeadIf (is_operand fault.no) text.now fault.line head
+        × (out.new.items ≡ out.old.items ++ (written_text (slice_get (lines text.now) (fault.line - 1)) (slice_get (lines plain.now) (fault.line - 1)) ++ (reason ++ head)))) }
 {
     put_written(out, text, plain, fault.line)?;
-    put_text_diagnostic(alloc, out, plain, fault)
+    put_text_diagnostic(alloc, out, plain, fault)?;
+    put_head_if(alloc, out, is_operand(fault.no), text, fault.line)
 }
 
 /// Adds the line of a fault in the expanded text, with the line as it was written if there are names, and the reason.
@@ -208,10 +253,13 @@ pub fn put_fault_details(
 fn named_reply(alloc: Global, text: &str, rejection: NameError<'_>) -> Result<Reply, AllocError>
     ensures { IfOk result (λ r. IsFirstRejection text.now (seen_rejection rejection.entry) → RepliesByPlain text.now (reply r.text.items r.close)) }
 {
-    let failure = Failure::coded(b'N', rejection.no.number(), Position::Line(rejection.line));
+    let line = rejection.line;
+    let (word, column) = text_place(alloc, text, line, rejection.word)?;
+    let position = Position::Line { line, word, column };
+    let failure = Failure::coded(b'N', rejection.no.number(), position);
     let mut out = Vec::new(alloc);
     put_failure_line(alloc, &mut out, failure)?;
-    put_name_details(&mut out, text, rejection)?;
+    put_name_details(alloc, &mut out, text, rejection)?;
     Ok(refused_by(out, failure))
 }
 

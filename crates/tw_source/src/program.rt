@@ -1,6 +1,6 @@
 //! Reads a program.
 
-ghost use Rattle.std.specs.Prelude.{◌≡◌, ◌≢◌, ◌++◌, ℕ, List, Err, Ok, Some, IfErr, IfOk, IsUtf8, MatchOption, OnOk, string_bytes};
+ghost use Rattle.std.specs.Prelude.{◌≡◌, ◌≢◌, ◌++◌, ℕ, List, Err, Ok, Some, IfErr, IfOk, IsUtf8, OnOk, string_bytes};
 ghost use Rattle.tw_asm.specs.Answers.{HasFault};
 ghost use Rattle.tw_asm.specs.Spelling.{SpellsProgram};
 ghost use Rattle.tw_asm.specs.declared.fault.AsmFault.{AsmFault as TextFault};
@@ -9,10 +9,11 @@ ghost use Rattle.tw_order.specs.declared.order.Source.{Source as ReadAs};
 ghost use Rattle.tw_asm.specs.Origins.{AreOrigins};
 ghost use Rattle.tw_symbols.specs.Expansion.{ExpandsTo};
 ghost use Rattle.tw_symbols.specs.declared.rejection.NameNo.TheVariants as no;
-ghost use Rattle.tw_source.specs.Names.{AreFaultDetails, name_details};
+ghost use Rattle.tw_source.specs.Names.{AreFaultDetails, AreNameDetails};
 ghost use Rattle.tw_source.specs.Failure.{failed_with};
-ghost use Rattle.tw_source.specs.Program.{AreParseErrorDetails, Spells, SpellsNone, SpellsText, failure_of, source_text};
+ghost use Rattle.tw_source.specs.Program.{AreParseErrorDetails, Spells, SpellsNone, SpellsText, IsFailure, source_text};
 ghost use Rattle.tw_source.specs.Reply.{reply};
+ghost use Rattle.tw_source.specs.declared.failure.Failure.{Failure as AFailure};
 ghost use Rattle.tw_source.specs.Source.{MayBeSource, text_of};
 ghost use Rattle.tw_binary.specs.declared.fault.Fault.{Fault as ByteFault};
 ghost use Rattle.tw_binary.specs.Reading.{program_of};
@@ -20,6 +21,8 @@ ghost use Rattle.tw_source.specs.declared.program.NoProgram.TheVariants.{Bytes, 
 
 use crate::digits::digits;
 use crate::failure::{Failure, Position, put_failure_line};
+use crate::fault_word::fault_word;
+use crate::name_place::name_place;
 use crate::names::{put_fault_details, put_name_details};
 use crate::reply::{Reply, refused_by};
 use crate::source::SourceText;
@@ -205,26 +208,40 @@ pub fn read_program<'a>(
     }
 }
 
-/// Returns the error of input that encodes no program, unless an allocation failed.
-fn failure_of(why: NoProgram<'_>) -> Option<Failure>
-    ensures { MatchOption result (why.entry ≡ NoMemory) (λ f. (why.entry ≢ NoMemory) × (f ≡ failure_of why.entry)) }
+/// Returns the error of a fault in what is to be text, at its word.
+fn fault_failure(alloc: Global, input: &[u8], fault: AsmFault) -> Result<Failure, AllocError>
+    ensures { IfOk result (IsFailure input.now (Text fault)) }
+{
+    let (word, column) = fault_word(alloc, input, fault)?;
+    let line = fault.line;
+    let position = Position::Line { line, word, column };
+    Ok(Failure::coded(b'A', fault.no.number(), position))
+}
+
+/// Returns the error of what is to be symbolic assembly, at the name's place.
+fn name_failure(alloc: Global, input: &[u8], error: NameError<'_>) -> Result<Failure, AllocError>
+    ensures { IfOk result (IsFailure input.now (Named error.entry)) }
+{
+    let line = error.line;
+    let (word, column) = name_place(alloc, input, line, error.word)?;
+    let position = Position::Line { line, word, column };
+    Ok(Failure::coded(b'N', error.no.number(), position))
+}
+
+/// Returns the error of input that encodes no program.
+pub fn parse_failure(alloc: Global, input: &[u8], why: NoProgram<'_>) -> Result<Failure, AllocError>
+    ensures { IfOk result (λ failure. (why.entry ≢ NoMemory) × IsFailure input.now why.entry failure) }
 {
     match why {
-        NoProgram::NotHex => Some(Failure::coded(b'H', 1, Position::Nowhere)),
-        NoProgram::NotUtf8 => Some(Failure::coded(b'H', 3, Position::Nowhere)),
+        NoProgram::NotHex => Ok(Failure::coded(b'H', 1, Position::Nowhere)),
+        NoProgram::NotUtf8 => Ok(Failure::coded(b'H', 3, Position::Nowhere)),
         NoProgram::Bytes(fault) => {
             let position = Position::Byte(fault.offset);
-            Some(Failure::coded(b'F', fault.no.number(), position))
+            Ok(Failure::coded(b'F', fault.no.number(), position))
         }
-        NoProgram::Text(fault) => {
-            let position = Position::Line(fault.line);
-            Some(Failure::coded(b'A', fault.no.number(), position))
-        }
-        NoProgram::Named(error) => {
-            let position = Position::Line(error.line);
-            Some(Failure::coded(b'N', error.no.number(), position))
-        }
-        NoProgram::NoMemory => None,
+        NoProgram::Text(fault) => fault_failure(alloc, input, fault),
+        NoProgram::Named(error) => name_failure(alloc, input, error),
+        NoProgram::NoMemory => Err(AllocError),
     }
 }
 
@@ -245,14 +262,15 @@ fn put_fault_diagnostic(
 
 /// Adds the rejected line of what is to be symbolic assembly, and the reason.
 fn put_rejection_diagnostic(
+    alloc: Global,
     out: &mut Vec<u8>,
     input: &[u8],
     rejection: NameError<'_>,
 ) -> Result<(), AllocError>
-    ensures { OnOk result (IsUtf8 input.now → out.new.items ≡ out.old.items ++ name_details input.now rejection.entry.no rejection.entry.line rejection.entry.word.now) }
+    ensures { OnOk result (IsUtf8 input.now → (more : List ℕ) × AreNameDetails input.now rejection.entry.no rejection.entry.line rejection.entry.word.now more × (out.new.items ≡ out.old.items ++ more)) }
 {
     match str::from_utf8(input) {
-        Ok(text) => put_name_details(out, text, rejection),
+        Ok(text) => put_name_details(alloc, out, text, rejection),
         Err(_) => Ok(()),
     }
 }
@@ -268,7 +286,7 @@ fn put_parse_error_details(
 {
     match why {
         NoProgram::Text(fault) => put_fault_diagnostic(alloc, out, input, fault),
-        NoProgram::Named(rejection) => put_rejection_diagnostic(out, input, rejection),
+        NoProgram::Named(rejection) => put_rejection_diagnostic(alloc, out, input, rejection),
         _ => Ok(()),
     }
 }
@@ -280,11 +298,10 @@ pub fn parse_error_reply(
     why: NoProgram<'_>,
 ) -> Result<Reply, AllocError>
     ensures { IfOk result (λ r. (why.entry ≢ NoMemory) × ((source : ReadAs) → SpellsNone source input.now why.entry
-        → (more : List ℕ) × AreParseErrorDetails input.now why.entry more × (reply r.text.items r.close ≡ failed_with (failure_of why.entry) more))) }
+        → (failure : AFailure) × (more : List ℕ) × IsFailure input.now why.entry failure × AreParseErrorDetails input.now why.entry more
+        × (reply r.text.items r.close ≡ failed_with failure more))) }
 {
-    let Some(failure) = failure_of(why) else {
-        return Err(AllocError);
-    };
+    let failure = parse_failure(alloc, input, why)?;
     let mut text = Vec::new(alloc);
     put_failure_line(alloc, &mut text, failure)?;
     put_parse_error_details(alloc, &mut text, input, why)?;

@@ -1,3 +1,1 @@
 mod Sources
-mod Words
-mod Places

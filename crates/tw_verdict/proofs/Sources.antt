@@ -15,6 +15,9 @@ use Rattle.tw_source.specs.declared.program.NoProgram.{NoProgram}
 use Rattle.tw_source.specs.declared.program.NoProgram.TheVariants.{NotHex, NotUtf8, Bytes, Text, Named, NoMemory}
 use Rattle.tw_source.specs.declared.program.ReadProgram.{ReadProgram}
 use Rattle.tw_source.specs.declared.source.SourceText.{SourceText}
+use Rattle.tw_binary.specs.Fault.{fault_number}
+use Rattle.tw_source.specs.Failure.{coded}
+use Rattle.tw_source.specs.declared.failure.Position.TheVariants as position
 use Rattle.tw_symbols.specs.Expansion.{ExpandsTo}
 use Rattle.tw_code.specs.accepting.WellTyped.{IsFirstRejection}
 use Rattle.tw_verify.specs.Rejection.{verify_error_code}
@@ -22,7 +25,7 @@ use Rattle.tw_verify.specs.Typed.{TypedProgram}
 use Rattle.tw_verify.specs.declared.rejection.VerifyError.{VerifyError}
 use Rattle.tw_verify.specs.declared.rejection.VerifyError.TheVariants as error
 use Rattle.tw_verdict.specs.Reading.{IsReading}
-use Rattle.tw_verdict.specs.Source.{Encodes, EncodesNone, IsLineIn, IsOrigin, IsErrorIn, IsRejectionIn, IsUnreadable, IsSourceAcceptance, IsSourceError, IsSourceReading, format_of_source, without_line}
+use Rattle.tw_verdict.specs.Source.{Encodes, EncodesNone, IsLineIn, IsOrigin, IsErrorIn, IsRejectionIn, IsUnreadable, IsSourceAcceptance, IsSourceError, IsSourceReading, failure_in_numbers, format_of_source, without_line}
 use Rattle.tw_verdict.specs.Verdict.{IsProgramVerdict, IsReadVerdict, accepted, no_memory}
 use Rattle.tw_verdict.specs.declared.format.Format.TheVariants as format
 use Rattle.tw_verdict.specs.declared.text.SourceVerdict.{SourceVerdict}
@@ -56,7 +59,7 @@ encoded bytes None w (is, some) = (by is, some)
       origin = refl;
       verdict_is = ap without_line is;
     })
-    of_read (Err f) e is = inr (inl (record { why = Bytes f; none = (f, refl, e); verdict_is = ap without_line is }))
+    of_read (Err f) e is = inr (inl (record { why = Bytes f; none = (f, refl, e); verdict_is = (coded 70 (fault_number f.no) (position.Byte f.offset), refl, ap without_line is) }))
 
     by : IsReadVerdict (program_of bytes) w ⊎ (w ≡ no_memory) → IsSourceError format.Bytes bytes (without_line w)
     by (inl r) = of_read (program_of bytes) refl r
@@ -116,22 +119,26 @@ has_letter v n other is zero =
     let clash : true ≡ false = sym same ∙ other in cc
 
 letter_of : (input : List ℕ) (why : NoProgram) (v : SourceVerdict) → IsUnreadable input why v → v.verdict.letter ≢ 0
-letter_of input NotHex v is = has_letter v 72 refl (ap (λ (x : SourceVerdict). x.verdict.letter) is)
-letter_of input NotUtf8 v is = has_letter v 72 refl (ap (λ (x : SourceVerdict). x.verdict.letter) is)
-letter_of input (Bytes f) v is = has_letter v 70 refl (ap (λ (x : SourceVerdict). x.verdict.letter) is)
-letter_of input (Text f) v (at, word, is) = has_letter v 65 refl (ap (λ (x : SourceVerdict). x.verdict.letter) is)
-letter_of input (Named f) v (at, place, is) = has_letter v 78 refl (ap (λ (x : SourceVerdict). x.verdict.letter) is)
-letter_of input NoMemory v is = has_letter v 77 refl (ap (λ (x : SourceVerdict). x.verdict.letter) is)
+letter_of input NotHex v (f, same, is) = has_letter v 72 refl (ap (λ (x : SourceVerdict). x.verdict.letter) (is ∙ ap failure_in_numbers same))
+letter_of input NotUtf8 v (f, same, is) = has_letter v 72 refl (ap (λ (x : SourceVerdict). x.verdict.letter) (is ∙ ap failure_in_numbers same))
+letter_of input (Bytes x) v (f, same, is) = has_letter v 70 refl (ap (λ (x : SourceVerdict). x.verdict.letter) (is ∙ ap failure_in_numbers same))
+letter_of input (Text x) v (f, (at, word, same), is) = has_letter v 65 refl (ap (λ (x : SourceVerdict). x.verdict.letter) (is ∙ ap failure_in_numbers same))
+letter_of input (Named x) v (f, (at, place, same), is) = has_letter v 78 refl (ap (λ (x : SourceVerdict). x.verdict.letter) (is ∙ ap failure_in_numbers same))
+letter_of input NoMemory v (f, same, is) = absurd same
 
 pub unreadable : (from : Source) (input : List ℕ) (why : NoProgram) (v : SourceVerdict) → (why ≢ NoMemory → SpellsNone from input why) → IsUnreadable input why v ⊎ (v ≡ without_line no_memory)
     → IsSourceReading (format_of_source from) input None v
 unreadable from input why v none (inr e) = (inr (inr e), has_letter v 77 refl (ap (λ (x : SourceVerdict). x.verdict.letter) e))
-unreadable from input NotHex v none (inl is) = (inr (inl (record { why = NotHex; none = none_of from input NotHex (none (λ e. cc)); verdict_is = is })), letter_of input NotHex v is)
-unreadable from input NotUtf8 v none (inl is) = (inr (inl (record { why = NotUtf8; none = none_of from input NotUtf8 (none (λ e. cc)); verdict_is = is })), letter_of input NotUtf8 v is)
-unreadable from input (Bytes f) v none (inl is) = (inr (inl (record { why = Bytes f; none = none_of from input (Bytes f) (none (λ e. cc)); verdict_is = is })), letter_of input (Bytes f) v is)
-unreadable from input (Text f) v none (inl is) = (inr (inl (record { why = Text f; none = none_of from input (Text f) (none (λ e. cc)); verdict_is = is })), letter_of input (Text f) v is)
-unreadable from input (Named f) v none (inl is) = (inr (inl (record { why = Named f; none = none_of from input (Named f) (none (λ e. cc)); verdict_is = is })), letter_of input (Named f) v is)
-unreadable from input NoMemory v none (inl is) = (inr (inr is), letter_of input NoMemory v is)
+unreadable from input why v none (inl is) =
+    (inr (inl (record { why = why; none = none_of from input why (none (readable why is)); verdict_is = is })), letter_of input why v is)
+  where
+    readable : (w : NoProgram) → IsUnreadable input w v → w ≢ NoMemory
+    readable NotHex h = λ e. cc
+    readable NotUtf8 h = λ e. cc
+    readable (Bytes x) h = λ e. cc
+    readable (Text x) h = λ e. cc
+    readable (Named x) h = λ e. cc
+    readable NoMemory h = absurd h.1
 
 -- ---- the verifier's errors
 

@@ -2,8 +2,6 @@
 pub mod Format
 -- Reading a program's bytes.
 pub mod Reading
--- The place of a name.
-pub mod NamePlace
 -- Reading a source, and the position of its error.
 pub mod Source
 -- The verdict on bytes.

@@ -1,9 +1,6 @@
 -- Reading a source: the accepted program, or the verdict with the position of its error.
-use Rattle.std.specs.Prelude.{◌≡◌, ◌≢◌, ◌⊎◌, ◌-◌, ℕ, List, false, true, slice_get, IsUtf8, Option, Some, None, Ok, Err}
-use Rattle.std.specs.Str.Lines.{lines}
-use Rattle.tw_asm.specs.Fault as asm
+use Rattle.std.specs.Prelude.{◌≡◌, ◌≢◌, ◌⊎◌, ℕ, List, Option, Some, None, Ok, Err}
 use Rattle.tw_asm.specs.Origins.{ComesFrom, instr_at}
-use Rattle.tw_asm.specs.declared.fault.FaultNo.{FaultNo}
 use Rattle.tw_binary.specs.Reading.{program_of}
 use Rattle.tw_binary.specs.declared.fault.Fault.{Fault}
 use Rattle.tw_order.specs.declared.order.Source.{Source}
@@ -11,22 +8,22 @@ use Rattle.tw_order.specs.declared.order.Source.TheVariants as from
 use Rattle.tw_code.specs.accepting.WellTyped.{IsAccepted, IsFirstRejection}
 use Rattle.tw_code.specs.declared.procedure.Procedure.{Procedure}
 use Rattle.tw_code.specs.format.Program.{Versioned}
-use Rattle.tw_diagnostics.specs.ErrorWord.{IsErrorWord}
-use Rattle.tw_source.specs.Names.{is_same_line}
-use Rattle.tw_source.specs.Program.{Spells, SpellsNone}
+use Rattle.tw_source.specs.Program.{IsFailure, Spells, SpellsNone}
+use Rattle.tw_source.specs.declared.failure.ErrorCode.{ErrorCode}
+use Rattle.tw_source.specs.declared.failure.Failure.{Failure}
+use Rattle.tw_source.specs.declared.failure.Position.{Position}
+use Rattle.tw_source.specs.declared.failure.Position.TheVariants as position
 use Rattle.tw_source.specs.Source.{plain_of}
 use Rattle.tw_source.specs.declared.source.SourceText.{SourceText}
 use Rattle.tw_source.specs.declared.program.NoProgram.{NoProgram}
-use Rattle.tw_source.specs.declared.program.NoProgram.TheVariants.{NotHex, NotUtf8, Bytes, Text, Named, NoMemory}
-use Rattle.tw_symbols.specs.Answers.{name_number}
+use Rattle.tw_source.specs.declared.program.NoProgram.TheVariants.{Bytes}
 use Rattle.tw_symbols.specs.Expansion.{ExpandsTo}
 use Rattle.tw_verify.specs.Rejection.{verify_error_code}
 use Rattle.tw_verify.specs.Typed.{TypedProgram}
 use Rattle.tw_verify.specs.declared.rejection.VerifyError.{VerifyError}
 use Rattle.tw_verify.specs.declared.rejection.VerifyError.TheVariants as error
 use Rattle.tw_source.specs.declared.program.ReadProgram.{ReadProgram}
-use Rattle.tw_verdict.specs.NamePlace.{IsNamePlace}
-use Rattle.tw_verdict.specs.Verdict.{accepted, fault, no_memory, rejection}
+use Rattle.tw_verdict.specs.Verdict.{accepted, no_memory, rejection}
 use Rattle.tw_verdict.specs.declared.format.Format.{Format}
 use Rattle.tw_verdict.specs.declared.format.Format.TheVariants as format
 use Rattle.tw_verdict.specs.declared.text.SourceVerdict.{SourceVerdict}
@@ -60,34 +57,27 @@ letter which number = record { letter = which; number = number; engines = 0; wor
 abbrev pub at_line : ℕ → ℕ → ℕ → (ℕ × ℕ) → SourceVerdict
 at_line which number line at = record { verdict = letter which number; line = line; word = at.0; column = at.1 }
 
-abbrev pub or_zeros : Option (ℕ × ℕ) → ℕ × ℕ
-or_zeros None = (0, 0)
-or_zeros (Some at) = at
-
--- the word and the column of a fault, or zeros if it is at no word
-abbrev pub IsWordIn : List ℕ → FaultNo → ℕ → (ℕ × ℕ) → Type 0
-IsWordIn plain which line at = (found : Option (ℕ × ℕ)) × IsErrorWord plain which line found × (at ≡ or_zeros found)
-
--- holds if these are of the text's expansion, or zeros if the expanded line isn't the one that is written
-abbrev pub IsTextWord : List ℕ → FaultNo → ℕ → (ℕ × ℕ) → Type 0
-IsTextWord text which line at =
-    (plain : List ℕ) × ExpandsTo text plain
-    × (((is_same_line (slice_get (lines text) (line - 1)) (slice_get (lines plain) (line - 1)) ≡ true) × IsWordIn plain which line at)
-    ⊎ ((is_same_line (slice_get (lines text) (line - 1)) (slice_get (lines plain) (line - 1)) ≡ false) × (at ≡ (0, 0))))
-
-abbrev pub IsFaultWord : List ℕ → FaultNo → ℕ → (ℕ × ℕ) → Type 0
-IsFaultWord source which line at = IsUtf8 source → IsTextWord source which line at
-
 -- ---- errors
 
--- the verdict if the source encodes no program: H01, H03, a fault of the bytes, of the assembly text with its word, or of the names with its name's place
+-- returns an error in numbers: its code, and its position in the bytes or in the text
+abbrev pub in_numbers : ErrorCode → Position → SourceVerdict
+in_numbers code position.Nowhere = without_line (letter code.letter code.number)
+in_numbers code (position.Byte offset) = without_line (record { letter = code.letter; number = code.number; engines = 0; workers = 0; procedure = 0; place = offset })
+in_numbers code (position.Line line word column) = at_line code.letter code.number line (word, column)
+in_numbers code (position.Place procedure place line) = without_line (record { letter = code.letter; number = code.number; engines = 0; workers = 0; procedure = procedure; place = place })
+in_numbers code (position.Input input) = without_line (letter code.letter code.number)
+in_numbers code (position.Event event) = without_line (letter code.letter code.number)
+
+abbrev pub coded_numbers : Option ErrorCode → Position → SourceVerdict
+coded_numbers None at = without_line no_memory
+coded_numbers (Some code) at = in_numbers code at
+
+abbrev pub failure_in_numbers : Failure → SourceVerdict
+failure_in_numbers f = coded_numbers f.code f.position
+
+-- holds for the verdict if the source encodes no program: the error in numbers
 abbrev pub IsUnreadable : List ℕ → NoProgram → SourceVerdict → Type 0
-IsUnreadable source NotHex v = v ≡ without_line (letter 72 1)
-IsUnreadable source NotUtf8 v = v ≡ without_line (letter 72 3)
-IsUnreadable source (Bytes f) v = v ≡ without_line (fault f)
-IsUnreadable source (Text f) v = (at : ℕ × ℕ) × IsFaultWord source f.no f.line at × (v ≡ at_line 65 (asm.fault_number f.no) f.line at)
-IsUnreadable source (Named f) v = (at : ℕ × ℕ) × IsNamePlace source f.line f.word.now at × (v ≡ at_line 78 (name_number f.no) f.line at)
-IsUnreadable source NoMemory v = v ≡ without_line no_memory
+IsUnreadable source why v = (f : Failure) × IsFailure source why f × (v ≡ failure_in_numbers f)
 
 -- the source encodes no program, for this reason
 abbrev pub EncodesNone : Format → List ℕ → NoProgram → Type 0

@@ -3,8 +3,6 @@
 
 mod bytes;
 mod format;
-mod name_place;
-mod position;
 mod source;
 mod text;
 mod verdict;

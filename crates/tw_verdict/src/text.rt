@@ -1,16 +1,12 @@
 //! Verdicts on texts that encode no program.
 
 ghost use Rattle.std.specs.Prelude.{◌≡◌, ◌⊎◌};
-ghost use Rattle.tw_verdict.specs.Source.{IsUnreadable, at_line as at_line_is, without_line as without_line_is};
+ghost use Rattle.tw_verdict.specs.Source.{IsUnreadable, at_line as at_line_is, failure_in_numbers, in_numbers, without_line as without_line_is};
 ghost use Rattle.tw_verdict.specs.Verdict.{no_memory as no_memory_is};
 
-use crate::name_place::name_place;
-use crate::position::fault_word;
-use crate::verdict::{Verdict, fault_at, refused_at};
+use crate::verdict::{Verdict, refused_at};
 use std::alloc::Global;
-use tw_asm::AsmFault;
-use tw_source::NoProgram;
-use tw_symbols::NameError;
+use tw_source::{ErrorCode, Failure, NoProgram, Position, parse_failure};
 
 /// A verdict on a source, with the position of an error in a text.
 #[repr(C)]
@@ -57,21 +53,32 @@ fn at_line(letter: u8, number: u8, line: usize, at: (usize, usize)) -> SourceVer
     }
 }
 
-fn fault_verdict(alloc: Global, source: &[u8], fault: AsmFault) -> SourceVerdict
-    ensures { IsUnreadable source.now (NoProgram.Text fault) result ⊎ (result ≡ without_line_is no_memory_is) }
+/// Returns an error in numbers.
+fn in_numbers(code: ErrorCode, position: Position) -> SourceVerdict
+    ensures { result ≡ in_numbers code position }
 {
-    match fault_word(alloc, source, fault) {
-        Ok(at) => at_line(b'A', fault.no.number(), fault.line, at),
-        Err(_) => SourceVerdict::no_memory(),
+    let (letter, number) = (code.letter, code.number);
+    match position {
+        Position::Nowhere | Position::Input(_) | Position::Event(_) => {
+            without_line(refused_at(letter, number, 0, 0))
+        }
+        Position::Byte(offset) => without_line(refused_at(letter, number, 0, offset)),
+        Position::Line { line, word, column } => at_line(letter, number, line, (word, column)),
+        Position::Place {
+            procedure,
+            place,
+            ..
+        } => without_line(refused_at(letter, number, procedure, place)),
     }
 }
 
-fn name_verdict(alloc: Global, source: &[u8], error: NameError<'_>) -> SourceVerdict
-    ensures { IsUnreadable source.now (NoProgram.Named error.entry) result ⊎ (result ≡ without_line_is no_memory_is) }
+/// Returns an error in numbers; one without a code has none.
+fn failure_verdict(failure: Failure) -> SourceVerdict
+    ensures { result ≡ failure_in_numbers failure }
 {
-    match name_place(alloc, source, error.line, error.word) {
-        Ok(at) => at_line(b'N', error.no.number(), error.line, at),
-        Err(_) => SourceVerdict::no_memory(),
+    match failure.code {
+        Some(code) => in_numbers(code, failure.position),
+        None => SourceVerdict::no_memory(),
     }
 }
 
@@ -79,12 +86,8 @@ fn name_verdict(alloc: Global, source: &[u8], error: NameError<'_>) -> SourceVer
 pub(crate) fn no_program_verdict(alloc: Global, source: &[u8], why: NoProgram<'_>) -> SourceVerdict
     ensures { IsUnreadable source.now why.entry result ⊎ (result ≡ without_line_is no_memory_is) }
 {
-    match why {
-        NoProgram::NotHex => without_line(refused_at(b'H', 1, 0, 0)),
-        NoProgram::NotUtf8 => without_line(refused_at(b'H', 3, 0, 0)),
-        NoProgram::Bytes(fault) => without_line(fault_at(&fault)),
-        NoProgram::Text(fault) => fault_verdict(alloc, source, fault),
-        NoProgram::Named(error) => name_verdict(alloc, source, error),
-        NoProgram::NoMemory => SourceVerdict::no_memory(),
+    match parse_failure(alloc, source, why) {
+        Ok(failure) => failure_verdict(failure),
+        Err(_) => SourceVerdict::no_memory(),
     }
 }

@@ -62,7 +62,7 @@ pub(crate) fn accepted(verified: &Verified) -> Verdict
     }
 }
 
-pub(crate) fn fault_at(fault: &Fault) -> Verdict
+fn fault_at(fault: &Fault) -> Verdict
     ensures { result ≡ fault_is fault.now }
 {
     refused_at(b'F', fault.no.number(), 0, fault.offset)

@@ -1,5 +1,5 @@
 use Rattle.std.proofs.Common.{◌≡◌, ◌++◌, ◌-◌, List, [], ℕ, inl, inr, refl, slice_get, string_bytes, subst, sym}
-use Rattle.tw_source.proofs.ReplyNames.{HasNames, IsFirstRejection, ExpandsTo, lines, on_ok_weaker, written_text}
+use Rattle.tw_source.proofs.ReplyNames.{HasNames, IsFirstRejection, ExpandsTo, append-nil, lines, on_ok_weaker, written_text}
 use Rattle.tw_symbols.specs.Answers.{seen_rejection}
 use Rattle.tw_symbols.proofs.Once.{never_both}
 use Rattle.tw_source.proofs.NamedTexts.{is_refused}
@@ -11,7 +11,7 @@ returns-in-Ok-None c =
     let same : ExpandsTo text text = rw c.in-Ok-None.field-0-is at c.in-Ok-None.ensures.expands in
     let unnamed : HasNames (lines text) → ⊥ = rw c.in-Ok-None.field-0-is at c.in-Ok-None.ensures.named in
     on_ok_weaker c.put_text_diagnostic.result
-    (λ t other expands. (t.0, (text, [], t.0, same, inl (unnamed, refl), t.1, refl), t.2)) c.put_text_diagnostic.ensures
+    (λ t other expands. (t.0, (text, [], t.0, [], same, inl (unnamed, refl, refl), t.1, sym (append-nil t.0)), t.2)) c.put_text_diagnostic.ensures
 
 pub returns-in-Ok-Some : goal.returns-in-Ok-Some
 returns-in-Ok-Some c =
@@ -22,7 +22,7 @@ returns-in-Ok-Some c =
     let named : HasNames (lines text) = rw c.in-Ok-Some.field-0-is at c.in-Ok-Some.ensures.named in
     let before = written_text (slice_get (lines text) (c.args.fault.line - 1)) (slice_get (lines here) (c.args.fault.line - 1)) in
     on_ok_weaker c.put_written_fault.result
-    (λ t other expands. (before ++ t.0, (here, before, t.0, subst (λ (x : List ℕ). ExpandsTo text x) (sym bytes) said, inr (named, refl), t.1, refl), t.2)) c.put_written_fault.ensures
+    (λ t other expands. (before ++ (t.0 ++ t.1), (here, before, t.0, t.1, subst (λ (x : List ℕ). ExpandsTo text x) (sym bytes) said, inr (named, refl, t.3), t.2, refl), t.4)) c.put_written_fault.ensures
 
 pub returns-in_default : goal.returns-in_default
 returns-in_default c = λ plain expands.
