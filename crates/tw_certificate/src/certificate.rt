@@ -15,6 +15,8 @@ ghost use Rattle.tw_certificate.specs.Noted.{AreShort, IsContestedAt, IsNoted, N
 use crate::contests::{contest_at, copied_by};
 use std::alloc::{AllocError, Global};
 use std::collections::BTreeSet;
+use tw_binary::{decode, encode};
+use tw_code::Program;
 use tw_copies::CopyInsertion;
 use tw_determinism::one_result_if_uncontested;
 use tw_machine::Plain;
@@ -77,25 +79,42 @@ fn first_contest_from(
     Ok(None)
 }
 
+/// Returns a program like this one. Its encoding is decoded, since programs aren't shared with the reference machine.
+fn copied(alloc: Global, program: &Program) -> Result<Program, AllocError>
+    ensures { IfOk result (λ copy. copy ≡ program.now) }
+{
+    // For its clauses alone: they hold for a program's procedures.
+    let _procedures = program.procedures();
+    let Ok(bytes) = encode(alloc, program) else {
+        return Err(AllocError);
+    };
+    match decode(alloc, &bytes) {
+        Ok(copy) => Ok(copy),
+        Err(_) => Err(AllocError),
+    }
+}
+
 /// Returns the first contested insertion of a run, or none if it contests none. If there is none and the run has ended by itself, all runs with these
 /// inputs that end by themselves, in any layout and order of events, end alike with the same outputs. Takes the time and the memory of a replay.
 pub fn first_contest(
     alloc: Global,
-    verified: Verified,
+    verified: &Verified,
     inputs: &[Input],
     layout: Layout,
     events: &[Event],
 ) -> Result<Option<CopyInsertion>, AllocError>
-    requires inputs { AreInputsOf verified.program inputs.now }
-    requires goes { (s : State) × (reached verified.program inputs.now layout events.now ≡ Went s) }
+    requires inputs { AreInputsOf verified.now.program inputs.now }
+    requires goes { (s : State) × (reached verified.now.program inputs.now layout events.now ≡ Went s) }
     requires few { length events.now ≤ 1000000 }
-    ensures first { IfOk result (IsFirstContest verified.program inputs.now layout events.now) }
-    ensures same { IfOk result (λ found. found ≡ None → (s : State) (end : Ending) → IsWholeRun verified.program inputs.now layout events.now s end → IsOnlyResult verified.program inputs.now s end) }
+    ensures first { IfOk result (IsFirstContest verified.now.program inputs.now layout events.now) }
+    ensures same { IfOk result (λ found. found ≡ None → (s : State) (end : Ending) → IsWholeRun verified.now.program inputs.now layout events.now s end → IsOnlyResult verified.now.program inputs.now s end) }
 {
-    one_result_if_uncontested(&verified);
-    no_trap(&verified);
-    let _procedures = verified.program().procedures();
-    match Plain::open(alloc, verified.into_program(), inputs, layout) {
+    one_result_if_uncontested(verified);
+    no_trap(verified);
+    let program = verified.program();
+    let _procedures = program.procedures();
+    let copy = copied(alloc, program)?;
+    match Plain::open(alloc, copy, inputs, layout) {
         Ok(mut plain) => first_contest_from(alloc, &mut plain, &mut BTreeSet::new(alloc), events),
         Err(_) => Err(AllocError),
     }

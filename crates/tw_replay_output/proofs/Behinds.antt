@@ -1,11 +1,9 @@
 -- Details after replies about programs that were read from a text.
-use Rattle.std.proofs.Common.{◌≡◌, ◌≢◌, ◌≤◌, ◌++◌, ◌∙◌, ℕ, suc, List, [], ◌∷◌, length, Option, Some, None, refl, sym, ap, subst}
-use Rattle.tw_replay_output.proofs.ReplayNames.{◌>>=◌, AreShort, ClosesBy, Event, Input, AreEndingDetails, IsUndrawn, MayBeSource, MayPrintCircle, NotEnabled, Outcome, PlainView, Procedure, Spoken as Reply, Start, State, PrintsCircle, Trap, Went, Position, append-nil, coded, failed, failed_with, open_error_code, rejection_of, reply, uncoded}
+use Rattle.std.proofs.Common.{◌≡◌, ◌≢◌, ◌++◌, ◌∙◌, ℕ, List, [], Option, Some, None, refl, sym, ap, subst}
+use Rattle.tw_replay_output.proofs.ReplayNames.{AreAnswerDetails, AreStateDetails, Event, Input, AreEndingDetails, IsAnswer, IsAnswerFrom, IsDetailed, IsReplayFrom, IsReplayOf, MayBeSource, NotEnabled, Outcome, PlainView, Position, Procedure, Spoken as Reply, Start, State, PrintsCircle, Trap, Went, append-nil, coded, failed, failed_with, open_error_code, reached_from, reply, run, text_of}
 use Rattle.tw_types.specs.declared.ending.Ending.{Ending}
-use Rattle.tw_types.specs.declared.ending.Ending.TheVariants.{Quiet, Stuck}
-use Rattle.tw_types.specs.Layout.{ActorCounts}
+use Rattle.tw_types.specs.declared.ending.Ending.TheVariants.{Stuck}
 use Rattle.tw_code.specs.machine.Ending.{ending}
-use Rattle.tw_code.specs.machine.Machine.{run, step}
 use Rattle.tw_code.specs.machine.Pending.{circle}
 use Rattle.tw_order.specs.declared.runs.Answer.{Answer}
 use Rattle.tw_order.specs.declared.runs.Answer.TheVariants.{Json, Numbers, Picture, Report}
@@ -13,16 +11,15 @@ use Rattle.tw_order.specs.declared.range.EventRange.{EventRange}
 use Rattle.tw_machine.specs.declared.rejection.OpenError.{OpenError}
 use Rattle.tw_machine.specs.declared.rejection.OpenError.TheVariants as opening
 use Rattle.std.specs.Prelude.{Bool, MatchBool, codes, false, true}
-use Rattle.tw_types.specs.Cause.{cause_number}
 use Rattle.tw_code.specs.machine.Inputs.{has_fitting_inputs, has_input_count}
 use Rattle.tw_source.specs.Failure.{code_text, failure_line, position_text}
-use Rattle.tw_source.specs.declared.failure.Failure.{Failure}
 use Rattle.tw_source.specs.declared.failure.Position.TheVariants as position
 use Rattle.tw_replay_output.specs.Opening.{AreOpeningDetails, PrintsInputs, PrintsUnfit, count_line}
-use Rattle.tw_replay_output.specs.Replay.{ByOutcome, IsAnswer, IsNumbered, AreRejectionDetails, AreReportDetails, after_event, close_of, played, played_from}
-use Rattle.tw_source.specs.declared.source.SourceText.{SourceText}
-use Rattle.tw_source.specs.declared.close.Close.{Close}
+use Rattle.tw_replay_output.specs.Replay.{ByOutcome, AreRejectionDetails}
 use Rattle.tw_source.specs.declared.close.Close.TheVariants as close
+use Rattle.tw_source.specs.declared.source.SourceText.{SourceText}
+use Rattle.tw_replay_output.specs.declared.replaying.Replaying.{Replaying}
+use Rattle.tw_replay_output.proofs.Making.{from_there}
 
 -- ---- a program that isn't opened
 
@@ -64,41 +61,6 @@ same_first_line None program inputs number at more (is, empty) = ap (λ (p : Pos
 same_first_line (Some text) program inputs number at more h =
     ap (λ (t : List ℕ). codes "refused " ++ (code_text (record { letter = 79; number = number }) ++ (t ++ codes "\n"))) (sym (said_nowhere program inputs at more h))
 
--- ---- how a replay closes
-
-refused_unstuck : (f : Failure) → close.Refused f ≡ close.Stuck → ⊥
-refused_unstuck f e = absurd cc
-
-trapped_unstuck : (f : Failure) → close.Trapped f ≡ close.Stuck → ⊥
-trapped_unstuck f e = absurd cc
-
-success_unstuck : close.Success ≡ close.Stuck → ⊥
-success_unstuck e = absurd cc
-
-outcome_closes : (program : List Procedure) (layout : ActorCounts) (number : ℕ) (events : List Event) → ((next : State) → ClosesBy (run program layout events next) (played program layout (suc number) events next).close) → (o : Outcome State)
-    → ClosesBy (o >>= λ next. run program layout events next) (after_event number o (λ next. played program layout (suc number) events next)).close
-outcome_closes program layout number events more (Went next) = more next
-outcome_closes program layout number events more NotEnabled = refused_unstuck (uncoded (position.Event number))
-outcome_closes program layout number events more (Trap cause) = trapped_unstuck (coded 67 (cause_number cause) (position.Event number))
-
-played_closes : (program : List Procedure) (layout : ActorCounts) (number : ℕ) (events : List Event) (s : State) → ClosesBy (run program layout events s) (played program layout number events s).close
-unfolding run played
-played_closes program layout number [] s = refl
-played_closes program layout number (event ∷ events) s = outcome_closes program layout number events (λ next. played_closes program layout (suc number) events next) (step program layout event s)
-
-counted_closes : (names : List (List ℕ)) (first : PlainView) (events : List Event) (o : Outcome State) (r : Reply) → ClosesBy o (played_from first events).close → ByOutcome o (λ s. IsNumbered names first events s r) (r ≡ played_from first events) → ClosesBy o r.close
-counted_closes names first events (Went s) r before h = ap (λ (x : Reply). x.close) h.4
-counted_closes names first events NotEnabled r before h = λ e. before (sym (ap (λ (x : Reply). x.close) h) ∙ e)
-counted_closes names first events (Trap cause) r before h = λ e. before (sym (ap (λ (x : Reply). x.close) h) ∙ e)
-
-pub answer_closes : (names : List (List ℕ)) (answer : Answer) (first : PlainView) (events : List Event) (r : Reply) → IsAnswer names answer first events r → IsUndrawn answer → ClosesBy (run first.program first.layout events first.state) r.close
-answer_closes names Report first events r h other =
-    subst (λ (c : Close). ClosesBy (run first.program first.layout events first.state) c) (sym (ap (λ (x : Reply). x.close) h)) (played_closes first.program first.layout 1 events first.state)
-answer_closes names Numbers first events r h other =
-    counted_closes names first events (run first.program first.layout events first.state) r (played_closes first.program first.layout 1 events first.state) h
-answer_closes names Json first events r h other = absurd other
-answer_closes names (Picture shown) first events r h other = absurd other
-
 -- ---- details of a replay
 
 abbrev pub Adds : (List ℕ → Type 0) → List ℕ → List ℕ → Type 0
@@ -108,50 +70,88 @@ pub nothing_added : (Prints : List ℕ → Type 0) (old : List ℕ) → Prints [
 nothing_added Prints old h = ([], h, sym (append-nil old))
 
 -- by the ending of the state
-ended_stuck : (text : List ℕ) (start : Start) (events : List Event) (s : State) (e : Option Ending) (old new : List ℕ) → close_of e ≡ close.Stuck → Adds (PrintsCircle text start events (circle start.program s)) old new
+pub ended_stuck : (text : List ℕ) (start : Start) (events : List Event) (s : State) (e : Option Ending) (rules : ℕ) (old new : List ℕ) → e ≡ Some (Stuck rules) → Adds (PrintsCircle text start events (circle start.program s)) old new
     → Adds (AreEndingDetails text start events s e) old new
-ended_stuck text start events s None old new is answered = absurd (success_unstuck is)
-ended_stuck text start events s (Some Quiet) old new is answered = absurd (success_unstuck is)
-ended_stuck text start events s (Some (Stuck rules)) old new is answered = answered
+ended_stuck text start events s e rules old new is answered = subst (λ (o : Option Ending). Adds (AreEndingDetails text start events s o) old new) (sym is) answered
 
-ended_else : (text : List ℕ) (start : Start) (events : List Event) (s : State) (e : Option Ending) → (close_of e ≡ close.Stuck → ⊥) → AreEndingDetails text start events s e []
-ended_else text start events s None other = refl
-ended_else text start events s (Some Quiet) other = refl
-ended_else text start events s (Some (Stuck rules)) other = absurd (other refl)
+-- ---- an answer and its details
+
+-- holds for an answer that has a report
+abbrev pub IsReported : Answer → Type 0
+IsReported Report = Unit {0}
+IsReported Numbers = Unit {0}
+IsReported Json = ⊥
+IsReported (Picture shown) = ⊥
 
 abbrev pub PrintsEnding : List ℕ → Start → List Event → Outcome State → List ℕ → Type 0
 PrintsEnding text start events o more = ByOutcome o (λ s. AreEndingDetails text start events s (ending s) more) (more ≡ [])
 
-pub stuck_details : (text : List ℕ) (start : Start) (events : List Event) (o : Outcome State) (c : Close) (old new : List ℕ) → c ≡ close.Stuck → ClosesBy o c
-    → ((s : State) → o ≡ Went s → Adds (PrintsCircle text start events (circle start.program s)) old new) → Adds (PrintsEnding text start events o) old new
-stuck_details text start events (Went s) c old new is closes answered = ended_stuck text start events s (ending s) old new (sym closes ∙ is) (answered s refl)
-stuck_details text start events NotEnabled c old new is closes answered = absurd (closes is)
-stuck_details text start events (Trap cause) c old new is closes answered = absurd (closes is)
+in_text : (answer : Answer) (text : List ℕ) (start : Start) (events : List Event) (more : List ℕ) → IsReported answer → PrintsEnding text start events (reached_from start events) more → AreAnswerDetails (Some text) answer start events more
+in_text Report text start events more is h = h
+in_text Numbers text start events more is h = h
+in_text Json text start events more is h = absurd is
+in_text (Picture shown) text start events more is h = absurd is
 
-pub else_details : (text : List ℕ) (start : Start) (events : List Event) (o : Outcome State) (c : Close) (old : List ℕ) → (c ≡ close.Stuck → ⊥) → ClosesBy o c → Adds (PrintsEnding text start events o) old old
-else_details text start events (Went s) c old other closes = nothing_added (PrintsEnding text start events (Went s)) old (ended_else text start events s (ending s) (λ e. other (closes ∙ e)))
-else_details text start events NotEnabled c old other closes = nothing_added (PrintsEnding text start events NotEnabled) old refl
-else_details text start events (Trap cause) c old other closes = nothing_added (PrintsEnding text start events (Trap cause)) old refl
+-- the details of the state that was reached
+details_reached : (text : Option (List ℕ)) (answer : Answer) (start : Start) (events : List Event) (s : State) (more : List ℕ) → IsReported answer → reached_from start events ≡ Went s → AreStateDetails text start events s more
+    → AreAnswerDetails text answer start events more
+details_reached None answer start events s more is leads h = h
+details_reached (Some text) answer start events s more is leads h = in_text answer text start events more is (subst (λ (o : Outcome State). PrintsEnding text start events o more) (sym leads) h)
 
-pub undrawn : (answer : Answer) → ((shown : EventRange) → answer ≡ Picture shown → ⊥) → (answer ≡ Json → ⊥) → IsUndrawn answer
-undrawn Report other plain = tt
-undrawn Numbers other plain = tt
-undrawn Json other plain = plain refl
-undrawn (Picture shown) other plain = other shown refl
+no_ending : (text : List ℕ) (start : Start) (events : List Event) (o : Outcome State) (X : Type 0) → ByOutcome o (λ s. ⊥) X → PrintsEnding text start events o []
+no_ending text start events (Went s) X h = absurd h
+no_ending text start events NotEnabled X h = refl
+no_ending text start events (Trap cause) X h = refl
 
-pub picture_details : (answer : Answer) (shown : EventRange) (text : List ℕ) (start : Start) (events : List Event) (o : Outcome State) (old : List ℕ) → answer ≡ Picture shown → Adds (AreReportDetails answer text start events o) old old
-picture_details answer shown text start events o old is = nothing_added (AreReportDetails answer text start events o) old (subst (λ (a : Answer). AreReportDetails a text start events o []) (sym is) refl)
+-- there are none if an event failed
+details_stopped : (text : Option (List ℕ)) (answer : Answer) (start : Start) (events : List Event) (o : Outcome State) (X : Type 0) → IsReported answer → o ≡ reached_from start events → ByOutcome o (λ s. ⊥) X → AreAnswerDetails text answer start events []
+details_stopped None answer start events o X is same h = refl
+details_stopped (Some text) answer start events o X is same h = in_text answer text start events [] is (subst (λ (p : Outcome State). PrintsEnding text start events p []) same (no_ending text start events o X h))
 
-pub json_details : (answer : Answer) (text : List ℕ) (start : Start) (events : List Event) (o : Outcome State) (old : List ℕ) → answer ≡ Json → Adds (AreReportDetails answer text start events o) old old
-json_details answer text start events o old is = nothing_added (AreReportDetails answer text start events o) old (subst (λ (a : Answer). AreReportDetails a text start events o []) (sym is) refl)
+pub stopped_is : (o : Outcome State) (X : Type 0) → ByOutcome o (λ s. ⊥) X → X
+stopped_is (Went s) X h = absurd h
+stopped_is NotEnabled X h = h
+stopped_is (Trap cause) X h = h
 
-pub report_details : (answer : Answer) (text : List ℕ) (start : Start) (events : List Event) (o : Outcome State) (old new : List ℕ) → IsUndrawn answer → Adds (PrintsEnding text start events o) old new
-    → Adds (AreReportDetails answer text start events o) old new
-report_details Report text start events o old new other h = h
-report_details Numbers text start events o old new other h = h
-report_details Json text start events o old new other h = absurd other
-report_details (Picture shown) text start events o old new other h = absurd other
+pub otherwise : (o : Outcome State) (goes : State → Type 0) (X : Type 0) → ByOutcome o (λ s. ⊥) X → ByOutcome o goes X
+otherwise (Went s) goes X h = absurd h
+otherwise NotEnabled goes X h = h
+otherwise (Trap cause) goes X h = h
 
-pub may_print_circle : (source : Option SourceText) (start : Start) (events : List Event) → MayBeSource source start.program → rejection_of start.program start.inputs ≡ None → length events ≤ 16777217 → AreShort events → MayPrintCircle source start events
-may_print_circle None start events is opens few short = tt
-may_print_circle (Some source) start events is opens few short = record { source_is = is; opens = opens; few = few; short = short }
+-- an answer without details
+alone : (Answers : Reply → Type 0) (text : Option (List ℕ)) (answer : Answer) (start : Start) (events : List Event) (r : Reply) → Answers r → AreAnswerDetails text answer start events [] → IsDetailed Answers text answer start events r
+alone Answers text answer start events r h none = (r, [], h, none, ap (λ (t : List ℕ). reply t r.close) (sym (append-nil r.text)))
+
+json_details : (text : Option (List ℕ)) (start : Start) (events : List Event) → AreAnswerDetails text Json start events []
+json_details None start events = refl
+json_details (Some text) start events = refl
+
+picture_details : (text : Option (List ℕ)) (shown : EventRange) (start : Start) (events : List Event) → AreAnswerDetails text (Picture shown) start events []
+picture_details None shown start events = refl
+picture_details (Some text) shown start events = refl
+
+-- ---- an answer from a machine on
+
+module _ (names : List (List ℕ)) (source : Option SourceText) (answer : Answer) (first : PlainView) (events : List Event) (r : Reply) where
+  pub with_answer : (given : Answer) → given ≡ answer → IsAnswerFrom names source answer first events r → IsAnswerFrom names source given first events r
+  with_answer given is h = subst (λ (a : Answer). IsAnswerFrom names source a first events r) (sym is) h
+
+  pub from_reached : (replaying : Replaying) (answered : Reply) → IsReported answer → IsReplayFrom first events replaying → IsAnswer names answer first events answered
+      → ((start : Start) (done : List Event) → MayBeSource source start.program → IsReplayOf start done replaying
+      → (more : List ℕ) × AreStateDetails (text_of source) start done replaying.plain.state more × (r ≡ reply (answered.text ++ more) answered.close)) → IsAnswerFrom names source answer first events r
+  from_reached replaying answered reported from is added = λ start opened may.
+      let replay = from.replay start opened in
+      let (more, are, whole) = added start events may replay in
+      (answered, more, is, details_reached (text_of source) answer start events replaying.plain.state more reported replay.leads are, whole)
+
+  pub from_stopped : (X : Type 0) → IsReported answer → IsAnswer names answer first events r → ByOutcome (run first.program first.layout events first.state) (λ s. ⊥) X → IsAnswerFrom names source answer first events r
+  from_stopped X reported is stopped = λ start opened may.
+      alone (λ (a : Reply). IsAnswer names answer first events a) (text_of source) answer start events r is
+      (details_stopped (text_of source) answer start events (run first.program first.layout events first.state) X reported (from_there start first events opened) stopped)
+
+pub json_from : (names : List (List ℕ)) (source : Option SourceText) (first : PlainView) (events : List Event) (r : Reply) → IsAnswer names Json first events r → IsAnswerFrom names source Json first events r
+json_from names source first events r is = λ start opened may. alone (λ (a : Reply). IsAnswer names Json first events a) (text_of source) Json start events r is (json_details (text_of source) start events)
+
+pub picture_from : (names : List (List ℕ)) (source : Option SourceText) (shown : EventRange) (first : PlainView) (events : List Event) (r : Reply) → IsAnswer names (Picture shown) first events r → IsAnswerFrom names source (Picture shown) first events r
+picture_from names source shown first events r is = λ start opened may.
+    alone (λ (a : Reply). IsAnswer names (Picture shown) first events a) (text_of source) (Picture shown) start events r is (picture_details (text_of source) shown start events)

@@ -1,5 +1,5 @@
 -- Statistics of a replay, and the budgets of its program.
-use Rattle.std.proofs.Common.{arith, ◌≡◌, ◌+◌, ◌*◌, ◌<◌, ◌≤◌, ◌++◌, ℕ, zero, suc, List, [], ◌∷◌, length, length-take, get_or, take, slice_get, Option, Some, sym, ap, subst, ◌∙◌}
+use Rattle.std.proofs.Common.{arith, ◌≡◌, ◌+◌, ◌*◌, ◌<◌, ◌≤◌, ◌++◌, ℕ, zero, suc, List, [], ◌∷◌, length, length-take, get_or, take, slice_get, Option, Some, sym, ap, subst}
 use Rattle.tw_replay_output.proofs.ReplayNames.{AreBudgets, AreShort, Event, IsComing, IsSmall, IsTally, NotEnabled, Outcome, PlainView, Procedure, State, Trap, Went, size_of, slice_get-get_or, step, take_all, take_more}
 use Rattle.std.proofs.lemmas.List.Sums.{sum_by-cons}
 use Rattle.std.specs.Option.{IsSomeAnd}

@@ -1,26 +1,29 @@
 -- Events that made rules, and the numbers of these.
-use Rattle.std.proofs.Common.{◌≡◌, ◌↔◌, ◌+◌, ◌<◌, ◌≤◌, ◌⊎◌, inl, inr, Bool, true, false, ℕ, zero, suc, List, [], ◌∷◌, ◌++◌, length, get_or, take, Option, Some, None, refl, sym, ap, subst, ◌∙◌, append_assoc, arith}
+use Rattle.std.proofs.Common.{◌≡◌, ◌+◌, ◌<◌, ◌≤◌, ◌⊎◌, inl, inr, ℕ, zero, suc, List, [], ◌∷◌, ◌++◌, length, get_or, take, Option, Some, None, refl, sym, ap, subst, ◌∙◌, append_assoc, arith}
 use Rattle.std.proofs.lemmas.Option.{same_Some}
-use Rattle.tw_replay_output.proofs.ReplayNames.{AreMade, ComesFrom, DoesRule, Event, Frame, Input, IsLineOf, IsMade, IsMadeSo, IsOpened, IsSpelled, IsStartOf, IsTrue, IsUnmade, Outcome, PlainView, Procedure, ExpandsTo, Start, State, PrintRules, PrintsRule, Versioned, Went, append-nil, instr_at, length-append, option_map, option_to_list, reached_from, rejection_of, rule_by, rule_done, rule_in, rule_line, rules_in, slice_get, take_more}
+use Rattle.tw_replay_output.proofs.ReplayNames.{AreMade, ComesFrom, DoesRule, Event, Frame, IsLineOf, IsMade, IsMadeSo, IsOpened, IsReplayOf, IsUnmade, PlainView, Procedure, ExpandsTo, Start, State, PrintRules, PrintsCircle, PrintsRule, Went, append-nil, instr_at, length-append, option_map, option_to_list, reached_from, rule_by, rule_done, rule_in, rule_line, rules_in, slice_get, take_more}
 use Rattle.std.specs.FinMap.{get}
 use Rattle.tw_types.specs.declared.actor.Actor.{Actor}
 use Rattle.tw_types.specs.declared.event.Event.TheVariants.{Take, Local, Call, End, Ask, Deliver, Release}
 use Rattle.tw_types.specs.declared.pending.Link.{Link}
 use Rattle.tw_types.specs.Layout.{ActorCounts}
-use Rattle.tw_asm.specs.Spelling.{SpellsProgram}
-use Rattle.tw_asm.proofs.Unique.{spells_once}
 use Rattle.tw_code.specs.declared.instr.Action.{Action}
 use Rattle.tw_code.specs.declared.instr.Instr.{Instr}
 use Rattle.tw_code.specs.declared.instr.Instr.TheVariants as instr
 use Rattle.tw_code.specs.machine.Due.{instr_here}
 use Rattle.tw_code.specs.machine.Machine.{run, step}
 use Rattle.tw_code.specs.machine.Opening.{opening}
+use Rattle.tw_code.specs.machine.Pending.{circle}
 use Rattle.tw_stats.specs.declared.dependency.Dependency.TheVariants.{Datum}
 use Rattle.tw_stats.specs.Waits.{made_at, made_by, made_in}
 use Rattle.tw_stats.proofs.Nexts.{step_more}
-use Rattle.tw_replay_output.specs.declared.stuck.Made.{Made}
+use Rattle.tw_replay_output.specs.declared.replaying.Made.{Made}
+use Rattle.tw_replay_output.specs.declared.replaying.Replaying.{Replaying}
+use Rattle.tw_code.proofs.Runs.{run_more}
+use Rattle.std.specs.Prelude.{OnOk, Result, Ok, Err}
+use Rattle.tw_instr.specs.Attempts.{Changes}
+use Rattle.tw_instr.specs.declared.stopped.Stopped.{Stopped}
 use Rattle.tw_symbols.specs.Symbols.{name_at}
-use Rattle.tw_report.proofs.HistoryReading.{never}
 
 none_some : {A : Type 0} {Z : Type 0} (x : A) → None ≡ Some x → Z
 none_some x e = absurd cc
@@ -259,28 +262,8 @@ from_there start first events h =
     ∙ ap (λ (a : ActorCounts). run start.program a events first.state) h.layout
     ∙ ap (λ (s : State). run start.program start.layout events s) h.state
 
-pub opened_so : (start : Start) (program : Versioned) (inputs : List Input) (layout : ActorCounts) (first : PlainView) → IsStartOf start inputs layout → start.program ≡ program.procedures
-    → first ≡ record { version = program.version; program = program.procedures; layout = layout; state = opening program.procedures inputs } → IsOpened start first
-opened_so start program inputs layout first (given, at) same is = record {
-  program = ap (λ (v : PlainView). v.program) is ∙ sym same;
-  layout = ap (λ (v : PlainView). v.layout) is ∙ sym at;
-  state = ap (λ (v : PlainView). v.state) is ∙ ap (λ (ps : List Procedure). opening ps inputs) (sym same) ∙ ap (λ (xs : List Input). opening start.program xs) (sym given);
-}
-
--- the program that is assembled once more
-pub same_program : (text : List ℕ) (program : Versioned) (sections : List Procedure) → SpellsProgram program text → IsSpelled text sections → sections ≡ program.procedures
-same_program text program sections spells (version, spelled) = ap (λ (p : Versioned). p.procedures) (spells_once text (record { version = version; procedures = sections }) program spelled spells)
-
--- it is opened, if the same is known of what it was started with
-pub opens_so : (start : Start) (program : Versioned) (inputs : List Input) (layout : ActorCounts) → IsStartOf start inputs layout → start.program ≡ program.procedures → rejection_of start.program start.inputs ≡ None → rejection_of program.procedures inputs ≡ None
-opens_so start program inputs layout (given, at) same none = sym (ap (λ (ps : List Procedure). rejection_of ps inputs) same) ∙ sym (ap (rejection_of start.program) given) ∙ none
-
 pub one_taken : {X : Type 0} (xs : List X) (i : ℕ) (x : X) → i < length xs → x ≡ get_or xs i x → take (i + 1) xs ≡ take i xs ++ x ∷ []
 one_taken xs i x inside is = take_more xs i x inside ∙ ap (λ y. take i xs ++ y ∷ []) (sym is)
-
--- the same event from the machine as it was opened
-pub steps_there : (start : Start) (first : PlainView) (event : Event) (s t : State) → IsOpened start first → step first.program first.layout event s ≡ Went t → step start.program start.layout event s ≡ Went t
-steps_there start first event s t h went = sym (ap (λ (ps : List Procedure). step ps first.layout event s) h.program ∙ ap (λ (a : ActorCounts). step start.program a event s) h.layout) ∙ went
 
 -- before the first event no rule was made
 pub first_next : (start : Start) (s : State) (made : List Made) → s ≡ opening start.program start.inputs → made ≡ [] → s.next_rule ≡ length made + 1
@@ -290,9 +273,42 @@ pub run_none : (program : List Procedure) (layout : ActorCounts) (s : State) →
 unfolding run
 run_none program layout s = refl
 
-pub not_within : {P : Type 0} (b : Bool) → (IsTrue b ↔ P) → b ≡ false → P → ⊥
-not_within true h e p = never (sym e)
-not_within false h e p = never (h.1 p)
+-- ---- a replay
 
-pub same_state : (o : Outcome State) (s t : State) → o ≡ Went s → o ≡ Went t → s ≡ t
-same_state o s t e f = went_is s t (sym e ∙ f)
+pub replay_first : (start : Start) (r : Replaying) → IsOpened start r.plain → r.made.items ≡ [] → IsReplayOf start [] r
+replay_first start r h none = record {
+  program = h.program;
+  layout = h.layout;
+  leads = run_none start.program start.layout (opening start.program start.inputs) ∙ ap (λ (s : State). Went s) (sym h.state);
+  next = first_next start r.plain.state r.made.items h.state none;
+  made = made_first start r.made.items none;
+}
+
+-- a replay with one event more
+replay_more : (start : Start) (events : List Event) (event : Event) (old new : Replaying) → step old.plain.program old.plain.layout event old.plain.state ≡ Went new.plain.state → new.plain.program ≡ old.plain.program
+    → new.plain.layout ≡ old.plain.layout → new.made.items ≡ old.made.items ++ option_to_list (rule_done old.plain.program event old.plain.state) → IsReplayOf start events old → IsReplayOf start (events ++ event ∷ []) new
+replay_more start events event old new went program layout added h =
+    let there : step start.program start.layout event old.plain.state ≡ Went new.plain.state =
+    sym (ap (λ (ps : List Procedure). step ps old.plain.layout event old.plain.state) h.program ∙ ap (λ (a : ActorCounts). step start.program a event old.plain.state) h.layout) ∙ went in
+    let kept : new.made.items ≡ old.made.items ++ option_to_list (rule_done start.program event old.plain.state) =
+    added ∙ ap (λ (ps : List Procedure). old.made.items ++ option_to_list (rule_done ps event old.plain.state)) h.program in
+    record {
+      program = program ∙ h.program;
+      layout = layout ∙ h.layout;
+      leads = run_more start.program start.layout events event (opening start.program start.inputs) old.plain.state new.plain.state h.leads there;
+      next = next_on start event old.plain.state new.plain.state old.made.items new.made.items there h.next kept;
+      made = all_more start events event old.plain.state old.made.items new.made.items h.leads h.next kept h.made;
+    }
+
+-- if the event succeeds
+pub replay_stepped : (event : Event) (old new : Replaying) (done : Result (Unit {0}) Stopped) → Changes (step old.plain.program old.plain.layout event old.plain.state) old.plain.state done new.plain.state → new.plain.program ≡ old.plain.program
+    → new.plain.layout ≡ old.plain.layout → new.made.items ≡ old.made.items ++ option_to_list (rule_done old.plain.program event old.plain.state)
+    → OnOk done ((start : Start) (events : List Event) → IsReplayOf start events old → IsReplayOf start (events ++ event ∷ []) new)
+replay_stepped event old new (Ok u) went program layout added = λ start events h. replay_more start events event old new went program layout added h
+replay_stepped event old new (Err why) went program layout added = tt
+
+-- the circle in its state is that of the start's program
+pub circle_there : (text : List ℕ) (start : Start) (events : List Event) (found : Option (List Link)) (r : Replaying) (old new : List ℕ) → found ≡ circle r.plain.program r.plain.state → IsReplayOf start events r
+    → AddsDiagnostic (PrintsCircle text start events found) old new → AddsDiagnostic (PrintsCircle text start events (circle start.program r.plain.state)) old new
+circle_there text start events found r old new is replay h =
+    subst (λ (o : Option (List Link)). AddsDiagnostic (PrintsCircle text start events o) old new) (is ∙ ap (λ (ps : List Procedure). circle ps r.plain.state) replay.program) h

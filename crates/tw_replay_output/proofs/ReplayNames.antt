@@ -4,7 +4,6 @@ pub use Rattle.std.proofs.lemmas.Option.{slice_get-get_or, slice_get_read}
 pub use Rattle.std.proofs.lemmas.Result.{IfOk-weaker, on_ok_weaker}
 pub use Rattle.std.specs.List.{AllByRecursion}
 pub use Rattle.std.specs.Prelude.{IsTrue, option_map, option_to_list, slice_get}
-pub use Rattle.std.specs.Str.Lines.{lines}
 pub use Rattle.tw_types.specs.declared.event.Event.{Event}
 pub use Rattle.tw_types.specs.declared.input.Input.{Input}
 pub use Rattle.tw_types.specs.Outcome.{NotEnabled, Outcome, Trap, Went, ◌>>=◌}
@@ -23,11 +22,10 @@ pub use Rattle.tw_replay_output.specs.Circle.{DoesRule, AreEndingDetails, IsMade
 pub use Rattle.tw_replay_output.specs.Counted.{AreShort, IsCounting, IsShort}
 pub use Rattle.tw_source.specs.Failure.{coded, failed, failed_with, uncoded}
 pub use Rattle.tw_source.specs.declared.failure.Position.{Position}
-pub use Rattle.tw_source.specs.Program.{RepliesBySource, source_text}
-pub use Rattle.tw_replay_output.specs.Replay.{AreBudgets, AreKnownBudgets, IsAnswer, AreAnswerDetails, IsAnswered, IsCounted, IsNumbered, RepliesByHistory, RepliesByLines, close_of, opened, played, played_from, start_of, state_reply}
+pub use Rattle.tw_replay_output.specs.Replay.{AreBudgets, AreKnownBudgets, IsAnswer, AreAnswerDetails, IsAnswered, IsCounted, IsDetailed, IsNumbered, close_of, opened, played, played_from, start_of, state_reply}
 pub use Rattle.tw_source.specs.Reply.{Reply as Spoken, reply}
 pub use Rattle.tw_source.specs.Source.{IsSource, IsSpelled, MayBeSource, plain_of, text_of}
-pub use Rattle.tw_replay_output.specs.Stuck.{AreMade, ClosesBy, IsMadeSo, IsOpened, IsStartOf, IsUndrawn, IsUnmade, MayPrintCircle, rule_by, rule_done, rule_in}
+pub use Rattle.tw_replay_output.specs.Stuck.{AreMade, AreStateDetails, IsAnswerFrom, IsMadeSo, IsOpened, IsPlayed, IsReplayFrom, IsReplayOf, IsUnmade, rule_by, rule_done, rule_in}
 pub use Rattle.tw_source.specs.Text.{IsLineOf, text_line}
 pub use Rattle.tw_report.specs.Lines.{not_enabled_line, trap_line}
 pub use Rattle.tw_stats.specs.Kept.{IsComing, IsFirst, IsSmall, IsTally, rules_in}

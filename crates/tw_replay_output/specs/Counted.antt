@@ -10,6 +10,7 @@ use Rattle.tw_stats.specs.Kept.{IsTally}
 use Rattle.tw_replay_output.specs.declared.numbers.Counting.{Counting}
 use Rattle.tw_replay_output.specs.declared.numbers.Counting.TheVariants.{Made, Stopped}
 use Rattle.tw_replay_output.specs.Replay.{ByOutcome, played_from}
+use Rattle.tw_replay_output.specs.Stuck.{IsReplayFrom}
 use Rattle.tw_source.specs.Reply.{reply}
 
 -- holds if the event executes no more instructions than a task may
@@ -21,5 +22,5 @@ AreShort events = AllByRecursion IsShort events
 
 -- holds if all events were executed and counted; or if one failed, and this is the reply
 abbrev pub IsCounting : PlainView → List Event → Counting → Type 0
-IsCounting first events (Made c) = (c.plain ≡ record first { state = c.plain.state }) × IsTally first events c.plain.state c.stats_builder
+IsCounting first events (Made c) = IsReplayFrom first events c.replaying × IsTally first events c.replaying.plain.state c.stats_builder
 IsCounting first events (Stopped r) = ByOutcome (run first.program first.layout events first.state) (λ s. ⊥) (reply r.text.items r.close ≡ played_from first events)

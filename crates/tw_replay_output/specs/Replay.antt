@@ -34,7 +34,7 @@ use Rattle.tw_timeline.specs.Timeline.{picture_of}
 use Rattle.tw_timeline.specs.Places.{between}
 use Rattle.tw_timeline.specs.Xml.{xml_text}
 use Rattle.tw_symbols.specs.Symbols.{AreSymbols}
-use Rattle.tw_report.specs.History.{AreParts, IsTraceOf, lines_in}
+use Rattle.tw_report.specs.History.{IsTraceOf}
 use Rattle.tw_report.specs.Lines.{history_line, not_enabled_line, trap_line}
 use Rattle.tw_source.specs.Failure.{coded, failed_with, uncoded}
 use Rattle.tw_source.specs.declared.failure.Position.{Position}
@@ -44,7 +44,6 @@ use Rattle.tw_stats.specs.Text.{AreNumbers}
 use Rattle.tw_replay_output.specs.Circle.{AreEndingDetails, Start, reached_from}
 use Rattle.tw_replay_output.specs.Opening.{AreOpeningDetails}
 use Rattle.tw_source.specs.Reply.{Reply, reply}
-use Rattle.tw_source.specs.Text.{RepliesByUtf8}
 use Rattle.tw_source.specs.declared.close.Close.{Close}
 use Rattle.tw_source.specs.declared.close.Close.TheVariants.{Success, Refused, Stuck, Trapped}
 
@@ -181,11 +180,15 @@ start_of order program = record { program = program.procedures; inputs = order.i
 abbrev pub opened : ReplayOrder → Versioned → PlainView
 opened order program = record { version = program.version; program = program.procedures; layout = order.layout; state = opening program.procedures order.inputs }
 
+-- holds for such an answer, followed by its details
+abbrev pub IsDetailed : (Reply → Type 0) → Option (List ℕ) → Answer → Start → List Event → Reply → Type 0
+IsDetailed Answers text answer start events r =
+    (answered : Reply) × (more : List ℕ) × Answers answered × AreAnswerDetails text answer start events more × (r ≡ reply (answered.text ++ more) answered.close)
+
 -- holds for the answer, with the names of the text, followed by its details
 abbrev pub IsAnswered : Option (List ℕ) → ReplayOrder → Versioned → List Event → Reply → Type 0
 IsAnswered text order program events r =
-    (names : List (List ℕ)) × (answered : Reply) × (more : List ℕ) × AreSymbols text names × IsAnswer names order.answer (opened order program) events answered × AreAnswerDetails text order.answer (start_of order program) events more
-    × (r ≡ reply (answered.text ++ more) answered.close)
+    (names : List (List ℕ)) × AreSymbols text names × IsDetailed (λ a. IsAnswer names order.answer (opened order program) events a) text order.answer (start_of order program) events r
 
 abbrev pub IsReplayed : Option (List ℕ) → ReplayOrder → Versioned → List Event → Reply → Type 0
 IsReplayed text order program events r =
@@ -197,9 +200,4 @@ IsReplayed text order program events r =
 abbrev pub RepliesByLines : Option (List ℕ) → ReplayOrder → List (List ℕ) → Versioned → Reply → Type 0
 RepliesByLines text order lines program r =
     ((events : List Event) × IsTraceOf lines (Ok events) × IsReplayed text order program events r)
-    ⊎ ((line : ℕ) × IsTraceOf lines (Err line) × (r ≡ reply (history_line line) (Refused (coded 69 1 (position.Line line)))))
-
--- holds if the part after the line `events` is UTF-8, and this is the reply to what precedes it and to the trace's lines; or if it isn't UTF-8
-abbrev pub RepliesByHistory : List ℕ → (List ℕ → List (List ℕ) → Reply → Type 0) → Reply → Type 0
-RepliesByHistory input Answers r =
-    (before : List ℕ) × (after : List ℕ) × AreParts input before after × RepliesByUtf8 after (Answers before (lines_in after) r) r
+    ⊎ ((line : ℕ) × IsTraceOf lines (Err line) × (r ≡ reply (history_line line) (Refused (coded 69 1 (position.Line line 0 0)))))

@@ -1,32 +1,30 @@
--- The model of what the code keeps of a trace while it looks for the lines that made its rules.
-use Rattle.std.specs.Prelude.{◌≡◌, ◌≢◌, ◌+◌, ◌≤◌, ℕ, List, Option, Some, None, IfSome, length, map, slice_get}
+-- The model of what the code keeps of a trace while it replays it, for the lines that made its rules.
+use Rattle.std.specs.Prelude.{◌≡◌, ◌+◌, ◌≤◌, ℕ, List, [], Option, Some, None, length, map, slice_get}
 use Rattle.std.specs.FinMap.{get}
 use Rattle.std.specs.Option.{option_and_then}
 use Rattle.tw_types.specs.declared.event.Event.{Event}
 use Rattle.tw_types.specs.declared.event.Event.TheVariants.{Take, Local, Call, End, Ask, Deliver, Release}
-use Rattle.tw_types.specs.declared.input.Input.{Input}
-use Rattle.tw_types.specs.Layout.{ActorCounts}
-use Rattle.tw_types.specs.Outcome.{Outcome}
+use Rattle.tw_types.specs.Outcome.{Went}
 use Rattle.tw_code.specs.declared.instr.Action.{Action}
 use Rattle.tw_code.specs.declared.instr.Instr.{Instr}
 use Rattle.tw_code.specs.declared.instr.Instr.TheVariants as instr
 use Rattle.tw_code.specs.declared.procedure.Procedure.{Procedure}
 use Rattle.tw_code.specs.machine.Due.{instr_here}
 use Rattle.tw_code.specs.machine.Ending.{ending}
+use Rattle.tw_code.specs.machine.Machine.{run}
 use Rattle.tw_code.specs.machine.Opening.{opening}
 use Rattle.tw_code.specs.machine.State.{Frame, State}
-use Rattle.tw_order.specs.declared.runs.Answer.{Answer}
-use Rattle.tw_order.specs.declared.runs.Answer.TheVariants.{Json, Numbers, Picture, Report}
-use Rattle.tw_machine.specs.Opening.{rejection_of}
 use Rattle.tw_machine.specs.PlainView.{PlainView}
-use Rattle.tw_replay_output.specs.Circle.{IsMade, Start}
-use Rattle.tw_replay_output.specs.Counted.{AreShort}
-use Rattle.tw_replay_output.specs.Replay.{ByOutcome, close_of}
-use Rattle.tw_source.specs.Source.{IsSource}
+use Rattle.tw_order.specs.declared.runs.Answer.{Answer}
+use Rattle.tw_source.specs.Reply.{Reply, reply}
+use Rattle.tw_source.specs.Source.{MayBeSource, text_of}
 use Rattle.tw_source.specs.declared.source.SourceText.{SourceText}
-use Rattle.tw_source.specs.declared.close.Close.{Close}
-use Rattle.tw_source.specs.declared.close.Close.TheVariants.{Stuck}
-use Rattle.tw_replay_output.specs.declared.stuck.Made.{Made}
+use Rattle.tw_replay_output.specs.Circle.{AreEndingDetails, IsMade, Start, reached_from}
+use Rattle.tw_replay_output.specs.Replay.{ByOutcome, IsAnswer, IsDetailed, played_from, state_reply}
+use Rattle.tw_replay_output.specs.declared.replaying.Made.{Made}
+use Rattle.tw_replay_output.specs.declared.replaying.Played.{Played}
+use Rattle.tw_replay_output.specs.declared.replaying.Played.TheVariants.{All, Stopped}
+use Rattle.tw_replay_output.specs.declared.replaying.Replaying.{Replaying}
 use Rattle.tw_replay_output.specs.declared.stuck.Lookup.{Lookup}
 use Rattle.tw_symbols.specs.Symbols.{AreNames}
 use Rattle.std.specs.Str.Lines.{lines}
@@ -74,34 +72,40 @@ pub record IsLookup (l : Lookup) (text : List ℕ) : Type 0 where
 
 -- ---- a trace
 
-abbrev pub IsStartOf : Start → List Input → ActorCounts → Type 0
-IsStartOf start inputs layout = (start.inputs ≡ inputs) × (start.layout ≡ layout)
-
 -- the machine as this opening leaves it
 pub record IsOpened (start : Start) (first : PlainView) : Type 0 where
   pub program : first.program ≡ start.program
   pub layout : first.layout ≡ start.layout
   pub state : first.state ≡ opening start.program start.inputs
 
--- the text of a program that is opened with these inputs, and events that aren't too many or too long
-pub record CanPrintCircle (source : SourceText) (start : Start) (events : List Event) : Type 0 where
-  pub source_is : IsSource source start.program
-  pub opens : rejection_of start.program start.inputs ≡ None
-  pub few : length events ≤ 16777217
-  pub short : AreShort events
+-- a replay of these events from an opening: its state is that to which they lead, and the rules that they made are known
+pub record IsReplayOf (start : Start) (events : List Event) (r : Replaying) : Type 0 where
+  pub program : r.plain.program ≡ start.program
+  pub layout : r.plain.layout ≡ start.layout
+  pub leads : reached_from start events ≡ Went r.plain.state
+  pub next : r.plain.state.next_rule ≡ length r.made.items + 1
+  pub made : AreMade start events r.made.items
 
-abbrev pub MayPrintCircle : Option SourceText → Start → List Event → Type 0
-MayPrintCircle source start events = IfSome source (λ text. CanPrintCircle text start events)
+-- a replay of these events from this machine on, all of which succeeded
+pub record IsReplayFrom (first : PlainView) (events : List Event) (r : Replaying) : Type 0 where
+  pub stays : r.plain ≡ record first { state = r.plain.state }
+  pub reaches : run first.program first.layout events first.state ≡ Went r.plain.state
+  pub replies : state_reply r.plain.program r.plain.state ≡ played_from first events
+  pub replay : (start : Start) → IsOpened start first → IsReplayOf start events r
 
--- ---- how a replay ends
+-- holds if all events were executed; or if one failed, and this is the reply
+abbrev pub IsPlayed : PlainView → List Event → Played → Type 0
+IsPlayed first events (All r) = IsReplayFrom first events r
+IsPlayed first events (Stopped r) = ByOutcome (run first.program first.layout events first.state) (λ s. ⊥) (reply r.text.items r.close ≡ played_from first events)
 
--- holds for the ending of the state to which the events lead; if they lead to none, for any but stuck
-abbrev pub ClosesBy : Outcome State → Close → Type 0
-ClosesBy o close = ByOutcome o (λ s. close ≡ close_of (ending s)) (close ≢ Stuck)
+-- ---- details
 
--- holds if neither a timeline nor a JSON line is requested
-abbrev pub IsUndrawn : Answer → Type 0
-IsUndrawn Report = Unit {0}
-IsUndrawn Numbers = Unit {0}
-IsUndrawn Json = ⊥
-IsUndrawn (Picture shown) = ⊥
+-- holds for the details in a state; without a text there are none
+abbrev pub AreStateDetails : Option (List ℕ) → Start → List Event → State → List ℕ → Type 0
+AreStateDetails None start events s more = more ≡ []
+AreStateDetails (Some text) start events s more = AreEndingDetails text start events s (ending s) more
+
+-- holds for an answer to these events, followed by its details, for each start that opens this machine
+abbrev pub IsAnswerFrom : List (List ℕ) → Option SourceText → Answer → PlainView → List Event → Reply → Type 0
+IsAnswerFrom names source answer first events r =
+    (start : Start) → IsOpened start first → MayBeSource source start.program → IsDetailed (λ a. IsAnswer names answer first events a) (text_of source) answer start events r

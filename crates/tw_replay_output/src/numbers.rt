@@ -8,17 +8,21 @@ ghost use Rattle.tw_code.specs.machine.State.{State};
 ghost use Rattle.tw_instr.specs.Attempts.{IsStopped};
 ghost use Rattle.tw_machine.specs.PlainView.{PlainView};
 ghost use Rattle.tw_stats.specs.Kept.{IsFirst, IsTally};
+ghost use Rattle.tw_order.specs.declared.runs.Answer.TheVariants.{Numbers};
 ghost use Rattle.tw_replay_output.specs.Counted.{AreShort, IsCounting};
-ghost use Rattle.tw_replay_output.specs.Replay.{AreBudgets, AreKnownBudgets, ByOutcome, IsCounted, IsNumbered, after_event};
+ghost use Rattle.tw_replay_output.specs.Replay.{AreBudgets, AreKnownBudgets, ByOutcome, IsNumbered, after_event};
+ghost use Rattle.tw_replay_output.specs.Stuck.{IsAnswerFrom};
 ghost use Rattle.tw_source.specs.Reply.{Reply as AReply, reply};
 ghost use Rattle.tw_source.specs.declared.reply.Reply.{Reply as StoppedReply};
 
 use crate::replay::{close_of, stopped_reply};
+use crate::replay_details::with_details;
+use crate::replaying::Replaying;
 use std::alloc::{AllocError, Global};
 use tw_code::Program;
 use tw_machine::{Plain, Stopped};
 use tw_report::report_state;
-use tw_source::Reply;
+use tw_source::{Reply, SourceText};
 use tw_stats::StatsBuilder;
 use tw_symbols::Symbols;
 use tw_types::Event;
@@ -31,10 +35,10 @@ pub struct Budgeted {
     pub budgets: Vec<u64>,
 }
 
-/// The machine after events that were executed, and their statistics.
+/// A replay of events that were executed, and their statistics.
 #[derive(Drop)]
 pub struct Counted {
-    pub plain: Plain,
+    pub replaying: Replaying,
     pub stats_builder: StatsBuilder,
 }
 
@@ -121,24 +125,25 @@ pub fn count(alloc: Global, first: Plain, events: &[Event]) -> Result<Counting, 
     requires few { length events.now ≤ 16777217 }
     ensures { IfOk result (IsCounting first events.now) }
 {
-    let mut plain = first;
+    let mut replaying = Replaying::new(alloc, first);
     let mut stats_builder = StatsBuilder::new(alloc);
     for (index, event) in events.iter().enumerate() {
-        let pre_state = stats_builder.pre_state(&plain, event);
-        match plain.step(alloc, *event) {
-            Ok(()) => stats_builder.count_event(&plain, event, &pre_state)?,
+        let pre_state = stats_builder.pre_state(&replaying.plain, event);
+        match replaying.step(alloc, *event) {
+            Ok(()) => stats_builder.count_event(&replaying.plain, event, &pre_state)?,
             Err(stopped) => return stopped_counting(alloc, stopped, index + 1),
         }
     }
     Ok(Counting::Made(Counted {
-        plain,
+        replaying,
         stats_builder,
     }))
 }
 
-/// Returns the report and the statistics, or the reply to the first event that isn't enabled or traps.
+/// Returns the report, the statistics and the details, or the reply to the first event that isn't enabled or traps.
 pub fn counted_reply(
     alloc: Global,
+    source: &Option<SourceText<'_>>,
     first: Plain,
     events: &[Event],
     names: &Symbols,
@@ -149,16 +154,19 @@ pub fn counted_reply(
     requires below { AreBelow opening_bound first.state }
     requires sizes { AreShort events.now }
     requires few { length events.now ≤ 16777217 }
-    ensures { IfOk result (λ r. IsCounted names.now first events.now (reply r.text.items r.close)) }
+    ensures { IfOk result (λ r. IsAnswerFrom names.now source.now Numbers first events.now (reply r.text.items r.close)) }
 {
     match count(alloc, first, events)? {
-        Counting::Made(counted) => numbers_reply(
-            alloc,
-            &counted.plain,
-            &counted.stats_builder,
-            names,
-            budgets,
-        ),
+        Counting::Made(counted) => {
+            let answered = numbers_reply(
+                alloc,
+                &counted.replaying.plain,
+                &counted.stats_builder,
+                names,
+                budgets,
+            )?;
+            with_details(alloc, source, &counted.replaying, answered)
+        }
         Counting::Stopped(reply) => Ok(reply),
     }
 }

@@ -1,27 +1,24 @@
 //! Details after the reply to a replay of a program that was read from a text.
 
-ghost use Rattle.std.specs.Prelude.{◌≡◌, ◌≢◌, ◌≤◌, ◌++◌, ℕ, List, [], None, IfOk, OnOk, length};
-ghost use Rattle.tw_types.specs.Outcome.{Outcome};
-ghost use Rattle.tw_code.specs.format.Program.{Versioned};
+ghost use Rattle.std.specs.Prelude.{◌≡◌, ◌≢◌, ◌++◌, ℕ, List, IfOk, OnOk};
+ghost use Rattle.tw_types.specs.declared.event.Event.{Event as AnEvent};
 ghost use Rattle.tw_code.specs.machine.Ending.{ending};
-ghost use Rattle.tw_code.specs.machine.State.{State};
-ghost use Rattle.tw_machine.specs.Opening.{open_error_code, rejection_of};
+ghost use Rattle.tw_machine.specs.Opening.{open_error_code};
 ghost use Rattle.tw_source.specs.Failure.{coded, failed_with};
-ghost use Rattle.tw_replay_output.specs.Circle.{AreEndingDetails, Start, reached_from};
-ghost use Rattle.tw_replay_output.specs.Replay.{ByOutcome, IsAnswer, AreAnswerDetails, IsAnswered, AreRejectionDetails, AreReportDetails, opened, start_of};
 ghost use Rattle.tw_source.specs.Reply.{reply};
-ghost use Rattle.tw_source.specs.Source.{MayBeSource, text_of};
-ghost use Rattle.tw_replay_output.specs.Stuck.{CanPrintCircle, ClosesBy, IsStartOf, IsUndrawn, MayPrintCircle};
-ghost use Rattle.tw_symbols.specs.Symbols.{AreSymbols};
-ghost use Rattle.tw_replay_output.specs.Counted.{AreShort};
+ghost use Rattle.tw_source.specs.Source.{IsSource, MayBeSource, text_of};
+ghost use Rattle.tw_replay_output.specs.Circle.{AreEndingDetails, Start};
+ghost use Rattle.tw_replay_output.specs.Replay.{AreRejectionDetails};
+ghost use Rattle.tw_replay_output.specs.Stuck.{AreStateDetails, IsReplayOf};
 
 use crate::opening::{inputs_refused_reply, opening_failure};
-use crate::stuck::put_stuck;
+use crate::replaying::Replaying;
+use crate::stuck::put_circle;
 use std::alloc::{AllocError, Global};
 use tw_machine::{OpenError, OpenRefused};
-use tw_order::{Answer, ReplayOrder};
-use tw_source::{Close, Position, Reply, SourceText, failed_reply};
-use tw_types::Event;
+use tw_order::ReplayOrder;
+use tw_source::{Position, Reply, SourceText, failed_reply};
+use tw_types::Ending;
 
 /// Returns the reply to a program that isn't opened.
 pub fn unopened_reply(
@@ -50,85 +47,51 @@ pub fn unopened_reply(
     }
 }
 
-/// Adds the details of a report, by how the session ends.
+/// Adds the details of the state that a replay has reached: if it is stuck, the lines of the circle.
 fn put_ending_details(
     alloc: Global,
     out: &mut Vec<u8>,
     source: &SourceText<'_>,
-    order: &ReplayOrder,
-    events: &[Event],
-    close: Close,
+    replaying: &Replaying,
 ) -> Result<(), AllocError>
-    ensures { OnOk result ((start : Start) (o : Outcome State) → IsStartOf start order.now.inputs order.now.layout → CanPrintCircle source.now start events.now
-        → reached_from start events.now ≡ o → ClosesBy o close
-        → (more : List ℕ) × ByOutcome o (λ s. AreEndingDetails source.now.text.now start events.now s (ending s) more) (more ≡ []) × (out.new.items ≡ out.old.items ++ more)) }
+    ensures { OnOk result ((start : Start) (events : List AnEvent) → IsSource source.now start.program → IsReplayOf start events replaying.now
+        → (more : List ℕ) × AreEndingDetails source.now.text.now start events replaying.now.plain.state (ending replaying.now.plain.state) more × (out.new.items ≡ out.old.items ++ more)) }
 {
-    match close {
-        Close::Stuck => put_stuck(
-            alloc,
-            out,
-            source,
-            order.inputs.as_slice(),
-            order.layout,
-            events,
-        ),
-        _ => Ok(()),
-    }
-}
-
-/// Adds the details of a report. A timeline and a JSON line have none.
-fn put_report_details(
-    alloc: Global,
-    out: &mut Vec<u8>,
-    source: &SourceText<'_>,
-    order: &ReplayOrder,
-    events: &[Event],
-    close: Close,
-) -> Result<(), AllocError>
-    ensures { OnOk result ((start : Start) (o : Outcome State) → IsStartOf start order.now.inputs order.now.layout → CanPrintCircle source.now start events.now
-        → reached_from start events.now ≡ o → (IsUndrawn order.now.answer → ClosesBy o close)
-        → (more : List ℕ) × AreReportDetails order.now.answer source.now.text.now start events.now o more × (out.new.items ≡ out.old.items ++ more)) }
-{
-    match order.answer {
-        Answer::Picture(_) => Ok(()),
-        Answer::Json => Ok(()),
-        _ => put_ending_details(alloc, out, source, order, events, close),
-    }
-}
-
-/// Adds the details of an answer. Without a text there are none.
-fn put_answer_details(
-    alloc: Global,
-    out: &mut Vec<u8>,
-    source: &Option<SourceText<'_>>,
-    order: &ReplayOrder,
-    events: &[Event],
-    close: Close,
-) -> Result<(), AllocError>
-    ensures { OnOk result ((start : Start) → IsStartOf start order.now.inputs order.now.layout → MayPrintCircle source.now start events.now
-        → (IsUndrawn order.now.answer → ClosesBy (reached_from start events.now) close)
-        → (more : List ℕ) × AreAnswerDetails (text_of source.now) order.now.answer start events.now more × (out.new.items ≡ out.old.items ++ more)) }
-{
-    match source {
-        Some(source) => put_report_details(alloc, out, source, order, events, close),
+    match replaying.plain.ending() {
+        Some(Ending::Stuck(_)) => put_circle(alloc, out, source, replaying),
+        Some(Ending::Quiet) => Ok(()),
         None => Ok(()),
     }
 }
 
-/// Returns an answer with its details.
-pub fn details_reply(
+/// Adds the details of the state that a replay has reached. Without a text there are none.
+pub fn put_state_details(
+    alloc: Global,
+    out: &mut Vec<u8>,
+    source: &Option<SourceText<'_>>,
+    replaying: &Replaying,
+) -> Result<(), AllocError>
+    ensures { OnOk result ((start : Start) (events : List AnEvent) → MayBeSource source.now start.program → IsReplayOf start events replaying.now
+        → (more : List ℕ) × AreStateDetails (text_of source.now) start events replaying.now.plain.state more × (out.new.items ≡ out.old.items ++ more)) }
+{
+    match source {
+        Some(source) => put_ending_details(alloc, out, source, replaying),
+        None => Ok(()),
+    }
+}
+
+/// Returns an answer with the details of the state that a replay has reached.
+pub fn with_details(
     alloc: Global,
     source: &Option<SourceText<'_>>,
-    order: &ReplayOrder,
-    events: &[Event],
+    replaying: &Replaying,
     answered: Reply,
 ) -> Result<Reply, AllocError>
-    ensures { IfOk result (λ r. (program : Versioned) → MayBeSource source.now program.procedures → rejection_of program.procedures order.now.inputs ≡ None
-        → length events.now ≤ 16777217 → AreShort events.now
-        → (names : List (List ℕ)) → AreSymbols (text_of source.now) names → IsAnswer names order.now.answer (opened order.now program) events.now (reply answered.text.items answered.close)
-        → IsAnswered (text_of source.now) order.now program events.now (reply r.text.items r.close)) }
+    ensures { IfOk result (λ r. (start : Start) (events : List AnEvent) → MayBeSource source.now start.program → IsReplayOf start events replaying.now
+        → (more : List ℕ) × AreStateDetails (text_of source.now) start events replaying.now.plain.state more
+        × (reply r.text.items r.close ≡ reply (answered.text.items ++ more) answered.close)) }
 {
     let Reply { mut text, close } = answered;
-    put_answer_details(alloc, &mut text, source, order, events, close)?;
+    put_state_details(alloc, &mut text, source, replaying)?;
     Ok(Reply { text, close })
 }

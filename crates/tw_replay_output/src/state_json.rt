@@ -97,7 +97,7 @@ pub fn json_reply(alloc: Global, first: Plain, events: &[Event]) -> Result<Reply
     ensures { IfOk result (λ r. IsShownState first events.now (reply r.text.items r.close)) }
 {
     match count(alloc, first, events)? {
-        Counting::Made(counted) => shown_state(alloc, &counted.plain, events),
+        Counting::Made(counted) => shown_state(alloc, &counted.replaying.plain, events),
         Counting::Stopped(reply) => Ok(reply),
     }
 }

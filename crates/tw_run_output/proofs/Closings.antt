@@ -1,65 +1,84 @@
--- The lines after the report of a run.
-use Rattle.std.proofs.Common.{◌≡◌, ℕ, List, Some, refl, sym, subst}
-use Rattle.tw_run_output.proofs.RunNames.{Event, Procedure, State, circle}
+-- The lines after the report of a run, and all of its output.
+use Rattle.std.proofs.Common.{◌≡◌, ◌++◌, ◌∙◌, ℕ, List, [], Option, Some, None, append_assoc, refl, sym, ap, subst}
+use Rattle.std.proofs.lemmas.List.{append-nil}
+use Rattle.tw_run_output.proofs.RunNames.{Event, Procedure, State, Went, begins, circle, start_of, text_of}
 use Rattle.tw_order.specs.declared.runs.RunAnswer.{RunAnswer}
-use Rattle.tw_order.specs.declared.runs.RunAnswer.TheVariants.{Json, Numbers, Order, OrderJson, Picture, Report}
 use Rattle.tw_order.specs.declared.runs.RunOrder.{RunOrder}
-use Rattle.tw_order.specs.declared.range.EventRange.{EventRange}
 use Rattle.tw_pool.specs.declared.answer.Closing.{Closing}
-use Rattle.tw_pool.specs.declared.answer.Closing.TheVariants as closing
-use Rattle.tw_replay_output.specs.Circle.{PrintsCircle}
+use Rattle.tw_pool.specs.declared.answer.Closing.TheVariants.{Quiet, Stuck, Stopped, Limit}
+use Rattle.tw_machine.specs.PlainView.{PlainView}
+use Rattle.tw_replay_output.specs.Circle.{PrintsCircle, Start, reached_from}
+use Rattle.tw_replay_output.specs.Stuck.{IsReplayFrom, IsReplayOf}
+use Rattle.tw_replay_output.specs.declared.replaying.Replaying.{Replaying}
 use Rattle.tw_replay_output.proofs.Behinds.{Adds, nothing_added}
-use Rattle.tw_run_output.specs.Run.{AreClosingDetails, AreRunDetails}
-use Rattle.tw_run_output.specs.Run as run
+use Rattle.tw_run_output.specs.Over.{stuck_source}
+use Rattle.tw_run_output.specs.Run.{AreReportedDetails, AreRunDetails, IsRunOutput, IsRunText}
+use Rattle.tw_source.specs.declared.source.SourceText.{SourceText}
 
-pub closing_stuck : (text : List ℕ) (program : List Procedure) (order : RunOrder) (events : List Event) (s : State) (c : Closing) (rules : ℕ) (old new : List ℕ) → c ≡ closing.Stuck rules
-    → Adds (PrintsCircle text (run.start_of program order) events (circle program s)) old new → Adds (AreClosingDetails text program order events s c) old new
-closing_stuck text program order events s c rules old new is h = subst (λ (x : Closing). Adds (AreClosingDetails text program order events s x) old new) (sym is) h
+-- ---- a stuck run's text
 
-pub closing_else : (text : List ℕ) (program : List Procedure) (order : RunOrder) (events : List Event) (s : State) (c : Closing) (old : List ℕ) → ((rules : ℕ) → c ≡ closing.Stuck rules → ⊥)
-    → Adds (AreClosingDetails text program order events s c) old old
-closing_else text program order events s (closing.Stuck rules) old other = absurd (other rules refl)
-closing_else text program order events s closing.Quiet old other = nothing_added (AreClosingDetails text program order events s closing.Quiet) old refl
-closing_else text program order events s closing.Limit old other = nothing_added (AreClosingDetails text program order events s closing.Limit) old refl
-closing_else text program order events s closing.Stopped old other = nothing_added (AreClosingDetails text program order events s closing.Stopped) old refl
+none_some : {Z : Type 0} (t : SourceText) → None ≡ Some t → Z
+none_some t e = absurd cc
 
--- holds for an answer that has a report
-abbrev pub IsReported : RunAnswer → Type 0
-IsReported Report = Unit {0}
-IsReported Numbers = Unit {0}
-IsReported Order = Unit {0}
-IsReported Json = ⊥
-IsReported OrderJson = ⊥
-IsReported (Picture shown) = ⊥
+some_none : {Z : Type 0} (t : SourceText) → Some t ≡ None → Z
+some_none t e = absurd cc
 
-pub reported : (answer : RunAnswer) → (answer ≡ Json → ⊥) → (answer ≡ OrderJson → ⊥) → ((shown : EventRange) → answer ≡ Picture shown → ⊥) → IsReported answer
-reported Report json ordered drawn = tt
-reported Numbers json ordered drawn = tt
-reported Order json ordered drawn = tt
-reported Json json ordered drawn = json refl
-reported OrderJson json ordered drawn = ordered refl
-reported (Picture shown) json ordered drawn = drawn shown refl
+pub stuck_is : (source : Option SourceText) (c : Closing) (t : SourceText) → stuck_source source c ≡ Some t → source ≡ Some t
+stuck_is source (Stuck rules) t is = is
+stuck_is source Quiet t is = none_some t is
+stuck_is source Stopped t is = none_some t is
+stuck_is source Limit t is = none_some t is
 
-pub run_printed : (answer : RunAnswer) (text : List ℕ) (program : List Procedure) (order : RunOrder) (events : List Event) (s : State) (c : Closing) (old new : List ℕ) → IsReported answer
-    → Adds (AreClosingDetails text program order events s c) old new → Adds (AreRunDetails answer (Some text) program order events s c) old new
-run_printed Report text program order events s c old new other h = h
-run_printed Numbers text program order events s c old new other h = h
-run_printed Order text program order events s c old new other h = h
-run_printed Json text program order events s c old new other h = absurd other
-run_printed OrderJson text program order events s c old new other h = absurd other
-run_printed (Picture shown) text program order events s c old new other h = absurd other
+module _ (program : List Procedure) (order : RunOrder) (events : List Event) (s : State) where
+  pub circle_printed : (source : Option SourceText) (c : Closing) (t : SourceText) (old new : List ℕ) → stuck_source source c ≡ Some t → Adds (PrintsCircle t.text.now (start_of program order) events (circle program s)) old new
+      → Adds (AreReportedDetails (text_of source) program order events s c) old new
+  circle_printed source (Stuck rules) t old new is h = subst (λ (o : Option SourceText). Adds (AreReportedDetails (text_of o) program order events s (Stuck rules)) old new) (sym is) h
+  circle_printed source Quiet t old new is h = none_some t is
+  circle_printed source Stopped t old new is h = none_some t is
+  circle_printed source Limit t old new is h = none_some t is
 
-pub run_drawn : (answer : RunAnswer) (shown : EventRange) (text : List ℕ) (program : List Procedure) (order : RunOrder) (events : List Event) (s : State) (c : Closing) (old : List ℕ) → answer ≡ Picture shown
-    → Adds (AreRunDetails answer (Some text) program order events s c) old old
-run_drawn answer shown text program order events s c old is =
-    subst (λ (a : RunAnswer). Adds (AreRunDetails a (Some text) program order events s c) old old) (sym is) (nothing_added (AreRunDetails (Picture shown) (Some text) program order events s c) old refl)
+  pub no_circle : (source : Option SourceText) (c : Closing) (old : List ℕ) → stuck_source source c ≡ None → Adds (AreReportedDetails (text_of source) program order events s c) old old
+  no_circle None c old is = nothing_added (AreReportedDetails None program order events s c) old refl
+  no_circle (Some t) (Stuck rules) old is = some_none t is
+  no_circle (Some t) Quiet old is = nothing_added (AreReportedDetails (Some t.text.now) program order events s Quiet) old refl
+  no_circle (Some t) Stopped old is = nothing_added (AreReportedDetails (Some t.text.now) program order events s Stopped) old refl
+  no_circle (Some t) Limit old is = nothing_added (AreReportedDetails (Some t.text.now) program order events s Limit) old refl
 
-pub run_json : (answer : RunAnswer) (text : List ℕ) (program : List Procedure) (order : RunOrder) (events : List Event) (s : State) (c : Closing) (old : List ℕ) → answer ≡ Json
-    → Adds (AreRunDetails answer (Some text) program order events s c) old old
-run_json answer text program order events s c old is =
-    subst (λ (a : RunAnswer). Adds (AreRunDetails a (Some text) program order events s c) old old) (sym is) (nothing_added (AreRunDetails Json (Some text) program order events s c) old refl)
+-- ---- a replay of the run
 
-pub run_order_json : (answer : RunAnswer) (text : List ℕ) (program : List Procedure) (order : RunOrder) (events : List Event) (s : State) (c : Closing) (old : List ℕ) → answer ≡ OrderJson
-    → Adds (AreRunDetails answer (Some text) program order events s c) old old
-run_order_json answer text program order events s c old is =
-    subst (λ (a : RunAnswer). Adds (AreRunDetails a (Some text) program order events s c) old old) (sym is) (nothing_added (AreRunDetails OrderJson (Some text) program order events s c) old refl)
+went_is : (s t : State) → Went s ≡ Went t → s ≡ t
+went_is s t e = cc
+
+-- its state is the run's
+pub circle_reached : (text : List ℕ) (start : Start) (events : List Event) (r : Replaying) (s : State) (old new : List ℕ) → IsReplayOf start events r → reached_from start events ≡ Went s
+    → Adds (PrintsCircle text start events (circle start.program r.plain.state)) old new → Adds (PrintsCircle text start events (circle start.program s)) old new
+circle_reached text start events r s old new replay goes h =
+    subst (λ (t : State). Adds (PrintsCircle text start events (circle start.program t)) old new) (went_is r.plain.state s (sym replay.leads ∙ goes)) h
+
+-- it begins at the run's start
+pub replay_there : (program : List Procedure) (order : RunOrder) (first : PlainView) (read events : List Event) (r : Replaying) → first ≡ begins first.version program order → read ≡ events → IsReplayFrom first read r
+    → IsReplayOf (start_of program order) events r
+replay_there program order first read events r same all from =
+    subst (λ (es : List Event). IsReplayOf (start_of program order) es r) all
+    (from.replay (start_of program order) (record { program = ap (λ (v : PlainView). v.program) same; layout = ap (λ (v : PlainView). v.layout) same; state = ap (λ (v : PlainView). v.state) same }))
+
+-- ---- output
+
+module _ (given answer : RunAnswer) (is : given ≡ answer) (text : Option (List ℕ)) (program : List Procedure) (order : RunOrder) (events : List Event) (s : State) (closing : Closing) (old : List ℕ) where
+  abbrev pub Prints : RunAnswer → List ℕ → Type 0
+  Prints a new = Adds (IsRunOutput a text program order events s closing) old new
+
+  -- without lines at the end
+  pub alone : (printed new : List ℕ) → IsRunText answer text program order events s closing printed → AreRunDetails answer text program order events s closing [] → new ≡ old ++ printed → Prints given new
+  alone printed new prints none added = subst (λ (a : RunAnswer). Prints a new) (sym is) (printed, (printed, [], prints, none, sym (append-nil printed)), added)
+
+  -- after a report
+  pub ended : (printed more middle new : List ℕ) → IsRunText answer text program order events s closing printed → AreRunDetails answer text program order events s closing more → middle ≡ old ++ printed → new ≡ middle ++ more → Prints given new
+  ended printed more middle new prints are added whole =
+      subst (λ (a : RunAnswer). Prints a new) (sym is) (printed ++ more, (printed, more, prints, are, refl), whole ∙ ap (λ (t : List ℕ). t ++ more) added ∙ append_assoc old printed more)
+
+  -- after a report and other lines
+  pub ended_after : (printed lines more middle new : List ℕ) → IsRunText answer text program order events s closing (printed ++ lines) → AreRunDetails answer text program order events s closing more → middle ≡ old ++ printed
+      → new ≡ middle ++ (lines ++ more) → Prints given new
+  ended_after printed lines more middle new prints are added whole =
+      ended (printed ++ lines) more (middle ++ lines) new prints are (ap (λ (t : List ℕ). t ++ lines) added ∙ append_assoc old printed lines) (whole ∙ sym (append_assoc middle lines more))

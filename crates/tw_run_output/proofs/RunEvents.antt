@@ -9,7 +9,6 @@ use Rattle.tw_types.specs.Layout.{ActorCounts}
 use Rattle.tw_types.specs.Outcome.{Outcome}
 use Rattle.tw_types.proofs.Outcomes.{went_first}
 use Rattle.tw_code.specs.accepting.WellTyped.{IsAccepted}
-use Rattle.tw_code.specs.format.Program.{Versioned}
 use Rattle.tw_code.specs.machine.Holders.{Typings}
 use Rattle.tw_code.specs.machine.Inputs.{AreInputsOf}
 use Rattle.tw_code.specs.machine.Machine.{run, step}
@@ -63,8 +62,11 @@ goes_by o s goes stops is h = subst (λ (p : Outcome State). ByOutcome p goes st
 
 -- ---- the machine at the start
 
-pub begun : (program : Versioned) (sections : List Procedure) (order : RunOrder) (first : PlainView) → program.procedures ≡ sections → first ≡ begins program.version program.procedures order → first ≡ begins program.version sections order
-begun program sections order first same is = is ∙ ap (λ (ps : List Procedure). begins program.version ps order) same
+-- events from there lead to the run's state
+pub goes_there : (program : List Procedure) (order : RunOrder) (first : PlainView) (read events : List Event) (s : State) → first ≡ begins first.version program order → read ≡ events → reached program order.inputs order.layout events ≡ Went s
+    → run first.program first.layout read first.state ≡ Went s
+goes_there program order first read events s same all goes =
+    ap (λ (v : PlainView). run v.program v.layout read v.state) same ∙ ap (λ (es : List Event). reached program order.inputs order.layout es) all ∙ goes
 
 -- the statistics of the events that were read are those of the run's events
 pub numbers_there : (names : List (List ℕ)) (first begin : PlainView) (read events : List Event) (plain : PlainView) (t : StatsBuilder) (budgets text : List ℕ) → first ≡ begin → read ≡ events → plain ≡ record first { state = plain.state } → IsTally first read plain.state t

@@ -94,12 +94,21 @@ AreClosingDetails text program order events s Quiet more = more ≡ []
 AreClosingDetails text program order events s Limit more = more ≡ []
 AreClosingDetails text program order events s Stopped more = more ≡ []
 
--- holds if these are the lines at the end; none if the program wasn't read from a text, or a timeline is requested
+-- holds if these are the lines after a report; none if the program wasn't read from a text
+abbrev pub AreReportedDetails : Option (List ℕ) → List Procedure → RunOrder → List Event → State → Closing → List ℕ → Type 0
+AreReportedDetails None program order events s closing more = more ≡ []
+AreReportedDetails (Some text) program order events s closing more = AreClosingDetails text program order events s closing more
+
+-- holds if these are the lines at the end; a JSON line and a timeline have none
 abbrev pub AreRunDetails : RunAnswer → Option (List ℕ) → List Procedure → RunOrder → List Event → State → Closing → List ℕ → Type 0
-AreRunDetails answer None program order events s closing more = more ≡ []
-AreRunDetails Report (Some text) program order events s closing more = AreClosingDetails text program order events s closing more
-AreRunDetails Numbers (Some text) program order events s closing more = AreClosingDetails text program order events s closing more
-AreRunDetails Order (Some text) program order events s closing more = AreClosingDetails text program order events s closing more
-AreRunDetails Json (Some text) program order events s closing more = more ≡ []
-AreRunDetails OrderJson (Some text) program order events s closing more = more ≡ []
-AreRunDetails (Picture shown) (Some text) program order events s closing more = more ≡ []
+AreRunDetails Report text program order events s closing more = AreReportedDetails text program order events s closing more
+AreRunDetails Numbers text program order events s closing more = AreReportedDetails text program order events s closing more
+AreRunDetails Order text program order events s closing more = AreReportedDetails text program order events s closing more
+AreRunDetails Json text program order events s closing more = more ≡ []
+AreRunDetails OrderJson text program order events s closing more = more ≡ []
+AreRunDetails (Picture shown) text program order events s closing more = more ≡ []
+
+-- holds for the requested output and the lines at the end
+abbrev pub IsRunOutput : RunAnswer → Option (List ℕ) → List Procedure → RunOrder → List Event → State → Closing → List ℕ → Type 0
+IsRunOutput answer text program order events s closing lines =
+    (printed : List ℕ) × (more : List ℕ) × IsRunText answer text program order events s closing printed × AreRunDetails answer text program order events s closing more × (lines ≡ printed ++ more)

@@ -13,16 +13,16 @@ ghost use Rattle.tw_machine.specs.Opening.{rejection_of};
 ghost use Rattle.tw_run_output.specs.Ends.{IsReportAs};
 ghost use Rattle.tw_run_output.specs.EventOrder.{order_line};
 ghost use Rattle.tw_run_output.specs.Json.{AreEndMembers, IsEndLine};
-ghost use Rattle.tw_run_output.specs.Over.{Goes, IsRunOver};
+ghost use Rattle.tw_run_output.specs.Over.{IsBegun, IsFinished, IsRunOver};
 ghost use Rattle.tw_source.specs.Reply.{reply};
-ghost use Rattle.tw_run_output.specs.Run.{AreRunNumbers, AreRunDetails, IsRunPicture, IsRunText, begins, close_of, limit_details, trace_text};
+ghost use Rattle.tw_run_output.specs.Run.{AreReportedDetails, AreRunDetails, AreRunNumbers, IsRunOutput, IsRunPicture, IsRunText, begins, close_of, limit_details, trace_text};
 ghost use Rattle.tw_symbols.specs.Symbols.{AreSymbols};
 ghost use Rattle.tw_source.specs.Source.{MayBeSource, text_of};
 
 use crate::end_report::report_as;
 use crate::event_order::{order_line, put_order};
 use crate::json::end_line;
-use crate::run_details::put_run_details;
+use crate::run_details::{put_closing_details, put_run_details};
 use std::alloc::{AllocError, Global};
 use tw_code::Program;
 use tw_machine::Plain;
@@ -110,6 +110,13 @@ fn put_limit(
     }
 }
 
+/// The reference machine at the start of a run, and the run's events.
+#[derive(Drop)]
+pub struct Begun {
+    pub first: Plain,
+    pub events: Vec<Event>,
+}
+
 /// Returns the reference machine at the start of a run.
 fn first_machine(alloc: Global, order: &RunOrder, program: Program) -> Result<Plain, AllocError>
     requires { rejection_of program.procedures order.now.inputs ≡ None }
@@ -122,7 +129,25 @@ fn first_machine(alloc: Global, order: &RunOrder, program: Program) -> Result<Pl
     }
 }
 
-/// Adds the statistics of the events.
+/// Begins a replay of a run.
+pub fn begin(
+    alloc: Global,
+    order: &RunOrder,
+    verified: Verified,
+    history: &History,
+) -> Result<Begun, AllocError>
+    requires { IsFinished verified.program order.now history.now.events }
+    ensures { IfOk result (IsBegun verified.program order.now history.now.events) }
+{
+    // For their clauses alone: they hold for an accepted program's procedures, and bound the events of a run.
+    let _procedures = verified.program().procedures();
+    let _most = order.limit.events();
+    let events = events_of(alloc, history)?;
+    let first = first_machine(alloc, order, verified.into_program())?;
+    Ok(Begun { first, events })
+}
+
+/// Adds the statistics of the events, and the lines after them.
 fn put_run_numbers(
     alloc: Global,
     out: &mut Vec<u8>,
@@ -130,24 +155,24 @@ fn put_run_numbers(
     order: &RunOrder,
     verified: Verified,
     history: &History,
+    closing: Closing,
 ) -> Result<(), AllocError>
-    requires inputs { AreInputsOf verified.program order.now.inputs }
-    requires goes { Goes verified.program order.now history.now.events }
-    ensures { OnOk result ((names : List (List ℕ)) × (numbers : List ℕ) × AreSymbols (text_of source.now) names × AreRunNumbers names verified.program order.now history.now.events numbers × (out.new.items ≡ out.old.items ++ numbers)) }
+    requires finished { IsFinished verified.program order.now history.now.events }
+    requires source { MayBeSource source.now verified.program }
+    ensures { OnOk result ((s : MachineState) → reached verified.program order.now.inputs order.now.layout history.now.events ≡ Went s
+        → (names : List (List ℕ)) × (numbers : List ℕ) × (more : List ℕ) × AreSymbols (text_of source.now) names × AreRunNumbers names verified.program order.now history.now.events numbers
+        × AreReportedDetails (text_of source.now) verified.program order.now history.now.events s closing more × (out.new.items ≡ out.old.items ++ (numbers ++ more))) }
 {
-    // For their clauses alone: they hold for an accepted program's procedures, and bound the events of a run.
-    let _procedures = verified.program().procedures();
-    let _most = order.limit.events();
     let budgets = budgets_of(alloc, &verified)?;
     let names = symbols_of(alloc, source)?;
-    let events = events_of(alloc, history)?;
-    let first = first_machine(alloc, order, verified.into_program())?;
+    let Begun { first, events } = begin(alloc, order, verified, history)?;
     match count(alloc, first, &events)? {
         Counting::Made(counted) => {
             let numbers = counted
                 .stats_builder
-                .text(alloc, &counted.plain, &names, &budgets)?;
-            put_bytes(out, &numbers)
+                .text(alloc, &counted.replaying.plain, &names, &budgets)?;
+            put_bytes(out, &numbers)?;
+            put_closing_details(alloc, out, source, &counted.replaying, closing)
         }
         Counting::Stopped(_) => unreachable!(),
     }
@@ -163,17 +188,12 @@ fn put_run_picture(
     verified: Verified,
     history: &History,
 ) -> Result<(), AllocError>
-    requires inputs { AreInputsOf verified.program order.now.inputs }
-    requires goes { Goes verified.program order.now history.now.events }
+    requires { IsFinished verified.program order.now history.now.events }
     ensures { OnOk result ((s : MachineState) → reached verified.program order.now.inputs order.now.layout history.now.events ≡ Went s
         → (names : List (List ℕ)) × (picture : List ℕ) × AreSymbols (text_of source.now) names × IsRunPicture names shown verified.program order.now history.now.events s picture × (out.new.items ≡ out.old.items ++ picture)) }
 {
-    // For their clauses alone: they hold for an accepted program's procedures, and bound the events of a run.
-    let _procedures = verified.program().procedures();
-    let _most = order.limit.events();
-    let events = events_of(alloc, history)?;
     let names = symbols_of(alloc, source)?;
-    let first = first_machine(alloc, order, verified.into_program())?;
+    let Begun { first, events } = begin(alloc, order, verified, history)?;
     let drawn = draw(alloc, shown, names, first, &events)?;
     put_bytes(out, &drawn.text)
 }
@@ -214,21 +234,20 @@ fn put_order_json(
     alloc: Global,
     out: &mut Vec<u8>,
     order: &RunOrder,
-    verified: Verified,
+    verified: &Verified,
     outcome: &Final,
     history: &History,
     closing: Closing,
 ) -> Result<(), AllocError>
-    requires inputs { AreInputsOf verified.program order.now.inputs }
-    requires goes { Goes verified.program order.now history.now.events }
-    ensures { OnOk result ((found : Option Insertion) × (members : json.Members) × IsFirstContest verified.program order.now.inputs order.now.layout history.now.events found
+    requires { IsFinished verified.now.program order.now history.now.events }
+    ensures { OnOk result ((found : Option Insertion) × (members : json.Members) × IsFirstContest verified.now.program order.now.inputs order.now.layout history.now.events found
         × AreEndMembers outcome.now history.now.events closing members × (out.new.items ≡ out.old.items ++ order_line closing found members)) }
 {
     let line = order_line(alloc, order, verified, outcome, history, closing)?;
     put_bytes(out, line.as_bytes())
 }
 
-/// Adds the requested output.
+/// Adds the requested output, and the lines at the end.
 fn put_outcome(
     alloc: Global,
     out: &mut Vec<u8>,
@@ -239,17 +258,19 @@ fn put_outcome(
     history: &History,
     closing: Closing,
 ) -> Result<(), AllocError>
-    requires inputs { AreInputsOf verified.program order.now.inputs }
-    requires over { IsRunOver verified.program order.now outcome.now history.now.events closing }
+    requires finished { IsFinished verified.program order.now history.now.events }
     requires source { MayBeSource source.now verified.program }
     ensures { OnOk result ((over : IsRunOver verified.program order.now outcome.now history.now.events closing)
-        → (printed : List ℕ) × IsRunText order.now.answer (text_of source.now) verified.program order.now history.now.events over.state closing printed × (out.new.items ≡ out.old.items ++ printed)) }
+        → (lines : List ℕ) × IsRunOutput order.now.answer (text_of source.now) verified.program order.now history.now.events over.state closing lines × (out.new.items ≡ out.old.items ++ lines)) }
 {
     match order.answer {
-        RunAnswer::Report => put_run_report(alloc, out, source, order, outcome, closing),
+        RunAnswer::Report => {
+            put_run_report(alloc, out, source, order, outcome, closing)?;
+            put_run_details(alloc, out, source, order, verified, history, closing)
+        }
         RunAnswer::Numbers => {
             put_run_report(alloc, out, source, order, outcome, closing)?;
-            put_run_numbers(alloc, out, source, order, verified, history)
+            put_run_numbers(alloc, out, source, order, verified, history, closing)
         }
         RunAnswer::Order => {
             put_run_report(alloc, out, source, order, outcome, closing)?;
@@ -257,7 +278,7 @@ fn put_outcome(
         }
         RunAnswer::Json => put_json(alloc, out, outcome, history, closing),
         RunAnswer::OrderJson => {
-            put_order_json(alloc, out, order, verified, outcome, history, closing)
+            put_order_json(alloc, out, order, &verified, outcome, history, closing)
         }
         RunAnswer::Picture(shown) => {
             put_run_picture(alloc, out, source, shown, order, verified, history)
@@ -283,15 +304,11 @@ pub fn ended_reply(
         × AreRunDetails order.now.answer (text_of source.now) verified.program order.now history.now.events over.state closing more
         × (reply r.text.items r.close ≡ reply (trace_text order.now.trace history.now.events ++ (printed ++ more)) (close_of closing))) }
 {
-    // For their clauses alone: they hold for an accepted program's procedures, and bound the events of a run.
-    let _procedures = verified.program().procedures();
-    let _most = order.limit.events();
     let mut text = Vec::new(alloc);
     put_trace(alloc, &mut text, order.trace, history)?;
     put_outcome(
         alloc, &mut text, source, order, verified, outcome, history, closing,
     )?;
-    put_run_details(alloc, &mut text, source, order, history, closing)?;
     Ok(Reply {
         text,
         close: close_of(closing),

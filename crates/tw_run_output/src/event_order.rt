@@ -4,16 +4,20 @@ ghost use Rattle.std.specs.Prelude.{◌≡◌, ◌++◌, ℕ, List, Option, None
 ghost use Rattle.serde_json.specs.Data as json;
 ghost use Rattle.serde_json.specs.View.{view};
 ghost use Rattle.tw_code.specs.declared.procedure.Procedure.{Procedure};
-ghost use Rattle.tw_code.specs.machine.Inputs.{AreInputsOf};
+ghost use Rattle.tw_types.specs.Outcome.{Went};
+ghost use Rattle.tw_code.specs.machine.Opening.{reached};
+ghost use Rattle.tw_code.specs.machine.State.{State};
 ghost use Rattle.tw_copies.specs.declared.check.CopyInsertion.{CopyInsertion as Insertion};
 ghost use Rattle.tw_certificate.specs.FirstContest.{IsFirstContest, MayBeInsertion};
 ghost use Rattle.tw_source.specs.Source.{MayBeSource, text_of};
 ghost use Rattle.tw_run_output.specs.EventOrder.{IsOrderText, calm_line, end_order_json, is_cut, order_line};
 ghost use Rattle.tw_run_output.specs.Json.{AreEndMembers};
-ghost use Rattle.tw_run_output.specs.Over.{Goes};
+ghost use Rattle.tw_run_output.specs.Over.{IsFinished};
+ghost use Rattle.tw_run_output.specs.Run.{AreReportedDetails};
 
 use crate::ended::events_of;
 use crate::json::end_members;
+use crate::run_details::put_run_details;
 use serde_json::Value as Json;
 use std::alloc::{AllocError, Global};
 use tw_certificate::first_contest;
@@ -68,13 +72,12 @@ fn put_answer(
 fn contest_in(
     alloc: Global,
     order: &RunOrder,
-    verified: Verified,
+    verified: &Verified,
     history: &History,
 ) -> Result<Option<CopyInsertion>, AllocError>
-    requires inputs { AreInputsOf verified.program order.now.inputs }
-    requires goes { Goes verified.program order.now history.now.events }
-    ensures first { IfOk result (IsFirstContest verified.program order.now.inputs order.now.layout history.now.events) }
-    ensures there { IfOk result (MayBeInsertion verified.program) }
+    requires { IsFinished verified.now.program order.now history.now.events }
+    ensures first { IfOk result (IsFirstContest verified.now.program order.now.inputs order.now.layout history.now.events) }
+    ensures there { IfOk result (MayBeInsertion verified.now.program) }
 {
     // For its clauses alone: they bound the events of a run.
     let _most = order.limit.events();
@@ -88,7 +91,7 @@ fn contest_in(
     )
 }
 
-/// Adds whether the order may show.
+/// Adds whether the order may show, and the lines after that.
 pub(crate) fn put_order(
     alloc: Global,
     out: &mut Vec<u8>,
@@ -98,14 +101,15 @@ pub(crate) fn put_order(
     history: &History,
     closing: Closing,
 ) -> Result<(), AllocError>
-    requires inputs { AreInputsOf verified.program order.now.inputs }
-    requires goes { Goes verified.program order.now history.now.events }
+    requires finished { IsFinished verified.program order.now history.now.events }
     requires source { MayBeSource source.now verified.program }
-    ensures { OnOk result ((found : Option Insertion) × (lines : List ℕ) × IsFirstContest verified.program order.now.inputs order.now.layout history.now.events found
-        × IsOrderText (text_of source.now) closing found lines × (out.new.items ≡ out.old.items ++ lines)) }
+    ensures { OnOk result ((s : State) → reached verified.program order.now.inputs order.now.layout history.now.events ≡ Went s
+        → (found : Option Insertion) × (lines : List ℕ) × (more : List ℕ) × IsFirstContest verified.program order.now.inputs order.now.layout history.now.events found
+        × IsOrderText (text_of source.now) closing found lines × AreReportedDetails (text_of source.now) verified.program order.now history.now.events s closing more × (out.new.items ≡ out.old.items ++ (lines ++ more))) }
 {
-    let found = contest_in(alloc, order, verified, history)?;
-    put_answer(alloc, out, source, closing, found)
+    let found = contest_in(alloc, order, &verified, history)?;
+    put_answer(alloc, out, source, closing, found)?;
+    put_run_details(alloc, out, source, order, verified, history, closing)
 }
 
 // ---- JSON
@@ -139,14 +143,13 @@ fn answer_value(
 pub(crate) fn order_line(
     alloc: Global,
     order: &RunOrder,
-    verified: Verified,
+    verified: &Verified,
     left: &Final,
     history: &History,
     closing: Closing,
 ) -> Result<String, AllocError>
-    requires inputs { AreInputsOf verified.program order.now.inputs }
-    requires goes { Goes verified.program order.now history.now.events }
-    ensures { IfOk result (λ line. (found : Option Insertion) × (members : json.Members) × IsFirstContest verified.program order.now.inputs order.now.layout history.now.events found
+    requires { IsFinished verified.now.program order.now history.now.events }
+    ensures { IfOk result (λ line. (found : Option Insertion) × (members : json.Members) × IsFirstContest verified.now.program order.now.inputs order.now.layout history.now.events found
         × AreEndMembers left.now history.now.events closing members × (string_bytes line ≡ order_line closing found members)) }
 {
     let found = contest_in(alloc, order, verified, history)?;

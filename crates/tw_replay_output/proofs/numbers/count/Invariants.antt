@@ -1,12 +1,7 @@
-use Rattle.std.proofs.Common.{◌≡◌, ◌+◌, ◌*◌, drop, take}
-use Rattle.tw_replay_output.proofs.ReplayNames.{AreBelow, IsTally, opening_bound, played, run}
+use Rattle.std.proofs.Common.{take}
+use Rattle.tw_replay_output.proofs.ReplayNames.{IsTally}
+use Rattle.tw_replay_output.proofs.Replays.{IsAt}
 use Rattle.tw_replay_output.proofs.numbers.count.Given as goal
 
 abbrev pub invariant-loop-index : goal.invariant-loop-index
-invariant-loop-index l = record {
-  stays : l.plain ≡ record l.fn.first { state = l.plain.state };
-  same : played l.fn.first.program l.fn.first.layout (l.index + 1) (drop l.index l.events) l.plain.state ≡ played l.fn.first.program l.fn.first.layout 1 l.events l.fn.first.state;
-  runs : run l.fn.first.program l.fn.first.layout (drop l.index l.events) l.plain.state ≡ run l.fn.first.program l.fn.first.layout l.events l.fn.first.state;
-  below : AreBelow (opening_bound + 1000000000 * l.index) l.plain.state;
-  stats_builder : IsTally l.fn.first (take l.index l.events) l.plain.state l.stats_builder;
-}
+invariant-loop-index l = record { at : IsAt l.fn.first l.events l.index l.replaying; stats_builder : IsTally l.fn.first (take l.index l.events) l.replaying.plain.state l.stats_builder }

@@ -1,21 +1,33 @@
-use Rattle.std.proofs.Common.{◌≡◌, List, subst, sym}
-use Rattle.tw_replay_output.proofs.ReplayNames.{AreKnownBudgets, Event, IfOk-weaker, IsCounted, IsCounting, IsNumbered, IsTally, PlainView, Reply, played_from, reply, run}
+use Rattle.std.proofs.Common.{◌≡◌, subst, sym}
+use Rattle.tw_replay_output.proofs.ReplayNames.{AreKnownBudgets, IfOk-weaker, IsCounted, IsCounting, IsNumbered, PlainView, Reply, played_from, reply, run}
+use Rattle.tw_order.specs.declared.runs.Answer.TheVariants.{Numbers}
 use Rattle.tw_replay_output.specs.declared.numbers.Counting.{Counting}
+use Rattle.tw_replay_output.proofs.Behinds.{from_reached, from_stopped, otherwise}
 use Rattle.tw_replay_output.proofs.Playing.{by_went}
 use Rattle.tw_replay_output.proofs.numbers.counted_reply.Goals as goal
 
 pub numbers_reply-requires : goal.numbers_reply-requires
 numbers_reply-requires c =
     let made = subst (λ (x : Counting). IsCounting c.args.first c.args.events.now x) c.in-Made.is c.in_ok-counted.ensures in
-    subst (λ (v : PlainView). AreKnownBudgets v.program c.args.budgets.now) (sym made.0) c.requires.known
+    subst (λ (v : PlainView). AreKnownBudgets v.program c.args.budgets.now) (sym made.0.stays) c.requires.known
 
-pub returns-in-Made : goal.returns-in-Made
-returns-in-Made c =
+pub returns-in_ok-answered-in-Made : goal.returns-in_ok-answered-in-Made
+returns-in_ok-answered-in-Made c =
     let first = c.args.first in
     let events = c.args.events.now in
-    let at = c.in-Made.counted.plain in
-    let stats_builder = c.in-Made.counted.stats_builder in
+    let names = c.args.names.now in
+    let replaying = c.in-Made.counted.replaying in
+    let answered = reply c.in_ok-answered-in-Made.answered.text.items c.in_ok-answered-in-Made.answered.close in
     let made = subst (λ (x : Counting). IsCounting first events x) c.in-Made.is c.in_ok-counted.ensures in
-    let whole = run first.program first.layout events first.state in
-    IfOk-weaker c.numbers_reply.result (λ (r : Reply). (v : PlainView) (es : List Event) → at ≡ record v { state = at.state } → IsTally v es at.state stats_builder → IsNumbered c.args.names.now v es at.state (reply r.text.items r.close)) (λ (r : Reply). IsCounted c.args.names.now first events (reply r.text.items r.close))
-    (λ (r : Reply) h. by_went whole at.state (λ s. IsNumbered c.args.names.now first events s (reply r.text.items r.close)) (reply r.text.items r.close ≡ played_from first events) made.1.reached (h first events made.0 made.1)) c.numbers_reply.ensures
+    let counted : IsCounted names first events answered =
+    by_went (run first.program first.layout events first.state) replaying.plain.state (λ s. IsNumbered names first events s answered) (answered ≡ played_from first events) made.0.reaches (c.in_ok-answered-in-Made.ensures first events made.0.stays made.1) in
+    IfOk-weaker _ _ _ (λ (r : Reply) added. from_reached names c.args.source.now Numbers first events (reply r.text.items r.close) replaying answered tt made.0 counted added) c.with_details.ensures
+
+pub returns-in-Stopped : goal.returns-in-Stopped
+returns-in-Stopped c =
+    let first = c.args.first in
+    let events = c.args.events.now in
+    let names = c.args.names.now in
+    let r = reply c.in-Stopped.reply.text.items c.in-Stopped.reply.close in
+    let stopped = subst (λ (x : Counting). IsCounting first events x) c.in-Stopped.is c.in_ok-counted.ensures in
+    from_stopped names c.args.source.now Numbers first events r (r ≡ played_from first events) tt (otherwise (run first.program first.layout events first.state) (λ s. IsNumbered names first events s r) (r ≡ played_from first events) stopped) stopped

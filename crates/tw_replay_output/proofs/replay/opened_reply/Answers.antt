@@ -1,5 +1,5 @@
 use Rattle.std.proofs.Common.{◌≡◌, List, None, ap, subst, sym}
-use Rattle.tw_replay_output.proofs.ReplayNames.{AreKnownBudgets, IfOk-weaker, Input, IsAnswer, IsAnswered, IsFirst, IsFirstError, PlainView, Reply, Versioned, rejection_of, reply, text_of}
+use Rattle.tw_replay_output.proofs.ReplayNames.{AreKnownBudgets, IfOk-weaker, Input, IsAnswer, IsAnswered, IsDetailed, IsFirst, IsFirstError, IsOpened, PlainView, Reply, Spoken, Versioned, rejection_of, reply, start_of, text_of}
 use Rattle.tw_timeline.specs.History.{IsOpening}
 use Rattle.tw_timeline.proofs.History.{opening_is}
 use Rattle.tw_stats.proofs.Openings.{first_is}
@@ -16,17 +16,21 @@ answer_of-requires-clause-numbers c = subst IsFirst (sym (ap (λ (v : PlainView)
 pub answer_of-requires-clause-known : goal.answer_of-requires-clause-known
 answer_of-requires-clause-known c = λ is. subst (λ (v : PlainView). AreKnownBudgets v.program c.args.budgets.now) (sym c.in-Ok.ensures.opened) (c.requires.known is)
 
-pub returns-in_ok-answered-in-Ok : goal.returns-in_ok-answered-in-Ok
-returns-in_ok-answered-in-Ok c =
+pub returns-in-Ok : goal.returns-in-Ok
+returns-in-Ok c =
     let order = c.args.order.now in
     let program = c.args.program in
     let events = c.args.events.now in
     let text = text_of c.args.source.now in
-    let answered = reply c.in_ok-answered-in-Ok.answered.text.items c.in_ok-answered-in-Ok.answered.close in
+    let start = start_of order program in
     let none : rejection_of program.procedures order.inputs ≡ None = subst (λ (given : List Input). rejection_of program.procedures given ≡ None) c.as_slice.ensures c.in-Ok.ensures.asked in
     let here = opened_is order program c.as_slice.result.now c.in-Ok.plain c.as_slice.ensures c.in-Ok.ensures.opened in
-    let is = subst (λ (v : PlainView). IsAnswer c.in_ok-names.names order.answer v events answered) here c.in_ok-answered-in-Ok.ensures in
-    IfOk-weaker _ _ _ (λ (r : Reply) h. opened_answer text order program events (reply r.text.items r.close) none (h program c.requires.source none c.requires.few c.requires.sizes c.in_ok-names.names c.in_ok-names.ensures is)) c.details_reply.ensures
+    let begins : IsOpened start c.in-Ok.plain = record { program = ap (λ (v : PlainView). v.program) here; layout = ap (λ (v : PlainView). v.layout) here; state = ap (λ (v : PlainView). v.state) here } in
+    IfOk-weaker _ _ _
+    (λ (r : Reply) h.
+    let spoken = reply r.text.items r.close in
+    let detailed = subst (λ (v : PlainView). IsDetailed (λ (a : Spoken). IsAnswer c.in_ok-names.names order.answer v events a) text order.answer start events spoken) here (h start begins c.requires.source) in
+    opened_answer text order program events spoken none (c.in_ok-names.names, c.in_ok-names.ensures, detailed)) c.answer_of.ensures
 
 pub returns-in-Err : goal.returns-in-Err
 returns-in-Err c =

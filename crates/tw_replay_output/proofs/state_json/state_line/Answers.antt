@@ -1,6 +1,5 @@
 use Rattle.std.proofs.Common.{◌∙◌, List, Option, ℕ, ap, length, option_map}
 use Rattle.tw_types.specs.declared.pending.Link.{Link}
-use Rattle.tw_bounds.specs.Runs.{instructions_in}
 use Rattle.tw_code.specs.machine.Ending.{ending}
 use Rattle.tw_code.specs.machine.Pending.{circle}
 use Rattle.tw_json_output.specs.Run.{json_line, run_json}

@@ -9,21 +9,21 @@ use Rattle.tw_run_output.proofs.event_order.contest_in.Goals as goal
 
 pub first_contest-requires : goal.first_contest-requires
 first_contest-requires c =
-    let program = c.args.verified.program in
+    let program = c.args.verified.now.program in
     let order = c.args.order.now in
     let events = c.args.history.now.events in
     let all : c.deref.result.now ≡ events = c.deref.ensures.value ∙ c.in_ok-events.ensures in
-    let s = c.requires.goes.1.0 in
-    let here = subst (λ (given : List Input). reached program given order.layout events ≡ Went s) (sym c.as_slice.ensures) c.requires.goes.1.1 in
+    let s = c.requires.state in
+    let here = subst (λ (given : List Input). reached program given order.layout events ≡ Went s) (sym c.as_slice.ensures) c.requires.reaches in
     record {
       inputs = subst (AreInputsOf program) (sym c.as_slice.ensures) c.requires.inputs;
       goes = (s, subst (λ (es : List Event). reached program c.as_slice.result.now order.layout es ≡ Went s) (sym all) here);
-      few = subst (λ (es : List Event). length es ≤ 1000000) (sym all) (omega (arith, c.requires.goes.0, c.events-most.ensures.most, c.events-most.ensures.value));
+      few = subst (λ (es : List Event). length es ≤ 1000000) (sym all) (omega (arith, c.requires.few, c.events-most.ensures.most, c.events-most.ensures.value));
     }
 
 pub returns-clause-first : goal.returns-clause-first
 returns-clause-first c =
-    let program = c.args.verified.program in
+    let program = c.args.verified.now.program in
     let order = c.args.order.now in
     let all : c.deref.result.now ≡ c.args.history.now.events = c.deref.ensures.value ∙ c.in_ok-events.ensures in
     IfOk-weaker c.first_contest.result _ _
@@ -32,4 +32,4 @@ returns-clause-first c =
 
 pub returns-clause-there : goal.returns-clause-there
 returns-clause-there c =
-    IfOk-weaker c.first_contest.result _ _ (λ found first. inserted_there c.args.verified.program c.args.order.now.layout _ _ found first) c.first_contest.ensures.first
+    IfOk-weaker c.first_contest.result _ _ (λ found first. inserted_there c.args.verified.now.program c.args.order.now.layout _ _ found first) c.first_contest.ensures.first

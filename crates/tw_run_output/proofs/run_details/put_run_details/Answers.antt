@@ -1,41 +1,38 @@
-use Rattle.std.proofs.Common.{Option, subst, sym}
-use Rattle.tw_run_output.proofs.RunNames.{on_ok_weaker, start_of, text_of}
-use Rattle.tw_run_output.specs.Run.{AreRunDetails}
-use Rattle.tw_replay_output.specs.Stuck.{MayPrintCircle}
-use Rattle.tw_source.specs.declared.source.SourceText.{SourceText}
-use Rattle.tw_replay_output.proofs.Behinds.{Adds}
-use Rattle.tw_run_output.proofs.Closings.{reported, run_drawn, run_json, run_order_json, run_printed}
+use Rattle.std.proofs.Common.{◌≤◌, ◌∙◌, List, ap, length, subst, sym}
+use Rattle.std.specs.Option.{option_copied}
+use Rattle.tw_run_output.proofs.RunNames.{AreShort, Event, on_ok_weaker, run}
+use Rattle.tw_replay_output.specs.Stuck.{IsPlayed}
+use Rattle.tw_replay_output.specs.declared.replaying.Played.{Played}
+use Rattle.tw_run_output.proofs.Closings.{no_circle, replay_there}
+use Rattle.tw_run_output.proofs.RunEvents.{goes_by, goes_there}
 use Rattle.tw_run_output.proofs.run_details.put_run_details.Goals as goal
 
-pub returns-in-Picture : goal.returns-in-Picture
-returns-in-Picture c = λ program s may goes.
-    let order = c.args.order.now in
-    let events = c.args.history.now.events in
-    let old = c.args.out.now.items in
-    subst (λ (o : Option SourceText). Adds (AreRunDetails order.answer (text_of o) program order events s c.args.closing) old old) (sym c.in-Some.is) (run_drawn order.answer c.in-Picture.field-0 c.in-Some.source.text.now program order events s c.args.closing old c.in-Picture.is)
+pub returns-in_default : goal.returns-in_default
+returns-in_default c = λ s goes. no_circle c.args.verified.program c.args.order.now c.args.history.now.events s c.args.source.now c.args.closing c.args.out.now.items (sym c.stuck_source.ensures ∙ ap option_copied c.in_default.is)
 
-pub returns-in_default-answer : goal.returns-in_default-answer
-returns-in_default-answer c =
-    let order = c.args.order.now in
-    let events = c.args.history.now.events in
-    let old = c.args.out.now.items in
-    let new = c.put_closing_details.new.out.items in
-    on_ok_weaker c.put_closing_details.result
-    (λ printed program s may goes.
-    let can = subst (λ (o : Option SourceText). MayPrintCircle o (start_of program order) events) c.in-Some.is may in
-    subst (λ (o : Option SourceText). Adds (AreRunDetails order.answer (text_of o) program order events s c.args.closing) old new) (sym c.in-Some.is)
-    (run_printed order.answer c.in-Some.source.text.now program order events s c.args.closing old new (reported order.answer c.in_default-answer.not-Json c.in_default-answer.not-OrderJson c.in_default-answer.not-Picture) (printed program s can goes))) c.put_closing_details.ensures
+pub play-requires : goal.play-requires
+play-requires c =
+    let begun = c.in_ok-first.ensures in
+    record { below = begun.below; sizes = subst AreShort (sym c.deref.ensures.value) begun.short; few = subst (λ (es : List Event). length es ≤ 16777217) (sym c.deref.ensures.value) begun.few }
 
-pub returns-in-Json : goal.returns-in-Json
-returns-in-Json c = λ program s may goes.
+pub returns : goal.returns
+returns c =
+    let program = c.args.verified.program in
     let order = c.args.order.now in
     let events = c.args.history.now.events in
-    let old = c.args.out.now.items in
-    subst (λ (o : Option SourceText). Adds (AreRunDetails order.answer (text_of o) program order events s c.args.closing) old old) (sym c.in-Some.is) (run_json order.answer c.in-Some.source.text.now program order events s c.args.closing old c.in-Json.is)
+    let first = c.in_ok-first.field-0.first in
+    let read = c.deref.result.now in
+    let begun = c.in_ok-first.ensures in
+    let played = subst (λ (x : Played). IsPlayed first read x) c.in-All.is c.in_ok-replaying.ensures in
+    let replay = replay_there program order first read events c.in-All.replaying begun.first (c.deref.ensures.value ∙ begun.events) played in
+    on_ok_weaker c.put_closing_details.result (λ printed s goes. printed program order events s c.requires.source replay goes) c.put_closing_details.ensures
 
-pub returns-in-OrderJson : goal.returns-in-OrderJson
-returns-in-OrderJson c = λ program s may goes.
-    let order = c.args.order.now in
-    let events = c.args.history.now.events in
-    let old = c.args.out.now.items in
-    subst (λ (o : Option SourceText). Adds (AreRunDetails order.answer (text_of o) program order events s c.args.closing) old old) (sym c.in-Some.is) (run_order_json order.answer c.in-Some.source.text.now program order events s c.args.closing old c.in-OrderJson.is)
+pub unreachable-requires : goal.unreachable-requires
+unreachable-requires c =
+    let first = c.in_ok-first.field-0.first in
+    let read = c.deref.result.now in
+    let begun = c.in_ok-first.ensures in
+    let run_is = c.requires.finished in
+    let stopped = subst (λ (x : Played). IsPlayed first read x) c.in-Stopped.is c.in_ok-replaying.ensures in
+    goes_by (run first.program first.layout read first.state) run_is.state (λ t. ⊥) _
+    (goes_there c.args.verified.program c.args.order.now first read c.args.history.now.events run_is.state begun.first (c.deref.ensures.value ∙ begun.events) run_is.reaches) stopped
