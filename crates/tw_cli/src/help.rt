@@ -11,7 +11,7 @@ pub(crate) struct CommandHelp<'a> {
 }
 
 /// The program's version, which the newest section of CHANGELOG.md names.
-pub(crate) const VERSION: &str = "0.24";
+pub(crate) const VERSION: &str = "0.25";
 
 pub(crate) const ABOUT: &str = "Assembles, checks and runs dataflow programs of the task host.";
 
@@ -79,7 +79,8 @@ ints:1=7,5=-3, texts:1=\"abc\",2=\"\", tints:\"a\"=1 and ttexts:\"a\"=\"b\". The
 be empty. Between quotes \\\", \\\\, \\n and \\x with two hex digits are escapes.
 With --each the lines after the line `inputs` are JSON arrays, and the program, read once, runs in one thread on each. An input
 is a number, a string or an object of members by subscript: [39, \"abc\", {\"1\": 7}]; a map may be an array, too. Each line that isn't blank is answered
-by one line, in order: the object of --json, with the line's number as `line`. With --jobs N, N threads answer parts of the lines.
+by one line, in order: the object of --json, with the line's number as `line`. A line may also be {\"id\": 7, \"inputs\": [39]}; its
+answer has the id, a number or a text. With --jobs N, N threads answer parts of the lines.
 With --inputs-json all that follows the line `inputs` is one such array, which may have several lines, with the inputs of one run.
 With --inputs the inputs are read instead: after the program a line `inputs`, then one input a line, up to a line `end` or the
 end. An input is its whole line; empty lines are skipped. No input is an argument then. With --inputs DATA, --inputs-json DATA

@@ -1,4 +1,3 @@
-pub mod InputLines
 pub mod LineAnswers
 pub mod Pieces
 pub mod Written
@@ -6,3 +5,4 @@ pub mod Chunks
 pub mod Slices
 pub mod Room
 pub mod WholeReplies
+pub mod Sharing

@@ -2,7 +2,8 @@
 use Rattle.std.proofs.Common.{◌≡◌, ◌+◌, ◌<◌, ◌++◌, ◌||◌, ◌∙◌, ℕ, Bool, Bor, true, false, List, [], ◌∷◌, IsUtf8, arith, ap, append_assoc, get_or, inl, inr, length, map, nat_lt, refl, subst, sym, take}
 use Rattle.std.proofs.lemmas.List.{append-nil, length-map, length-take-le, map-append, take_more}
 use Rattle.tw_source.specs.Input.{most_bytes}
-use Rattle.tw_each.specs.Answers.{AreAnswers, IsAnswer, IsFullLine, IsLine, IsShortLine, Way, is_blank, numbered, other_bytes, too_long, unread_line}
+use Rattle.tw_inputs.specs.JsonLines.{line_id}
+use Rattle.tw_each.specs.Answers.{AreAnswers, IsAnswer, IsFullLine, IsLine, IsShortLine, Way, is_blank, labelled, numbered, other_bytes, too_long, unread_line}
 
 -- ---- one line
 
@@ -13,9 +14,11 @@ full_line : (w : Way) (n : ℕ) (text answer : List ℕ) (refused : Bool) → is
 full_line w n text answer refused blank h = rw blank h
 
 pub text_line : (w : Way) (n : ℕ) (line text old new : List ℕ) (refused : Bool) → is_blank line ≡ false → text ≡ line → IsUtf8 line
-    → (answer : List ℕ) × IsAnswer w text answer refused × (new ≡ old ++ numbered n answer) → (answer : List ℕ) × IsShortLine w n line answer refused × (new ≡ old ++ answer)
+    → (answer : List ℕ) × IsAnswer w text answer refused × (new ≡ old ++ labelled n (line_id text) answer) → (answer : List ℕ) × IsShortLine w n line answer refused × (new ≡ old ++ answer)
 text_line w n line text old new refused blank same utf8 (answer, h, is) =
-    (numbered n answer, full_line w n line (numbered n answer) refused blank (inl (utf8, (answer, subst (λ (t : List ℕ). IsAnswer w t answer refused) same h, refl))), is)
+    let made = labelled n (line_id line) answer in
+    let read = subst (λ (t : List ℕ). IsAnswer w t answer refused) same h in
+    (made, full_line w n line made refused blank (inl (utf8, (answer, read, refl))), subst (λ (t : List ℕ). new ≡ old ++ labelled n (line_id t) answer) same is)
 
 pub other_line : (w : Way) (n : ℕ) (line old new : List ℕ) (refused : Bool) → is_blank line ≡ false → (IsUtf8 line → ⊥)
     → (refused ≡ true) × (new ≡ old ++ numbered n (unread_line other_bytes)) → (answer : List ℕ) × IsShortLine w n line answer refused × (new ≡ old ++ answer)
@@ -36,7 +39,7 @@ pub or_assoc : (a b c : Bool) → (a || (b || c)) ≡ ((a || b) || c)
 or_assoc true b c = refl
 or_assoc false b c = refl
 
-or_false : (a : Bool) → (a || false) ≡ a
+pub or_false : (a : Bool) → (a || false) ≡ a
 or_false true = refl
 or_false false = refl
 
@@ -69,14 +72,3 @@ answers_joined w before [] back text more refused bad (none, well) h =
 answers_joined w before (l ∷ front) back text more refused bad (first, rest, one, others, is, are, text_is, refused_is) h =
     let joined = answers_joined w (before + 1) front back rest more others bad are (subst (λ (n : ℕ). AreAnswers w n back more bad) (omega arith) h) in
     (first, rest ++ more, one, others || bad, is, joined, ap (λ (t : List ℕ). t ++ more) text_is ∙ append_assoc first rest more, ap (λ (r : Bool). r || bad) refused_is ∙ sym (or_assoc one others bad))
-
-pub halves_joined : (w : Way) (before : ℕ) (lines front back : List (Bor (List ℕ))) (text more whole : List ℕ) (refused bad any : Bool) → lines ≡ front ++ back → AreAnswers w before (map (λ l. l.now) front) text refused
-    → AreAnswers w (before + length front) (map (λ l. l.now) back) more bad → whole ≡ text ++ more → any ≡ (refused || bad) → AreAnswers w before (map (λ l. l.now) lines) whole any
-halves_joined w before lines front back text more whole refused bad any parts first rest text_is any_is =
-    let f = λ (l : Bor (List ℕ)). l.now in
-    let here = subst (λ (n : ℕ). AreAnswers w (before + n) (map f back) more bad) (sym (length-map front f)) rest in
-    let joined = answers_joined w before (map f front) (map f back) text more refused bad first here in
-    let split : map f front ++ map f back ≡ map f lines = sym (ap (map f) parts ∙ map-append f front back) in
-    subst (λ (r : Bool). AreAnswers w before (map f lines) whole r) (sym any_is)
-    (subst (λ (t : List ℕ). AreAnswers w before (map f lines) t (refused || bad)) (sym text_is)
-    (subst (λ (ls : List (List ℕ)). AreAnswers w before ls (text ++ more) (refused || bad)) split joined))

@@ -1,11 +1,10 @@
 -- Replies to a program and the lines that are read with it.
 use Rattle.std.proofs.Common.{◌≡◌, ◌∙◌, Bool, Bor, ℕ, List, Option, ap, codes, inl, inr, map, subst, sym}
-use Rattle.std.specs.Prelude.{MatchBool}
-use Rattle.std.specs.Str.Lines.{lines}
+use Rattle.std.specs.Prelude.{MatchOption}
 use Rattle.tw_code.specs.format.Program.{Versioned}
 use Rattle.tw_order.specs.declared.order.Source.{Source}
 use Rattle.tw_order.specs.declared.runs.EachOrder.{EachOrder}
-use Rattle.tw_source.specs.Inputs.{after_inputs, before_inputs}
+use Rattle.tw_source.specs.Inputs.{lines_in}
 use Rattle.tw_source.specs.Program.{Spells, source_text}
 use Rattle.tw_source.specs.Reply.{Reply, reply}
 use Rattle.tw_source.specs.declared.close.Close.TheVariants.{CommandLine}
@@ -14,7 +13,7 @@ use Rattle.tw_verify.specs.Typed.{TypedProgram}
 use Rattle.tw_each.specs.Answers.{AreAnswers, Way}
 use Rattle.tw_each.specs.Ready.{IsEachInput, IsReady, IsReadyText, IsRejectedText}
 use Rattle.tw_each.specs.Reply.{IsRejected, RepliesByEach, RepliesByParts, close_of, way_of}
-use Rattle.tw_each.specs.declared.input_lines.LineParts.{LineParts}
+use Rattle.tw_each.specs.declared.together.LineParts.{LineParts}
 use Rattle.tw_each.specs.declared.reply.Ready.{Ready}
 use Rattle.tw_each.specs.declared.reply.Ready.TheVariants as ready
 use Rattle.tw_each.specs.declared.together.EachInput.TheVariants.{Parts, Rejected}
@@ -47,19 +46,16 @@ rejected source order input given r (inr h) = inr h
 
 -- the reply to the parts is that to what is read
 pub replied : (source : Source) (order : EachOrder) (input : List ℕ) (parts : LineParts) (r : Reply) → IsEachInput input (Parts parts)
-    → RepliesByParts source order parts.program.items (map (λ (line : Bor (List ℕ)). line.now) parts.lines.items) r → RepliesByEach source order input r
-replied source order input parts r (inl (utf8, (has, before, after))) by =
-    let all = lines input in
+    → RepliesByParts source order parts.program.now (map (λ (line : Bor (List ℕ)). line.now) parts.lines.items) r → RepliesByEach source order input r
+replied source order input parts r (inl (utf8, (inputs, cut, is))) by =
     let refused = r ≡ reply (codes "command line refused\n") CommandLine in
-    let first = subst (λ (given : List (List ℕ)). RepliesByParts source order parts.program.items given r) after by in
-    let whole = subst (λ (program : List ℕ). RepliesByParts source order program (after_inputs all) r) before first in
-    inl (utf8, subst (λ (b : Bool). MatchBool b (RepliesByParts source order (before_inputs all) (after_inputs all) r) refused) (sym has) whole)
+    let whole = subst (λ (given : List (List ℕ)). RepliesByParts source order parts.program.now given r) is by in
+    inl (utf8, subst (λ (o : Option (List ℕ × List ℕ)). MatchOption o refused (λ c. RepliesByParts source order c.0 (lines_in c.1) r)) (sym cut) whole)
 replied source order input parts r (inr (other, never)) by = absurd never
 
 -- so is the reply to what isn't a program with lines
 pub no_parts : (source : Source) (order : EachOrder) (input : List ℕ) (r : MadeReply) → IsEachInput input (Rejected r) → RepliesByEach source order input (reply r.text.items r.close)
-no_parts source order input r (inl (utf8, (has, is))) =
-    let all = lines input in
+no_parts source order input r (inl (utf8, (none, is))) =
     let here = reply r.text.items r.close in
-    inl (utf8, subst (λ (b : Bool). MatchBool b (RepliesByParts source order (before_inputs all) (after_inputs all) here) (here ≡ reply (codes "command line refused\n") CommandLine)) (sym has) is)
+    inl (utf8, subst (λ (o : Option (List ℕ × List ℕ)). MatchOption o (here ≡ reply (codes "command line refused\n") CommandLine) (λ c. RepliesByParts source order c.0 (lines_in c.1) here)) (sym none) is)
 no_parts source order input r (inr h) = inr h

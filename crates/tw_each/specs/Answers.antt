@@ -15,7 +15,8 @@ use Rattle.tw_in_turn.specs.Stopping.{IsLeftIf}
 use Rattle.tw_in_turn.specs.declared.run.StoppableResult.{StoppableResult}
 use Rattle.tw_in_turn.specs.declared.run.StoppableResult.TheVariants.{Ended, Stopped}
 use Rattle.tw_in_turn.specs.declared.run.InTurnResult.TheVariants as result
-use Rattle.tw_inputs.specs.JsonInputs.{AreInputsIn, HasFaultAt, IsFaultText}
+use Rattle.tw_inputs.specs.JsonInputs.{AreInputsOf, HasFaultOf, IsFaultText}
+use Rattle.tw_inputs.specs.JsonLines.{line_id, line_json}
 use Rattle.tw_inputs.specs.declared.json_inputs.Place.{Place}
 use Rattle.tw_json_output.specs.Run.{json_line}
 use Rattle.tw_source.specs.Input.{is_gap_byte, most_bytes}
@@ -71,14 +72,22 @@ IsFaultAnswer place line refused = (error : List ℕ) × IsFaultText place error
 -- holds for the answer to a text: it has inputs, with which the program is run in turn; or it has none
 abbrev pub IsAnswer : Way → List ℕ → List ℕ → Bool → Type 0
 IsAnswer w text line refused =
-    ((inputs : List Input) × AreInputsIn (main_params w.verified.program) text inputs × IsInputsAnswer w inputs line refused)
-    ⊎ ((place : Place) × HasFaultAt (main_params w.verified.program) text place × IsFaultAnswer place line refused)
+    ((inputs : List Input) × AreInputsOf (main_params w.verified.program) (line_json text) inputs × IsInputsAnswer w inputs line refused)
+    ⊎ ((place : Place) × HasFaultOf (main_params w.verified.program) (line_json text) place × IsFaultAnswer place line refused)
 
 -- ---- all lines
 
--- returns an object's line with a number as its first member
+-- returns the member of an id, if there is one
+abbrev pub id_member : Option (List ℕ) → List ℕ
+id_member None = []
+id_member (Some id) = codes ",\"id\":" ++ id
+
+-- returns an object's line with a number as its first member, then any id
+abbrev pub labelled : ℕ → Option (List ℕ) → List ℕ → List ℕ
+labelled n id line = codes "{\"line\":" ++ (decimal n ++ (id_member id ++ 44 ∷ drop 1 line))
+
 abbrev pub numbered : ℕ → List ℕ → List ℕ
-numbered n line = codes "{\"line\":" ++ (decimal n ++ 44 ∷ drop 1 line)
+numbered n line = labelled n None line
 
 -- returns whether a line has no other bytes than spaces, tabs, carriage returns and line feeds
 abbrev pub is_blank : List ℕ → Bool
@@ -95,10 +104,10 @@ other_bytes = coded 72 3 Nowhere
 abbrev pub too_long : Failure
 too_long = coded 72 2 Nowhere
 
--- holds for the answer to a line that isn't blank: that of its text, or the error of bytes that aren't UTF-8
+-- holds for the answer to a line that isn't blank: that of its text, with the line's id; or the error of bytes that aren't UTF-8
 abbrev pub IsFullLine : Way → ℕ → List ℕ → List ℕ → Bool → Type 0
 IsFullLine w n text answer refused =
-    (IsUtf8 text × ((line : List ℕ) × IsAnswer w text line refused × (answer ≡ numbered n line)))
+    (IsUtf8 text × ((line : List ℕ) × IsAnswer w text line refused × (answer ≡ labelled n (line_id text) line)))
     ⊎ ((IsUtf8 text → ⊥) × (answer ≡ numbered n (unread_line other_bytes)) × (refused ≡ true))
 
 -- holds for the answer to a line that isn't too long; a blank line has none

@@ -2,7 +2,6 @@
 pub mod Answers
 pub mod Reply
 pub mod Stream
--- The next step of a program.
+-- The next step of a program, and the shares of lines that threads answer.
 pub mod Ready
--- The parts of what is read, line by line.
-pub mod InputLines
+pub mod Shares

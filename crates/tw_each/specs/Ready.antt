@@ -1,13 +1,12 @@
 -- The steps of a program before it is run on lines.
 use Rattle.std.specs.Borrow.{Bor}
-use Rattle.std.specs.Prelude.{◌≡◌, ◌⊎◌, ℕ, true, false, List, Option, IsUtf8, codes, map}
-use Rattle.std.specs.Str.Lines.{lines}
+use Rattle.std.specs.Prelude.{◌≡◌, ◌⊎◌, ℕ, List, Option, Some, None, IsUtf8, codes, map}
 use Rattle.tw_code.specs.declared.procedure.Procedure.{Procedure}
 use Rattle.tw_code.specs.format.Program.{Versioned}
 use Rattle.tw_order.specs.declared.order.Source.{Source}
 use Rattle.tw_order.specs.declared.runs.EachOrder.{EachOrder}
 use Rattle.tw_source.specs.Failure.{coded, failed}
-use Rattle.tw_source.specs.Inputs.{after_inputs, before_inputs}
+use Rattle.tw_source.specs.Inputs.{cut_inputs, lines_in}
 use Rattle.tw_source.specs.Program.{Spells, source_text}
 use Rattle.tw_source.specs.Reply.{Reply, reply}
 use Rattle.tw_source.specs.declared.close.Close.TheVariants.{CommandLine}
@@ -16,7 +15,7 @@ use Rattle.tw_each.specs.declared.reply.Ready.{Ready}
 use Rattle.tw_each.specs.declared.reply.Ready.TheVariants as ready
 use Rattle.tw_each.specs.declared.together.EachInput.{EachInput}
 use Rattle.tw_each.specs.declared.together.EachInput.TheVariants.{Parts, Rejected}
-use Rattle.tw_each.specs.Reply.{IsAdmitted, IsNoProgram, IsRejected, has_inputs, json_reply}
+use Rattle.tw_each.specs.Reply.{IsAdmitted, IsNoProgram, IsRejected, json_reply}
 
 -- holds for the admitted program, or for the reply with its rejection
 abbrev pub IsReady : Option (List ℕ) → EachOrder → List Procedure → Ready → Type 0
@@ -37,8 +36,8 @@ IsReadyText source order input text (ready.Rejected r) = IsRejectedText source o
 -- holds for a program and the lines after its line `inputs`; without that line the command line is rejected
 abbrev pub IsTextInput : List ℕ → EachInput → Type 0
 IsTextInput text (Parts parts) =
-    (has_inputs (lines text) ≡ true) × (parts.program.items ≡ before_inputs (lines text)) × (map (λ (line : Bor (List ℕ)). line.now) parts.lines.items ≡ after_inputs (lines text))
-IsTextInput text (Rejected r) = (has_inputs (lines text) ≡ false) × (reply r.text.items r.close ≡ reply (codes "command line refused\n") CommandLine)
+    (inputs : List ℕ) × (cut_inputs (lines_in text) ≡ Some (parts.program.now, inputs)) × (map (λ (line : Bor (List ℕ)). line.now) parts.lines.items ≡ lines_in inputs)
+IsTextInput text (Rejected r) = (cut_inputs (lines_in text) ≡ None) × (reply r.text.items r.close ≡ reply (codes "command line refused\n") CommandLine)
 
 -- holds for the reply to what isn't UTF-8
 abbrev pub IsNoTextReply : EachInput → Type 0

@@ -1,8 +1,5 @@
 -- The reply to a program and the lines of inputs after it.
-use Rattle.std.specs.Prelude.{◌≡◌, ◌≢◌, ◌⊎◌, ℕ, Bool, true, false, List, [], Option, Some, MatchBool, codes, is_some, IsUtf8}
-use Rattle.std.specs.List.{list_any}
-use Rattle.std.specs.Str.{bytes_eq}
-use Rattle.std.specs.Str.Lines.{lines}
+use Rattle.std.specs.Prelude.{◌≡◌, ◌≢◌, ◌⊎◌, ℕ, Bool, true, false, List, [], Option, Some, MatchOption, codes, is_some, IsUtf8}
 use Rattle.tw_code.specs.declared.procedure.Procedure.{Procedure}
 use Rattle.tw_code.specs.format.Program.{Versioned}
 use Rattle.tw_code.specs.accepting.WellTyped.{IsAccepted}
@@ -15,9 +12,10 @@ use Rattle.tw_program_output.specs.Admission.{AreExcessLines, StaysWithinCaps, h
 use Rattle.tw_program_output.specs.Check.{IsRefused}
 use Rattle.tw_program_output.specs.ErrorJson.{error_json}
 use Rattle.tw_source.specs.Failure.{coded, failed, failed_with, uncoded}
+use Rattle.tw_source.specs.declared.failure.Failure.{Failure}
 use Rattle.tw_source.specs.declared.failure.Position.TheVariants as position
-use Rattle.tw_source.specs.Inputs.{after_inputs, before_inputs}
-use Rattle.tw_source.specs.Program.{AreParseErrorDetails, Spells, SpellsNone, failure_of, source_text}
+use Rattle.tw_source.specs.Inputs.{cut_inputs, lines_in}
+use Rattle.tw_source.specs.Program.{AreParseErrorDetails, IsFailure, Spells, SpellsNone, source_text}
 use Rattle.tw_source.specs.Reply.{Reply, reply}
 use Rattle.tw_source.specs.declared.close.Close.{Close}
 use Rattle.tw_source.specs.declared.close.Close.TheVariants.{CommandLine, Refused, Success}
@@ -59,7 +57,8 @@ RepliesByLines text order program given r = (IsAdmitted order program × IsAnswe
 -- holds for the reason why there is no program
 abbrev pub IsNoProgram : Source → List ℕ → Reply → Type 0
 IsNoProgram source input r =
-    (error : Reply) × (why : NoProgram) × (more : List ℕ) × SpellsNone source input why × AreParseErrorDetails input why more × (error ≡ failed_with (failure_of why) more)
+    (error : Reply) × (why : NoProgram) × (failure : Failure) × (more : List ℕ) × SpellsNone source input why × IsFailure input why failure × AreParseErrorDetails input why more
+    × (error ≡ failed_with failure more)
     × (r ≡ json_reply error)
 
 -- holds for the reply to a program and lines of inputs, or for the reason why there is no program
@@ -67,14 +66,10 @@ abbrev pub RepliesByParts : Source → EachOrder → List ℕ → List (List ℕ
 RepliesByParts source order input given r =
     ((program : Versioned) × Spells source input program × RepliesByLines (source_text source input) order program.procedures given r) ⊎ IsNoProgram source input r
 
--- returns whether there is a line `inputs`
-abbrev pub has_inputs : List (List ℕ) → Bool
-has_inputs all = list_any (λ line. bytes_eq line (codes "inputs")) all
-
 -- holds for the reply to a program and the lines after its line `inputs`; without that line the command line is rejected
 abbrev pub RepliesInUtf8 : Source → EachOrder → List ℕ → Reply → Type 0
 RepliesInUtf8 source order input r =
-    MatchBool (has_inputs (lines input)) (RepliesByParts source order (before_inputs (lines input)) (after_inputs (lines input)) r) (r ≡ reply (codes "command line refused\n") CommandLine)
+    MatchOption (cut_inputs (lines_in input)) (r ≡ reply (codes "command line refused\n") CommandLine) (λ cut. RepliesByParts source order cut.0 (lines_in cut.1) r)
 
 -- holds for the reply to what is read
 abbrev pub RepliesByEach : Source → EachOrder → List ℕ → Reply → Type 0

@@ -1,6 +1,6 @@
 //! The answer to one line.
 
-ghost use Rattle.std.specs.Prelude.{◌≡◌, ◌≢◌, ◌++◌, List, None, ℕ, Bool, IfOk, string_bytes, true, unwrap_or};
+ghost use Rattle.std.specs.Prelude.{◌≡◌, ◌≢◌, ◌++◌, List, None, ℕ, Bool, IfOk, MatchResult, string_bytes, true, unwrap_or};
 ghost use Rattle.tw_code.specs.machine.Opening.{main_params};
 ghost use Rattle.tw_in_turn.specs.InTurn.{IsLeft};
 ghost use Rattle.tw_in_turn.specs.Stopping.{IsLeftIf};
@@ -9,14 +9,16 @@ ghost use Rattle.tw_run_output.specs.Json.{IsEndLine};
 ghost use Rattle.tw_pool.specs.Openings.{IsRejection};
 ghost use Rattle.tw_pool.specs.PoolView.{PoolView};
 ghost use Rattle.tw_pool.specs.declared.open.OpenError.TheVariants.{NoMemory};
-ghost use Rattle.tw_each.specs.Answers.{IsAnswer, IsFaultAnswer, IsInputsAnswer, IsLeftLine, IsRejectedLine, numbered, unread_line, way};
+ghost use Rattle.tw_inputs.specs.JsonInputs.{AreInputsOf, HasFaultOf};
+ghost use Rattle.tw_inputs.specs.JsonLines.{line_id, line_json};
+ghost use Rattle.tw_each.specs.Answers.{IsAnswer, IsFaultAnswer, IsInputsAnswer, IsLeftLine, IsRejectedLine, labelled, numbered, unread_line, way};
 
-use crate::numbered::put_numbered_line;
+use crate::numbered::put_labelled_line;
 use crate::runs_line::RunsLine;
 use std::alloc::{AllocError, Global};
 use tw_code::main_params;
 use tw_in_turn::{InTurnResult, StoppableResult};
-use tw_inputs::{NoInputs, Place, Scratch, fault_text, read_inputs};
+use tw_inputs::{InputLine, Place, Scratch, line_fault_text, read_line};
 use tw_pool::{Closing, Final, History, OpenError};
 use tw_program_output::error_line;
 use tw_replay_output::inputs_refused_reply;
@@ -133,28 +135,31 @@ fn fault_answer(
 ) -> Result<AnswerLine, AllocError>
     ensures { IfOk result (λ answer. IsFaultAnswer place (string_bytes answer.line) answer.refused) }
 {
-    let error = fault_text(alloc, params_of(run), text, place, number, scratch)?;
+    let error = line_fault_text(alloc, params_of(run), text, place, number, scratch)?;
     Ok(AnswerLine {
         line: error_line(alloc, &unreadable_reply(error, place))?,
         refused: true,
     })
 }
 
-/// Returns the answer to a line, without its number.
+/// Returns the answer to a line, without its number and id.
 fn line_answer<L: RunsLine>(
     alloc: Global,
     runner: &L,
     run: &EachRun<'_>,
     number: usize,
     text: &str,
+    inputs: Result<Vec<Input>, Place>,
     scratch: &mut Scratch,
 ) -> Result<AnswerLine, AllocError>
+    requires { MatchResult inputs
+        (λ given. AreInputsOf (main_params run.now.verified.now.program) (line_json text.now) given.items)
+        (HasFaultOf (main_params run.now.verified.now.program) (line_json text.now)) }
     ensures { IfOk result (λ answer. IsAnswer (way run.now) text.now (string_bytes answer.line) answer.refused) }
 {
-    match read_inputs(alloc, params_of(run), text, scratch) {
+    match inputs {
         Ok(inputs) => inputs_answer(alloc, runner, run, &inputs),
-        Err(NoInputs::At(place)) => fault_answer(alloc, run, number, text, place, scratch),
-        Err(NoInputs::NoMemory) => Err(AllocError),
+        Err(place) => fault_answer(alloc, run, number, text, place, scratch),
     }
 }
 
@@ -168,10 +173,11 @@ pub fn put_answer<L: RunsLine>(
     text: &str,
     scratch: &mut Scratch,
 ) -> Result<bool, AllocError>
-    ensures { IfOk result (λ refused. (line : List ℕ) × IsAnswer (way run.now) text.now line refused × (out.new.items ≡ out.old.items ++ numbered number line)) }
+    ensures { IfOk result (λ refused. (line : List ℕ) × IsAnswer (way run.now) text.now line refused × (out.new.items ≡ out.old.items ++ labelled number (line_id text.now) line)) }
 {
-    let answer = line_answer(alloc, runner, run, number, text, scratch)?;
-    put_numbered_line(alloc, out, number, answer.line.as_bytes())?;
+    let InputLine { id, inputs } = read_line(alloc, params_of(run), text, scratch)?;
+    let answer = line_answer(alloc, runner, run, number, text, inputs, scratch)?;
+    put_labelled_line(alloc, out, number, &id, answer.line.as_bytes())?;
     Ok(answer.refused)
 }
 
@@ -186,6 +192,6 @@ pub fn put_unread(
 {
     let error = failed_reply(alloc, failure)?;
     let line = error_line(alloc, &error)?;
-    put_numbered_line(alloc, out, number, line.as_bytes())?;
+    put_labelled_line(alloc, out, number, &None, line.as_bytes())?;
     Ok(true)
 }

@@ -2,7 +2,6 @@
 #![tactic(auto)]
 
 mod answer;
-mod input_lines;
 mod line_count;
 mod lines;
 mod numbered;
@@ -10,12 +9,13 @@ mod pace;
 mod parts;
 mod reply;
 mod runs_line;
+mod shares;
 mod stream;
 mod streamed;
+mod team;
 mod threads;
 mod together;
 
-pub use input_lines::{LineParts, line_parts};
 pub use line_count::LineCount;
 pub use reply::{close_of, too_long_reply};
 pub use stream::StreamError;

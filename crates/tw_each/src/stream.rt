@@ -7,11 +7,11 @@ ghost use Rattle.tw_each.specs.declared.stream.StreamError.TheVariants.{NoMemory
 ghost use Rattle.tw_each.specs.Stream.{Adds, AnswersAll, AnswersLast, AreWritten, IsAt, Stops, TakesChunk, kept, parts_of};
 
 use crate::answer::EachRun;
-use crate::line_count::LineCount;
 use crate::pace::{Begun, Pace};
 use crate::parts::{keep, lines_from, parts_of};
+use crate::team::LineCrew;
 use crate::threads::divided;
-use std::alloc::{AllocError, Global};
+use std::alloc::AllocError;
 use std::io::{ErrorKind, Read, Write};
 use std::thread::Threads;
 use std::time::Clock;
@@ -38,14 +38,11 @@ impl From<AllocError> for StreamError {
     }
 }
 
-/// A program that is run on lines, and the threads that do so.
+/// A program that is run on lines, and the team that does so.
 #[derive(Clone, Copy)]
-pub(crate) struct LineWork<'a, 'b, H> {
-    pub(crate) rt: &'a H,
-    pub(crate) alloc: Global,
+pub(crate) struct LineWork<'a, 'b, H, C> {
+    pub(crate) crew: &'a LineCrew<'a, H, C>,
     pub(crate) run: &'a EachRun<'b>,
-    pub(crate) count: &'a LineCount,
-    pub(crate) jobs: usize,
 }
 
 /// The lines that are answered.
@@ -71,8 +68,8 @@ fn write_text<W: Write>(writer: &mut W, text: &[u8]) -> Result<(), StreamError>
 }
 
 /// Answers lines, in one thread if there is only one, and writes the answers.
-fn write_some<H: Threads + Clock + Sync, W: Write>(
-    work: &LineWork<'_, '_, H>,
+fn write_some<H: Threads + Sync, C: Clock + Sync, W: Write>(
+    work: &LineWork<'_, '_, H, C>,
     before: usize,
     lines: &[&[u8]],
     writer: &mut W,
@@ -81,17 +78,14 @@ fn write_some<H: Threads + Clock + Sync, W: Write>(
     ensures written { IfOk result (AreWritten (way work.now.run.now) before (map (λ line. line.now) lines.now) (W.contents writer.old) (W.contents writer.new)) }
     ensures stopped { IfErr result (Stops (way work.now.run.now) before (map (λ line. line.now) lines.now) (W.contents writer.old) (W.contents writer.new)) }
 {
-    let jobs = work.jobs.min(lines.len());
-    let answers = divided(
-        work.rt, work.alloc, work.run, work.count, jobs, before, lines,
-    )?;
+    let answers = divided(work.crew, work.run, before, lines)?;
     write_text(writer, &answers.text)?;
     Ok(answers.refused)
 }
 
 /// Answers lines, and writes the answers soon. `answered` are the lines before them.
-fn write_lines<H: Threads + Clock + Sync, W: Write>(
-    work: &LineWork<'_, '_, H>,
+fn write_lines<H: Threads + Sync, C: Clock + Sync, W: Write>(
+    work: &LineWork<'_, '_, H, C>,
     answered: AnsweredLines,
     lines: &[&[u8]],
     writer: &mut W,
@@ -103,11 +97,11 @@ fn write_lines<H: Threads + Clock + Sync, W: Write>(
     let mut refused = answered.refused;
     let mut done = 0;
     while done < lines.len() {
-        let begun = Begun::now(work.rt);
+        let begun = Begun::now(work.crew.clock);
         let (_, others) = lines.split_at(done);
         let (some, _) = others.split_at(pace.lines(others.len()));
         refused |= write_some(work, answered.number + done, some, writer)?;
-        pace = pace.after(begun, work.rt);
+        pace = pace.after(begun, work.crew.clock);
         done += some.len();
     }
     Ok(AnsweredLines {
@@ -118,8 +112,8 @@ fn write_lines<H: Threads + Clock + Sync, W: Write>(
 }
 
 /// Answers the line that has begun, and those after it.
-fn write_begun<H: Threads + Clock + Sync, W: Write>(
-    work: &LineWork<'_, '_, H>,
+fn write_begun<H: Threads + Sync, C: Clock + Sync, W: Write>(
+    work: &LineWork<'_, '_, H, C>,
     answered: AnsweredLines,
     begun: &[u8],
     others: &[&[u8]],
@@ -127,7 +121,7 @@ fn write_begun<H: Threads + Clock + Sync, W: Write>(
 ) -> Result<AnsweredLines, StreamError>
     ensures { Adds (way work.now.run.now) answered (begun.now ∷ map (λ line. line.now) others.now) (W.contents writer.old) (W.contents writer.new) result }
 {
-    let lines = lines_from(work.alloc, begun, others)?;
+    let lines = lines_from(work.crew.alloc, begun, others)?;
     match answered.number.checked_add(lines.len()) {
         Some(number) if number <= isize::MAX as usize => {
             write_lines(work, answered, &lines, writer)
@@ -137,8 +131,8 @@ fn write_begun<H: Threads + Clock + Sync, W: Write>(
 }
 
 /// Answers the line that has begun and those between, and keeps the last part, if there is one.
-fn take_others<H: Threads + Clock + Sync, W: Write>(
-    work: &LineWork<'_, '_, H>,
+fn take_others<H: Threads + Sync, C: Clock + Sync, W: Write>(
+    work: &LineWork<'_, '_, H, C>,
     answered: AnsweredLines,
     begun: &mut Vec<u8>,
     others: &[&[u8]],
@@ -159,8 +153,8 @@ fn take_others<H: Threads + Clock + Sync, W: Write>(
 }
 
 /// Answers the lines that end in a chunk of these parts, and keeps the one that has begun after them.
-fn take_parts<H: Threads + Clock + Sync, W: Write>(
-    work: &LineWork<'_, '_, H>,
+fn take_parts<H: Threads + Sync, C: Clock + Sync, W: Write>(
+    work: &LineWork<'_, '_, H, C>,
     answered: AnsweredLines,
     begun: &mut Vec<u8>,
     parts: &[&[u8]],
@@ -178,8 +172,8 @@ fn take_parts<H: Threads + Clock + Sync, W: Write>(
 }
 
 /// Answers the lines that end in a chunk, and keeps the one that has begun after them.
-fn take_chunk<H: Threads + Clock + Sync, W: Write>(
-    work: &LineWork<'_, '_, H>,
+fn take_chunk<H: Threads + Sync, C: Clock + Sync, W: Write>(
+    work: &LineWork<'_, '_, H, C>,
     answered: AnsweredLines,
     begun: &mut Vec<u8>,
     chunk: &[u8],
@@ -187,13 +181,13 @@ fn take_chunk<H: Threads + Clock + Sync, W: Write>(
 ) -> Result<AnsweredLines, StreamError>
     ensures { TakesChunk (way work.now.run.now) answered begun.old.items begun.new.items chunk.now (W.contents writer.old) (W.contents writer.new) result }
 {
-    let parts = parts_of(work.alloc, chunk)?;
+    let parts = parts_of(work.crew.alloc, chunk)?;
     take_parts(work, answered, begun, &parts, writer)
 }
 
 /// Answers the line that ends without a line feed, if there is one. Returns whether any line was refused.
-fn finish<H: Threads + Clock + Sync, W: Write>(
-    work: &LineWork<'_, '_, H>,
+fn finish<H: Threads + Sync, C: Clock + Sync, W: Write>(
+    work: &LineWork<'_, '_, H, C>,
     answered: AnsweredLines,
     begun: &[u8],
     writer: &mut W,
@@ -208,20 +202,20 @@ fn finish<H: Threads + Clock + Sync, W: Write>(
 }
 
 /// Reads lines to the end, and writes the answer to each as soon as it and those before it are there. Returns whether any line was refused.
-pub(crate) fn answer_stream<H: Threads + Clock + Sync, R: Read, W: Write>(
-    work: &LineWork<'_, '_, H>,
+pub(crate) fn answer_stream<H: Threads + Sync, C: Clock + Sync, R: Read, W: Write>(
+    work: &LineWork<'_, '_, H, C>,
     reader: &mut R,
     writer: &mut W,
 ) -> Result<bool, StreamError>
     ensures { AnswersAll (way work.now.run.now) (R.remaining reader.old) (R.remaining reader.new) (W.contents writer.old) (W.contents writer.new) result }
 {
-    let mut chunk = Vec::new(work.alloc);
+    let mut chunk = Vec::new(work.crew.alloc);
     chunk.resize(CHUNK, 0)?;
-    let mut begun = Vec::new(work.alloc);
+    let mut begun = Vec::new(work.crew.alloc);
     let mut answered = AnsweredLines {
         number: 0,
         refused: false,
-        pace: Pace::new(work.jobs),
+        pace: Pace::new(work.crew.team.size()),
     };
     for _ in 0..u64::MAX {
         match reader.read(chunk.as_mut_slice()) {

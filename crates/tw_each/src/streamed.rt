@@ -1,13 +1,14 @@
 //! The answers of a program to lines that are read.
 
+ghost use Rattle.std.specs.Prelude.{◌≡◌};
 ghost use Rattle.tw_source.specs.Source.{MayBeSource, text_of};
 ghost use Rattle.tw_each.specs.Stream.{Streams, StreamsProgram};
 
 use crate::lines::MOST_BYTES;
 use crate::reply::{Ready, admit, each_run, no_program_reply, too_long_reply};
 use crate::stream::{LineWork, StreamError, answer_stream};
+use crate::team::{LineCrew, LineTeam};
 use crate::threads::LineThreads;
-use std::alloc::Global;
 use std::io::{Read, Write};
 use std::thread::Threads;
 use std::time::Clock;
@@ -25,32 +26,58 @@ pub enum Streamed {
 }
 
 /// Verifies a program, and runs it on the lines that are read.
-fn stream_program<H: Threads + Clock + Sync, R: Read, W: Write>(
-    threads: &LineThreads<'_, H>,
+fn stream_program<H: Threads + Sync, C: Clock + Sync, R: Read, W: Write>(
+    crew: &LineCrew<'_, H, C>,
     order: &EachOrder,
     source: &Option<SourceText<'_>>,
     program: Program,
     reader: &mut R,
     writer: &mut W,
 ) -> Result<Streamed, StreamError>
-    requires { MayBeSource source.now program.procedures }
+    requires source { MayBeSource source.now program.procedures }
+    requires few { crew.now.team.now.jobs ≡ order.now.jobs }
     ensures { StreamsProgram (text_of source.now) order.now program.procedures (R.remaining reader.old) (R.remaining reader.new) (W.contents writer.old) (W.contents writer.new) result }
 {
-    let ready = admit(threads.alloc, source, order, program)?;
+    let ready = admit(crew.alloc, source, order, program)?;
     match ready {
         Ready::Run(verified) => {
             let run = each_run(source, order, &verified);
-            let work = LineWork {
-                rt: threads.rt,
-                alloc: threads.alloc,
-                run: &run,
-                count: threads.count,
-                jobs: order.jobs,
-            };
+            let work = LineWork { crew, run: &run };
             let refused = answer_stream(&work, reader, writer)?;
             Ok(Streamed::Answered(refused))
         }
         Ready::Rejected(reply) => Ok(Streamed::Rejected(reply)),
+    }
+}
+
+/// Reads a program, and runs it on the lines that are read.
+fn stream_source<H: Threads + Sync, C: Clock + Sync, R: Read, W: Write>(
+    crew: &LineCrew<'_, H, C>,
+    source: Source,
+    order: &EachOrder,
+    input: &[u8],
+    reader: &mut R,
+    writer: &mut W,
+) -> Result<Streamed, StreamError>
+    requires { crew.now.team.now.jobs ≡ order.now.jobs }
+    ensures { Streams source order.now input.now (R.remaining reader.old) (R.remaining reader.new) (W.contents writer.old) (W.contents writer.new) result }
+{
+    if input.len() > MOST_BYTES {
+        let reply = too_long_reply(crew.alloc)?;
+        return Ok(Streamed::Rejected(reply));
+    }
+    match read_program(crew.alloc, source, input) {
+        Ok(read) => {
+            let ReadProgram {
+                program,
+                source: text,
+            } = read;
+            stream_program(crew, order, &text, program, reader, writer)
+        }
+        Err(why) => {
+            let reply = no_program_reply(crew.alloc, input, why)?;
+            Ok(Streamed::Rejected(reply))
+        }
     }
 }
 
@@ -66,21 +93,13 @@ pub fn stream_each<H: Threads + Clock + Sync, R: Read, W: Write>(
 ) -> Result<Streamed, StreamError>
     ensures { Streams source order.now input.now (R.remaining reader.old) (R.remaining reader.new) (W.contents writer.old) (W.contents writer.new) result }
 {
-    if input.len() > MOST_BYTES {
-        let reply = too_long_reply(threads.alloc)?;
-        return Ok(Streamed::Rejected(reply));
-    }
-    match read_program(threads.alloc, source, input) {
-        Ok(read) => {
-            let ReadProgram {
-                program,
-                source: text,
-            } = read;
-            stream_program(threads, order, &text, program, reader, writer)
-        }
-        Err(why) => {
-            let reply = no_program_reply(threads.alloc, input, why)?;
-            Ok(Streamed::Rejected(reply))
-        }
-    }
+    let LineThreads { rt, alloc, count } = *threads;
+    let team = LineTeam::new(rt, order.jobs);
+    let crew = LineCrew {
+        team: &team,
+        clock: rt,
+        alloc,
+        count,
+    };
+    stream_source(&crew, source, order, input, reader, writer)
 }

@@ -1,15 +1,17 @@
 //! The answers to all lines, in one thread or in several.
 
 ghost use Rattle.std.specs.Prelude.{◌≡◌, ◌+◌, ◌++◌, ◌||◌, ◌^◌, ◌<◌, IfOk, length, map};
-ghost use Rattle.std.specs.Thread.{IsSync};
 ghost use Rattle.tw_each.specs.Answers.{AreAnswers, way};
+ghost use Rattle.tw_each.specs.Shares.{AreMerged};
 
 use crate::answer::EachRun;
 use crate::line_count::LineCount;
 use crate::lines::{Answers, answer_lines};
 use crate::runs_line::ByClock;
+use crate::shares::{Share, shares_of};
+use crate::team::{LineCrew, each_share};
 use std::alloc::{AllocError, Global};
-use std::thread::{Threads, join};
+use std::thread::Threads;
 use std::time::Clock;
 
 /// The threads that answer lines, and who counts these.
@@ -24,42 +26,65 @@ pub struct LineThreads<'a, H> {
 fn joined(mut first: Answers, mut rest: Answers) -> Result<Answers, AllocError>
     ensures { IfOk result (λ answers. (answers.text.items ≡ first.text.items ++ rest.text.items) × (answers.refused ≡ (first.refused || rest.refused))) }
 {
+    let refused = first.refused || rest.refused;
+    if first.text.is_empty() {
+        return Ok(Answers {
+            text: rest.text,
+            refused,
+        });
+    }
     first.text.append(&mut rest.text)?;
     Ok(Answers {
         text: first.text,
-        refused: first.refused || rest.refused,
+        refused,
     })
 }
 
-/// Divides the lines among `jobs` threads, as evenly as whole lines allow. `before` lines precede these.
-#[cycle(division)]
-pub(crate) fn divided<H: Threads + Clock + Sync>(
-    rt: &H,
-    alloc: Global,
+/// Joins the answers to all shares, unless an allocation failed.
+fn merged(alloc: Global, shares: Vec<Result<Answers, AllocError>>) -> Result<Answers, AllocError>
+    ensures { IfOk result (λ all. AreMerged shares.items all.text.items all.refused) }
+{
+    let mut all = Answers {
+        text: Vec::new(alloc),
+        refused: false,
+    };
+    for answers in shares {
+        all = joined(all, answers?)?;
+    }
+    Ok(all)
+}
+
+/// Divides the lines among the threads of a team. `before` lines precede these.
+pub(crate) fn divided<H: Threads + Sync, C: Clock + Sync>(
+    crew: &LineCrew<'_, H, C>,
     run: &EachRun<'_>,
-    count: &LineCount,
-    jobs: usize,
     before: usize,
     lines: &[&[u8]],
 ) -> Result<Answers, AllocError>
     requires { before + length lines.now < 2 ^ 63 }
     ensures { IfOk result (λ answers. AreAnswers (way run.now) before (map (λ line. line.now) lines.now) answers.text.items answers.refused) }
 {
-    if jobs <= 1 {
-        return answer_lines(alloc, &ByClock { clock: rt }, run, count, before, lines);
-    }
-    let low = jobs / 2;
-    let high = jobs - low;
-    let (front, back) = lines.split_at(lines.len() / jobs * low);
-    let next = before + front.len();
-    let ahead = move || -> Result<Answers, AllocError>
-        requires { IsSync H.row × (before + length front.now < 2 ^ 63) }
-        ensures { IfOk result (λ answers. AreAnswers (way run.entry.now) before (map (λ line. line.now) front.entry.now) answers.text.items answers.refused) }
-    { divided(rt, alloc, run, count, low, before, front) };
-    let after = move || -> Result<Answers, AllocError>
-        requires { IsSync H.row × (next + length back.now < 2 ^ 63) }
-        ensures { IfOk result (λ answers. AreAnswers (way run.entry.now) next (map (λ line. line.now) back.entry.now) answers.text.items answers.refused) }
-    { divided(rt, alloc, run, count, high, next, back) };
-    let (first, rest) = join(rt, ahead, after);
-    joined(first?, rest?)
+    let LineCrew {
+        team,
+        clock,
+        alloc,
+        count,
+    } = *crew;
+    let threads = team.size().min(lines.len()).max(1);
+    let shares = shares_of(alloc, threads, before, lines)?;
+    let answer = move |share: Share<'_>| -> Result<Answers, AllocError>
+        requires { share.before + length share.lines.now < 2 ^ 63 }
+        ensures { IfOk result (λ answers. AreAnswers (way run.entry.now) share.entry.before (map (λ line. line.now) share.entry.lines.now) answers.text.items answers.refused) }
+    {
+        answer_lines(
+            alloc,
+            &ByClock { clock },
+            run,
+            count,
+            share.before,
+            share.lines,
+        )
+    };
+    let answers = each_share(team, shares, &answer)?;
+    merged(alloc, answers)
 }

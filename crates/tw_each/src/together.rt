@@ -5,17 +5,25 @@ ghost use Rattle.tw_source.specs.Reply.{reply};
 ghost use Rattle.tw_each.specs.Ready.{IsEachInput, IsTextInput};
 ghost use Rattle.tw_each.specs.Reply.{RepliesByEach, RepliesByParts, close_of as close_of_is};
 
-use crate::input_lines::{LineParts, bytes_of, line_parts};
 use crate::line_count::LineCount;
 use crate::lines::{Answers, answer_lines};
+use crate::parts::parts_of;
 use crate::reply::{Ready, ReadyText, close_of, each_run, json_reply, ready_text};
 use crate::runs_line::WithoutClock;
+use crate::team::{LineCrew, LineTeam};
 use crate::threads::{LineThreads, divided};
 use std::alloc::{AllocError, Global};
 use std::thread::Threads;
 use std::time::Clock;
 use tw_order::{EachOrder, Source};
-use tw_source::{Close, Reply, fixed_reply, not_utf8_reply};
+use tw_source::{Close, Reply, cut_inputs, fixed_reply, not_utf8_reply};
+
+/// A program and the lines of inputs after it.
+#[derive(Drop)]
+pub(crate) struct LineParts<'a> {
+    pub(crate) program: &'a [u8],
+    pub(crate) lines: Vec<&'a [u8]>,
+}
 
 /// A program with lines of inputs, or the reply to what is none.
 #[derive(Drop)]
@@ -25,15 +33,19 @@ pub(crate) enum EachInput<'a> {
 }
 
 /// Splits a text into a program and the lines after it. Without a line `inputs` the command line is rejected.
-fn text_input<'a>(alloc: Global, text: &'a str) -> Result<EachInput<'a>, AllocError>
+fn text_input<'a>(alloc: Global, text: &'a [u8]) -> Result<EachInput<'a>, AllocError>
     ensures { IfOk result (IsTextInput text.entry.now) }
 {
-    let parts = line_parts(alloc, text)?;
-    if parts.has_inputs {
-        return Ok(EachInput::Parts(parts));
+    match cut_inputs(text) {
+        Some((program, inputs)) => {
+            let lines = parts_of(alloc, inputs)?;
+            Ok(EachInput::Parts(LineParts { program, lines }))
+        }
+        None => {
+            let reply = fixed_reply(alloc, "command line refused\n", Close::CommandLine)?;
+            Ok(EachInput::Rejected(reply))
+        }
     }
-    let reply = fixed_reply(alloc, "command line refused\n", Close::CommandLine)?;
-    Ok(EachInput::Rejected(reply))
 }
 
 /// Splits what is read into a program and the lines after it.
@@ -41,7 +53,7 @@ fn each_input<'a>(alloc: Global, input: &'a [u8]) -> Result<EachInput<'a>, Alloc
     ensures { IfOk result (IsEachInput input.entry.now) }
 {
     match str::from_utf8(input) {
-        Ok(text) => text_input(alloc, text),
+        Ok(_) => text_input(alloc, input),
         Err(_) => {
             let error = not_utf8_reply(alloc)?;
             let reply = json_reply(alloc, error)?;
@@ -62,21 +74,20 @@ fn answered_reply(answers: Answers) -> Reply
 }
 
 /// Reads a program, and runs it on each line, in threads.
-fn parts_reply<H: Threads + Clock + Sync>(
-    threads: &LineThreads<'_, H>,
+fn parts_reply<H: Threads + Sync, C: Clock + Sync>(
+    crew: &LineCrew<'_, H, C>,
     source: Source,
     order: &EachOrder,
     parts: &LineParts<'_>,
 ) -> Result<Reply, AllocError>
-    ensures { IfOk result (λ r. RepliesByParts source order.now parts.now.program.items (map (λ line. line.now) parts.now.lines.items) (reply r.text.items r.close)) }
+    requires { crew.now.team.now.jobs ≡ order.now.jobs }
+    ensures { IfOk result (λ r. RepliesByParts source order.now parts.now.program.now (map (λ line. line.now) parts.now.lines.items) (reply r.text.items r.close)) }
 {
-    let LineThreads { rt, alloc, count } = *threads;
-    let lines = bytes_of(alloc, &parts.lines)?;
-    let ReadyText { text, ready } = ready_text(alloc, source, order, &parts.program)?;
+    let ReadyText { text, ready } = ready_text(crew.alloc, source, order, parts.program)?;
     match ready {
         Ready::Run(verified) => {
             let run = each_run(&text, order, &verified);
-            let answers = divided(rt, alloc, &run, count, order.jobs, 0, &lines)?;
+            let answers = divided(crew, &run, 0, &parts.lines)?;
             Ok(answered_reply(answers))
         }
         Ready::Rejected(reply) => Ok(reply),
@@ -90,14 +101,20 @@ fn parts_reply_in_turn(
     order: &EachOrder,
     parts: &LineParts<'_>,
 ) -> Result<Reply, AllocError>
-    ensures { IfOk result (λ r. RepliesByParts source order.now parts.now.program.items (map (λ line. line.now) parts.now.lines.items) (reply r.text.items r.close)) }
+    ensures { IfOk result (λ r. RepliesByParts source order.now parts.now.program.now (map (λ line. line.now) parts.now.lines.items) (reply r.text.items r.close)) }
 {
-    let lines = bytes_of(alloc, &parts.lines)?;
-    let ReadyText { text, ready } = ready_text(alloc, source, order, &parts.program)?;
+    let ReadyText { text, ready } = ready_text(alloc, source, order, parts.program)?;
     match ready {
         Ready::Run(verified) => {
             let run = each_run(&text, order, &verified);
-            let answers = answer_lines(alloc, &WithoutClock, &run, &LineCount::new(), 0, &lines)?;
+            let answers = answer_lines(
+                alloc,
+                &WithoutClock,
+                &run,
+                &LineCount::new(),
+                0,
+                &parts.lines,
+            )?;
             Ok(answered_reply(answers))
         }
         Ready::Rejected(reply) => Ok(reply),
@@ -114,9 +131,17 @@ pub fn each_reply<H: Threads + Clock + Sync>(
 ) -> Result<Reply, AllocError>
     ensures { IfOk result (λ r. RepliesByEach source order.now input.now (reply r.text.items r.close)) }
 {
-    let given = each_input(threads.alloc, input)?;
+    let LineThreads { rt, alloc, count } = *threads;
+    let given = each_input(alloc, input)?;
+    let team = LineTeam::new(rt, order.jobs);
+    let crew = LineCrew {
+        team: &team,
+        clock: rt,
+        alloc,
+        count,
+    };
     match given {
-        EachInput::Parts(parts) => parts_reply(threads, source, order, &parts),
+        EachInput::Parts(parts) => parts_reply(&crew, source, order, &parts),
         EachInput::Rejected(reply) => Ok(reply),
     }
 }

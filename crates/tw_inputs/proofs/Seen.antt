@@ -3,20 +3,31 @@ use Rattle.std.proofs.Common.{◌≡◌, ◌+◌, ◌<◌, ℕ, zero, suc, List,
 use Rattle.std.specs.List.{Contains}
 use Rattle.std.specs.Prelude.{MatchOption}
 use Rattle.std.specs.declared.cmp.Ordering.{Ordering}
-use Rattle.std.proofs.lemmas.List.{length-map, length-take, map-append, map_more, take-append-drop}
+use Rattle.std.proofs.lemmas.List.{append-nil, length-map, length-take, map-append, map_more, take-append-drop}
 use Rattle.json.specs.Json.{Json, Members, number}
+use Rattle.json.specs.Print.{print, print_from, quoted}
+use Rattle.json.specs.Token.{Token}
 use Rattle.json.specs.Value.{members_view, value_view}
 use Rattle.json.specs.declared.value.Value.{Value, Number, the_lemmas}
 use Rattle.tw_types.specs.declared.input.Input.{Input}
 use Rattle.tw_types.specs.declared.input.Input.TheVariants.{Int}
 use Rattle.tw_types.specs.Nesting.{NestedScalar}
 use Rattle.tw_types.specs.declared.param.Param.{Param}
-use Rattle.tw_inputs.specs.JsonInputs.{AreInputsFrom, AreMembers, IsFirstBad, IsInput, NoMembers, entry_of, int_in, member_in, members_in, type_at}
+use Rattle.tw_inputs.specs.JsonInputs.{AreInputsFrom, AreMembers, IsFirstBad, IsInput, NoMembers, entries, entry_of, int_in, member_in, members_in, type_at}
 
 -- the members of a value are those of the JSON value that it shows
 pub seen_members : {A K V : Type 0} (key : List ℕ → Option K) (value : Json → Option V) (ms : List (Bor (List ℕ) × Value A)) → members_in key value (members_view ms) ≡ map (λ m. member_in key value (entry_of m)) ms
 seen_members key value [] = refl
 seen_members key value (m ∷ ms) = ap (λ es. member_in key value (entry_of m) ∷ es) (seen_members key value ms)
+
+pub members_counted : {A : Type 0} (ms : List (Bor (List ℕ) × Value A)) → length (entries (members_view ms)) ≡ length ms
+members_counted [] = refl
+members_counted (m ∷ ms) = omega (arith, members_counted ms)
+
+-- the text of a string alone
+pub string_printed : (s : List ℕ) → print (Token.string s ∷ []) ≡ quoted s
+unfolding print_from
+string_printed s = append-nil (quoted s)
 
 -- one more input
 pub inputs_more : (params : List Param) (index : ℕ) (js : List Json) (inputs : List Input) (j : Json) (given : Input) → AreInputsFrom params index js inputs → IsInput (type_at params (index + length js)) j given

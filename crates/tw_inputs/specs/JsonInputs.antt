@@ -109,9 +109,13 @@ AreInputsFrom params index [] (given ∷ inputs) = ⊥
 AreInputsFrom params index (j ∷ js) [] = ⊥
 AreInputsFrom params index (j ∷ js) (given ∷ inputs) = IsInput (type_at params index) j given × AreInputsFrom params (suc index) js inputs
 
--- holds if the text is an array of the inputs for these parameters
+-- holds if a JSON value is an array of the inputs for these parameters
+abbrev pub AreInputsOf : List Param → Option Json → List Input → Type 0
+AreInputsOf params found inputs = (js : List Json) × (found ≡ Some (array (items_of js))) × AreInputsFrom params 0 js inputs
+
+-- holds if the text is such an array
 abbrev pub AreInputsIn : List Param → List ℕ → List Input → Type 0
-AreInputsIn params text inputs = (js : List Json) × (json_in text ≡ Some (array (items_of js))) × AreInputsFrom params 0 js inputs
+AreInputsIn params text inputs = AreInputsOf params (json_in text) inputs
 
 -- ---- faults
 
@@ -136,16 +140,22 @@ IsBadItem params js NoMemory = Unit {0}
 abbrev pub IsNoArray : Json → Type 0
 IsNoArray j = (js : Items) → j ≡ array js → ⊥
 
--- items count from 1
-abbrev pub HasFaultAt : List Param → List ℕ → Place → Type 0
-HasFaultAt params text place.Text = json_in text ≡ None
-HasFaultAt params text place.Array = (j : Json) × (json_in text ≡ Some j) × IsNoArray j
-HasFaultAt params text (place.Item n) = (js : List Json) × (json_in text ≡ Some (array (items_of js))) × IsBadItem params js (At (place.Item n))
+-- holds for what of a JSON value, if there is one, has no inputs; items count from 1
+abbrev pub HasFaultOf : List Param → Option Json → Place → Type 0
+HasFaultOf params found place.Text = found ≡ None
+HasFaultOf params found place.Array = (j : Json) × (found ≡ Some j) × IsNoArray j
+HasFaultOf params found (place.Item n) = (js : List Json) × (found ≡ Some (array (items_of js))) × IsBadItem params js (At (place.Item n))
 
--- holds for the reason why the text has no inputs for these parameters
+abbrev pub HasFaultAt : List Param → List ℕ → Place → Type 0
+HasFaultAt params text at = HasFaultOf params (json_in text) at
+
+-- hold for the reason why a JSON value, or the text, has no inputs for these parameters
+abbrev pub HasNoInputs : List Param → Option Json → NoInputs → Type 0
+HasNoInputs params found (At place) = HasFaultOf params found place
+HasNoInputs params found NoMemory = Unit {0}
+
 abbrev pub HasFault : List Param → List ℕ → NoInputs → Type 0
-HasFault params text (At place) = HasFaultAt params text place
-HasFault params text NoMemory = Unit {0}
+HasFault params text why = HasNoInputs params (json_in text) why
 
 -- ---- lines of an error
 

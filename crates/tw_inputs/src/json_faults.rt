@@ -12,6 +12,10 @@ use tw_types::{DataType, Param, Scalar};
 /// The deepest nesting of arrays and objects. Inputs nest two deep, and each level takes 300 bytes of stack.
 pub(crate) const MOST_DEPTH: usize = 16;
 
+/// Says which members a line has that is an object.
+const TWO_MEMBERS: &str =
+    "expected two members: \"id\", a number or a string, and \"inputs\", an array";
+
 /// Returns the offset of the item after so many. If one of them is no JSON, it is the offset of what is at fault.
 fn item_offset(reader: &mut Reader<'_>, index: usize) -> usize {
     let _array = reader.next();
@@ -33,13 +37,38 @@ fn text_offset(reader: &mut Reader<'_>) -> usize {
     end
 }
 
+/// Reads up to the value of an object's first member of this name. Returns whether there is one, among at most so many members.
+fn find_member(reader: &mut Reader<'_>, name: &str, most: usize) -> bool {
+    let _object = reader.next();
+    for _ in 0..most {
+        match reader.next_key() {
+            Ok(Some(key)) if key == name => return true,
+            Ok(Some(_)) => {
+                if reader.skip_value(MOST_DEPTH).is_err() {
+                    return false;
+                }
+            }
+            _ => return false,
+        }
+    }
+    false
+}
+
+/// Returns whether a text begins like an object, and the reader is then at its value with this name, if it has one.
+fn enter(reader: &mut Reader<'_>, text: &str, name: &str) -> bool {
+    text.as_bytes().get(reader.offset()) == Some(&b'{') && find_member(reader, name, text.len())
+}
+
 /// Returns the offset of the fault.
 fn offset_of(text: &str, place: Place, scratch: &mut Scratch) -> Result<usize, AllocError> {
     let mut reader = Reader::new(text, scratch)?;
     match place {
         Place::Text => Ok(text_offset(&mut reader)),
         Place::Array => Ok(reader.offset()),
-        Place::Item(number) => Ok(item_offset(&mut reader, number.saturating_sub(1))),
+        Place::Item(number) => {
+            let _inputs = enter(&mut reader, text, "inputs");
+            Ok(item_offset(&mut reader, number.saturating_sub(1)))
+        }
     }
 }
 
@@ -117,6 +146,26 @@ fn put_place(
     put_numbered(alloc, out, ", column ", column)
 }
 
+/// Returns the lines of an error at an offset. The text's first line has the number `first`.
+fn lines_at(
+    alloc: Global,
+    text: &[u8],
+    place: Place,
+    first: usize,
+    offset: usize,
+    why: &str,
+) -> Result<Vec<u8>, AllocError>
+    ensures { IfOk result (λ out. IsFaultText place out.items) }
+{
+    let mut out = Vec::new(alloc);
+    put_first_line(alloc, &mut out, place)?;
+    put_place(alloc, &mut out, text, offset, first)?;
+    put(&mut out, ": ")?;
+    put(&mut out, why)?;
+    put(&mut out, "\n")?;
+    Ok(out)
+}
+
 /// Returns the lines of an error: which input of a text is refused, or that all are; and where and why. The text's first line has the number `first`.
 pub fn fault_text(
     alloc: Global,
@@ -130,11 +179,30 @@ pub fn fault_text(
 {
     let offset = offset_of(text, place, scratch)?;
     let bytes = text.as_bytes();
-    let mut out = Vec::new(alloc);
-    put_first_line(alloc, &mut out, place)?;
-    put_place(alloc, &mut out, bytes, offset, first)?;
-    put(&mut out, ": ")?;
-    put(&mut out, reason(params, place, bytes.get(offset).copied()))?;
-    put(&mut out, "\n")?;
-    Ok(out)
+    let why = reason(params, place, bytes.get(offset).copied());
+    lines_at(alloc, bytes, place, first, offset, why)
+}
+
+/// Returns whether a text is an object with a member of this name.
+fn has_member(text: &str, name: &str, scratch: &mut Scratch) -> Result<bool, AllocError> {
+    let mut reader = Reader::new(text, scratch)?;
+    Ok(enter(&mut reader, text, name))
+}
+
+/// Like `fault_text`, for the line with this number, which may be an object with an id.
+pub fn line_fault_text(
+    alloc: Global,
+    params: &[Param],
+    text: &str,
+    place: Place,
+    number: usize,
+    scratch: &mut Scratch,
+) -> Result<Vec<u8>, AllocError>
+    ensures { IfOk result (λ out. IsFaultText place out.items) }
+{
+    if matches!(place, Place::Array) && has_member(text, "id", scratch)? {
+        let offset = offset_of(text, place, scratch)?;
+        return lines_at(alloc, text.as_bytes(), place, number, offset, TWO_MEMBERS);
+    }
+    fault_text(alloc, params, text, place, number, scratch)
 }

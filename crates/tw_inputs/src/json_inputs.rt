@@ -75,7 +75,11 @@ pub fn type_at(params: &[Param], index: usize) -> DataType
 }
 
 /// Reads the inputs of an array's items.
-fn inputs_of(alloc: Global, params: &[Param], items: &[Json<'_>]) -> Result<Vec<Input>, NoInputs>
+pub(crate) fn inputs_of(
+    alloc: Global,
+    params: &[Param],
+    items: &[Json<'_>],
+) -> Result<Vec<Input>, NoInputs>
     ensures read { IfOk result (λ inputs. AreInputsFrom params.now 0 (map value_view items.now) inputs.items) }
     ensures fault { IfErr result (IsBadItem params.now (map value_view items.now)) }
 {
@@ -90,7 +94,11 @@ fn inputs_of(alloc: Global, params: &[Param], items: &[Json<'_>]) -> Result<Vec<
 }
 
 /// Reads a text's JSON value. Unlike `Json::parse` it takes `MOST_DEPTH`, since each level takes stack.
-fn json_in<'a>(alloc: Global, text: &'a str, scratch: &'a mut Scratch) -> Result<Json<'a>, Error>
+pub(crate) fn json_in<'a>(
+    alloc: Global,
+    text: &'a str,
+    scratch: &'a mut Scratch,
+) -> Result<Json<'a>, Error>
     ensures read { IfOk result (λ j. json_in text.entry.now ≡ Some (value_view j)) }
     ensures invalid { result ≡ Err invalid → json_in text.entry.now ≡ None }
 {

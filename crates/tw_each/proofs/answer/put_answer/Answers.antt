@@ -1,7 +1,14 @@
-use Rattle.std.proofs.Common.{◌++◌, ◌∙◌, ℕ, List, ap, string_bytes}
-use Rattle.tw_each.specs.Answers.{numbered}
+use Rattle.std.proofs.Common.{◌++◌, ◌∙◌, ℕ, List, Option, ap, string_bytes}
+use Rattle.tw_inputs.specs.JsonLines.{line_id}
+use Rattle.tw_each.specs.Answers.{labelled}
 use Rattle.tw_each.proofs.answer.put_answer.Goals as goal
 
 pub returns : goal.returns
 returns g c =
-    (string_bytes c.in_ok-answer.answer.line, c.in_ok-answer.ensures, c.in_ok-put_numbered_line.ensures ∙ ap (λ (l : List ℕ). c.args.out.now.items ++ numbered c.args.number l) c.as_bytes.ensures.value)
+    let before = c.args.out.now.items in
+    let line = string_bytes c.in_ok-answer.answer.line in
+    let text_is = ap (λ (l : List ℕ). before ++ labelled c.args.number (line_id c.args.text.now) l) c.as_bytes.ensures.value in (
+      line,
+      c.in_ok-answer.ensures,
+      c.in_ok-put_labelled_line.ensures ∙ ap (λ (id : Option (List ℕ)). before ++ labelled c.args.number id c.as_bytes.result.now) c.in_ok-id.ensures.id ∙ text_is,
+    )

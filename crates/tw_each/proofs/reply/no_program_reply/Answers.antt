@@ -13,4 +13,6 @@ returns c =
     let input = c.args.input.now in
     let why = c.args.why in
     IfOk-weaker _ _ (λ r. (source : Source) → (why ≢ NoMemory → SpellsNone source input why) → IsNoProgram source input (reply r.text.items r.close))
-    (λ r h source none. (reply c.in_ok-error.error.text.items c.in_ok-error.error.close, why, (made.1 source (none made.0)).0, none made.0, (made.1 source (none made.0)).1, (made.1 source (none made.0)).2, h)) c.json_reply.ensures
+    (λ r h source none.
+    let printed = made.1 source (none made.0) in
+    (reply c.in_ok-error.error.text.items c.in_ok-error.error.close, why, printed.0, printed.1, none made.0, printed.2, printed.3, printed.4, h)) c.json_reply.ensures

@@ -1,14 +1,12 @@
-use Rattle.std.proofs.Common.{List, ℕ, ap, inl, inr, subst, ◌∙◌}
+use Rattle.std.proofs.Common.{ap, inl, inr, ◌∙◌}
 use Rattle.std.proofs.lemmas.Result.{IfOk-weaker}
-use Rattle.tw_each.specs.Ready.{IsEachInput, IsTextInput}
+use Rattle.tw_each.specs.Ready.{IsEachInput}
 use Rattle.tw_each.specs.Reply.{json_reply}
 use Rattle.tw_each.specs.declared.together.EachInput.{EachInput}
 use Rattle.tw_each.proofs.together.each_input.Goals as goal
 
 pub returns-in-Ok : goal.returns-in-Ok
-returns-in-Ok c =
-    let text = c.in-Ok.ensures.cases in
-    IfOk-weaker _ _ (IsEachInput c.args.input.now) (λ (r : EachInput) h. inl (text.1, subst (λ (t : List ℕ). IsTextInput t r) text.0 h)) c.text_input.ensures
+returns-in-Ok c = IfOk-weaker _ _ (IsEachInput c.args.input.now) (λ (r : EachInput) h. inl (c.in-Ok.ensures.cases.1, h)) c.text_input.ensures
 
 pub returns-in_ok-reply-in-Err : goal.returns-in_ok-reply-in-Err
 returns-in_ok-reply-in-Err c = inr (c.in-Err.ensures.cases.0, c.in_ok-reply-in-Err.ensures ∙ ap json_reply c.in_ok-error-in-Err.ensures)

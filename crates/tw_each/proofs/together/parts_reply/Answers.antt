@@ -1,4 +1,4 @@
-use Rattle.std.proofs.Common.{◌≡◌, ◌∙◌, Bor, ℕ, List, ap, map, subst}
+use Rattle.std.proofs.Common.{◌≡◌, Bor, ℕ, List, ap, map, subst}
 use Rattle.tw_source.specs.Reply.{reply}
 use Rattle.tw_source.specs.Source.{text_of}
 use Rattle.tw_each.specs.Answers.{AreAnswers, way}
@@ -12,15 +12,14 @@ returns-in-Run g c =
     let now = map (λ (line : Bor (List ℕ)). line.now) in
     let source = c.args.source in
     let order = c.args.order.now in
-    let input = c.args.parts.now.program.items in
+    let input = c.args.parts.now.program.now in
     let given = now c.args.parts.now.lines.items in
     let text = text_of c.in_ok-text.field-0.text in
     let run = way c.each_run-run.result in
     let answers = c.in_ok-answers-in-Run.answers in
     let printed = reply c.answered_reply.result.text.items c.answered_reply.result.close in
-    let same : now c.deref-in-Run.result.now ≡ given = ap now c.deref-in-Run.ensures.value ∙ c.in_ok-lines.ensures ∙ ap now c.deref.ensures.value in
-    let read = subst (λ (i : List ℕ). IsReadyText source order i text c.in_ok-text.field-0.ready) c.deref-2.ensures.value c.in_ok-text.ensures in
-    let ready = subst (λ (next : Ready). IsReadyText source order input text next) c.in-Run.is read in
+    let same : now c.deref.result.now ≡ given = ap now c.deref.ensures.value in
+    let ready = subst (λ (next : Ready). IsReadyText source order input text next) c.in-Run.is c.in_ok-text.ensures in
     let made = subst (λ (ls : List (List ℕ)). AreAnswers run 0 ls answers.text.items answers.refused) same c.in_ok-answers-in-Run.ensures in
     answered source order input given text c.in-Run.verified run answers.text.items answers.refused printed ready c.each_run-run.ensures made c.answered_reply.ensures.text c.answered_reply.ensures.close
 
@@ -29,6 +28,5 @@ returns g c =
     let source = c.args.source in
     let order = c.args.order.now in
     let text = text_of c.in_ok-text.field-0.text in
-    let read = subst (λ (i : List ℕ). IsReadyText source order i text c.in_ok-text.field-0.ready) c.deref-2.ensures.value c.in_ok-text.ensures in
-    let ready = subst (λ (next : Ready). IsReadyText source order c.args.parts.now.program.items text next) c.in-Rejected.is read in
-    rejected source order c.args.parts.now.program.items (map (λ (line : Bor (List ℕ)). line.now) c.args.parts.now.lines.items) (reply c.in-Rejected.reply.text.items c.in-Rejected.reply.close) ready
+    let ready = subst (λ (next : Ready). IsReadyText source order c.args.parts.now.program.now text next) c.in-Rejected.is c.in_ok-text.ensures in
+    rejected source order c.args.parts.now.program.now (map (λ (line : Bor (List ℕ)). line.now) c.args.parts.now.lines.items) (reply c.in-Rejected.reply.text.items c.in-Rejected.reply.close) ready

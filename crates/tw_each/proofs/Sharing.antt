@@ -1,0 +1,86 @@
+-- Shares of lines, and what threads answer to them.
+use Rattle.std.proofs.Common.{◌≡◌, ◌+◌, ◌^◌, ◌<◌, ◌≤◌, ◌++◌, ◌||◌, ◌∙◌, ℕ, zero, suc, Bool, Bor, false, List, [], ◌∷◌, Ok, Err, Result, arith, ap, append_assoc, drop, length, map, refl, subst, sym, take}
+use Rattle.std.specs.Prelude.{IfOk, slice_index_or}
+use Rattle.std.proofs.Math.Seq.{take-add}
+use Rattle.std.proofs.lemmas.List.{append-nil, length-append, length-map, length-take-le, map-append, take-append-drop}
+use Rattle.std.specs.declared.alloc.AllocError.{AllocError}
+use Rattle.tw_each.specs.Answers.{AreAnswers, Way}
+use Rattle.tw_each.specs.Shares.{AreMerged, AreShares}
+use Rattle.tw_each.proofs.LineAnswers.{answers_joined, or_assoc, or_false}
+use Rattle.tw_each.specs.declared.lines.Answers.{Answers}
+use Rattle.tw_each.specs.declared.shares.Share.{Share}
+
+-- one share more
+pub shares_more : (before : ℕ) (front : List (Bor (List ℕ))) (shares : List Share) (share : Share) → AreShares before front shares → share.before ≡ before + length front → AreShares before (front ++ share.lines.now) (shares ++ share ∷ [])
+shares_more before front [] share none at = ([], omega (arith, at, ap length none), ap (λ (f : List (Bor (List ℕ))). f ++ share.lines.now) none ∙ sym (append-nil share.lines.now), refl)
+shares_more before front (s ∷ shares) share (others, first, is, rest) at =
+    let long : length front ≡ length s.lines.now + length others = ap length is ∙ length-append s.lines.now others in
+    let more = shares_more (before + length s.lines.now) others shares share rest (omega (arith, at, long)) in
+    (others ++ share.lines.now, first, ap (λ (f : List (Bor (List ℕ))). f ++ share.lines.now) is ∙ append_assoc s.lines.now others share.lines.now, more)
+
+-- a share's lines are within all lines
+pub share_fits : (before : ℕ) (lines : List (Bor (List ℕ))) (shares : List Share) (i : ℕ) (x : Share) → AreShares before lines shares → before + length lines < 2 ^ 63 → i < length shares → x ≡ slice_index_or shares i x
+    → x.before + length x.lines.now < 2 ^ 63
+share_fits before lines [] i x h fits lt is = absurd (omega (arith, lt))
+share_fits before lines (s ∷ shares) zero x (others, first, parts, rest) fits lt is =
+    let long : length lines ≡ length s.lines.now + length others = ap length parts ∙ length-append s.lines.now others in
+    subst (λ (y : Share). y.before + length y.lines.now < 2 ^ 63) (sym is) (omega (arith, first, long, fits))
+share_fits before lines (s ∷ shares) (suc i) x (others, first, parts, rest) fits lt is =
+    let long : length lines ≡ length s.lines.now + length others = ap length parts ∙ length-append s.lines.now others in
+    share_fits (before + length s.lines.now) others shares i x rest (omega (arith, long, fits)) (omega (arith, lt)) is
+
+-- the answers of all shares are those to all lines
+pub shares_answered : (w : Way) (before : ℕ) (lines : List (Bor (List ℕ))) (shares : List Share) (results : List (Result Answers AllocError)) (text : List ℕ) (refused : Bool) → AreShares before lines shares → length results ≡ length shares
+    → ((i : ℕ) (s : Share) (r : Result Answers AllocError) → i < length shares → slice_index_or shares i s ≡ s → slice_index_or results i r ≡ r → IfOk r (λ a. AreAnswers w s.before (map (λ l. l.now) s.lines.now) a.text.items a.refused))
+    → AreMerged results text refused → AreAnswers w before (map (λ l. l.now) lines) text refused
+shares_answered w before lines [] [] text refused none same each merged = subst (λ (ls : List (Bor (List ℕ))). AreAnswers w before (map (λ l. l.now) ls) text refused) (sym none) merged
+shares_answered w before lines [] (r ∷ results) text refused none same each merged = absurd (omega (arith, same))
+shares_answered w before lines (s ∷ shares) [] text refused h same each merged = absurd (omega (arith, same))
+shares_answered w before lines (s ∷ shares) (Err why ∷ results) text refused h same each merged = absurd merged
+shares_answered w before lines (s ∷ shares) (Ok answers ∷ results) text refused (others, first, parts, rest) same each (more, any, are, text_is, refused_is) =
+    let f = λ (l : Bor (List ℕ)). l.now in
+    let here = subst (λ (n : ℕ). AreAnswers w n (map f s.lines.now) answers.text.items answers.refused) first (each 0 s (Ok answers) (omega arith) refl refl) in
+    let later = shares_answered w (before + length s.lines.now) others shares results more any rest (omega (arith, same)) (λ i t r lt is got. each (suc i) t r (omega (arith, lt)) is got) are in
+    let after = subst (λ (n : ℕ). AreAnswers w (before + n) (map f others) more any) (sym (length-map s.lines.now f)) later in
+    let joined = answers_joined w before (map f s.lines.now) (map f others) answers.text.items more answers.refused any here after in
+    let split : map f s.lines.now ++ map f others ≡ map f lines = sym (ap (map f) parts ∙ map-append f s.lines.now others) in
+    subst (λ (r : Bool). AreAnswers w before (map f lines) text r) (sym refused_is)
+    (subst (λ (t : List ℕ). AreAnswers w before (map f lines) t (answers.refused || any)) (sym text_is)
+    (subst (λ (ls : List (List ℕ)). AreAnswers w before ls (answers.text.items ++ more) (answers.refused || any)) split joined))
+
+-- the answers of one share more
+pub merged_more : (results : List (Result Answers AllocError)) (answers : Answers) (text : List ℕ) (refused : Bool) → AreMerged results text refused → AreMerged (results ++ Ok answers ∷ []) (text ++ answers.text.items) (refused || answers.refused)
+merged_more [] answers text refused (none, well) =
+    ([], false, (refl, refl), ap (λ (t : List ℕ). t ++ answers.text.items) none ∙ sym (append-nil answers.text.items), ap (λ (r : Bool). r || answers.refused) well ∙ sym (or_false answers.refused))
+merged_more (Err why ∷ results) answers text refused merged = absurd merged
+merged_more (Ok first ∷ results) answers text refused (rest, others, are, text_is, refused_is) = (
+  rest ++ answers.text.items,
+  others || answers.refused,
+  merged_more results answers rest others are,
+  ap (λ (t : List ℕ). t ++ answers.text.items) text_is ∙ append_assoc first.text.items rest answers.text.items,
+  ap (λ (r : Bool). r || answers.refused) refused_is ∙ sym (or_assoc first.refused others answers.refused),
+)
+
+pub one_merged_more : (results : List (Result Answers AllocError)) (r : Result Answers AllocError) (answers : Answers) (text new : List ℕ) (refused any : Bool) → AreMerged results text refused → r ≡ Ok answers → new ≡ text ++ answers.text.items
+    → any ≡ (refused || answers.refused) → AreMerged (results ++ r ∷ []) new any
+one_merged_more results r answers text new refused any h is text_is any_is =
+    let more = merged_more results answers text refused h in
+    subst (λ (x : Result Answers AllocError). AreMerged (results ++ x ∷ []) new any) (sym is)
+    (subst (λ (t : List ℕ). AreMerged (results ++ Ok answers ∷ []) t any) (sym text_is) (subst (λ (b : Bool). AreMerged (results ++ Ok answers ∷ []) (text ++ answers.text.items) b) (sym any_is) more))
+
+-- so many lines more are shared
+pub one_share_more : (before done : ℕ) (lines rest : List (Bor (List ℕ))) (shares new : List Share) (share : Share) → done ≤ length lines → rest ≡ drop done lines → share.lines.now ≡ take (length share.lines.now) rest
+    → share.before ≡ before + done → AreShares before (take done lines) shares → new ≡ shares ++ share ∷ [] → AreShares before (take (done + length share.lines.now) lines) new
+one_share_more before done lines rest shares new share within is part at h made =
+    let some = length share.lines.now in
+    let front : take (done + some) lines ≡ take done lines ++ share.lines.now = take-add done some lines ∙ ap (λ (l : List (Bor (List ℕ))). take done lines ++ l) (sym (part ∙ ap (take some) is)) in
+    let more = shares_more (before) (take done lines) shares share h (omega (arith, at, length-take-le done lines within)) in
+    subst (λ (ss : List Share). AreShares before (take (done + some) lines) ss) (sym made) (subst (λ (ls : List (Bor (List ℕ))). AreShares before ls (shares ++ share ∷ [])) (sym front) more)
+
+-- all lines are shared, if the last share has those that are left
+pub last_share : (before done : ℕ) (lines : List (Bor (List ℕ))) (shares new : List Share) (share : Share) → done ≤ length lines → share.lines.now ≡ drop done lines → share.before ≡ before + done → AreShares before (take done lines) shares
+    → new ≡ shares ++ share ∷ [] → AreShares before lines new
+last_share before done lines shares new share within is at h made =
+    let all : take done lines ++ share.lines.now ≡ lines = ap (λ (l : List (Bor (List ℕ))). take done lines ++ l) is ∙ take-append-drop done lines in
+    let more = shares_more before (take done lines) shares share h (omega (arith, at, length-take-le done lines within)) in
+    subst (λ (ss : List Share). AreShares before lines ss) (sym made) (subst (λ (ls : List (Bor (List ℕ))). AreShares before ls (shares ++ share ∷ [])) all more)
