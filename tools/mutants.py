@@ -79,7 +79,7 @@ MUTANTS = (
     Mutant("help_reads_a_terminal", "main", MAIN + "hints.rt", "    if requests_help(words) {", "    if requests_help(words) && !@help_reads_a_terminal@ {"),
     Mutant("errors_have_no_hint", "main", MAIN + "hints.rt", "            print_error_hint(stderr, answered, &failure)\n", "            if @errors_have_no_hint@ { Ok(()) } else { print_error_hint(stderr, answered, &failure) }\n"),
     Mutant("hex_text_has_no_hint", "main", MAIN + "hints.rt", "if answered.reads_input && ", "if answered.reads_input && !@hex_text_has_no_hint@ && "),
-    Mutant("files_are_standard_input", "main", MAIN + "tool.rt", "self.hold(words, &mut reader, unnamed, false)", "self.hold(words, &mut reader, unnamed, @files_are_standard_input@)"),
+    Mutant("files_are_standard_input", "main", MAIN + "tool.rt", "given, &mut writer);\n        self.advise(words, status, unnamed, false)", "given, &mut writer);\n        self.advise(words, status, unnamed, @files_are_standard_input@)"),
     Mutant("commands_have_no_hint", "main", MAIN + "hints.rt", "if tw_cli::reads_program(command.as_str()) => {", "if !@commands_have_no_hint@ && tw_cli::reads_program(command.as_str()) => {"),
     Mutant("pictures_have_no_limit", "main", MAIN + "hints.rt", "if draws(answered.words) => {", "if draws(answered.words) && !@pictures_have_no_limit@ => {"),
     Mutant("comments_hide_no_names", "main", MAIN + "symbolic.rt", "line.split(';').next().unwrap_or(\"\").trim()", "(if @comments_hide_no_names@ { line } else { line.split(';').next().unwrap_or(\"\") }).trim()"),

@@ -1,4 +1,4 @@
--- The input of a session and its arguments, if files are named.
+-- The arguments of a session and what it is given, if files are named.
 use Rattle.std.specs.Prelude.{◌≡◌, ◌≢◌, ◌⊎◌, ◌==◌, ◌++◌, ◌||◌, ◌&&◌, ℕ, Bool, true, false, not, List, [], ◌∷◌, Option, Some, None, codes, is_some, length, unwrap_or, if◌then◌else◌}
 use Rattle.std.specs.List.{list_any}
 use Rattle.std.specs.Option.{option_map_or}
@@ -23,19 +23,9 @@ has_inputs program = list_any begins_inputs (lines_in program)
 abbrev pub reads_trace : List ℕ → Bool
 reads_trace command = bytes_eq command (codes "replay") || bytes_eq command (codes "picture")
 
--- returns a program, a line `inputs` and the inputs
-abbrev pub with_inputs : List ℕ → List ℕ → List ℕ
-with_inputs program inputs = program ++ (codes "\ninputs\n" ++ inputs)
-
 -- returns whether a program's file has no trace for a command, by the part of it before the trace
 abbrev pub is_untraced : List ℕ → List ℕ → List ℕ → Bool
 is_untraced command program before = not (reads_trace command) || length before == length program
-
--- holds for a program with its inputs; a trace follows both
-abbrev pub IsJoined : List ℕ → List ℕ → List ℕ → List ℕ → Type 0
-IsJoined command program inputs whole =
-    (before after : List ℕ) × AreParts program before after
-    × (whole ≡ (if is_untraced command program before then with_inputs program inputs else with_inputs before inputs ++ (codes "\nevents\n" ++ after)))
 
 -- ---- the arguments
 
@@ -124,16 +114,30 @@ events_name command untraced n =
 abbrev pub separate_events : List ℕ → Bool → Naming → Option (List ℕ)
 separate_events command untraced n = file_beside (takes_input n) (events_name command untraced n)
 
+-- returns whether the trace follows the inputs in their file
+abbrev pub follows_inputs : List ℕ → Bool → Naming → Bool
+follows_inputs command untraced n =
+    is_some (joined_inputs n) && (is_some (events_name command untraced n) && not (is_some (separate_events command untraced n)))
+
 -- returns whether any file is to be opened; for help, none is
 abbrev pub opens_files : List ℕ → Naming → Bool
 opens_files command n = (is_some n.program || (is_some (separate_inputs n) || is_some (separate_events command false n))) && not (requests_help n.others)
 
 -- ---- what a session gets
 
--- holds for a program, and the inputs if they are in a file of their own
-abbrev pub IsInput : (List ℕ → List ℕ → Type 0) → List ℕ → Option (List ℕ) → List ℕ → List ℕ → Type 0
-IsInput Holds command None program input = input ≡ program
-IsInput Holds command (Some path) program input = (inputs : List ℕ) × Holds path inputs × IsJoined command program inputs input
+-- the contents of files: a program, and the inputs and the events of a trace if they have files of their own; whether the trace follows the
+-- inputs in theirs
+pub record Contents : Type 0 where
+  pub program : List ℕ
+  pub inputs : Option (List ℕ)
+  pub trace : Option (List ℕ)
+  pub follows : Bool
+
+-- holds for the content of a file, if one is named
+abbrev pub AreHeld : (List ℕ → List ℕ → Type 0) → Option (List ℕ) → Option (List ℕ) → Type 0
+AreHeld Holds None bytes = bytes ≡ None
+AreHeld Holds (Some path) None = ⊥
+AreHeld Holds (Some path) (Some bytes) = Holds path bytes
 
 -- holds for what the lines after a line `events` are, if a file has one; an empty file has none, and no events
 abbrev pub HasEvents : List ℕ → List ℕ → Type 0
@@ -143,11 +147,11 @@ HasEvents trace events = (before : List ℕ) × AreParts trace before events × 
 abbrev pub HasNoEvents : List ℕ → Type 0
 HasNoEvents trace = (after : List ℕ) × (before : List ℕ) × AreParts trace before after × (length before ≡ length trace) × (trace ≢ [])
 
--- holds for a session's input before the trace, and with it, if it is in a file of its own
-abbrev pub IsTraced : (List ℕ → List ℕ → Type 0) → Option (List ℕ) → List ℕ → List ℕ → Type 0
-IsTraced Holds None whole input = input ≡ whole
-IsTraced Holds (Some path) whole input =
-    (trace : List ℕ) × (events : List ℕ) × Holds path trace × HasEvents trace events × (input ≡ whole ++ (codes "\nevents\n" ++ events))
+-- holds for the events in a trace's file, if one is named
+abbrev pub IsTraceHeld : (List ℕ → List ℕ → Type 0) → Option (List ℕ) → Option (List ℕ) → Type 0
+IsTraceHeld Holds None events = events ≡ None
+IsTraceHeld Holds (Some path) None = ⊥
+IsTraceHeld Holds (Some path) (Some events) = (trace : List ℕ) × Holds path trace × HasEvents trace events
 
 -- holds if inputs are in a file of their own, and the program's file has some, too
 abbrev pub HasInputsTwice : Naming → List ℕ → Type 0
@@ -169,31 +173,27 @@ IsTraceless Holds trace InputsTwice = ⊥
 IsTraceless Holds trace EventsTwice = ⊥
 IsTraceless Holds trace NoEvents = (path : List ℕ) × (bytes : List ℕ) × (trace ≡ Some path) × Holds path bytes × HasNoEvents bytes
 
--- holds for the bytes that a session reads, by the program and the files of its inputs and of the trace
-abbrev pub IsWhole : (List ℕ → List ℕ → Type 0) → List ℕ → Option (List ℕ) → Option (List ℕ) → List ℕ → List ℕ → Type 0
-IsWhole Holds command inputs trace program input =
-    (whole : List ℕ) × IsInput Holds command inputs program whole × IsTraced Holds trace whole input
-
--- holds for the arguments and the bytes of a session, by the program and whether its file has no trace
-abbrev pub IsRead : (List ℕ → List ℕ → Type 0) → List ℕ → Bool → Naming → List ℕ → List (List ℕ) → Option (List ℕ) → Type 0
+-- holds for the arguments of a session and what it is given, by the program and whether its file has no trace
+abbrev pub IsRead : (List ℕ → List ℕ → Type 0) → List ℕ → Bool → Naming → List ℕ → List (List ℕ) → Option Contents → Type 0
 IsRead Holds command untraced n program words None = ⊥
-IsRead Holds command untraced n program words (Some input) =
+IsRead Holds command untraced n program words (Some contents) =
     (words ≡ session_words command n.program (draws_run command untraced (separate_events command untraced n)) program n.others)
-    × IsWhole Holds command (joined_inputs n) (separate_events command untraced n) program input
+    × (contents.program ≡ program) × AreHeld Holds (joined_inputs n) contents.inputs × IsTraceHeld Holds (separate_events command untraced n) contents.trace
+    × (contents.follows ≡ follows_inputs command untraced n)
 
 -- holds for a program in its file, and whether that has no trace for the command
 abbrev pub IsProgram : (List ℕ → List ℕ → Type 0) → List ℕ → Naming → List ℕ → Bool → Type 0
 IsProgram Holds command n program untraced =
     Holds (program_path n) program × ((before after : List ℕ) × AreParts program before after × (untraced ≡ is_untraced command program before))
 
--- Holds for what a session gets, by what the arguments after the command name: its arguments, and its input, if that isn't standard input. `Holds` says
--- what is in a file.
-abbrev pub IsSessionInput : (List ℕ → List ℕ → Type 0) → List ℕ → Naming → List (List ℕ) → Option (List ℕ) → Type 0
+-- Holds for what a session gets, by what the arguments after the command name: its arguments, and what its files hold, if it doesn't read standard
+-- input. `Holds` says what is in a file.
+abbrev pub IsSessionInput : (List ℕ → List ℕ → Type 0) → List ℕ → Naming → List (List ℕ) → Option Contents → Type 0
 IsSessionInput Holds command n words None = (opens_files command n ≡ Bool.false) × (words ≡ command ∷ n.others)
-IsSessionInput Holds command n words (Some input) =
+IsSessionInput Holds command n words (Some contents) =
     (opens_files command n ≡ Bool.true)
     × ((program : List ℕ) × (untraced : Bool) × IsProgram Holds command n program untraced
-    × (HasInputsTwice n program → ⊥) × (HasEventsTwice command untraced n → ⊥) × IsRead Holds command untraced n program words (Some input))
+    × (HasInputsTwice n program → ⊥) × (HasEventsTwice command untraced n → ⊥) × IsRead Holds command untraced n program words (Some contents))
 
 -- holds if the files that the arguments name don't fit each other, for this reason
 abbrev pub AreMisfits : (List ℕ → List ℕ → Type 0) → List ℕ → Naming → Misfit → Type 0

@@ -2,13 +2,13 @@
 
 ghost use Rattle.std.specs.Prelude.{◌≡◌, MatchOption};
 ghost use Rattle.std.specs.Option.{option_map};
-ghost use Rattle.tw_files.specs.Input.{HasEventsTwice, HasInputsTwice, IsTwice, draws_run as draws_run_is, events_name as events_name_is, expects_trace as expects_trace_is, file_beside as file_beside_is, has_lines as has_lines_is, joined_inputs as joined_inputs_is, opens_files as opens_files_is, program_path as program_path_is, separate_events as separate_events_is, separate_inputs as separate_inputs_is, separate_lines as separate_lines_is, takes_input as takes_input_is, takes_program as takes_program_is};
+ghost use Rattle.tw_files.specs.Input.{HasEventsTwice, HasInputsTwice, IsTwice, draws_run as draws_run_is, events_name as events_name_is, expects_trace as expects_trace_is, file_beside as file_beside_is, follows_inputs as follows_inputs_is, has_lines as has_lines_is, joined_inputs as joined_inputs_is, opens_files as opens_files_is, program_path as program_path_is, separate_events as separate_events_is, separate_inputs as separate_inputs_is, separate_lines as separate_lines_is, takes_input as takes_input_is, takes_program as takes_program_is};
 ghost use Rattle.tw_files.specs.Seen.{seen};
 
 use crate::arguments::{has_word, reads_trace, requests_help};
-use crate::joining::has_inputs;
 use crate::naming::Naming;
 use crate::opening::Misfit;
+use crate::sections::has_inputs;
 
 /// The name of standard input.
 const STANDARD_INPUT: &str = "-";
@@ -110,6 +110,15 @@ impl<'a> Naming<'a> {
         ensures { option_map (λ path. path.now) result ≡ separate_events_is command.now is_untraced (seen self.now) }
     {
         file_beside(self.takes_input(), self.events_name(command, is_untraced))
+    }
+
+    /// Returns whether the trace follows the inputs in their file.
+    pub fn follows_inputs(&self, command: &str, is_untraced: bool) -> bool
+        ensures { result ≡ follows_inputs_is command.now is_untraced (seen self.now) }
+    {
+        self.joined_inputs().is_some()
+            && (self.events_name(command, is_untraced).is_some()
+                && self.separate_events(command, is_untraced).is_none())
     }
 
     /// Returns whether a run is drawn in place of a trace.

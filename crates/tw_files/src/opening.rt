@@ -2,15 +2,15 @@
 
 ghost use Rattle.std.specs.Prelude.{◌≡◌, ◌++◌, ℕ, List, ⊤, true, IfOk, IfErr, IfSome, OnErr, map, string_bytes};
 ghost use Rattle.std.specs.Option.{option_map};
-ghost use Rattle.tw_files.specs.Input.{AreMisfits, IsInput, IsRead, IsSessionInput, IsTraced, IsTraceless, IsWhole, command_words, opens_files as opens_files_is, separate_events as separate_events_is, separate_lines as separate_lines_is};
+ghost use Rattle.tw_files.specs.Input.{AreHeld, AreMisfits, IsRead, IsSessionInput, IsTraceHeld, IsTraceless, command_words, opens_files as opens_files_is, separate_events as separate_events_is, separate_lines as separate_lines_is};
 ghost use Rattle.tw_files.specs.Naming.{naming_of as naming_of_is};
 ghost use Rattle.tw_files.specs.Opening.{IsReason};
-ghost use Rattle.tw_files.specs.Seen.{seen};
+ghost use Rattle.tw_files.specs.Seen.{seen, seen_contents};
 ghost use Rattle.tw_files.specs.declared.opening.NoInput.TheVariants.{NoMemory};
 
 use crate::arguments::{plain_words, session_words};
-use crate::joining::{events_in, has_no_trace, joined, with_events};
 use crate::naming::{Naming, naming_of};
+use crate::sections::{events_in, has_no_trace};
 use std::alloc::{AllocError, Global};
 use std::io;
 use std::io::ErrorKind;
@@ -29,13 +29,25 @@ pub trait InputFiles {
         ensures failed { OnErr result (Fails self.now path.now) };
 }
 
+/// The contents of the files of a command.
+#[derive(Drop)]
+pub struct Contents {
+    pub program: Vec<u8>,
+    /// The inputs, if they are in a file of their own.
+    pub inputs: Option<Vec<u8>>,
+    /// The events of a trace, if it is in a file of its own.
+    pub trace: Option<Vec<u8>>,
+    /// Whether the trace follows the inputs in their file (`followed`).
+    pub trace_follows: bool,
+}
+
 /// The arguments and the input of a session.
 #[derive(Drop)]
 pub struct SessionInput<'a> {
     /// Its arguments.
     pub words: Vec<String>,
-    /// Its input; none is standard input.
-    pub bytes: Option<Vec<u8>>,
+    /// The contents of its files; without any, it reads standard input.
+    pub contents: Option<Contents>,
     /// The file of the lines of `--each`, which isn't read.
     pub lines: Option<&'a str>,
 }
@@ -81,64 +93,42 @@ fn read<'a, F: InputFiles>(files: &F, alloc: Global, path: &'a str) -> Result<Ve
     }
 }
 
-/// Reads inputs, if they are in a file of their own, and joins them to a program.
-fn with_inputs_of<'a, F: InputFiles>(
+/// Reads inputs, if they are in a file of their own.
+fn inputs_of<'a, F: InputFiles>(
     files: &F,
     alloc: Global,
-    command: &str,
-    inputs: Option<&'a str>,
-    program: Vec<u8>,
-) -> Result<Vec<u8>, NoInput<'a>>
-    ensures bytes { IfOk result (λ input. IsInput (F.Holds files.now) command.now (option_map (λ path. path.now) inputs.entry) program.items input.items) }
+    path: Option<&'a str>,
+) -> Result<Option<Vec<u8>>, NoInput<'a>>
+    ensures bytes { IfOk result (λ inputs. AreHeld (F.Holds files.now) (option_map (λ path. path.now) path.entry) (option_map (λ bytes. bytes.items) inputs)) }
     ensures failed { IfErr result (IsReason (F.Fails files.now) (λ why. ⊥)) }
 {
-    match inputs {
-        Some(path) => {
-            let given = read(files, alloc, path)?;
-            let whole = joined(alloc, command, &program, &given)?;
-            Ok(whole)
-        }
-        None => Ok(program),
-    }
+    let Some(path) = path else {
+        return Ok(None);
+    };
+    let inputs = read(files, alloc, path)?;
+    Ok(Some(inputs))
 }
 
-/// Reads a trace, if it is in a file of its own, and adds it.
-fn with_trace_of<'a, F: InputFiles>(
+/// Reads the events of a trace, if it is in a file of its own.
+fn trace_of<'a, F: InputFiles>(
     files: &F,
     alloc: Global,
-    trace: Option<&'a str>,
-    whole: Vec<u8>,
-) -> Result<Vec<u8>, NoInput<'a>>
-    ensures bytes { IfOk result (λ input. IsTraced (F.Holds files.now) (option_map (λ path. path.now) trace.entry) whole.items input.items) }
-    ensures failed { IfErr result (IsReason (F.Fails files.now) (IsTraceless (F.Holds files.now) (option_map (λ path. path.now) trace.entry))) }
+    path: Option<&'a str>,
+) -> Result<Option<Vec<u8>>, NoInput<'a>>
+    ensures bytes { IfOk result (λ trace. IsTraceHeld (F.Holds files.now) (option_map (λ path. path.now) path.entry) (option_map (λ bytes. bytes.items) trace)) }
+    ensures failed { IfErr result (IsReason (F.Fails files.now) (IsTraceless (F.Holds files.now) (option_map (λ path. path.now) path.entry))) }
 {
-    let Some(path) = trace else {
-        return Ok(whole);
+    let Some(path) = path else {
+        return Ok(None);
     };
     let trace = read(files, alloc, path)?;
     match events_in(&trace) {
         Some(events) => {
-            let all = with_events(whole, events)?;
-            Ok(all)
+            let events = Vec::from_slice(alloc, events)?;
+            Ok(Some(events))
         }
         None => Err(NoInput::Misfit(path, Misfit::NoEvents)),
     }
-}
-
-/// Returns the bytes that a session reads, by the files of the inputs and of the trace.
-fn whole_input<'a, F: InputFiles>(
-    files: &F,
-    alloc: Global,
-    command: &str,
-    inputs: Option<&'a str>,
-    trace: Option<&'a str>,
-    program: Vec<u8>,
-) -> Result<Vec<u8>, NoInput<'a>>
-    ensures bytes { IfOk result (λ input. IsWhole (F.Holds files.now) command.now (option_map (λ path. path.now) inputs.entry) (option_map (λ path. path.now) trace.entry) program.items input.items) }
-    ensures failed { IfErr result (IsReason (F.Fails files.now) (IsTraceless (F.Holds files.now) (option_map (λ path. path.now) trace.entry))) }
-{
-    let whole = with_inputs_of(files, alloc, command, inputs, program)?;
-    with_trace_of(files, alloc, trace, whole)
 }
 
 /// Returns what a session gets if the program's file, which is read, fits the others.
@@ -150,7 +140,7 @@ fn fitting_input<'a, F: InputFiles>(
     named: Naming<'a>,
     program: Vec<u8>,
 ) -> Result<SessionInput<'a>, NoInput<'a>>
-    ensures made { IfOk result (λ made. IsRead (F.Holds files.now) command.now is_untraced (seen named.entry) program.items (map string_bytes made.words.items) (option_map (λ bytes. bytes.items) made.bytes)) }
+    ensures made { IfOk result (λ made. IsRead (F.Holds files.now) command.now is_untraced (seen named.entry) program.items (map string_bytes made.words.items) (option_map seen_contents made.contents)) }
     ensures lines { IfOk result (λ made. option_map (λ path. path.now) made.lines ≡ separate_lines_is (seen named.entry)) }
     ensures failed { IfErr result (IsReason (F.Fails files.now) (IsTraceless (F.Holds files.now) (separate_events_is command.now is_untraced (seen named.entry)))) }
 {
@@ -158,6 +148,7 @@ fn fitting_input<'a, F: InputFiles>(
     let inputs = named.joined_inputs();
     let trace = named.separate_events(command, is_untraced);
     let lines = named.separate_lines();
+    let trace_follows = named.follows_inputs(command, is_untraced);
     let words = session_words(
         alloc,
         command,
@@ -166,10 +157,16 @@ fn fitting_input<'a, F: InputFiles>(
         &program,
         named.others,
     )?;
-    let bytes = whole_input(files, alloc, command, inputs, trace, program)?;
+    let inputs = inputs_of(files, alloc, inputs)?;
+    let trace = trace_of(files, alloc, trace)?;
     Ok(SessionInput {
         words,
-        bytes: Some(bytes),
+        contents: Some(Contents {
+            program,
+            inputs,
+            trace,
+            trace_follows,
+        }),
         lines,
     })
 }
@@ -182,7 +179,7 @@ fn opened<'a, F: InputFiles>(
     named: Naming<'a>,
 ) -> Result<SessionInput<'a>, NoInput<'a>>
     requires { opens_files_is command.now (seen named) ≡ true }
-    ensures made { IfOk result (λ made. IsSessionInput (F.Holds files.now) command.now (seen named.entry) (map string_bytes made.words.items) (option_map (λ bytes. bytes.items) made.bytes)) }
+    ensures made { IfOk result (λ made. IsSessionInput (F.Holds files.now) command.now (seen named.entry) (map string_bytes made.words.items) (option_map seen_contents made.contents)) }
     ensures lines { IfOk result (λ made. option_map (λ path. path.now) made.lines ≡ separate_lines_is (seen named.entry)) }
     ensures failed { IfErr result (IsReason (F.Fails files.now) (AreMisfits (F.Holds files.now) command.now (seen named.entry))) }
 {
@@ -214,8 +211,8 @@ pub fn session_input<'a, F: InputFiles>(
     command: &str,
     words: &'a [String],
 ) -> Result<SessionInput<'a>, NoInput<'a>>
-    ensures made { IfOk result (λ made. IsSessionInput (F.Holds files.now) command.now (naming_of_is (map string_bytes words.entry.now)) (map string_bytes made.words.items) (option_map (λ bytes. bytes.items) made.bytes)) }
-    ensures lines { IfOk result (λ made. IfSome made.bytes (λ bytes. option_map (λ path. path.now) made.lines ≡ separate_lines_is (naming_of_is (map string_bytes words.entry.now)))) }
+    ensures made { IfOk result (λ made. IsSessionInput (F.Holds files.now) command.now (naming_of_is (map string_bytes words.entry.now)) (map string_bytes made.words.items) (option_map seen_contents made.contents)) }
+    ensures lines { IfOk result (λ made. IfSome made.contents (λ contents. option_map (λ path. path.now) made.lines ≡ separate_lines_is (naming_of_is (map string_bytes words.entry.now)))) }
     // It fails only if an allocation fails, a file can't be read, or files don't fit each other.
     ensures failed { IfErr result (IsReason (F.Fails files.now) (AreMisfits (F.Holds files.now) command.now (naming_of_is (map string_bytes words.entry.now)))) }
 {
@@ -226,7 +223,7 @@ pub fn session_input<'a, F: InputFiles>(
     let words = plain_words(alloc, command, false, named.others)?;
     Ok(SessionInput {
         words,
-        bytes: None,
+        contents: None,
         lines: None,
     })
 }

@@ -16,9 +16,10 @@ use std::thread::Threads;
 use std::time::Clock;
 use std::{fs, io};
 use tw_cli::{ArgumentForm, is_option, reads_program, rejects};
-use tw_files::{NoInput, SessionInput, session_input, words_without_files};
+use tw_files::{Contents, NoInput, SessionInput, followed, session_input, words_without_files};
 use tw_session::{
-    Close, InStream, Status, complain, each_session, is_quiet, session, without_words,
+    Close, Given, InStream, Status, complain, each_session, given_session, is_quiet, session,
+    without_words,
 };
 
 /// The standard streams.
@@ -42,6 +43,26 @@ fn words_of(alloc: Global, command: &str, others: &[String]) -> Result<Vec<Strin
 /// Returns whether lines are to be answered.
 fn is_each(words: &[String]) -> bool {
     words.iter().any(|word| word.as_str() == "--each")
+}
+
+fn bytes_of(bytes: &Option<Vec<u8>>) -> Option<&[u8]> {
+    match bytes {
+        Some(bytes) => Some(bytes.as_slice()),
+        None => None,
+    }
+}
+
+/// Returns the inputs and the events of a trace that files hold.
+fn inputs_and_trace(files: &Contents) -> (Option<&[u8]>, Option<&[u8]>) {
+    let inputs = bytes_of(&files.inputs);
+    let parts = match inputs {
+        Some(inputs) if files.trace_follows => followed(inputs),
+        _ => None,
+    };
+    match parts {
+        Some((inputs, events)) => (Some(inputs), Some(events)),
+        None => (inputs, bytes_of(&files.trace)),
+    }
 }
 
 /// Returns whether the name of a file follows an option.
@@ -94,18 +115,12 @@ impl<'a, H: AllocGlobal + Files + Threads + Wait + Clock + Sync> Tool<'a, H> {
         was_rejected && is_each(words) && matches!(rejects(self.rt.alloc(), words), Ok(false))
     }
 
-    /// Holds a session, and prints hints about its answer. `unnamed` is the file whose name promises symbolic assembly, if its text isn't symbolic.
-    fn hold<R: InStream>(
-        &self,
-        words: &[String],
-        reader: &mut R,
-        unnamed: Option<&str>,
-        reads_input: bool,
-    ) -> Status {
+    /// Holds a session, and prints hints about its answer.
+    fn hold<R: InStream>(&self, words: &[String], reader: &mut R, reads_input: bool) -> Status {
         let mut writer = self.streams.stdout;
         let reporter = ProgressPrinter::new(self.streams.stderr, is_quiet(words));
         let status = session(self.rt, &reporter, words, reader, &mut writer);
-        self.advise(words, status, unnamed, reads_input);
+        self.advise(words, status, None, reads_input);
         status
     }
 
@@ -115,14 +130,23 @@ impl<'a, H: AllocGlobal + Files + Threads + Wait + Clock + Sync> Tool<'a, H> {
         if stdin.is_terminal() {
             let _printed = print_notice(&self.streams.stderr, words);
         }
-        self.hold(words, &mut stdin, None, true)
+        self.hold(words, &mut stdin, true)
     }
 
-    /// Holds a session over what was read of files.
-    fn hold_over_bytes(&self, others: &[String], words: &[String], bytes: &[u8]) -> Status {
-        let mut reader = bytes;
-        let unnamed = unnamed_path(others, bytes);
-        self.hold(words, &mut reader, unnamed, false)
+    /// Holds a session over what files hold.
+    fn hold_over_files(&self, others: &[String], words: &[String], files: &Contents) -> Status {
+        let (inputs, trace) = inputs_and_trace(files);
+        let given = Given {
+            program: &files.program,
+            inputs,
+            trace,
+        };
+        let unnamed = unnamed_path(others, given.program);
+        let mut writer = self.streams.stdout;
+        let reporter = ProgressPrinter::new(self.streams.stderr, is_quiet(words));
+        let status = given_session(self.rt, &reporter, words, given, &mut writer);
+        self.advise(words, status, unnamed, false);
+        status
     }
 
     /// Holds a session over a program and lines that are read one after the other.
@@ -153,10 +177,10 @@ impl<'a, H: AllocGlobal + Files + Threads + Wait + Clock + Sync> Tool<'a, H> {
     /// Holds a session over what `session_input` returned for the arguments after a command.
     fn hold_over(&self, others: &[String], made: SessionInput<'_>) -> Exit {
         let words = made.words;
-        match (made.bytes, made.lines) {
+        match (made.contents, made.lines) {
             (None, _) => Exit::Session(self.hold_over_input(&words)),
-            (Some(program), Some(path)) => self.hold_over_lines(&words, program, path),
-            (Some(bytes), None) => Exit::Session(self.hold_over_bytes(others, &words, &bytes)),
+            (Some(files), Some(path)) => self.hold_over_lines(&words, files.program, path),
+            (Some(files), None) => Exit::Session(self.hold_over_files(others, &words, &files)),
         }
     }
 
@@ -176,7 +200,7 @@ impl<'a, H: AllocGlobal + Files + Threads + Wait + Clock + Sync> Tool<'a, H> {
             let mut stdout = self.streams.stdout;
             return Exit::Session(without_words(ErrorKind::OutOfMemory, &mut stdout));
         };
-        let status = self.hold(&words, &mut { self.streams.stdin }, None, false);
+        let status = self.hold(&words, &mut { self.streams.stdin }, false);
         let _printed = complain_missing(&self.streams.stderr, path);
         Exit::Session(status)
     }
@@ -224,7 +248,7 @@ impl<'a, H: AllocGlobal + Files + Threads + Wait + Clock + Sync> Tool<'a, H> {
         match self.rejected_words(command, others) {
             Ok(None) => self.answer_command(command, others),
             Ok(Some(words)) => {
-                Exit::Session(self.hold(&words, &mut { self.streams.stdin }, None, false))
+                Exit::Session(self.hold(&words, &mut { self.streams.stdin }, false))
             }
             Err(_) => {
                 let mut stdout = self.streams.stdout;
@@ -239,7 +263,7 @@ impl<'a, H: AllocGlobal + Files + Threads + Wait + Clock + Sync> Tool<'a, H> {
             [command, others @ ..] if reads_program(command.as_str()) => {
                 self.judge_command(command.as_str(), others)
             }
-            _ => Exit::Session(self.hold(words, &mut { self.streams.stdin }, None, false)),
+            _ => Exit::Session(self.hold(words, &mut { self.streams.stdin }, false)),
         }
     }
 }

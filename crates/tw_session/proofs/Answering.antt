@@ -8,7 +8,8 @@ use Rattle.tw_inputs.specs.InputWords.{RefusedWord}
 use Rattle.tw_source.specs.Inputs.{PrintsInputWord}
 use Rattle.tw_source.specs.Reply.{Reply, reply}
 use Rattle.tw_cli.specs.Options.{ExplainOrder}
-use Rattle.tw_session.specs.Session.{AnswersWords, MayAnswer, RefusesWords, PrintsMeaning}
+use Rattle.tw_session.specs.Parts.{Given}
+use Rattle.tw_session.specs.Session.{AnswersWordsOn, MayAnswer, MayAnswerOn, RefusesWords, PrintsMeaning}
 use Rattle.tw_session.specs.Status.{ComesOfReply}
 use Rattle.tw_source.specs.declared.reply.Reply.{Reply as MadeReply}
 use Rattle.tw_source.specs.declared.close.Close.{Close}
@@ -61,13 +62,13 @@ whatever (Some x) h = h x
 -- ---- arguments
 
 -- arguments that are accepted
-pub taken : (kinds : Kinds) (asked : Asked) (input : List ℕ) (r : Reply) → kinds ≡ [] → AnswersWords kinds asked input r → MayAnswer asked input r
-taken [] asked input r e h = h
-taken (kind ∷ others) asked input r e h = absurd cc
+pub taken : (kinds : Kinds) (asked : Asked) (g : Given) (r : Reply) → kinds ≡ [] → AnswersWordsOn kinds asked g r → MayAnswerOn asked g r
+taken [] asked g r e h = h
+taken (kind ∷ others) asked g r e h = absurd cc
 
-pub not_taken : (kinds : Kinds) (asked : Asked) (input : List ℕ) (r : Reply) → (kinds ≡ [] → ⊥) → AnswersWords kinds asked input r → RefusesWords kinds r
-not_taken [] asked input r e h = absurd (e refl)
-not_taken (kind ∷ others) asked input r e h = h
+pub not_taken : (kinds : Kinds) (asked : Asked) (g : Given) (r : Reply) → (kinds ≡ [] → ⊥) → AnswersWordsOn kinds asked g r → RefusesWords kinds r
+not_taken [] asked g r e h = absurd (e refl)
+not_taken (kind ∷ others) asked g r e h = h
 
 pub word_printed : (asked : Asked) (input : List ℕ) (number : RefusedWord) (r : Reply) → IsRefusedInput asked number → MayAnswer asked input r → PrintsInputWord number r
 word_printed asked input number r refused (inl (order, is_asked, h)) = absurd (never_refused asked order number is_asked refused)

@@ -1,5 +1,4 @@
 pub mod Leading
-pub mod JsonTexts
 pub mod Answering
 pub mod Ran
 pub mod Replies

@@ -9,10 +9,11 @@ pub use Rattle.tw_order.specs.declared.order.VerifiedOrder.TheVariants.{Run}
 pub use Rattle.tw_source.specs.Program.{RepliesBySource, source_text}
 pub use Rattle.tw_source.specs.Reply.{Reply, reply}
 pub use Rattle.tw_source.specs.Source.{text_of}
-pub use Rattle.tw_session.specs.ProgramAction.{Comes, IsActionInTurn, IsRunOf, Leads, RepliesByAction}
-pub use Rattle.tw_session.specs.Session.{AnswersWords, MayAnswer, MayReply, MayReplyText, RepliesByInput, RepliesByProgram}
-pub use Rattle.tw_session.specs.declared.json_run.Action.{Action}
-pub use Rattle.tw_session.specs.declared.json_run.Action.TheVariants.{Ordered, RunWithJson}
-pub use Rattle.tw_session.specs.declared.order.OrderAction.{OrderAction}
+pub use Rattle.tw_session.specs.Parts.{Given, Parts, alone, seen, seen_given}
+pub use Rattle.tw_session.specs.ProgramAction.{Awaits, IsActionInTurn, IsRunOf, Leads, RepliesByAction}
+pub use Rattle.tw_session.specs.Session.{AnswersWords, AnswersWordsOn, MayAnswer, MayAnswerOn, MayReply, MayReplyOn, MayReplyText, MayReplyTo, RepliesByParts, RepliesByProgram}
+pub use Rattle.tw_session.specs.declared.action.Action.{Action}
+pub use Rattle.tw_session.specs.declared.action.Action.TheVariants.{Ordered, RunWithJson}
+pub use Rattle.tw_session.specs.declared.prepare.Prepared.{Prepared}
 pub use Rattle.tw_session.specs.declared.programs.ProgramAction.{ProgramAction}
 pub use Rattle.tw_session.specs.declared.status.Status.TheVariants.{NoMemory, WriteFailed}

@@ -2,7 +2,6 @@
 
 ghost use Rattle.std.specs.Prelude.{◌≡◌, IfOk, is_some, map, string_bytes, true};
 ghost use Rattle.tw_cli.specs.CommandLine.{asked_by_words, word_faults};
-ghost use Rattle.tw_order.specs.InTurn.{IsInTurn};
 ghost use Rattle.tw_cli.specs.InTurn.{turned};
 ghost use Rattle.tw_code.specs.machine.Inputs.{AreInputsOf};
 ghost use Rattle.tw_in_turn.specs.InTurn.{IsLeft};
@@ -10,18 +9,18 @@ ghost use Rattle.tw_in_turn.specs.Stopping.{IsLeftIf};
 ghost use Rattle.tw_pool.specs.Openings.{opened};
 ghost use Rattle.tw_source.specs.Reply.{reply};
 ghost use Rattle.tw_session.specs.Run.{RepliesByOpening, RepliesByRun};
-ghost use Rattle.tw_session.specs.Session.{AnswersWords, MayReply};
+ghost use Rattle.tw_session.specs.Session.{AnswersWords};
 ghost use Rattle.tw_source.specs.Source.{MayBeSource, text_of};
 
-use crate::input::looked_at;
 use crate::order::reply_in_turn;
+use crate::parts::Given;
 use crate::run::{stop_reason, unopened_reply};
 use crate::shell::unordered_reply;
 use std::alloc::{AllocError, Global};
 use std::time::Clock;
 use tw_cli::read_order;
 use tw_in_turn::{InTurnResult, StoppableResult, run_in_turn, run_timed};
-use tw_order::{Order, RunOrder};
+use tw_order::RunOrder;
 use tw_pool::Closing;
 use tw_run_output::ended_reply;
 use tw_source::{Reply, SourceText};
@@ -125,23 +124,13 @@ pub fn reply_in_time<C: Clock>(
     }
 }
 
-/// Returns the reply to an order whose run is single-threaded. It copies at most one byte more than the maximum.
-fn order_reply(alloc: Global, order: Order, input: &[u8]) -> Result<Reply, AllocError>
-    requires { IsInTurn order }
-    ensures { IfOk result (λ r. MayReply order input.now (reply r.text.items r.close)) }
-{
-    let input = looked_at(alloc, input)?;
-    reply_in_turn(alloc, order, input)
-}
-
-/// Returns the reply to arguments and the bytes that come with them, with a run single-threaded. It starts no thread, and never waits. It copies none
-/// of the bytes if the arguments give no order.
+/// Returns the reply to arguments and the bytes that come with them, with a run single-threaded. It starts no thread, and never waits.
 pub fn answer_in_turn(alloc: Global, words: &[String], input: &[u8]) -> Result<Reply, AllocError>
     ensures { IfOk result (λ r. AnswersWords (word_faults (map string_bytes words.now)) (turned (asked_by_words (map string_bytes words.now)))
         input.now (reply r.text.items r.close)) }
 {
     match read_order(alloc, words) {
-        Ok(order) => order_reply(alloc, order.in_turn(), input),
+        Ok(order) => reply_in_turn(alloc, order.in_turn(), Given::alone(input)),
         Err(no_order) => unordered_reply(alloc, no_order),
     }
 }

@@ -1,17 +1,19 @@
 //! A session of the command `tw`: it maps arguments and bytes to text and a status.
 //!
-//! `session` works over any reader and writer. `reply_to` returns its reply to an order and the bytes that were read. `answer` is like `session`,
-//! except that it has no streams, and `answer_in_turn` also has no threads.
+//! `session` works over any reader and writer, `given_session` over bytes that were read. `reply_to` returns their reply to an order. `answer_in_turn`
+//! returns the reply to arguments, and has neither streams nor threads.
 #![tactic(auto)]
 
+mod action;
 mod in_turn;
 mod input;
 mod json;
-mod json_run;
 mod line_progress;
 mod line_session;
 mod line_threads;
 mod order;
+mod parts;
+mod prepare;
 mod programs;
 mod run;
 mod shell;
@@ -23,7 +25,8 @@ pub use in_turn::answer_in_turn;
 pub use input::MOST_BYTES;
 pub use line_session::each_session;
 pub use order::reply_to;
-pub use shell::{answer, session, without_words};
+pub use parts::Given;
+pub use shell::{given_session, session, without_words};
 pub use standard_error::{complain, is_quiet};
 pub use status::Status;
 pub use streams::{InStream, OutStream};

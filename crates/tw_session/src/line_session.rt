@@ -12,6 +12,7 @@ ghost use Rattle.tw_session.specs.Status.{ComesOfReply};
 
 use crate::line_progress::LineProgress;
 use crate::order::reply_to;
+use crate::parts::Given;
 use crate::shell::{unordered_reply, write_memory, write_reply};
 use crate::status::Status;
 use std::alloc::Global;
@@ -130,7 +131,10 @@ where
         Order::Each(source, order) => {
             answer_lines(rt, gate, source, &order, &program, reader, writer)
         }
-        other => write_reply(reply_to(rt, rt.alloc(), gate, other, program), writer),
+        other => {
+            let given = Given::alone(&program);
+            write_reply(reply_to(rt, rt.alloc(), gate, other, given), writer)
+        }
     }
 }
 

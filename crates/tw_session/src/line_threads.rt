@@ -3,17 +3,14 @@
 ghost use Rattle.std.specs.Prelude.{IfOk};
 ghost use Rattle.std.specs.Thread.{IsSync};
 ghost use Rattle.tw_each.specs.Reply.{RepliesByEach};
-ghost use Rattle.tw_order.specs.declared.order.Order.TheVariants.{Each};
 ghost use Rattle.tw_source.specs.Reply.{reply};
-ghost use Rattle.tw_session.specs.Session.{MayReplyText};
 
-use crate::input::MOST_BYTES;
 use crate::line_progress::LineProgress;
 use std::alloc::{AllocError, Global};
 use std::sync::Wait;
 use std::thread::{Threads, join};
 use std::time::Clock;
-use tw_each::{LineCount, LineThreads, each_reply, too_long_reply};
+use tw_each::{LineCount, LineThreads, each_reply};
 use tw_order::{EachOrder, Source};
 use tw_source::Reply;
 use tw_workers::Gate;
@@ -45,7 +42,7 @@ fn monitored_reply<H: Threads + Wait + Clock + Sync, G: Gate + Sync>(
     made
 }
 
-/// Returns the reply to a program and the lines after it, unless they have too many bytes.
+/// Returns the reply to a program and the lines after it.
 pub fn lines_reply<H: Threads + Wait + Clock + Sync, G: Gate + Sync>(
     rt: &H,
     alloc: Global,
@@ -54,11 +51,8 @@ pub fn lines_reply<H: Threads + Wait + Clock + Sync, G: Gate + Sync>(
     order: &EachOrder,
     input: &[u8],
 ) -> Result<Reply, AllocError>
-    ensures { IfOk result (λ r. MayReplyText (Each source order.now) input.now (reply r.text.items r.close)) }
+    ensures { IfOk result (λ r. RepliesByEach source order.now input.now (reply r.text.items r.close)) }
 {
-    if input.len() > MOST_BYTES {
-        return too_long_reply(alloc);
-    }
     let count = LineCount::new();
     let threads = LineThreads {
         rt,

@@ -1,9 +1,9 @@
-use Rattle.std.proofs.Common.{ℕ, List, [], inr, map, string_bytes}
+use Rattle.std.proofs.Common.{[], inr, map, string_bytes}
 use Rattle.tw_cli.specs.CommandLine.{asked_by_words, word_faults}
 use Rattle.tw_source.specs.declared.reply.Reply.{Reply as MadeReply}
 use Rattle.tw_session.specs.Session.{RefusesWords}
 use Rattle.tw_session.proofs.Answering.{comes_of, not_taken, taken}
-use Rattle.tw_session.proofs.SessionNames.{AnswersWords, IfOk-weaker, MayAnswer, reply}
+use Rattle.tw_session.proofs.SessionNames.{AnswersWords, IfOk-weaker, MayAnswer, alone, reply}
 use Rattle.tw_session.proofs.line_session.each_session.Goals as goal
 
 pub returns-in-Ok-clause-taken : goal.returns-in-Ok-clause-taken
@@ -20,7 +20,7 @@ returns-in-Err-clause-taken g c none =
     let wrote = c.write_reply.ensures in
     inr (comes_of (MayAnswer asked input) c.unordered_reply.result c.write_reply.result _ _
     (IfOk-weaker c.unordered_reply.result (λ (r : MadeReply). AnswersWords (word_faults words) asked input (reply r.text.items r.close)) (λ (r : MadeReply). MayAnswer asked input (reply r.text.items r.close))
-    (λ (r : MadeReply) h. taken (word_faults words) asked input (reply r.text.items r.close) none h) (c.unordered_reply.ensures (word_faults words) asked input c.in-Err.ensures.refused)) wrote.ended wrote.refused wrote.memory)
+    (λ (r : MadeReply) h. taken (word_faults words) asked (alone input) (reply r.text.items r.close) none h) (c.unordered_reply.ensures (word_faults words) asked (alone input) c.in-Err.ensures.refused)) wrote.ended wrote.refused wrote.memory)
 
 pub returns-in-Err-clause-refused : goal.returns-in-Err-clause-refused
 returns-in-Err-clause-refused g c some =
@@ -29,4 +29,4 @@ returns-in-Err-clause-refused g c some =
     let wrote = c.write_reply.ensures in
     comes_of (RefusesWords (word_faults words)) c.unordered_reply.result c.write_reply.result _ _
     (IfOk-weaker c.unordered_reply.result (λ (r : MadeReply). AnswersWords (word_faults words) asked [] (reply r.text.items r.close)) (λ (r : MadeReply). RefusesWords (word_faults words) (reply r.text.items r.close))
-    (λ (r : MadeReply) h. not_taken (word_faults words) asked [] (reply r.text.items r.close) some h) (c.unordered_reply.ensures (word_faults words) asked [] c.in-Err.ensures.refused)) wrote.ended wrote.refused wrote.memory
+    (λ (r : MadeReply) h. not_taken (word_faults words) asked (alone []) (reply r.text.items r.close) some h) (c.unordered_reply.ensures (word_faults words) asked (alone []) c.in-Err.ensures.refused)) wrote.ended wrote.refused wrote.memory

@@ -1,12 +1,22 @@
-use Rattle.std.proofs.Common.{List, ℕ, subst}
-use Rattle.tw_session.proofs.SessionNames.{Comes, IfOk-weaker, IsInTurn, MayReplyText, RepliesByAction, RepliesBySource, OrderAction, reply, source_text}
+use Rattle.std.proofs.Common.{rules, subst}
+use Rattle.tw_session.proofs.SessionNames.{Awaits, IfOk-weaker, IsInTurn, MayReplyOn, Prepared, reply, seen}
 use Rattle.tw_source.specs.declared.reply.Reply.{Reply}
 use Rattle.tw_session.proofs.order.text_reply.Goals as goal
 
-pub returns-in-Request : goal.returns-in-Request
-returns-in-Request g c =
-    let a = c.in-Request.asking in
-    let asks = subst (λ (s : OrderAction). Comes (IsInTurn c.args.order) (MayReplyText c.args.order c.args.input.items) s) c.in-Request.is c.in_ok-reply.ensures in
-    IfOk-weaker _ _ _
-    (λ (r : Reply) h. asks.1 (reply r.text.items r.close)
-    (subst (λ (bytes : List ℕ). RepliesBySource a.source bytes (RepliesByAction (source_text a.source bytes) a.action) (reply r.text.items r.close)) c.deref.ensures.value h)) c.source_reply.ensures
+pub run_as_ordered-requires : goal.run_as_ordered-requires
+run_as_ordered-requires g c =
+    let run = subst (λ (p : Prepared). Awaits (IsInTurn c.args.order) (MayReplyOn c.args.order (seen c.args.parts)) p) c.in-Ok-Run.field-0-is c.in-Ok-Run.ensures in
+    (search rules, (search rules, run.1))
+
+pub returns-in-Ok-Finished : goal.returns-in-Ok-Finished
+returns-in-Ok-Finished g c = subst (λ (p : Prepared). Awaits (IsInTurn c.args.order) (MayReplyOn c.args.order (seen c.args.parts)) p) c.in-Ok-Finished.field-0-is c.in-Ok-Finished.ensures
+
+pub returns-in-Ok-Run : goal.returns-in-Ok-Run
+returns-in-Ok-Run g c =
+    let run = subst (λ (p : Prepared). Awaits (IsInTurn c.args.order) (MayReplyOn c.args.order (seen c.args.parts)) p) c.in-Ok-Run.field-0-is c.in-Ok-Run.ensures in
+    IfOk-weaker _ _ _ (λ (r : Reply) h. run.2 (reply r.text.items r.close) h) c.run_as_ordered.ensures
+
+pub returns-in-Ok-Lines : goal.returns-in-Ok-Lines
+returns-in-Ok-Lines g c =
+    let lines = subst (λ (p : Prepared). Awaits (IsInTurn c.args.order) (MayReplyOn c.args.order (seen c.args.parts)) p) c.in-Ok-Lines.field-0-is c.in-Ok-Lines.ensures in
+    IfOk-weaker _ _ _ (λ (r : Reply) h. lines (reply r.text.items r.close) h) c.lines_reply.ensures
