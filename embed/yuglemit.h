@@ -30,7 +30,7 @@ extern "C" {
 #endif
 
 /* The version: 1,000,000 times major, 1,000 times minor, and patch. The call returns that of the library. */
-#define YUGLEMIT_VERSION_NUMBER 24000
+#define YUGLEMIT_VERSION_NUMBER 25000
 uint32_t yuglemit_version(void);
 
 /* ---- Codes. A call returns 0 or the code of an error. No code is an exit status, a letter or a kind, and memory that runs out is one code. */
@@ -173,7 +173,7 @@ typedef struct yuglemit_bounds {
     uint64_t data;         /* data made by NEW */
     uint64_t members;      /* members that the store holds at any time, beyond those of the inputs */
     uint64_t rules;        /* rules made by RULE */
-    uint64_t bytes;        /* bytes of the texts that the store holds at any time, beyond those of the inputs and of outputs that are texts */
+    uint64_t bytes;        /* bytes of the texts of data, rules and tasks at any time, beyond those of the inputs and of outputs that are texts */
     uint64_t events;
 } yuglemit_bounds;
 
@@ -240,7 +240,7 @@ typedef struct yuglemit_caps {
     uint64_t tasks;        /* tasks that are taken */
     uint64_t instructions; /* instructions that are executed */
     uint64_t data;         /* data made by NEW */
-    uint64_t bytes;        /* bytes of the texts that the store holds at any time, beyond those of the inputs and of outputs that are texts */
+    uint64_t bytes;        /* bytes of the texts of data, rules and tasks at any time, beyond those of the inputs and of outputs that are texts */
     uint64_t budget;       /* instructions of one task */
     uint64_t members;      /* members that the store holds at any time, beyond those of the inputs */
     uint64_t rules;        /* rules made by RULE */
@@ -450,8 +450,8 @@ uint8_t yuglemit_member_int_by_text(yuglemit_container *container, const uint8_t
 uint8_t yuglemit_member_text_by_text(yuglemit_container *container, const uint8_t *subscript, size_t subscript_length,
                                      const uint8_t *text, size_t length);
 
-/* Moves the members of a container to the inputs, as one input. The container keeps its types, and has no member; that too if memory ran out.
- * YUGLEMIT_NO_CONTAINER, _NO_INPUTS, _NO_MEMORY, _ONE_HANDLE. */
+/* Moves the members of a container to the inputs, as one input. The container keeps its types, and has no member; if memory runs out, it keeps
+ * its members. YUGLEMIT_NO_CONTAINER, _NO_INPUTS, _NO_MEMORY, _ONE_HANDLE. */
 uint8_t yuglemit_raw_input_container(yuglemit_inputs *inputs, yuglemit_container *container);
 static inline uint8_t yuglemit_input_container(yuglemit_inputs *inputs, yuglemit_container *container) {
     return (void *)inputs == (void *)container ? (uint8_t)YUGLEMIT_ONE_HANDLE : yuglemit_raw_input_container(inputs, container);

@@ -144,6 +144,27 @@ static void check_refused(void) {
     check(0, "the requests end");
 }
 
+/* Refuses each request of a move of a container's members to the inputs. They stay in the container, and the next call moves them. */
+static void check_kept_members(void) {
+    static const uint8_t source[] = "names\nproc control main(all: closed cont int, out: write int)\nregs n: int\nSIZE n all\nDROPR all\nSTORE out n\nRET\n";
+    for (unsigned long number = 1; number <= MOST_REQUESTS; number++) {
+        handles all = {{NULL}, {NULL}, {NULL}, {NULL}, {NULL}, {NULL}, {NULL}};
+        yuglemit_item item;
+        check(load(&all, source, sizeof source - 1, YUGLEMIT_TEXT) == 0 && yuglemit_container_new(&all.container, 'i', 'i') == 0, "a container");
+        check(yuglemit_member_int(&all.container, 3, 7) == 0 && yuglemit_member_int(&all.container, 4, 7) == 0, "two members");
+        requests = 0, refused = number;
+        uint8_t code = yuglemit_input_container(&all.inputs, &all.container);
+        unsigned long made = requests;
+        refused = 0;
+        check(code == (made < number ? 0 : YUGLEMIT_NO_MEMORY), "they are moved, or memory ran out");
+        check(code == 0 || yuglemit_input_container(&all.inputs, &all.container) == 0, "they are moved then");
+        check(run(&all) == 0 && yuglemit_report_output(&all.report, 0, &item) == 0 && item.number == 2, "an input of two members");
+        free_all(&all);
+        if (made < number) return;
+    }
+    check(0, "the requests of a move end");
+}
+
 /* ---- Lengths of 0, with a pointer and without */
 
 static void check_empty(void) {
@@ -416,6 +437,7 @@ int main(int argc, char **argv) {
     check_layouts();
     check_many();
     check_refused();
+    check_kept_members();
     check_large();
     check(held == before, "nothing is left");
     printf("%d checks, %d failed\n", checks, failures);

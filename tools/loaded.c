@@ -298,10 +298,10 @@ static void check_caps(yuglemit_program *program) {
     check(yuglemit_program_bounds(&empty, 0, &one) == YUGLEMIT_NO_PROGRAM && one.tasks == 9, "bounds of no program");
     check(yuglemit_program_bounds(program, 1000001, &one) == YUGLEMIT_NO_LIMIT && one.tasks == 9, "O04: bounds of too many events");
     check(yuglemit_program_bounds(program, 0, &bounds) == 0 && bounds.tasks == 1 && bounds.data == 0 && bounds.rules == 0, "bounds of one task");
-    check(bounds.members == 0 && bounds.bytes == 0, "it makes no member, and no datum of texts");
+    check(bounds.members == 0 && bounds.bytes == 4096, "it makes no member, and has a register of texts");
     check(bounds.instructions > 1 && bounds.instructions < YUGLEMIT_OVER && bounds.events > 1, "its bounds are numbers");
     check(yuglemit_program_bounds(program, 1, &one) == 0 && one.tasks == 1 && one.data == 0 && one.events == 1, "bounds of one event");
-    check(one.members == 0 && one.bytes == 0, "neither does one event");
+    check(one.members == 0 && one.bytes == 4096, "so has one event");
     check(yuglemit_program_budget(program, 0, &budget) == 0 && budget == bounds.instructions, "one task executes at most its budget");
     check(yuglemit_input_text(&inputs, (const uint8_t *)"41", 2) == 0, "a text");
     yuglemit_caps caps = {sizeof(yuglemit_caps), bounds.tasks, bounds.instructions, bounds.data, bounds.bytes, budget, bounds.members, bounds.rules};
@@ -535,6 +535,11 @@ static void check_stop(yuglemit_program *program) {
     check(yuglemit_stop_raise(&other) == 0 && yuglemit_run(program, &inputs, &options, &stop, &report) == 0, "a run with a raised flag");
     check(yuglemit_report_ending(&report, &ending) == 0 && ending.status == 8 && ending.events == 0, "is stopped before its first event");
     check(yuglemit_report_meter(&report, &meter) == 0 && meter.events == 0 && meter.tasks == 0 && meter.instructions == 0, "did nothing");
+    for (int k = 0; k < 2; k++) {
+        check(yuglemit_run(program, &inputs, &options, k ? &other : &stop, &report) == 0, "one more run, whose look lowers nothing");
+        check(yuglemit_report_ending(&report, &ending) == 0 && ending.status == 8 && ending.events == 0, "is stopped, too");
+        check(yuglemit_stop_raise(&stop) == 0, "the flag is raised a second time");
+    }
     check(yuglemit_stop_lower(&stop) == 0 && yuglemit_run(program, &inputs, &options, &other, &report) == 0, "a run with a lowered flag");
     check(yuglemit_report_ending(&report, &ending) == 0 && ending.status == 0, "ends by itself");
     yuglemit_stop of_report = {report.at};

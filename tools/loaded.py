@@ -10,6 +10,8 @@ import subprocess
 import sys
 from pathlib import Path
 
+import positions
+
 root, room, tw, *watch = sys.argv[1:]
 is_quick = watch == ["--quick"]
 watch = [] if is_quick else watch
@@ -76,22 +78,12 @@ def damaged(text: bytes) -> list[bytes]:
     return made
 
 
-def name_position(text: str) -> tuple[int, int]:
-    """Returns word and column of the name of which an error of names says something, if the line that is printed has it once."""
-    _, line, reason = text.split("\n")[:3]
-    name = reason.split(": ")[0]
-    places = [found.start() for found in re.finditer(rf"(?<![^\s(),]){re.escape(name)}(?![^\s(),:;])", line.split(";")[0])]
-    return (len(line[: places[0] + 1].split()), places[0] + 1) if len(places) == 1 else (0, 0)
-
-
 def position(text: str) -> tuple[str, int, int, int]:
     """Returns code, line, word and column of an error that `tw check --text` prints. A register's error has no word."""
     code = re.search(r"^refused ([A-Z])0?(\d+)", text, re.M)
     line = re.search(r" at line (\d+)$", text, re.M) or re.search(r"^at line (\d+)", text, re.M)
-    word = re.search(r"^word (\d+), column (\d+): ", text, re.M)
-    at = (int(word[1]), int(word[2])) if word and "expands to: " not in text else (0, 0)
-    if code and code[1] == "N":
-        at = name_position(text)
+    lines = text.split("\n")[:-1]
+    at = positions.of_error(lines, lines[1]) if len(lines) > 1 else (0, 0)
     return f"{code[1]}{int(code[2]):02}" if code else "", int(line[1]) if line else 0, *at
 
 

@@ -218,14 +218,14 @@ void test_printed() {
 }
 
 // pipeline.twn has 4 tasks, 24 instructions, 2 data, 3 rules and 37 events, budgets of 6, and neither members nor texts (docs/FORMAT.md). With a limit
-// of three events no kind has more than three, and there are at most 18 instructions. MEMBER has a member and 8,192 bytes; an event counts as a text.
+// of three events no kind has more than three, and there are at most 18 instructions. MEMBER has a member, and 12,288 bytes: two texts of data, and one in a register; an event counts as a text.
 void test_bounds() {
     auto program = Program::load(read("pipeline.twn"));
     const auto all = program.bounds(), few = program.bounds(3);
     CHECK(all.tasks == 4 && all.instructions == 24 && all.data == 2 && all.members == 0 && all.rules == 3 && all.bytes == 0 && all.events == 37);
     CHECK(few.tasks == 3 && few.instructions == 18 && few.data == 2 && few.members == 0 && few.rules == 3 && few.bytes == 0 && few.events == 3);
     auto member = Program::load(MEMBER);
-    CHECK(member.bounds().members == 1 && member.bounds().bytes == 8192 && member.bounds(1).members == 1 && member.bounds(1).bytes == 4096);
+    CHECK(member.bounds().members == 1 && member.bounds().bytes == 12288 && member.bounds(1).members == 1 && member.bounds(1).bytes == 4096);
     CHECK_THROWS(Error, program.bounds(1000001));
     auto endless = Program::load(ENDLESS);
     CHECK(endless.bounds().tasks == YUGLEMIT_NO_BOUND && endless.bounds().bytes == YUGLEMIT_NO_BOUND);
@@ -276,9 +276,9 @@ void test_caps() {
     options.caps.tasks = 3, options.limit = 3;
     CHECK(!is_above(options));
     Options texts;
-    texts.caps.bytes = 8192;
+    texts.caps.bytes = 12288;
     CHECK(Program::load(MEMBER).run({}, texts).end() == End::quiet);
-    texts.caps.bytes = 8191;
+    texts.caps.bytes = 12287;
     CHECK_THROWS(Error, Program::load(MEMBER).run({}, texts));
     Options members;
     members.caps.members = 1;

@@ -1,8 +1,8 @@
 //! Exports the calls of `tw_handles` that run programs, and those on stop flags.
 
-ghost use Rattle.std.specs.Prelude.{◌≡◌};
+ghost use Rattle.std.specs.Prelude.{◌≡◌, true, false};
 ghost use Rattle.tw_handles.specs.Running.{IsRun};
-ghost use Rattle.tw_handles.specs.Stops.{IsRaised, IsStopMade, IsStopShared};
+ghost use Rattle.tw_handles.specs.Stops.{IsStopMade, IsStopSet, IsStopShared};
 ghost use Rattle.tw_handles.specs.Unfit.{IsUnfit};
 
 use std::alloc::Global;
@@ -32,8 +32,7 @@ pub extern "C" fn yuglemit_raw_stop_share(
 /// Exports `tw_handles::stop_raise`.
 #[unsafe(no_mangle)]
 pub extern "C" fn yuglemit_raw_stop_raise(alloc: Global, stop: &mut Handle) -> u8
-    ensures kept { stop.new.held ≡ stop.old.held }
-    ensures is { IsRaised stop.old.held result }
+    ensures { IsStopSet true stop.old.held stop.new.held result }
 {
     tw_handles::stop_raise(alloc, stop)
 }
@@ -41,8 +40,7 @@ pub extern "C" fn yuglemit_raw_stop_raise(alloc: Global, stop: &mut Handle) -> u
 /// Exports `tw_handles::stop_lower`.
 #[unsafe(no_mangle)]
 pub extern "C" fn yuglemit_raw_stop_lower(alloc: Global, stop: &mut Handle) -> u8
-    ensures kept { stop.new.held ≡ stop.old.held }
-    ensures is { IsRaised stop.old.held result }
+    ensures { IsStopSet false stop.old.held stop.new.held result }
 {
     tw_handles::stop_lower(alloc, stop)
 }

@@ -56,7 +56,7 @@ module _ (program : List Procedure) (limit : ℕ) (caps : AllCaps) where
               tasks = within_cap (λ m. tasks_in events ≤ m) (λ n m le h. omega arith) bounds.tasks caps.tasks tasks.0 w.tasks;
               instructions = within_cap (λ m. instructions_in events ≤ m) (λ n m le h. omega arith) bounds.instructions caps.instructions instructions.0 w.instructions;
               new_data = within_cap (λ m. s.store.next ≤ (opening program inputs).store.next + m) (λ n m le h. omega arith) bounds.«data» caps.«data» new_data.0 w.new_data;
-              bytes = within_cap (λ m. bytes_held s.store ≤ bytes_held (opening program inputs).store + m) (λ n m le h. omega arith) bounds.bytes caps.bytes bytes.0 w.bytes;
+              bytes = within_cap (λ m. bytes_held s ≤ bytes_held (opening program inputs) + m) (λ n m le h. omega arith) bounds.bytes caps.bytes bytes.0 w.bytes;
               members = within_cap (λ m. members_held s.store ≤ members_held (opening program inputs).store + m) (λ n m le h. omega arith) bounds.members caps.members last.0 w.members;
               rules = within_cap (λ m. s.next_rule ≤ (opening program inputs).next_rule + m) (λ n m le h. omega arith) bounds.rules caps.rules last.1 w.rules;
             };

@@ -79,12 +79,10 @@ module _ (program : List Procedure) (inputs : List Input) (layout : ActorCounts)
   found_is None first only = calm_is first (only refl) (own_end (final_of left).closing) is.ends
   found_is (Some at) first only = first
 
-  -- from the events and the program that were copied
-  pub certified : (again : List Procedure) (events : List Event) (found : Option CopyInsertion) → again ≡ program → events ≡ (history_of left).events → IsFirstContest again inputs layout events found
-      → (found ≡ None → (s : State) (end : Ending) → IsWholeRun again inputs layout events s end → IsOnlyResult again inputs s end)
-      → IsCertificate program inputs layout left (certificate_of found (final_of left).closing)
-  certified again events found same all first only =
+  -- from the events that were copied
+  pub certified : (events : List Event) (found : Option CopyInsertion) → events ≡ (history_of left).events → IsFirstContest program inputs layout events found
+      → (found ≡ None → (s : State) (end : Ending) → IsWholeRun program inputs layout events s end → IsOnlyResult program inputs s end) → IsCertificate program inputs layout left (certificate_of found (final_of left).closing)
+  certified events found all first only =
       found_is found
-      (subst (λ (es : List Event). IsFirstContest program inputs layout es found) all (subst (λ (ps : List Procedure). IsFirstContest ps inputs layout events found) same first))
-      (subst (λ (es : List Event). found ≡ None → (s : State) (end : Ending) → IsWholeRun program inputs layout es s end → IsOnlyResult program inputs s end) all
-      (subst (λ (ps : List Procedure). found ≡ None → (s : State) (end : Ending) → IsWholeRun ps inputs layout events s end → IsOnlyResult ps inputs s end) same only))
+      (subst (λ (es : List Event). IsFirstContest program inputs layout es found) all first)
+      (subst (λ (es : List Event). found ≡ None → (s : State) (end : Ending) → IsWholeRun program inputs layout es s end → IsOnlyResult program inputs s end) all only)

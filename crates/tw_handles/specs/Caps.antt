@@ -66,7 +66,7 @@ pub record IsRunWithinCaps (program : List Procedure) (caps : AllCaps) (inputs :
   pub tasks : caps.tasks < greatest_cap → tasks_in events ≤ caps.tasks
   pub instructions : caps.instructions < greatest_cap → instructions_in events ≤ caps.instructions
   pub new_data : caps.«data» < greatest_cap → s.store.next ≤ (opening program inputs).store.next + caps.«data»
-  pub bytes : caps.bytes < greatest_cap → bytes_held s.store ≤ bytes_held (opening program inputs).store + caps.bytes
+  pub bytes : caps.bytes < greatest_cap → bytes_held s ≤ bytes_held (opening program inputs) + caps.bytes
   pub members : caps.members < greatest_cap → members_held s.store ≤ members_held (opening program inputs).store + caps.members
   pub rules : caps.rules < greatest_cap → s.next_rule ≤ (opening program inputs).next_rule + caps.rules
 

@@ -5,7 +5,6 @@ use Rattle.tw_types.specs.declared.input.Input.TheVariants as input
 use Rattle.tw_handles.specs.Asking.{Fails}
 use Rattle.tw_handles.specs.Codes.{done, no_container, no_inputs, no_memory, no_utf8}
 use Rattle.tw_handles.specs.Loading.{inputs_in}
-use Rattle.tw_handles.specs.Running.{IsAppended}
 use Rattle.tw_handles.specs.declared.container.Container as container
 use Rattle.tw_handles.specs.declared.container.Container.TheVariants.{Ints, Texts, IntsByText, TextsByText}
 use Rattle.tw_handles.specs.declared.container.NewMember.{NewMember}
@@ -107,10 +106,14 @@ emptied (input.Texts members) = input.Texts []
 emptied (input.IntsByText members) = input.IntsByText []
 emptied (input.TextsByText members) = input.TextsByText []
 
--- the container's members are an input more, and the container is empty; that too if an allocation fails
+-- the container's members are an input more, and the container is empty; or an allocation failed, and inputs and members are as they were
+abbrev pub AreMovedAfter : Input → List Input → Option Held → Option Input → ℕ → Type 0
+AreMovedAfter given before new after code =
+    ((inputs_in new ≡ Some (before ++ given ∷ [])) × (after ≡ Some (emptied given)) × (code ≡ done)) ⊎ ((inputs_in new ≡ Some before) × (after ≡ Some given) × (code ≡ no_memory))
+
 abbrev pub IsMoved : Input → Option Held → Option Held → Option Input → ℕ → Type 0
 IsMoved given old new after code =
-    MatchOption (inputs_in old) (Fails no_inputs old new code × (after ≡ Some given)) (λ before. IsAppended given before new code × (after ≡ Some (emptied given)))
+    MatchOption (inputs_in old) (Fails no_inputs old new code × (after ≡ Some given)) (λ before. AreMovedAfter given before new after code)
 
 abbrev pub IsContainerAdded : Option Input → Option Input → Option Held → Option Held → ℕ → Type 0
 IsContainerAdded given after old new code = MatchOption given (Fails no_container old new code × (after ≡ None)) (λ members. IsMoved members old new after code)

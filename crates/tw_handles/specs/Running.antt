@@ -1,8 +1,8 @@
 -- The inputs of a run, and the result of running a loaded program.
 use Rattle.std.specs.Prelude.{◌≡◌, ◌⊎◌, ◌<◌, ◌≤◌, ◌==◌, if◌then◌else◌, Bool, true, false, ◌++◌, ◌∷◌, [], ℕ, List, length, min, slice_get, unwrap_or, Option, Some, None, MatchOption}
-use Rattle.tw_stop.specs.declared.flag.FlagSignal.{FlagSignal}
+use Rattle.tw_flags.specs.declared.flag.FlagSignal.{FlagSignal}
+use Rattle.tw_flags.specs.Flags.{IsFlagOf, IsSeen}
 use Rattle.tw_stop.specs.declared.signal.Never.{Never}
-use Rattle.tw_stop.specs.Flags.{IsSeen, name_of, signal_name}
 use Rattle.tw_stop.specs.Looks.{Looked, never_says}
 use Rattle.tw_in_turn.specs.Stopping.{IsLeftBy}
 use Rattle.tw_pool.specs.Openings.{IsRejection, MayOpen, opened}
@@ -70,7 +70,7 @@ abbrev pub IsRunUntil : Option Held → Option Held → RunOrder → Option Held
 IsRunUntil program given order stop old new code = MatchOption stop
     ((first : Never) × (last : Never) × IsRunBy (Looked never_says first last) program given order old new code)
     (λ held. WithFlag (Some held) (Fails no_stop old new code)
-    (λ flag. (first : FlagSignal) × (last : FlagSignal) × (signal_name first ≡ name_of flag) × IsRunBy (Looked IsSeen first last) program given order old new code))
+    (λ flag. (first : FlagSignal) × (last : FlagSignal) × IsFlagOf flag first × IsRunBy (Looked IsSeen first last) program given order old new code))
 
 -- returns the option with this index, or the usual one if the list lacks it
 abbrev pub option_at : List ℕ → ℕ → ℕ → ℕ

@@ -1,7 +1,7 @@
--- Calls on a stop flag. No clause says what the flag holds, since other threads write it.
-use Rattle.std.specs.Prelude.{◌≡◌, ◌⊎◌, ℕ, Option, Some, None}
-use Rattle.tw_stop.specs.declared.flag.StopFlag.{StopFlag}
-use Rattle.tw_stop.specs.Flags.{name_of}
+-- Calls on a stop flag.
+use Rattle.std.specs.Prelude.{◌≡◌, ◌⊎◌, ℕ, Bool, [], Option, Some, None}
+use Rattle.tw_flags.specs.declared.flag.StopFlag.{StopFlag}
+use Rattle.tw_flags.specs.Flags.{IsSet, IsShared, settings_of}
 use Rattle.tw_handles.specs.Asking.{Fails}
 use Rattle.tw_handles.specs.Codes.{done, no_memory, no_stop}
 use Rattle.tw_handles.specs.declared.held.Held.{Held}
@@ -11,9 +11,9 @@ use Rattle.tw_handles.specs.declared.held.Held.TheVariants.{Program, Inputs, Con
 abbrev pub IsFlagPut : StopFlag → Option Held → Option Held → ℕ → Type 0
 IsFlagPut flag old new code = ((new ≡ Some (Stop flag)) × (code ≡ done)) ⊎ Fails no_memory old new code
 
--- the handle holds a flag, or an allocation failed
+-- the handle holds a flag that nobody has set, or an allocation failed
 abbrev pub IsStopMade : Option Held → Option Held → ℕ → Type 0
-IsStopMade old new code = ((flag : StopFlag) × (new ≡ Some (Stop flag)) × (code ≡ done)) ⊎ Fails no_memory old new code
+IsStopMade old new code = ((flag : StopFlag) × (settings_of flag ≡ []) × (new ≡ Some (Stop flag)) × (code ≡ done)) ⊎ Fails no_memory old new code
 
 -- a handle with a flag; a null one has none
 abbrev pub WithFlag : Option Held → Type 0 → (StopFlag → Type 0) → Type 0
@@ -27,12 +27,12 @@ WithFlag (Some (Text text)) Without With = Without
 
 -- the handle holds the same flag, or an allocation failed
 abbrev pub IsFlagShared : StopFlag → Option Held → Option Held → ℕ → Type 0
-IsFlagShared flag old new code = ((other : StopFlag) × (name_of other ≡ name_of flag) × (new ≡ Some (Stop other)) × (code ≡ done)) ⊎ Fails no_memory old new code
+IsFlagShared flag old new code = ((other : StopFlag) × IsShared flag other × (new ≡ Some (Stop other)) × (code ≡ done)) ⊎ Fails no_memory old new code
 
 -- the other handle holds the same flag
 abbrev pub IsStopShared : Option Held → Option Held → Option Held → ℕ → Type 0
 IsStopShared held old new code = WithFlag held (Fails no_stop old new code) (λ flag. IsFlagShared flag old new code)
 
--- whether there was a flag to be raised
-abbrev pub IsRaised : Option Held → ℕ → Type 0
-IsRaised held code = WithFlag held (code ≡ no_stop) (λ flag. code ≡ done)
+-- the handle's flag was raised, or lowered
+abbrev pub IsStopSet : Bool → Option Held → Option Held → ℕ → Type 0
+IsStopSet raised old new code = WithFlag old (Fails no_stop old new code) (λ flag. (after : StopFlag) × IsSet raised flag after × (new ≡ Some (Stop after)) × (code ≡ done))

@@ -5,15 +5,13 @@ ghost use Rattle.tw_handles.specs.Certificates.{IsCertificate, IsCertificateIf, 
 
 use crate::report::{final_of, history_of};
 use std::alloc::{AllocError, Global};
-use tw_binary::{decode, encode};
 use tw_certificate::first_contest;
-use tw_code::Program;
 use tw_copies::CopyInsertion;
 use tw_in_turn::StoppableResult;
 use tw_pool::Closing;
 use tw_run_output::events_of;
 use tw_types::{Input, Layout};
-use tw_verify::{Verified, verify};
+use tw_verify::Verified;
 
 /// Whether another order of events may show in the outputs of a run.
 #[derive(Clone, Copy)]
@@ -31,31 +29,6 @@ pub(crate) fn asks(number: u64) -> bool
     ensures { result ≡ asks_is number }
 {
     number != 0
-}
-
-/// Returns a program like this one. Its encoding is decoded, since programs aren't shared with the reference machine.
-fn copied(alloc: Global, program: &Program) -> Result<Program, AllocError>
-    ensures { IfOk result (λ copy. copy ≡ program.now) }
-{
-    // For its clauses alone: they hold for a program's procedures.
-    let _procedures = program.procedures();
-    let Ok(bytes) = encode(alloc, program) else {
-        return Err(AllocError);
-    };
-    match decode(alloc, &bytes) {
-        Ok(copy) => Ok(copy),
-        Err(_) => Err(AllocError),
-    }
-}
-
-/// Returns the accepted program once more.
-fn verified_again(alloc: Global, verified: &Verified) -> Result<Verified, AllocError>
-    ensures { IfOk result (λ again. again.program ≡ verified.now.program) }
-{
-    match verify(alloc, copied(alloc, verified.program())?) {
-        Ok(again) => Ok(again),
-        Err(_) => Err(AllocError),
-    }
 }
 
 /// Returns the certificate of a run that contests no insertion.
@@ -90,8 +63,7 @@ fn certify(
     ensures { IfOk result (IsCertificate verified.now.program inputs.now layout left.now) }
 {
     let events = events_of(alloc, history_of(left))?;
-    let again = verified_again(alloc, verified)?;
-    let found = first_contest(alloc, again, inputs, layout, &events)?;
+    let found = first_contest(alloc, verified, inputs, layout, &events)?;
     Ok(certificate_of(found, final_of(left).closing()))
 }
 

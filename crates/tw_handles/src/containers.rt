@@ -1,12 +1,12 @@
 //! Calls on containers that are to be inputs.
 
-ghost use Rattle.std.specs.Prelude.{◌≡◌, Some};
+ghost use Rattle.std.specs.Prelude.{◌≡◌, Some, None};
 ghost use Rattle.tw_handles.specs.Containers.{IsBegun, IsContainerAdded, IsMemberAdded, IsMoved, WithText, container_in, empty_by, input_of};
 ghost use Rattle.tw_handles.specs.declared.container.NewMember.TheVariants as member;
 
 use crate::codes;
 use crate::container::{Container, NewMember};
-use crate::given::{begin, text_of};
+use crate::given::text_of;
 use crate::handle::Handle;
 use crate::held::Held;
 use std::alloc::Global;
@@ -95,12 +95,16 @@ pub fn put_text_by_text(alloc: Global, container: &mut Handle, subscript: &[u8],
     }
 }
 
+/// Moves the members of a container, once there is memory for them.
 fn move_into(alloc: Global, inputs: &mut Held, container: &mut Container) -> u8
     ensures { IsMoved (input_of container.old) (Some inputs.old) (Some inputs.new) (Some (input_of container.new)) result }
 {
     match inputs {
-        Held::Inputs(list) => match list.push(container.take(alloc)) {
-            Ok(()) => codes::DONE,
+        Held::Inputs(list) => match list.reserve(1) {
+            Ok(()) => {
+                list.push_reserved(container.take(alloc));
+                codes::DONE
+            }
             Err(_) => codes::NO_MEMORY,
         },
         Held::Program(_) | Held::Container(_) | Held::Report(_) | Held::Stop(_) | Held::Text(_) =>
@@ -108,11 +112,26 @@ fn move_into(alloc: Global, inputs: &mut Held, container: &mut Container) -> u8
     }
 }
 
+/// Moves the members of a container to a null handle.
+fn move_first(alloc: Global, inputs: &mut Handle, container: &mut Container) -> u8
+    requires { inputs.old.held ≡ None }
+    ensures { IsMoved (input_of container.old) None inputs.new.held (Some (input_of container.new)) result }
+{
+    match Box::new(alloc, Held::Inputs(Vec::new(alloc))) {
+        Ok(mut whole) => {
+            let code = move_into(alloc, &mut whole, container);
+            *inputs = Handle::of(whole);
+            code
+        }
+        Err(_) => codes::NO_MEMORY,
+    }
+}
+
 fn move_container(alloc: Global, inputs: &mut Handle, container: &mut Container) -> u8
     ensures { IsMoved (input_of container.old) inputs.old.held inputs.new.held (Some (input_of container.new)) result }
 {
     let Some(mut whole) = inputs.take(alloc) else {
-        return begin(alloc, inputs, container.take(alloc));
+        return move_first(alloc, inputs, container);
     };
     let code = move_into(alloc, &mut whole, container);
     *inputs = Handle::of(whole);
@@ -129,7 +148,8 @@ fn move_held(alloc: Global, inputs: &mut Handle, held: &mut Held) -> u8
     }
 }
 
-/// Moves the members of a container to the inputs of a handle, as one input. The container has its types then, and no member.
+/// Moves the members of a container to the inputs of a handle, as one input. The container has its types then, and no member. If memory runs
+/// out, it keeps its members.
 pub fn input_container(alloc: Global, inputs: &mut Handle, container: &mut Handle) -> u8
     ensures { IsContainerAdded (container_in container.old.held) (container_in container.new.held) inputs.old.held inputs.new.held result }
 {

@@ -24,7 +24,7 @@ fn handle_of(alloc: Global, input: Input) -> Result<Handle, AllocError>
 }
 
 /// Puts one input into a null handle.
-pub(crate) fn begin(alloc: Global, inputs: &mut Handle, input: Input) -> u8
+fn begin(alloc: Global, inputs: &mut Handle, input: Input) -> u8
     requires { inputs.old.held ≡ None }
     ensures { IsAppended input [] inputs.new.held result }
 {

@@ -3,7 +3,7 @@
 use crate::container::Container;
 use crate::finished::Finished;
 use std::sync::Arc;
-use tw_stop::StopFlag;
+use tw_flags::StopFlag;
 use tw_types::Input;
 use tw_verify::Verified;
 

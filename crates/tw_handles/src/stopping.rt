@@ -1,13 +1,13 @@
 //! Stop flags.
 
-ghost use Rattle.std.specs.Prelude.{◌≡◌, Some};
-ghost use Rattle.tw_handles.specs.Stops.{IsFlagPut, IsRaised, IsStopMade, IsStopShared};
+ghost use Rattle.std.specs.Prelude.{◌≡◌, Some, true, false};
+ghost use Rattle.tw_handles.specs.Stops.{IsFlagPut, IsStopMade, IsStopSet, IsStopShared};
 
 use crate::codes;
 use crate::handle::Handle;
 use crate::held::Held;
 use std::alloc::Global;
-use tw_stop::StopFlag;
+use tw_flags::StopFlag;
 
 /// Puts a flag into a handle.
 fn put_flag(alloc: Global, flag: StopFlag, other: &mut Handle) -> u8
@@ -58,8 +58,8 @@ pub fn stop_share(alloc: Global, stop: &mut Handle, other: &mut Handle) -> u8
     code
 }
 
-fn set_held(held: &Held, raised: bool) -> u8
-    ensures { IsRaised (Some held.now) result }
+fn set_held(held: &mut Held, raised: bool) -> u8
+    ensures { IsStopSet raised (Some held.old) (Some held.new) result }
 {
     match held {
         Held::Stop(flag) => {
@@ -72,29 +72,26 @@ fn set_held(held: &Held, raised: bool) -> u8
 }
 
 fn set_flag(alloc: Global, stop: &mut Handle, raised: bool) -> u8
-    ensures kept { stop.new.held ≡ stop.old.held }
-    ensures raised { IsRaised stop.old.held result }
+    ensures { IsStopSet raised stop.old.held stop.new.held result }
 {
-    let Some(whole) = stop.take(alloc) else {
+    let Some(mut whole) = stop.take(alloc) else {
         return codes::NO_STOP;
     };
-    let code = set_held(&whole, raised);
+    let code = set_held(&mut whole, raised);
     *stop = Handle::of(whole);
     code
 }
 
 /// Raises a flag: runs that look at it end before their next turn, or within a task. Allocates nothing, so that a signal handler may call it.
 pub fn stop_raise(alloc: Global, stop: &mut Handle) -> u8
-    ensures kept { stop.new.held ≡ stop.old.held }
-    ensures raised { IsRaised stop.old.held result }
+    ensures { IsStopSet true stop.old.held stop.new.held result }
 {
     set_flag(alloc, stop, true)
 }
 
 /// Lowers a flag, for later runs.
 pub fn stop_lower(alloc: Global, stop: &mut Handle) -> u8
-    ensures kept { stop.new.held ≡ stop.old.held }
-    ensures lowered { IsRaised stop.old.held result }
+    ensures { IsStopSet false stop.old.held stop.new.held result }
 {
     set_flag(alloc, stop, false)
 }

@@ -197,9 +197,9 @@ class Programs(unittest.TestCase):
                 program.bounds_within(limit)
 
     def test_bounds_of_members_and_bytes(self) -> None:
-        """LONG makes 100 members of texts, by numbers: 4,096 bytes each. A limit gives each event a member and a text."""
+        """LONG makes 100 members of texts, by numbers, and has a text in a register: 4,096 bytes each. A limit gives each event a member and a text."""
         program = yuglemit.load(LONG)
-        for bounds, expected in ((program.bounds, (100, 100 * 4096)), (program.bounds_within(3), (3, 3 * 4096))):
+        for bounds, expected in ((program.bounds, (100, 101 * 4096)), (program.bounds_within(3), (3, 3 * 4096))):
             self.assertEqual((bounds.members, bounds.bytes), expected)
 
     def test_a_bound_over_all_numbers(self) -> None:
@@ -235,10 +235,10 @@ class Programs(unittest.TestCase):
 
     def test_caps_on_texts(self) -> None:
         program = yuglemit.load(LONG)
-        self.assertEqual(program.run(most_bytes=100 * 4096).end, "quiet")
+        self.assertEqual(program.run(most_bytes=101 * 4096).end, "quiet")
         with self.assertRaises(yuglemit.Refused) as refused:
-            program.run(most_bytes=100 * 4096 - 1)
-        self.assertEqual(refused.exception.text, "refused O07\nbytes: bound 409600, at most 409599\n")
+            program.run(most_bytes=101 * 4096 - 1)
+        self.assertEqual(refused.exception.text, "refused O07\nbytes: bound 413696, at most 413695\n")
 
     def test_caps_on_members(self) -> None:
         """A program that inserts one member and makes one rule. Nothing is run above a cap, of which no command knows."""

@@ -61,8 +61,8 @@ class Bounds(metaclass=Shown):
     `members`, `rules`, `bytes` and `events`.
 
     All but the first are None past 1,000,000,000,000, or if a procedure starts itself, directly or through others (`is_endless`): then only the
-    limit of events bounds a run. `members` and `bytes` are what the store holds at any time beyond those of the inputs, and of outputs that are
-    texts; a text counts 4,096 bytes. `work` is "ints" if no register can hold a text, "numbers" if READI may read one, else "texts".
+    limit of events bounds a run. `members` and `bytes` are what a run holds at any time beyond those of the inputs, and of outputs that are texts.
+    A text counts 4,096 bytes, also in a register of a task or an argument of a rule. `work` is "ints" if no register can hold a text, "numbers" if READI may read one, else "texts".
     """
 
     greatest: int

@@ -25,7 +25,7 @@ pub struct Caps {
     pub instructions: Option<u64>,
     /// Data that are made.
     pub data: Option<u64>,
-    /// Bytes of the texts that the store holds at any time, beyond those of the inputs and of outputs that are texts.
+    /// Bytes of the texts of data, rules and tasks at any time, beyond those of the inputs and of outputs that are texts.
     pub bytes: Option<u64>,
     /// Instructions of one task.
     pub budget: Option<u64>,
@@ -77,7 +77,7 @@ pub struct Bounds {
     pub members: Bound,
     /// Rules that are made.
     pub rules: Bound,
-    /// Bytes of the texts that the store holds at any time, beyond those of the inputs and of outputs that are texts: 4,096 a text.
+    /// Bytes of the texts of data, rules and tasks at any time, beyond those of the inputs and of outputs that are texts: 4,096 a text.
     pub bytes: Bound,
     pub events: Bound,
 }

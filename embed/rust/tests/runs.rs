@@ -178,7 +178,7 @@ fn bounds_are_numbers() -> Result<(), Error> {
     assert_eq!((long.bounds()?.tasks, long.bounds()?.instructions), (Bound::AtMost(2001), Bound::Over));
     let member = Program::load(MEMBER)?;
     let held = |bounds: Bounds| (bounds.members, bounds.bytes);
-    assert_eq!(held(member.bounds()?), (Bound::AtMost(1), Bound::AtMost(8192)));
+    assert_eq!(held(member.bounds()?), (Bound::AtMost(1), Bound::AtMost(12288)));
     assert_eq!(held(member.bounds_within(1)?), (Bound::AtMost(1), Bound::AtMost(4096)));
     Ok(())
 }
@@ -215,7 +215,7 @@ fn caps_on_texts() -> Result<(), Error> {
         caps.bytes = Some(most);
         program.run_with(&[], &capped(caps)).map(|report| report.end())
     };
-    assert_eq!((run(8192), run(8191)), (Ok(End::Quiet), Err(Error::Run(RunError::AboveCap))));
+    assert_eq!((run(12288), run(12287)), (Ok(End::Quiet), Err(Error::Run(RunError::AboveCap))));
     let run = |most| {
         let mut caps = Caps::default();
         caps.members = Some(most);

@@ -1,5 +1,4 @@
 use Rattle.std.proofs.Common.{◌∙◌, ◌≡◌, List, ap, subst, sym}
-use Rattle.tw_code.specs.declared.procedure.Procedure.{Procedure}
 use Rattle.tw_code.specs.machine.Opening.{reached}
 use Rattle.tw_pool.specs.Ends.{FinalView}
 use Rattle.tw_pool.specs.History.{HistoryView}
@@ -13,13 +12,8 @@ use Rattle.tw_handles.proofs.certificate.certify.Goals as goal
 
 pub first_contest-requires-clause-goes : goal.first_contest-requires-clause-goes
 first_contest-requires-clause-goes c =
-    let inputs = c.args.inputs.now in
-    let s = c.requires.state in
-    let all : c.deref.result.now ≡ (history_of c.args.left.now).events = c.deref.ensures.value ∙ (c.in_ok-events.ensures ∙ ap (λ (h : HistoryView). h.events) c.history_of.ensures) in (
-      s,
-      subst (λ (ps : List Procedure). reached ps inputs c.args.layout c.deref.result.now ≡ Went s) (sym c.in_ok-again.ensures)
-          (subst (λ (es : List Event). reached c.args.verified.now.program inputs c.args.layout es ≡ Went s) (sym all) c.requires.reaches),
-    )
+    let all : c.deref.result.now ≡ (history_of c.args.left.now).events = c.deref.ensures.value ∙ (c.in_ok-events.ensures ∙ ap (λ (h : HistoryView). h.events) c.history_of.ensures) in
+    (c.requires.state, subst (λ (es : List Event). reached c.args.verified.now.program c.args.inputs.now c.args.layout es ≡ Went c.requires.state) (sym all) c.requires.reaches)
 
 pub returns : goal.returns
 returns c =
@@ -27,4 +21,4 @@ returns c =
     let all : c.deref.result.now ≡ (history_of c.args.left.now).events = c.deref.ensures.value ∙ (c.in_ok-events.ensures ∙ ap (λ (h : HistoryView). h.events) c.history_of.ensures) in
     let same = c.certificate_of.ensures ∙ ap (certificate_of c.in_ok-found.found) (c.closing.ensures ∙ ap (λ (f : FinalView). f.closing) c.final_of.ensures) in
     subst (λ (made : Certificate). IsCertificate program c.args.inputs.now c.args.layout c.args.left.now made) (sym same)
-    (certified program c.args.inputs.now c.args.layout c.args.left.now c.requires c.in_ok-again.again.program c.deref.result.now c.in_ok-found.found c.in_ok-again.ensures all c.in_ok-found.ensures.first c.in_ok-found.ensures.same)
+    (certified program c.args.inputs.now c.args.layout c.args.left.now c.requires c.deref.result.now c.in_ok-found.found all c.in_ok-found.ensures.first c.in_ok-found.ensures.same)

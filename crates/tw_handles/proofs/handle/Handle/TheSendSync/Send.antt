@@ -25,7 +25,7 @@ use Rattle.tw_datum.proofs.tree.Tree.TheLaws.TheKnot
 use Rattle.tw_store.specs.contracts.store.Store
 use Rattle.tw_pool.specs.contracts.ends.Final
 use Rattle.tw_pool.proofs.history.History.TheSendSync as OfHistory
-use Rattle.tw_stop.specs.contracts.flag.FlagWord
+use Rattle.tw_flags.proofs.Crossing.{flag_send}
 use Rattle.tw_handles.specs.contracts.container.Container
 use Rattle.tw_handles.specs.Slot.{slot_owns}
 use Rattle.tw_handles.specs.contracts.held.Held.{the_row as R}
@@ -49,14 +49,11 @@ program = Arc-send Verified.the_row (search (OfVerified.the_send, sendable)) (se
 inputs : IsSend (Vec.the_row Input.the_row heap.the_row ghosts)
 inputs = Vec-send Input.the_row (search (OfInput.the_send, sendable))
 
-flag : IsSend (Arc.the_row FlagWord.the_row heap.the_row ghosts)
-flag = Arc-send FlagWord.the_row (search (crosses, sendable) depth 40) (search (crosses, sendable) depth 40)
-
 container : IsSend Container.the_row
 container = search (crosses, sendable) depth 60 fits 20000
 
 held_send : IsSend R
-held_send = search (OfVerified.the_send, OfVerified.the_sync, OfInput.the_send, outcome, OfHistory.the_send, stoppable, program, inputs, flag, container, crosses, sendable) depth 100 fits 200000
+held_send = search (OfVerified.the_send, OfVerified.the_sync, OfInput.the_send, outcome, OfHistory.the_send, stoppable, program, inputs, flag_send, container, crosses, sendable) depth 100 fits 200000
 
 slot_keyless : (a : Global) (p : Ptr) (k : Option R.Denot) → Keyless (slot_owns R a p k)
 slot_keyless a p None = tt
