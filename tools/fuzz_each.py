@@ -23,14 +23,25 @@ WRONG = {
     "null": "inputs refused", '"[7]"': "inputs refused", "[null]": "input 1 refused", "[true]": "input 1 refused", "[[7]]": "input 1 refused",
 }
 BLANK = ("", " ", "\t", " \r")
+# Objects that aren't an id and inputs, with the id of their answers, if any.
+WRONG_OBJECTS = {
+    '{"id":7}': "7", '{"id":7,"inputs":[],"limit":9}': "7", '{"id":"a","id":"b"}': '"b"', '{"id":7,"inputs":{}}': "7", '{"id":[7],"inputs":[]}': None,
+    '{"inputs":[],"id":null}': None, '{"inputs":[]}': None, '{"inputs":[],"inputs":[]}': None, '{"id":7,"inputs":[]': None, '{"id":"\\x","inputs":[]}': None,
+}
 
 
 @dataclass(frozen=True)
 class Line:
-    """A line as JSON, and its inputs; none if it is blank or wrong."""
+    """A line as JSON, and its inputs or the first words of its error; neither if it is blank. With the id of its answer, if any."""
 
     text: str
     inputs: tuple[Value, ...] | None = None
+    wrong: str | None = None
+    id: str | None = None
+
+    def begin(self, number: int) -> str:
+        """Returns how the answer begins, if this is the line with that number."""
+        return f'{{"line":{number},' + (f'"id":{self.id},' if self.id is not None else "")
 
 
 @dataclass(frozen=True)
@@ -58,11 +69,10 @@ class EachTest(RunTest):
         answers = []
         for number, line in enumerate(self.lines, 1):
             if line.inputs is not None:
-                answers.append(f'{{"line":{number},' + self.single(library, line.inputs)[1:].rstrip("\n"))
-            elif line.text in WRONG:
-                wrong = WRONG[line.text]
-                item = '"input":' + wrong.split(" ")[1] + "," if wrong.startswith("input ") else ""
-                answers.append(f'{{"line":{number},"error":{{{item}"lines":["{wrong}","line {number}, column ')
+                answers.append(line.begin(number) + self.single(library, line.inputs)[1:].rstrip("\n"))
+            elif line.wrong is not None:
+                item = '"input":' + line.wrong.split(" ")[1] + "," if line.wrong.startswith("input ") else ""
+                answers.append(line.begin(number) + f'"error":{{{item}"lines":["{line.wrong}","line {number}, column ')
         return answers
 
     def answer_fault(self, expected: list[str], answer: Answer) -> str | None:
@@ -135,19 +145,56 @@ def json_line(chance: random.Random, values: tuple[Value, ...]) -> str:
     return gap(chance) + "[" + gap(chance) + f"{gap(chance)},{gap(chance)}".join(parts) + gap(chance) + "]" + chance.choice(["", " ", "\r"])
 
 
+def is_json(text: str) -> bool:
+    try:
+        json.loads(text)
+    except (ValueError, RecursionError):
+        return False
+    return True
+
+
+def made_id(chance: random.Random) -> tuple[str, str]:
+    """Makes an id, as a line and as its answer have it."""
+    if chance.random() < 0.5:
+        number = chance.choice(["0", "-0", "7", "1.50", "-2e+3", str(chance.randrange(-10**20, 10**20))])
+        return number, number
+    text = "".join(chance.choice('ab"\\/\b\n\x01\x7fé€😀{}[]:, ') for _ in range(chance.randrange(5)))
+    return json_text(chance, text), json.dumps(text, ensure_ascii=False)
+
+
+def labelled(chance: random.Random, line: Line) -> Line:
+    """Returns a line as an object of an id and these inputs."""
+    written, answered = made_id(chance)
+    members = [(name, text) for name, text in (("id", written), ("inputs", line.text))]
+    chance.shuffle(members)
+    parts = [f'{gap(chance)}"{name}"{gap(chance)}:{gap(chance)}{text}{gap(chance)}' for name, text in members]
+    text = gap(chance) + "{" + ",".join(parts) + "}" + gap(chance)
+    return replace(line, text=text, id=answered if is_json(text) else None)
+
+
+def array_line(chance: random.Random, test: RunTest) -> Line:
+    """Makes a line of inputs that fit main; sometimes a wrong one, or one of too few inputs."""
+    kind = chance.random()
+    if kind < 0.12:
+        fitting = [text for text, words in WRONG.items() if words == "inputs refused" or test.program.inputs == [(INT,)]]
+        text = chance.choice(fitting)
+        return Line(text, wrong=WRONG[text])
+    values = tuple(fuzz_make.inputs_of(chance, test.program))
+    if kind < 0.17:
+        values = values[:-1]
+    return Line(json_line(chance, values), values)
+
+
 def made_line(chance: random.Random, test: RunTest) -> Line:
-    """Makes a line of inputs that fit main; sometimes a blank or a wrong one, or one of too few inputs."""
+    """Makes a line, with or without an id, sometimes a blank one or a wrong object."""
     kind = chance.random()
     if kind < 0.1:
         return Line(chance.choice(BLANK))
-    if kind < 0.2 and test.program.inputs == [(INT,)]:
-        return Line(chance.choice(list(WRONG)))
-    if kind < 0.2:
-        return Line(chance.choice([text for text, words in WRONG.items() if words == "inputs refused"]))
-    values = tuple(fuzz_make.inputs_of(chance, test.program))
-    if kind < 0.25:
-        values = values[:-1]
-    return Line(json_line(chance, values), values)
+    if kind < 0.14:
+        text = chance.choice(list(WRONG_OBJECTS))
+        return Line(text, wrong="inputs refused", id=WRONG_OBJECTS[text])
+    line = array_line(chance, test)
+    return labelled(chance, line) if chance.random() < 0.3 else line
 
 
 def make_each(chance: random.Random, corpus: Corpus) -> FuzzTest:

@@ -35,7 +35,7 @@ def has_targets(program: Program, layout: Layout) -> bool:
 
 
 def replayed(test: RunTest, text: str) -> tuple[Machine, dict[str, int]]:
-    """Makes the events of a run's trace. Returns also how much more the store held at any time than at first."""
+    """Makes the events of a run's trace. Returns also how much more it held at any time than at first."""
     machine = Machine(test.program, test.layout)
     machine.open(list(test.inputs))
     first = machine.held()

@@ -2,12 +2,14 @@
 
 from __future__ import annotations
 
+import json
 import random
 import re
 from dataclasses import dataclass, replace
 from typing import Callable, Iterator
 
 import fuzz_make
+import positions
 from fuzz_assembler import Error, assembled
 from fuzz_code import (
     FORMS, Fault, Program, decode, disassembled, encode, head_text, instr_text, labelled_lines, registers_text, smaller, version_lines,
@@ -224,6 +226,11 @@ class DamagedText(FuzzTest):
     def words(self) -> list[str]:
         return ["asm", "--names"] if self.has_names else ["asm"]
 
+    @property
+    def is_symbolic(self) -> bool:
+        """Returns whether the first word says that the text has names."""
+        return next((words[0] for words in (line.split(";")[0].split() for line in self.text.split("\n")) if words), "") == "names"
+
     def expected(self) -> str | None:
         """Returns what `asm` writes of a text without names."""
         if self.has_names:
@@ -246,7 +253,7 @@ class DamagedText(FuzzTest):
             return f"asm: expected a program or an error with a line up to {lines}, got status {status} {got[:200]!r}"
         if self.has_names and got.startswith("refused N") and "\nexpands to: " in got:
             return "an error of names has an expanded line"
-        return None if self.has_names else self.check_fault(library, got)
+        return (None if self.has_names else self.check_fault(library, got)) or self.column_fault(library)
 
     def accepted_fault(self, library: Library, got: str) -> str | None:
         program = decode(bytes.fromhex(got.strip()))
@@ -258,8 +265,7 @@ class DamagedText(FuzzTest):
     def check_fault(self, library: Library, got: str) -> str | None:
         """Compares the diagnostic of `check --text`: the source line, and a word and column in it. That command reads names too."""
         status, text = library.session(["check", "--text"], self.text)
-        first = next((words[0] for words in (line.split(";")[0].split() for line in self.text.split("\n")) if words), "")
-        if first == "names":
+        if self.is_symbolic:
             return None
         lines = text.split("\n")
         if status != 1 or lines[0] + "\n" != got:
@@ -272,6 +278,17 @@ class DamagedText(FuzzTest):
         where = re.search(r"word (\d+), column (\d+)", lines[2] if len(lines) > 2 else "")
         if where and int(where[2]) > len(source[number - 1]) + 1:
             return f"check --text: column {where[2]} is past the line"
+        return None
+
+    def column_fault(self, library: Library) -> str | None:
+        """Compares the column in the object of an error with the lines that `check --text` prints. `asm` reads no names."""
+        lines = library.session(["check", "--text"], self.text)[1].split("\n")[:-1]
+        source = ["", *self.text.split("\n"), ""]
+        for words in (["check", "--text"], ["asm"])[:1 if self.is_symbolic else 2]:
+            error = json.loads(library.session([*words, "--json"], self.text)[1]).get("error", {})
+            expected = positions.of_error(lines, source[error.get("line", 0)])[1]
+            if error.get("column", 0) != expected:
+                return f"{words[0]} --json: expected column {expected}, got {error.get('column', 0)}"
         return None
 
     def smaller(self) -> Iterator[FuzzTest]:

@@ -45,6 +45,7 @@ RETURNS = "proc control\nregs\nRET\n"
 PUTS = "proc control\nregs\nPUT 0 0 any\nRET\n"
 BOUND = "proc control\nregs\nPUT 1 0 1\nPUT 0 0 any\nRET\nproc control\nregs\nRET\nevents\n"
 NAMED = "names\nproc control main()\nregs one: int\n"
+CALLS_LATER = NAMED + "".join(f"PUT p{number} 0 any one\n" for number in (1, 62, 63, 64, 1000))
 WITH_TEXT = "proc control\nregs text\nTEXT v0 "
 WITH_INT = "proc control\nregs int\n"
 MAGIC = "54574201"
@@ -171,10 +172,13 @@ def heads() -> Iterator[Input]:
     yield Input("a deep type", TEXT, padded("proc control write", " cont", " int\nregs\nRET\n"))
     yield Input("commas in a head", TEXT, padded("names\nproc control main(", ",", ")\nregs\nRET\n"))
     yield Input("procedures", TEXT, padded("proc control\nregs\nRET\n", "proc leaf\nregs\nRET\n"), seconds=EARLY)
-    yield Input("procedures without names after names", TEXT, padded("names\n", "proc leaf\nregs\nRET\n"))
+    yield Input("procedures without names after names", TEXT, padded("names\n", "proc leaf\nregs\nRET\n"), seconds=EARLY)
     yield Input("an unknown word before procedures", TEXT, padded("word 3\n", "proc leaf\nregs\nRET\n"), seconds=EARLY)
-    yield Input("an unknown word before procedures after names", TEXT, padded("names\nword 3\n", "proc leaf\nregs\nRET\n"))
-    yield Input("procedures with names", TEXT, numbered("names\n", "proc leaf p%()\nregs\nRET\n"))
+    yield Input("an unknown word before procedures after names", TEXT, padded("names\nword 3\n", "proc leaf\nregs\nRET\n"), seconds=EARLY)
+    yield Input("procedures with names", TEXT, numbered("names\n", "proc leaf p%()\nregs\nRET\n"), seconds=EARLY)
+    yield Input("procedures that main calls", TEXT, numbered(CALLS_LATER, "proc leaf p%(n: val int)\nregs\nRET\n"), seconds=EARLY)
+    yield Input("heads after names", TEXT, padded("names\n", "proc\n"), seconds=EARLY)
+    yield Input("line ends after procedures with names", TEXT, padded("names\n" + "proc leaf\nregs\nRET\n" * 65, "\n"))
     yield Input("arguments of PUT", TEXT, padded("proc control\nregs\nPUT 0 0 any", " 1", "\nRET\n"))
     yield Input("arguments of PUT with names", TEXT, padded("names\nproc control main(a: ref int)\nregs\nPUT main 0 any", " a", "\nRET\n"))
 

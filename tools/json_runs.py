@@ -21,6 +21,7 @@ from pathlib import Path
 from typing import Any
 
 sys.path.insert(0, str(Path(__file__).resolve().parent))
+import positions  # noqa: E402
 from json_cases import COMMANDS, ROOT, UNCHECKED, faults, validators  # noqa: E402
 
 # Options whose output replaces or extends the report, or which make no run.
@@ -190,8 +191,8 @@ FIRST_LINES = tuple(re.compile(pattern) for pattern in (
 SECOND_LINE = re.compile(r"at line (?P<line>\d+)|input (?P<input>\d+) (is|has)")
 
 
-def error_members(lines: list[str]) -> dict[str, Any]:
-    """Returns what an error with these lines has in JSON."""
+def error_members(lines: list[str], text: list[str]) -> dict[str, Any]:
+    """Returns what an error with these lines has in JSON, when a command reads this text."""
     first = next(match for match in (pattern.fullmatch(lines[0]) for pattern in FIRST_LINES) if match)
     found = {key: value for key, value in first.groupdict().items() if value is not None}
     code = found.get("code", "")
@@ -199,6 +200,9 @@ def error_members(lines: list[str]) -> dict[str, Any]:
     if second:
         found.update({key: value for key, value in second.groupdict().items() if value is not None})
     made: dict[str, Any] = {key: value if key == "code" else int(value) for key, value in found.items()}
+    column = positions.of_error(lines, text[made["line"] - 1])[1] if code[:1] in ("A", "N") else 0
+    if column:
+        made["column"] = column
     made["lines"] = lines
     return made
 
@@ -206,10 +210,11 @@ def error_members(lines: list[str]) -> dict[str, Any]:
 def error_object(session: Session, status: int, text: bytes) -> dict[str, Any]:
     """Returns what the object of an error has to say."""
     lines = text.decode(errors="replace").split("\n")[:-1]
+    given = session.given.decode(errors="replace").split("\n")
     if session.command == "check" and "--places" in session.options:
         first = next(number for number, line in enumerate(lines) if line.startswith("refused "))
-        return {"status": "refused", "listing": lines[:first], "error": error_members(lines[first:])}
-    return {"status": "trap" if status == 6 else "refused", "error": error_members(lines)}
+        return {"status": "refused", "listing": lines[:first], "error": error_members(lines[first:], given)}
+    return {"status": "trap" if status == 6 else "refused", "error": error_members(lines, given)}
 
 
 def without_names(found: dict[str, Any]) -> dict[str, Any]:
@@ -225,6 +230,8 @@ def differences(session: Session, status: int, text: bytes, got: dict[str, Any])
     else:
         expected = OBJECTS[session.command](session.options, text.decode())
         got = {key: value for key, value in got.items() if session.command not in ("run", "replay") or key not in ("events", "instructions")}
+    if session.command == "asm" and status == 1 and not session.options:
+        got = got | {"error": {key: value for key, value in got["error"].items() if key != "column"}}  # which one line doesn't say
     if session.command == "check":
         got = {key: value for key, value in got.items() if key != "inputs"}  # which no line of a check says
     if session.command == "check" and "--places" not in session.options:

@@ -2,7 +2,7 @@
 # SPDX-License-Identifier: Apache-2.0
 """Checks that `tw run --each` answers each line as soon as it is read: stream.py [--short] [TW]
 
-Writes a line, waits for its answer, and writes the next, with one job and with four. Sends bytes that aren't UTF-8, and ends the process by signals.
+Writes a line, waits for its answer, and writes the next, with one job and with four, also lines with ids. Sends bytes that aren't UTF-8, and ends the process by signals.
 Without --short also sends lines of 16 MiB, and has 100 MB of lines read in bounded memory. Without TW it is the release's program.
 """
 
@@ -21,6 +21,8 @@ from pathlib import Path
 from typing import IO, Callable
 
 ECHO = "proc control closed int write int\nregs int\nGET v0 d0\nDROPR d0\nSTORE d1 v0\nRET\n"
+# Echoes its input after some 20 million instructions.
+SLOW = ECHO.replace("regs int\n", "regs int int\n").replace("STORE", "REPEAT 20\nREPEAT 1000\nREPEAT 1000\nADD v1 v0 v0 +0\nEND\nEND\nEND\nSTORE")
 ROOT = Path(__file__).resolve().parent.parent
 MOST = 16_777_216
 WAIT = 60.0
@@ -106,6 +108,19 @@ def one_by_one(tw: str, program: Path, jobs: int) -> None:
     expect("status", stream.close(), 0)
 
 
+def with_ids(tw: str, program: Path, jobs: int) -> None:
+    """The answer to a line with an id has it, also if the line is rejected."""
+    stream = Stream(tw, program, jobs)
+    stream.send(b'{"id": 7, "inputs": [3]}\n{"inputs": [4], "id": "seven"}\n[5]\n')
+    expect("answer", stream.receive(), answer(1, 3) | {"id": 7})
+    expect("answer", stream.receive(), answer(2, 4) | {"id": "seven"})
+    expect("answer", stream.receive(), answer(3, 5))
+    stream.send(b'{"id": 1.5, "inputs": 6}\n')
+    rejected = stream.receive()
+    expect("rejected line", (rejected["line"], rejected["id"], rejected["status"]), (4, 1.5, "refused"))
+    expect("status", stream.close(), 1)
+
+
 def in_pieces(tw: str, program: Path, jobs: int) -> None:
     """A line may come in pieces, several at once, blank, and the last one without a line feed."""
     stream = Stream(tw, program, jobs)
@@ -131,6 +146,28 @@ def wrong_lines(tw: str, program: Path, jobs: int) -> None:
     expect("inputs", stream.receive()["line"], 4)
     expect("answer", stream.receive(), answer(5, 2))
     expect("status", stream.close(), 1)
+
+
+def threads_of(process: int) -> int:
+    """Returns how many threads a process has now."""
+    return len(list(Path(f"/proc/{process}/task").iterdir()))
+
+
+def in_threads(tw: str, program: Path, jobs: int) -> None:
+    """Lines are answered in as many threads as --jobs says, beside that of the observer."""
+    slow = program.with_name("slow.tw")
+    slow.write_text(SLOW, encoding="ascii")
+    stream = Stream(tw, slow, jobs)
+    stream.send(b"[1]\n" * 3 * jobs)
+    most = 0
+    while not select.select([stream.pipe(stream.process.stdout)], [], [], 0.001)[0]:
+        most = max(most, threads_of(stream.process.pid))
+    for number in range(1, 3 * jobs + 1):
+        expect("outputs", stream.receive()["outputs"], [1])
+        most = max(most, threads_of(stream.process.pid))
+    if not jobs <= most <= jobs + 1:
+        raise Wrong(f"{most} threads")
+    expect("status", stream.close(), 0)
 
 
 def long_lines(tw: str, program: Path, jobs: int) -> None:
@@ -175,7 +212,7 @@ def in_memory(tw: str, program: Path, jobs: int) -> None:
 
 Check = Callable[[str, Path, int], None]
 CHECKS: dict[str, Check] = {
-    "one by one": one_by_one, "in pieces": in_pieces, "wrong lines": wrong_lines,
+    "one by one": one_by_one, "with ids": with_ids, "in pieces": in_pieces, "wrong lines": wrong_lines, "threads": in_threads,
     "SIGTERM": by_signal(signal.SIGTERM), "SIGINT": by_signal(signal.SIGINT),
 }
 LARGE_CHECKS: dict[str, Check] = {"long lines": long_lines, "memory": in_memory}

@@ -205,8 +205,11 @@ class RulesTest(unittest.TestCase):
             self.assertIn(f" {name}, more than the bound", str(test.over(machine, {**held, name: 1})))
 
     def test_bounds_of_members_and_bytes(self) -> None:
-        program = main_of(Instr("REPEAT", (3,)), Instr("NEW", (0, 1, (2,))), Instr("END"), Instr("TINS", (2, 0, 1, 0)), Instr("INS", (2, 0, 1, 0)))
-        self.assertEqual([bound(program, COUNTED[name]) for name in ("members", "bytes")], [2, 4 * 4096])
+        """Three scalars of texts and a subscript are four texts; a register of texts is a fifth."""
+        code = (Instr("REPEAT", (3,)), Instr("NEW", (0, 1, (2,))), Instr("END"), Instr("TINS", (2, 0, 1, 0)), Instr("INS", (2, 0, 1, 0)))
+        for registers, texts in (((1,), 4), ((2,), 5)):
+            program = main_of(*code, registers=registers)
+            self.assertEqual([bound(program, COUNTED[name]) for name in ("members", "bytes")], [2, texts * 4096])
         machine = Machine(main_of(params=(Param(2, (4, 2)), Param(4, (2,)), Param(2, (3, 1)))), (1, 1, 1))
         by_text: dict[str, Scalar] = {"a": "b", "c": "d"}
         by_int: dict[int, Scalar] = {1: 7}
@@ -214,9 +217,9 @@ class RulesTest(unittest.TestCase):
         self.assertEqual(machine.held(), {"members": 3, "bytes": 5 * 4096})
 
     def test_bounds_of_maps(self) -> None:
-        """A value is a member; a MINS of one text at another has two texts, a MADD at an int none."""
+        """A value is a member; a MINS of one text at another has two texts, a MADD at an int none, a register of texts one."""
         both = replace(main_of(Instr("MINS", (0, 1, 1, 0)), Instr("MADD", (1, 0, 0))).main, registers=(1, 2))
-        self.assertEqual([bound(Program((both,)), COUNTED[name]) for name in ("members", "bytes")], [2, 2 * 4096])
+        self.assertEqual([bound(Program((both,)), COUNTED[name]) for name in ("members", "bytes")], [2, 3 * 4096])
         machine = Machine(main_of(params=(Param(2, (6, 2)), Param(4, (5, 3)))), (1, 1, 1))
         texts: dict[str, Scalar] = {"a": "b", "c": "d"}
         machine.open([texts])
@@ -224,6 +227,20 @@ class RulesTest(unittest.TestCase):
 
     def test_sums_wrap(self) -> None:
         self.assertEqual([wrapped(number) for number in (2**63 - 1, 2**63, -(2**63) - 1, 2**64)], [2**63 - 1, -(2**63), 2**63 - 1, 0])
+
+    def test_bounds_of_texts_in_tasks(self) -> None:
+        """Main has one text, which it gives to a rule and to a task of three registers of texts each."""
+        callee = Procedure(0, (Param(1, (2,)),), (2, 2, 2), (Instr("RET"),))
+        main = main_of(Instr("RULE", (1, 0, 0, (0,))), Instr("PUT", (1, 0, 0, (0,))), registers=(2,)).main
+        program = Program((main, callee))
+        self.assertEqual(bound(program, COUNTED["bytes"]), 7 * 4096)
+        machine = Machine(program, (1, 1, 1))
+        machine.open([])
+        texts = [machine.held()["bytes"] // 4096]
+        for event in ("take e0", "call e0", "call e0", "end e0", "take e0", "end e0", "release e0 1", "take e0"):
+            machine.make(event_of(event))
+            texts.append(machine.held()["bytes"] // 4096)
+        self.assertEqual(texts, [0, 1, 2, 3, 2, 4, 1, 1, 3])
 
     def test_circles_of_calls(self) -> None:
         program = Program((main_of(Instr("PUT", (1, 0, 0, ()))).main, main_of(Instr("PUT", (1, 0, 0, ()))).main))

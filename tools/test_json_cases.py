@@ -86,9 +86,24 @@ class Unseen(unittest.TestCase):
 
     def test_errors_of_lines(self) -> None:
         lines = ["refused V15 in procedure 2 at place 5", "at line 9 in work: DROPW d0", "d0 holds write int"]
-        self.assertEqual(json_runs.error_members(lines), {"code": "V15", "procedure": 2, "place": 5, "line": 9, "lines": lines})
-        self.assertEqual(json_runs.error_members(["refused O07", "tasks: bound 3, at most 2"])["code"], "O07")
-        self.assertEqual(json_runs.error_members(["trap C5 at event 2"]), {"code": "C5", "event": 2, "lines": ["trap C5 at event 2"]})
+        self.assertEqual(json_runs.error_members(lines, []), {"code": "V15", "procedure": 2, "place": 5, "line": 9, "lines": lines})
+        self.assertEqual(json_runs.error_members(["refused O07", "tasks: bound 3, at most 2"], [])["code"], "O07")
+        self.assertEqual(json_runs.error_members(["trap C5 at event 2"], []), {"code": "C5", "event": 2, "lines": ["trap C5 at event 2"]})
+
+    def test_columns(self) -> None:
+        def column(*lines: str) -> Any:
+            return json_runs.error_members([f"refused {lines[0]} at line 1", *lines[1:]], [lines[1] if len(lines) > 1 else ""]).get("column")
+
+        self.assertEqual(column("A02", "RET 7", "word 2, column 5: one word too many, found 7"), 5)
+        self.assertIsNone(column("A02", "RET one", "expands to: RET 7", "word 2, column 5: one word too many, found 7"))
+        self.assertIsNone(column("A02"))
+        self.assertEqual(column("N04", "INT totl 7 ; totl", "totl: the name means nothing here"), 5)
+        self.assertEqual(column("N04", 'TEXT totl "a" ; b', "totl: the name means nothing here"), 6)
+        self.assertIsNone(column("N04", 'TEXT totl "a" ; totl', "totl: the name means nothing here"))
+        self.assertEqual(column("N01", "regs as: a:", "a: needs a type after it"), 10)
+        self.assertIsNone(column("N04", "ADD a a b", "a: the name means nothing here"))
+        self.assertIsNone(column("N03", "proc leaf a(b", "a(b: this can't be a name"))
+        self.assertEqual(column("N04", "INT " + "x" * 201, "x" * 200 + " ..: the name means nothing here"), 5)
 
 
 class Differences(unittest.TestCase):
