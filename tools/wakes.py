@@ -83,7 +83,7 @@ def cases() -> str:
     kept = []
     for line in (ROOT / "crates/tw_host_cases/stdin").read_text().splitlines():
         fields = line.split("|")
-        if line.startswith("let ") or (len(fields) > 2 and not line.startswith(("#", "long_")) and fields[1].strip().startswith(KINDS)):
+        if line.startswith("let ") or (len(fields) > 2 and not line.startswith(("#", "long_", "control_")) and fields[1].strip().startswith(KINDS)):
             kept.append(line)
     return "\n".join(kept) + "\n"
 
