@@ -2,11 +2,10 @@
 # SPDX-License-Identifier: Apache-2.0
 """Writes the rows of instructions that follow from a row of the table, crates/tw_code/specs/format/Table.antt, and a variant of instr.rt.
 
-    tools/instruction_rows.py --make     writes them into opcode.rt, sink.rt, the table itself, tw_binary, tw_asm and tw_symbols
+    tools/instruction_rows.py --make     writes them into opcode.rt, sink.rt, operands.rt, the table itself, tw_asm and tw_symbols
     tools/instruction_rows.py --check    fails if a file has other rows
 
-By hand are the table's row_of, since and word_of, and the variants and their fields. What decodes or reads a new sequence of operands has a function,
-whose name is in PARTS or SHAPES.
+By hand are the table's row_of, since and word_of, and the variants and their fields.
 """
 
 from __future__ import annotations
@@ -27,27 +26,8 @@ ALIASES = {"Local": "local", "Data": "on_data"}
 REGISTERS = ("Value", "Right")
 VERSIONS = ("One", "Two", "Four")
 
-# The functions that decode operands: by their form, and of registers before a skip or the end.
-READERS = {
-    "Value": "register(bytes)?", "Right": "register(bytes)?", "Number": "number(bytes)?", "Literal": "text(alloc, bytes)?",
-    "Skip": "skip(bytes)?", "Iterations": "iterations(bytes)?", "TypeOf": "data_type(version, bytes)?",
-}
-# The parts of several registers, and a skip or none: their names, and those of their values.
-PARTS = {(2, False): "two", (2, True): "two_and_skip", (3, False): "three", (3, True): "three_and_skip"}
-VALUES = {
-    "two": ("first", "second"), "two_and_skip": ("first", "second", "skip"), "three": ("first", "second", "third"),
-    "three_and_skip": ("first", "second", "third", "skip"),
-}
-
-# The functions that read the words of operands.
-SHAPES = {
-    "": "nothing_of", "Value": "only_value", "Right": "only_right", "Iterations": "only_iterations", "Skip": "only_goal",
-    "Value Number": "value_and_number", "Value Value": "two_values", "Right Value": "right_and_value", "Value Right": "value_and_right",
-    "Right Right": "two_rights", "Right Right TypeOf": "two_rights_and_type", "Value Value Skip": "two_values_and_goal",
-    "Value Value Value Skip": "three_values_and_goal", "Right Value Right Skip": "right_value_right_and_goal",
-    "Right Right Value Skip": "right_right_value_and_goal", "Value Right Value Skip": "value_right_value_and_goal",
-    "Right Value Value": "right_and_two_values", "Right Value Value Skip": "right_two_values_and_goal",
-}
+# The fields in which operands are gathered, but those of registers.
+GATHERED = {"Number": "number", "Iterations": "iterations", "Skip": "skip", "TypeOf": "ty"}
 
 
 class Row(NamedTuple):
@@ -72,12 +52,6 @@ class Row(NamedTuple):
     def skips(self) -> bool:
         """Returns whether its last operand is a skip."""
         return self.forms[-1:] == ("Skip",)
-
-    @property
-    def part(self) -> str | None:
-        """Returns the part that its operands are; `None` if they aren't several registers, and a skip or none."""
-        registers = len(self.forms) - self.skips
-        return PARTS.get((registers, self.skips)) if set(self.forms[:registers]) <= set(REGISTERS) else None
 
     @property
     def takes_memory(self) -> bool:
@@ -200,92 +174,21 @@ def sink_rows(kind: str, star: str) -> Callable[[list[Row]], Iterator[str]]:
     return put
 
 
-def literal(row: Row, fields: list[str]) -> str:
-    """Returns the expression of an instruction with these fields."""
-    given = [f"{name}: Scalar::{value}" for name, value in row.given.items()]
-    return f"Instr::{row.kind}({ENUMS[row.kind]}::{row.variant}" + (f" {{ {', '.join(given + fields)} }})" if row.fields else ")")
+def literal(row: Row) -> str:
+    """Returns the expression of an instruction of gathered operands."""
+    given = {"operation": "Arithmetic", "by": "Scalar"}
+    registers = iter(("first", "second", "third"))
+    fields = {name: f"{given[name]}::{value}" for name, value in row.given.items()}
+    fields |= {name: next(registers) if form in REGISTERS else GATHERED[form] for form, name in zip(row.forms, row.fields)}
+    text = ", ".join(name if name == value else f"{name}: {value}" for name, value in fields.items())
+    return f"Instr::{row.kind}({ENUMS[row.kind]}::{row.variant}" + (f" {{ {text} }})" if text else ")")
 
 
-def decoded_fields(row: Row) -> str:
-    """Returns the arm that decodes the fields of an instruction: two registers together, others one by one."""
-    together = 2 if sum(1 for form in row.forms if form in REGISTERS) == 2 else 0
-    alone = [f"{name}: {READERS[form]}" for form, name in list(zip(row.forms, row.fields))[together:]]
-    instr = f"Ok({literal(row, [*row.fields[:together], *alone])})"
-    return f"{{ let ({', '.join(row.fields[:together])}) = two(bytes)?; {instr} }}" if together else f"{instr},"
-
-
-def decoded(row: Row) -> str:
-    """Returns the arm that decodes the operands of an instruction."""
-    if row.action:
-        return f"Ok(Instr::{row.kind}({'computed' if row.forms[1] == 'Value' else 'constant'}_action(alloc, bytes)?)),"
-    return "Ok(Instr::Ret)," if row.kind == "Ret" else decoded_fields(row)
-
-
-def decoding_rows(rows: list[Row]) -> Iterator[str]:
-    """Yields the rows that decode operands. Those of a part share one."""
+def making_rows(rows: list[Row]) -> Iterator[str]:
+    """Yields the rows that make instructions without text and arguments."""
     for row in rows:
-        if not row.part:
-            yield f"        Opcode::{row.opcode} => {decoded(row)}"
-    for part in VALUES:
-        yield from shared([row for row in rows if row.part == part], f"decode_{part}(opcode, bytes)")
-
-
-def part_rows(part: str) -> Callable[[list[Row]], Iterator[str]]:
-    """Returns a function that yields the rows which make an instruction of the values of a part."""
-    def made_of(rows: list[Row]) -> Iterator[str]:
-        for row in rows:
-            if row.part == part:
-                given = {"operation": "Arithmetic", "by": "Scalar"}
-                fields = [f"{name}: {given[name]}::{value}" for name, value in row.given.items()]
-                fields += [name if name == value else f"{name}: {value}" for name, value in zip(row.fields, VALUES[part])]
-                yield f"        Opcode::{row.opcode} => Instr::{row.kind}({ENUMS[row.kind]}::{row.variant} {{ {', '.join(fields)} }}),"
-    return made_of
-
-
-def nested(names: list[str]) -> str:
-    """Returns the pattern of nested pairs."""
-    return names[0] if len(names) == 1 else f"({names[0]}, {nested(names[1:])})"
-
-
-def read(row: Row) -> str:
-    """Returns the arm that reads the operands of an instruction from words."""
-    shape = SHAPES[" ".join(row.forms)]
-    instr = "Instr::Ret" if row.kind == "Ret" else literal(row, list(row.fields))
-    if row.skips:
-        return f"{{ let {nested([*row.fields[:-1], 'Goal { skip, label }'])} = {shape}(words)?; Ok(going({instr}, label)) }}"
-    if not row.forms:
-        return f"{{ {shape}(words)?; Ok(straight({instr})) }}"
-    if "TypeOf" in row.forms:
-        return f"{{ let {nested(list(row.fields))} = {shape}(version, words)?; Ok(straight({instr})) }}"
-    return f"{{ let {nested([*row.fields, '()'])} = {shape}(words)?; Ok(straight({instr})) }}"
-
-
-def shared(rows: list[Row], call: str) -> Iterator[str]:
-    """Yields a row that these opcodes share, if there are any."""
-    if rows:
-        opcodes = " | ".join(f"Opcode::{row.opcode}" for row in rows)
-        yield from textwrap.wrap(f"{opcodes} => {call},", 150, initial_indent="        ", subsequent_indent="            ")
-
-
-def reading_rows(skips: bool) -> Callable[[list[Row]], Iterator[str]]:
-    """Returns a function that yields the rows that read words, of instructions with or without a skip, and no memory."""
-    def rows_read(rows: list[Row]) -> Iterator[str]:
-        mine = [row for row in rows if row.skips == skips and not row.takes_memory]
-        for row in mine:
-            if not row.part:
-                yield f"        Opcode::{row.opcode} => {read(row)}"
-        for part in VALUES:
-            yield from shared([row for row in mine if row.part == part], f"{part.replace('skip', 'goal')}_of(opcode, words)")
-    return rows_read
-
-
-def bank_rows(part: str) -> Callable[[list[Row]], Iterator[str]]:
-    """Returns a function that yields the rows that read the words of a part, by the banks of its registers."""
-    def rows_read(rows: list[Row]) -> Iterator[str]:
-        mine = [row for row in rows if row.part == part]
-        for forms in dict.fromkeys(row.forms for row in mine):
-            yield from shared([row for row in mine if row.forms == forms], f"{SHAPES[' '.join(forms)]}(words)")
-    return rows_read
+        if not row.takes_memory:
+            yield f"        Opcode::{row.opcode} => {'Instr::Ret' if row.kind == 'Ret' else literal(row)},"
 
 
 def skip_rows(kind: str) -> Callable[[list[Row]], Iterator[str]]:
@@ -356,20 +259,7 @@ REGIONS: tuple[Region, ...] = (
     Region(TABLE, "-- ---- one line for each instruction", "abbrev pub opcode_of_operation : Arithmetic → Opcode", "", operation_lines),
     Region(TABLE, "-- ---- one line for each instruction", "abbrev pub local_row : LocalInstr → Opcode × List Operand", "", back_rows("Local", "local_row")),
     Region(TABLE, "-- ---- one line for each instruction", "abbrev pub data_row : DataInstr → Opcode × List Operand", "", back_rows("Data", "data_row")),
-    Region("tw_binary/src/rows.rt", "fn operands_of<", "    match opcode {", "    }", decoding_rows),
-    Region("tw_binary/src/rows.rt", "fn instr_of_two(", "    match opcode {", "        _ =>", part_rows("two")),
-    Region("tw_binary/src/rows.rt", "fn instr_of_two_and_skip(", "    match opcode {", "        _ =>", part_rows("two_and_skip")),
-    Region("tw_binary/src/rows.rt", "fn instr_of_three(", "    match opcode {", "        _ =>", part_rows("three")),
-    Region("tw_binary/src/rows.rt", "fn instr_of_three_and_skip(", "    match opcode {", "        _ =>", part_rows("three_and_skip")),
-    Region("tw_asm/src/instructions.rt", "fn two_registers<", "    match opcode {", "        _ =>", bank_rows("two")),
-    Region("tw_asm/src/instructions.rt", "fn three_registers<", "    match opcode {", "        _ =>", bank_rows("three")),
-    Region("tw_asm/src/instructions.rt", "fn three_registers_and_goal<", "    match opcode {", "        _ =>", bank_rows("three_and_skip")),
-    Region("tw_asm/src/instructions.rt", "fn instr_of_two(", "    match opcode {", "        _ =>", part_rows("two")),
-    Region("tw_asm/src/instructions.rt", "fn instr_of_two_and_skip(", "    match opcode {", "        _ =>", part_rows("two_and_skip")),
-    Region("tw_asm/src/instructions.rt", "fn instr_of_three(", "    match opcode {", "        _ =>", part_rows("three")),
-    Region("tw_asm/src/instructions.rt", "fn instr_of_three_and_skip(", "    match opcode {", "        _ =>", part_rows("three_and_skip")),
-    Region("tw_asm/src/instructions.rt", "fn going_of<", "    match opcode {", "        _ =>", reading_rows(True)),
-    Region("tw_asm/src/instructions.rt", "fn plain_of<", "    match opcode {", "        _ =>", reading_rows(False)),
+    Region("tw_code/src/operands.rt", "pub fn make(", "    match opcode {", "        _ =>", making_rows),
     Region("tw_asm/src/skip.rt", "fn local_with_skip(", "    match instr {", "        without =>", skip_rows("Local")),
     Region("tw_asm/src/skip.rt", "fn data_with_skip(", "    match instr {", "        without =>", skip_rows("Data")),
     Region(SEEN, "-- ---- an instruction with another skip", "abbrev pub local_with_skip : ℕ → LocalInstr → LocalInstr", "local_with_skip skip i", skip_lines("Local", "local_with_skip")),

@@ -38,20 +38,18 @@ WHOLES: tuple[Whole, ...] = (
     Whole("tw_code/specs/format/Table.antt", "Opcode", (r"^row_of opcode\.NAME = a_row ", r"^word_of opcode\.NAME = ")),
     Whole("tw_code/specs/format/Table.antt", "LocalInstr", (r"^row_of .*\blocal\.NAME\b", r"^local_row \(?local\.NAME\b")),
     Whole("tw_code/specs/format/Table.antt", "DataInstr", (r"^row_of .*\(on_data\.NAME\b", r"^data_row \(on_data\.NAME\b")),
-    Whole("tw_binary/src/rows.rt", "Opcode", (r"Opcode::NAME\b.* => ",)),
-    Whole("tw_asm/src/instructions.rt", "Opcode", (r"Opcode::NAME\b.* => ",)),
     Whole("tw_code/src/sink.rt", "Opcode"),
     Whole("tw_symbols/proofs/RenamedTexts.antt", "Opcode", (r"^kind_of opcode\.NAME = ",)),
     *(Whole(path, kind) for kind, paths in {
         "LocalInstr": (
-            "tw_code/src/sink.rt", "tw_binary/src/rows.rt", "tw_asm/src/instructions.rt",
+            "tw_code/src/sink.rt",
             "tw_code/specs/accepting/Typing.antt", "tw_code/specs/machine/Local.antt", "tw_soundness/proofs/Values.antt",
             "tw_verify/src/instructions.rt", "tw_bounds/proofs/Moved.antt", "tw_instr/src/local.rt",
             "tw_frame/src/dispatch.rt", "tw_frame/specs/Requirements.antt", "tw_frame/proofs/Quickly.antt", "tw_frame/proofs/Ahead.antt",
             "tw_diagnostics/src/local_checks.rt", "tw_diagnostics/specs/RegisterCheck.antt", "tw_diagnostics/proofs/Asking.antt",
         ),
         "DataInstr": (
-            "tw_code/src/sink.rt", "tw_binary/src/rows.rt", "tw_binary/specs/VersionOne.antt", "tw_asm/src/instructions.rt",
+            "tw_code/src/sink.rt", "tw_code/src/operands.rt", "tw_binary/specs/VersionOne.antt",
             "tw_code/specs/accepting/Typing.antt", "tw_code/specs/machine/Data.antt", "tw_code/proofs/Growth.antt",
             "tw_soundness/proofs/Conditions.antt", "tw_soundness/proofs/DataLeaves.antt", "tw_soundness/proofs/DataNamed.antt",
             "tw_soundness/proofs/Long.antt", "tw_soundness/proofs/Moving.antt", "tw_soundness/proofs/Whole.antt",
@@ -70,7 +68,8 @@ WHOLES: tuple[Whole, ...] = (
 
 # Files with rows for some instructions; the document says for which.
 PARTS: tuple[str, ...] = (
-    "tw_code/specs/accepting/Flow.antt", "tw_code/src/flow.rt", "tw_asm/specs/Seen.antt", "tw_asm/src/skip.rt",
+    "tw_code/specs/accepting/Flow.antt", "tw_code/src/flow.rt", "tw_asm/specs/Seen.antt", "tw_asm/src/skip.rt", "tw_binary/src/rows.rt",
+    "tw_asm/src/instructions.rt",
     "tw_code/proofs/TableRows.antt", "tw_asm/proofs/Table.antt", "tw_asm/proofs/Rows.antt", "tw_binary/proofs/VersionOne.antt",
     "tw_binary/specs/VersionOne.antt", "tw_frame/src/step.rt", "tw_verify/src/quick.rt", "tw_verify/specs/Quick.antt",
     "tw_symbols/src/instruction.rt", "tw_symbols/specs/LineExpansion.antt",

@@ -56,11 +56,7 @@ class Rows(unittest.TestCase):
             "tw_code/src/opcode.rt": ("    Minimum = 0x15,", "[Opcode; 40]", "Opcode::Minimum | Opcode::InsertByText | ", '        Opcode::Minimum => "MIN",'),
             "tw_code/src/sink.rt": ("        Arithmetic::Minimum => Opcode::Minimum,",),
             instruction_rows.TABLE: ("opcode_of_operation operation.Minimum = opcode.Minimum",),
-            "tw_binary/src/rows.rt": ("        Opcode::Minimum => Instr::Local(LocalInstr::Compute { operation: Arithmetic::Minimum, to: first, left: second, right: third, skip }),",),
-            "tw_asm/src/instructions.rt": (
-                "        Opcode::Minimum => Instr::Local(LocalInstr::Compute { operation: Arithmetic::Minimum, to: first, left: second, right: third, skip }),",
-                " | Opcode::Remainder | Opcode::Minimum | Opcode::Concatenate =>\n            three_values_and_goal(words),",
-            ),
+            "tw_code/src/operands.rt": ("        Opcode::Minimum => Instr::Local(LocalInstr::Compute { operation: Arithmetic::Minimum, to: first, left: second, right: third, skip }),",),
             "tw_symbols/proofs/RenamedTexts.antt": ("kind_of opcode.Minimum = inl (λ a b. refl)",),
         }.items():
             for row in rows:
@@ -73,8 +69,7 @@ class Rows(unittest.TestCase):
         texts = instruction_rows.made(self.root)
         self.assertIn("        LocalInstr::Hash { to, from } => sink.put(Opcode::Hash, &[Value(*to), Value(*from)]),", texts["tw_code/src/sink.rt"])
         self.assertIn("Opcode::Copy | Opcode::Length | Opcode::Hash | Opcode::Show => &[Value, Value],", texts["tw_code/src/opcode.rt"])
-        self.assertIn("        Opcode::Hash => Instr::Local(LocalInstr::Hash { to: first, from: second }),", texts["tw_binary/src/rows.rt"])
-        self.assertIn("        Opcode::Copy | Opcode::Length | Opcode::Hash | Opcode::Show | ", texts["tw_binary/src/rows.rt"])
+        self.assertIn("        Opcode::Hash => Instr::Local(LocalInstr::Hash { to: first, from: second }),", texts["tw_code/src/operands.rt"])
 
     def test_an_opcode_without_a_name_is_found(self) -> None:
         self.edit(instruction_rows.TABLE, 'word_of opcode.Length = codes "LEN"\n', "")

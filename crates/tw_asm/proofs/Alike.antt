@@ -1,6 +1,6 @@
 -- Statements of the same words differ only in skips.
 use Rattle.std.proofs.Common.{◌≡◌, ℕ, List, [], ◌∷◌, ◌++◌, codes, refl, sym, ap, subst, ◌∙◌}
-use Rattle.tw_asm.proofs.AsmNames.{Bare, Code, Goals, Head, Label, OfVersion, Registers, ParserState, SpellParts, Spells, SpellsDigits, Statement, Version, Word, after, append_cancel_right, statement_parts, version_parts}
+use Rattle.tw_asm.proofs.AsmNames.{Bare, Code, Goals, Head, Label, OfVersion, Registers, ParserState, EncodeParts, Encodes, EncodesDigits, Statement, Version, Word, after, append_cancel_right, statement_parts, version_parts}
 use Rattle.tw_lexer.proofs.Numerals.{one_size}
 use Rattle.tw_asm.proofs.Once.{begins, class_of, same_class, same_word}
 use Rattle.tw_asm.proofs.Rows.{different}
@@ -14,23 +14,23 @@ AreAlike (Code i) (Code j) = Unit {0}
 AreAlike s t = ⊥
 
 -- the words of the version's line
-version_words : (G : Goals) (n : ℕ) (words : List Word) → SpellParts G (version_parts n) words → (digits : List ℕ) × SpellsDigits n digits × (words ≡ Bare (codes "version") ∷ Bare digits ∷ [])
+version_words : (G : Goals) (n : ℕ) (words : List Word) → EncodeParts G (version_parts n) words → (digits : List ℕ) × EncodesDigits n digits × (words ≡ Bare (codes "version") ∷ Bare digits ∷ [])
 version_words G n words (first, others, cut, is, (second, none, rest, (digits, spells, has), nothing)) =
     (digits, spells, cut ∙ (ap (λ (ws : List Word). ws ++ others) is ∙ ap (λ (ws : List Word). Bare (codes "version") ∷ ws) (rest ∙ (ap (λ (ws : List Word). ws ++ none) has ∙ ap (λ (ws : List Word). Bare digits ∷ ws) nothing))))
 
-one_version : (G H : Goals) (n m : ℕ) (words : List Word) → SpellParts G (version_parts n) words → SpellParts H (version_parts m) words → n ≡ m
+one_version : (G H : Goals) (n m : ℕ) (words : List Word) → EncodeParts G (version_parts n) words → EncodeParts H (version_parts m) words → n ≡ m
 one_version G H n m words a b =
     let x = version_words G n words a in
     let y = version_words H m words b in
-    one_size n m y.0 (subst (SpellsDigits n) (digits_are x.0 y.0 (sym x.2 ∙ y.2)) x.1) y.1
+    one_size n m y.0 (subst (EncodesDigits n) (digits_are x.0 y.0 (sym x.2 ∙ y.2)) x.1) y.1
   where
     digits_are : (c d : List ℕ) → Bare (codes "version") ∷ Bare c ∷ [] ≡ Bare (codes "version") ∷ Bare d ∷ [] → c ≡ d
     digits_are c d e = cc
 
-pub alike : {version : Version} (G H : Goals) (s t : Statement) (words : List Word) → Spells version G s words → Spells version H t words → AreAlike s t
+pub alike : {version : Version} (G H : Goals) (s t : Statement) (words : List Word) → Encodes version G s words → Encodes version H t words → AreAlike s t
 alike G H s t words a b = by s t a.parts b.parts (same_class G H s t words a b) (same_word G H s t words a b)
   where
-    by : (u v : Statement) → SpellParts G (statement_parts u) words → SpellParts H (statement_parts v) words → class_of u ≡ class_of v → (begins u).word ≡ (begins v).word → AreAlike u v
+    by : (u v : Statement) → EncodeParts G (statement_parts u) words → EncodeParts H (statement_parts v) words → class_of u ≡ class_of v → (begins u).word ≡ (begins v).word → AreAlike u v
     by (OfVersion n) (OfVersion m) p q class word = one_version G H n m words p q
     by (Head kind params) (Head k ps) p q class word = tt
     by (Registers registers) (Registers others) p q class word = tt

@@ -1,6 +1,6 @@
 -- The words of a line are read as a statement that they denote, or they denote none.
 use Rattle.std.proofs.Common.{◌≡◌, ℕ, List, [], ◌∷◌, ◌++◌, map, codes, Option, Some, None, Result, Ok, Err, true, refl, sym, ap, subst, ◌∙◌}
-use Rattle.tw_asm.proofs.AsmNames.{AllByRecursion, AnyName, AnyShortName, Bare, Code, TokenError, Form, Goals, HasForm, HasInstr, Head, Instr, IsInLimits, IsName, IsRead, Label, Limit, Line, LineContent, Name, Natural, NoName, OfVersion, OnlyName, Opcode, Part, Read, Registers, SpellParts, Spells, Statement, Version, Word, as_is, before_colon, code_read, draft_in, flat_map, has_opcode, instr_parts, kind_word, label_in, line_in, opcode_in, param_parts, register_part, statement_parts}
+use Rattle.tw_asm.proofs.AsmNames.{AllByRecursion, AnyName, AnyShortName, Bare, Code, TokenError, Form, Goals, HasForm, HasInstr, Head, Instr, IsInLimits, IsName, IsRead, Label, Limit, Line, LineContent, Name, Natural, NoName, OfVersion, OnlyName, Opcode, Part, Read, Registers, EncodeParts, Encodes, Statement, Version, Word, as_is, before_colon, code_read, draft_in, flat_map, has_opcode, instr_parts, kind_word, label_in, line_in, opcode_in, param_parts, register_part, statement_parts}
 use Rattle.tw_lexer.proofs.Colons.{before}
 use Rattle.tw_asm.proofs.Lined.{Had, HasLine, MayLine, found, goals_by, label_named, line_had, line_read, parts_may, parts_of, spelled, unnumbered}
 use Rattle.tw_asm.proofs.OperandWords.{IsFine}
@@ -15,10 +15,10 @@ Judged version (Ok read) ws = IsRead version read ws
 Judged version (Err flaw) ws = IsFlawed version flaw ws
 
 -- the first word of a statement is its name
-pub first_is : (G : Goals) (name : List ℕ) (parts : List Part) (w : Word) (ws : List Word) → SpellParts G (Name name ∷ parts) (w ∷ ws) → (w ≡ Bare name) × SpellParts G parts ws
+pub first_is : (G : Goals) (name : List ℕ) (parts : List Part) (w : Word) (ws : List Word) → EncodeParts G (Name name ∷ parts) (w ∷ ws) → (w ≡ Bare name) × EncodeParts G parts ws
 first_is G name parts w ws (first, others, cut, h, rest) =
     let whole : w ∷ ws ≡ Bare name ∷ others = cut ∙ ap (λ (vs : List Word). vs ++ others) h in
-    (head_is whole, subst (SpellParts G parts) (sym (tail_is whole)) rest)
+    (head_is whole, subst (EncodeParts G parts) (sym (tail_is whole)) rest)
   where
     head_is : w ∷ ws ≡ Bare name ∷ others → w ≡ Bare name
     head_is e = cc
@@ -31,7 +31,7 @@ first_is G name parts w ws (first, others, cut, h, rest) =
 -- holds if the statement is made of this opcode, and of operands that its line has
 abbrev IsCode : (version : Version) (G : Goals) → Opcode → List Word → Statement → Type 0
 IsCode version G o ws statement =
-    (x : LineContent (line_of version o)) × (statement ≡ Code (instr_of version o x)) × SpellParts G (parts_of (line_of version o) x) ws × Had (line_of version o) x
+    (x : LineContent (line_of version o)) × (statement ≡ Code (instr_of version o x)) × EncodeParts G (parts_of (line_of version o) x) ws × Had (line_of version o) x
 
 pub none_some : {A : Type 0} (a : A) → None ≡ Some a → ⊥
 none_some a e = cc
@@ -53,23 +53,23 @@ version_is_none version = refl
 
 module _ (version : Version) (G : Goals) where
   code_parts : (o p : Opcode) (x : LineContent (line_of version p)) (word : List ℕ) (ws : List Word) → opcode_in version word ≡ Some o → HasInstr version (instr_of version p x)
-      → SpellParts G (instr_parts (instr_of version p x)) (Bare word ∷ ws) → IsCode version G o ws (Code (instr_of version p x))
+      → EncodeParts G (instr_parts (instr_of version p x)) (Bare word ∷ ws) → IsCode version G o ws (Code (instr_of version p x))
   code_parts o p x word ws is had h =
-      let k = first_is G (word_of p) (parts_of (line_of version p) x) (Bare word) ws (subst (λ (ps : List Part). SpellParts G ps (Bare word ∷ ws)) (parts_are version p x) h) in
+      let k = first_is G (word_of p) (parts_of (line_of version p) x) (Bare word) ws (subst (λ (ps : List Part). EncodeParts G ps (Bare word ∷ ws)) (parts_are version p x) h) in
       let has : has_opcode version p ≡ true = ap (has_opcode version) (sym (row_opcode version p x)) ∙ had.0 in
       let same : p ≡ o = one_code p o (sym (ap (opcode_in version) (bare_is word (word_of p) k.0) ∙ named_in version p has) ∙ is) in
       at p o same x k.1 (had_made version p x had)
     where
-      at : (p o : Opcode) → p ≡ o → (x : LineContent (line_of version p)) → SpellParts G (parts_of (line_of version p) x) ws → Had (line_of version p) x → IsCode version G o ws (Code (instr_of version p x))
+      at : (p o : Opcode) → p ≡ o → (x : LineContent (line_of version p)) → EncodeParts G (parts_of (line_of version p) x) ws → Had (line_of version p) x → IsCode version G o ws (Code (instr_of version p x))
       at p o same =
-          subst (λ (q : Opcode). (x : LineContent (line_of version p)) → SpellParts G (parts_of (line_of version p) x) ws → Had (line_of version p) x → IsCode version G q ws (Code (instr_of version p x))) same
+          subst (λ (q : Opcode). (x : LineContent (line_of version p)) → EncodeParts G (parts_of (line_of version p) x) ws → Had (line_of version p) x → IsCode version G q ws (Code (instr_of version p x))) same
           (λ x s had. (x, refl, s, had))
 
   -- a word that isn't the name of an instruction in this version isn't the first word of one
-  other_first : (o : Opcode) (word name : List ℕ) (parts : List Part) (ws : List Word) → opcode_in version word ≡ Some o → opcode_in version name ≡ None → SpellParts G (Name name ∷ parts) (Bare word ∷ ws) → ⊥
+  other_first : (o : Opcode) (word name : List ℕ) (parts : List Part) (ws : List Word) → opcode_in version word ≡ Some o → opcode_in version name ≡ None → EncodeParts G (Name name ∷ parts) (Bare word ∷ ws) → ⊥
   other_first o word name parts ws is none h = none_some o (sym none ∙ (sym (ap (opcode_in version) (bare_is word name (first_is G name parts (Bare word) ws h).0)) ∙ is))
 
-  is_code : (o : Opcode) (word : List ℕ) (ws : List Word) → opcode_in version word ≡ Some o → (statement : Statement) → HasForm version statement → SpellParts G (statement_parts statement) (Bare word ∷ ws) → IsCode version G o ws statement
+  is_code : (o : Opcode) (word : List ℕ) (ws : List Word) → opcode_in version word ≡ Some o → (statement : Statement) → HasForm version statement → EncodeParts G (statement_parts statement) (Bare word ∷ ws) → IsCode version G o ws statement
   is_code o word ws is (OfVersion number) form h = absurd (other_first o word (codes "version") (Natural number ∷ []) ws is (version_is_none version) h)
   is_code o word ws is (Head kind params) form h = absurd (other_first o word (codes "proc") (Name (kind_word kind) ∷ flat_map param_parts params) ws is (proc_is_none version) h)
   is_code o word ws is (Registers registers) form h = absurd (other_first o word (codes "regs") (map register_part registers) ws is (regs_is_none version) h)
@@ -84,7 +84,7 @@ module _ (version : Version) (G : Goals) where
       by : (p : Opcode) × (x : LineContent (line_of version p)) × (i ≡ instr_of version p x) → IsCode version G o ws (Code i)
       by (p, x, e) =
           subst (λ (j : Instr). IsCode version G o ws (Code j)) (sym e)
-          (code_parts o p x word ws is (subst (HasInstr version) e form) (subst (λ (j : Instr). SpellParts G (instr_parts j) (Bare word ∷ ws)) e h))
+          (code_parts o p x word ws is (subst (HasInstr version) e form) (subst (λ (j : Instr). EncodeParts G (instr_parts j) (Bare word ∷ ws)) e h))
 
 any_is_name : (skip : ℕ) (name : List ℕ) → AnyName skip name → IsName name
 any_is_name skip name h = h
@@ -94,9 +94,9 @@ short_is_name skip name h = h.0
 
 -- the name and the operands denote the instruction
 with_name : (version : Version) (G : Goals) (o : Opcode) (x : LineContent (line_of version o)) (word : List ℕ) (ws : List Word) → word ≡ word_of o → HasInstr version (instr_of version o x)
-    → SpellParts G (parts_of (line_of version o) x) ws → Spells version G (Code (instr_of version o x)) (Bare word ∷ ws)
+    → EncodeParts G (parts_of (line_of version o) x) ws → Encodes version G (Code (instr_of version o x)) (Bare word ∷ ws)
 with_name version G o x word ws is had h =
-    record { form = had; parts = subst (λ (ps : List Part). SpellParts G ps (Bare word ∷ ws)) (sym (parts_are version o x)) (Bare word ∷ [], ws, refl, ap (λ (t : List ℕ). Bare t ∷ []) is, h) }
+    record { form = had; parts = subst (λ (ps : List Part). EncodeParts G ps (Bare word ∷ ws)) (sym (parts_are version o x)) (Bare word ∷ [], ws, refl, ap (λ (t : List ℕ). Bare t ∷ []) is, h) }
 
 module _ (version : Version) (o : Opcode) (word : List ℕ) (ws : List Word) (is : opcode_in version word ≡ Some o) where
   abbrev line : Line
@@ -116,10 +116,10 @@ module _ (version : Version) (o : Opcode) (word : List ℕ) (ws : List Word) (is
     where
       by : (label : Option (List ℕ)) → label_in line x ≡ label → IsRead version (code_read (make x, label)) (Bare word ∷ ws)
       by None e =
-          let parts = subst (λ (l : Option (List ℕ)). SpellParts (goals_by l) (parts_of line x) ws) e (spelled line ws x has) in
+          let parts = subst (λ (l : Option (List ℕ)). EncodeParts (goals_by l) (parts_of line x) ws) e (spelled line ws x has) in
           (within version o x (parts_may line ws x has may), with_name version NoName o x word ws name_is (read_had x has) parts)
       by (Some name) e =
-          let parts = subst (λ (l : Option (List ℕ)). SpellParts (goals_by l) (parts_of line x) ws) e (spelled line ws x has) in
+          let parts = subst (λ (l : Option (List ℕ)). EncodeParts (goals_by l) (parts_of line x) ws) e (spelled line ws x has) in
           let found = label_named line ws x name has e in (
             within version o x (parts_may line ws x has may),
             (
@@ -133,10 +133,10 @@ module _ (version : Version) (o : Opcode) (word : List ℕ) (ws : List Word) (is
             ),
           )
 
-  code_has_form : (x : LineContent line) → HasLine line ws x → Spells version AnyName (Code (make x)) (Bare word ∷ ws)
+  code_has_form : (x : LineContent line) → HasLine line ws x → Encodes version AnyName (Code (make x)) (Bare word ∷ ws)
   code_has_form x has = by (label_in line x) refl (spelled line ws x has)
     where
-      by : (label : Option (List ℕ)) → label_in line x ≡ label → SpellParts (goals_by label) (parts_of line x) ws → Spells version AnyName (Code (make x)) (Bare word ∷ ws)
+      by : (label : Option (List ℕ)) → label_in line x ≡ label → EncodeParts (goals_by label) (parts_of line x) ws → Encodes version AnyName (Code (make x)) (Bare word ∷ ws)
       by None e parts = with_name version AnyName o x word ws name_is (read_had x has) (parts_more NoName AnyName (λ _ _ k. absurd k) (parts_of line x) ws parts)
       by (Some name) e parts =
           let found = label_named line ws x name has e in
@@ -146,14 +146,14 @@ module _ (version : Version) (o : Opcode) (word : List ℕ) (ws : List Word) (is
   code_judged (Ok x) h = code_read_so x h.0 h.1
   code_judged (Err Form) h = λ form. no_form form.0 form.1.form form.1.parts
     where
-      no_form : (statement : Statement) → HasForm version statement → SpellParts AnyName (statement_parts statement) (Bare word ∷ ws) → ⊥
+      no_form : (statement : Statement) → HasForm version statement → EncodeParts AnyName (statement_parts statement) (Bare word ∷ ws) → ⊥
       no_form statement form s =
           let c = is_code version AnyName o word ws is statement form s in
           let y = found AnyName any_is_name line ws c.0 c.3 c.2 in
           h y.0 y.1
   code_judged (Err Limit) h = ((Code (make h.0.0), code_has_form h.0.0 h.0.1), λ statement say. none statement say.0.form say.0.parts say.1)
     where
-      none : (statement : Statement) → HasForm version statement → SpellParts AnyShortName (statement_parts statement) (Bare word ∷ ws) → IsInLimits statement → ⊥
+      none : (statement : Statement) → HasForm version statement → EncodeParts AnyShortName (statement_parts statement) (Bare word ∷ ws) → IsInLimits statement → ⊥
       none statement form s limits =
           let c = is_code version AnyShortName o word ws is statement form s in
           let y = found AnyShortName short_is_name line ws c.0 c.3 c.2 in

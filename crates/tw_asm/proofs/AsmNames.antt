@@ -28,7 +28,7 @@ pub use Rattle.tw_code.specs.declared.version.Version.TheVariants.{One, Two, Fou
 pub use Rattle.tw_code.specs.format.Program.{IsInstr, IsInstrOf, IsList, IsMapOf, IsOperand, IsOperandOf, IsParam, IsParamOf, IsProcedure, IsProcedureOf, IsProgramOf, IsRegister, IsSkip, IsSubscriptOf, IsTarget, IsTypeOf, IsTypeUnderOf, IsVersioned, IsWithin, Versioned}
 pub use Rattle.tw_code.specs.format.Table.{Contents, Operand, forms_of, has_opcode, holds, if_had, priority_operand, row, word_of, opcode_in}
 pub use Rattle.tw_lexer.proofs.Once.{blank_no_word, broken_here, broken_no_line, first_word_once, line_blank, line_once}
-pub use Rattle.tw_lexer.specs.Number.{IsIn64, SpellsDigits, SpellsNumber}
+pub use Rattle.tw_lexer.specs.Number.{IsIn64, EncodesDigits, EncodesNumber}
 pub use Rattle.tw_lexer.specs.Seen.{IsRead as IsLineRead, seen}
 pub use Rattle.tw_lexer.specs.Words.{Bare, IsBrokenLine, IsFirstWord, IsLine, IsWord, Quoted, Word, is_edge}
 pub use Rattle.tw_asm.specs.declared.fault.AsmFault.{AsmFault}
@@ -37,11 +37,11 @@ pub use Rattle.tw_lexer.specs.declared.numbers.TokenError.{TokenError}
 pub use Rattle.tw_lexer.specs.declared.numbers.TokenError.TheVariants.{Form, Limit}
 pub use Rattle.tw_asm.specs.declared.statement.First.{First}
 pub use Rattle.tw_asm.specs.Disassembly.{code_lines, disassembly, first_ones, goal_from, goals_from, label_at, label_line, label_places, procedure_lines, version_line}
-pub use Rattle.tw_asm.specs.Fault.{AfterHead, AfterVersion, Begins, GoalFault, HasWords, InBody, IsEmpty, IsEndFault, IsFirstFault, IsFirstGoalFault, IsLineFault, IsOutset, IsUnfinished, IsWhole, LineFault, LineSays, LinesSay, MayBegin, MayFollow, ParserState, Stage, Start, after, after_line, at_start, empty, instructions, label_twice, labels_ahead, limit, not_forward, operand, procedures, situation, situation_from, unknown, word}
+pub use Rattle.tw_asm.specs.Fault.{AfterHead, AfterVersion, Begins, GoalFault, HasWords, InBody, IsEmpty, IsEndFault, IsFirstFault, IsFirstGoalFault, IsLineFault, IsOutset, IsUnfinished, IsWhole, LineFault, HasStatement, HaveStatements, MayBegin, MayFollow, ParserState, Stage, Start, after, after_line, at_start, empty, instructions, label_twice, labels_ahead, limit, not_forward, operand, procedures, situation, situation_from, unknown, word}
 pub use Rattle.tw_asm.specs.Parts.{Literal, Name, Natural, Number, Part, Right, Skip, Target, TypeOf, Value, container_word, head_parts, instr_parts, kind_word, leaf_words, map_word, mode_word, operand_parts, param_parts, register_part, registers_parts, scalar_word, skip_among, skip_of, sum_word, version_parts}
 pub use Rattle.tw_asm.specs.Seen.{IsRead, NoName, OnlyName, Read, bytes_of, with_skip}
-pub use Rattle.tw_asm.specs.Spelling.{AreCode, GoesTo, HaveWords, Placed, SpellProcedures, SpellsProcedure, SpellsProgram, SpellsVersion}
-pub use Rattle.tw_asm.specs.Statement.{AnyName, AnyShortName, Code, Goals, HasForm, HasInstr, HasOperand, HasParam, HasType, HaveForm, Head, IsExpected, IsInLimits, IsInName, IsInstrWord, IsLabelWord, IsLetter, IsName, IsShortName, IsTypeOfMode, IsVersionNumber, Label, NamesLabel, OfVersion, Registers, Say, SpellParts, Spells, SpellsPart, SpellsWith, Statement, statement_parts, version_by, version_number}
+pub use Rattle.tw_asm.specs.Spelling.{AreCode, SkipsTo, HaveWords, Placed, EncodeProcedures, EncodesProcedure, EncodesProgram, EncodesVersion}
+pub use Rattle.tw_asm.specs.Statement.{AnyName, AnyShortName, Code, Goals, HasForm, HasInstr, HasOperand, HasParam, HasType, HaveForm, Head, IsExpected, IsInLimits, IsInName, IsInstrWord, IsLabelWord, IsLetter, IsName, IsShortName, IsTypeOfMode, IsVersionNumber, Label, NamesLabel, OfVersion, Registers, EncodesInLimits, EncodeParts, Encodes, EncodesPart, EncodesWith, Statement, statement_parts, version_by, version_number}
 pub use Rattle.tw_asm.specs.Written.{goal_word, line_of, part_words}
 pub use Rattle.tw_asm.specs.reading.Lines.{Line, LineContent, around, before, code_read, contained, draft_in, each, each_from, few, joined, label_in, line_in, mapped, params_from, put_first, type_from, type_in, typed, version_known, whole_type, with_type}
 pub use Rattle.tw_lexer.specs.Names.{before_colon, is_name}

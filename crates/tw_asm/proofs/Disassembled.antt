@@ -1,7 +1,7 @@
 -- The text of a program denotes it.
 use Rattle.std.proofs.Common.{◌≡◌, ◌≢◌, ◌==◌, ◌≤◌, ◌<◌, ℕ, zero, suc, ◌+◌, Bool, true, false, List, [], ◌∷◌, ◌++◌, length, get_or, map, codes, Option, Some, None, refl, sym, ap, subst, ◌∙◌, append_assoc, append-nil, arith}
 use Rattle.std.specs.Prelude.{IsUtf8, decimal, slice_index_or}
-use Rattle.tw_asm.proofs.AsmNames.{AllByRecursion, AllPairs, AreCode, Bare, Code, Contains, Four, Goals, GoesTo, HaveWords, Head, Instr, IsInstrOf, IsLine, IsProcedure, IsProcedureOf, IsVersioned, Label, OfVersion, One, Placed, Procedure, Registers, SpellProcedures, SpellsProcedure, SpellsProgram, SpellsVersion, Statement, Two, Version, Versioned, Word, code_lines, concat, disassembly, eqb-true, flat_map, goal_word, join_with_byte, label_at, label_line, label_places, line_of, lines, nat_tests, option_and_then, procedure_lines, skip_of, version_line}
+use Rattle.tw_asm.proofs.AsmNames.{AllByRecursion, AllPairs, AreCode, Bare, Code, Contains, Four, Goals, SkipsTo, HaveWords, Head, Instr, IsInstrOf, IsLine, IsProcedure, IsProcedureOf, IsVersioned, Label, OfVersion, One, Placed, Procedure, Registers, EncodeProcedures, EncodesProcedure, EncodesProgram, EncodesVersion, Statement, Two, Version, Versioned, Word, code_lines, concat, disassembly, eqb-true, flat_map, goal_word, join_with_byte, label_at, label_line, label_places, line_of, lines, nat_tests, option_and_then, procedure_lines, skip_of, version_line}
 use Rattle.std.proofs.lemmas.List.Elements.{Contains-append_left, Contains-append_right}
 use Rattle.std.proofs.lemmas.Str.{IsUtf8-append, IsUtf8-nil}
 use Rattle.tw_code.proofs.Widening.{instr_widened, widened}
@@ -146,23 +146,23 @@ module _ (version : Version) (labels : List ℕ) (few : AreNumbered labels) (all
   with_label place None others code text e w = w
   with_label place (Some number) others code text e w =
       let name = numbered_name number (few place number e) in
-      let l = label_written version (GoesTo all place) (goal_word None) (name_of number) name.0 name.1 in
+      let l = label_written version (SkipsTo all place) (goal_word None) (name_of number) name.0 name.1 in
       record {
         words = l.words ∷ w.words;
         are = AreCode.label place (name_of number) l.words others code w.words l.spells name.1 w.are;
-        writes = writes_both (line_of (goal_word None) (Label (name_of number))) text (l.words ∷ []) w.words (writes_line (GoesTo all place) (Label (name_of number)) (bare_line (goal_word None) (Label (name_of number))) l) w.writes;
+        writes = writes_both (line_of (goal_word None) (Label (name_of number))) text (l.words ∷ []) w.words (writes_line (SkipsTo all place) (Label (name_of number)) (bare_line (goal_word None) (Label (name_of number))) l) w.writes;
       }
 
-  goal_is_there : (place skip : ℕ) (label : Option ℕ) → label_at labels (place + 1 + skip) ≡ label → IsGoal (GoesTo all place) label skip
+  goal_is_there : (place skip : ℕ) (label : Option ℕ) → label_at labels (place + 1 + skip) ≡ label → IsGoal (SkipsTo all place) label skip
   goal_is_there place skip None e = tt
   goal_is_there place skip (Some number) e = (few (place + 1 + skip) number e, is_placed (place + 1 + skip) number e)
 
-  written_instr : (place : ℕ) (i : Instr) → IsInstrOf version i → IsLineOf version (GoesTo all place) (Code i) (bare_line (λ skip. goal_word (label_at labels (place + 1 + skip)) skip) (Code i))
+  written_instr : (place : ℕ) (i : Instr) → IsInstrOf version i → IsLineOf version (SkipsTo all place) (Code i) (bare_line (λ skip. goal_word (label_at labels (place + 1 + skip)) skip) (Code i))
   written_instr place i limits =
       let to : ℕ → Option ℕ = λ skip. label_at labels (place + 1 + skip) in
       let label = option_and_then to (skip_of i) in
-      subst (IsLineOf version (GoesTo all place) (Code i)) (ap (join_with_byte 32) (words_of_goal labels place label i refl))
-      (instr_written version (GoesTo all place) label i (had version i limits) (instr_widened version i limits) (λ skip e. subst (λ (s : Option ℕ). IsGoal (GoesTo all place) (option_and_then to s) skip) (sym e) (goal_is_there place skip (to skip) refl)))
+      subst (IsLineOf version (SkipsTo all place) (Code i)) (ap (join_with_byte 32) (words_of_goal labels place label i refl))
+      (instr_written version (SkipsTo all place) label i (had version i limits) (instr_widened version i limits) (λ skip e. subst (λ (s : Option ℕ). IsGoal (SkipsTo all place) (option_and_then to s) skip) (sym e) (goal_is_there place skip (to skip) refl)))
 
   written_code : (place : ℕ) (code : List Instr) → AllByRecursion (IsInstrOf version) code → IsWrittenCode version all place (placed_from labels place code) code (code_lines labels place code)
   written_code place [] h =
@@ -179,14 +179,14 @@ module _ (version : Version) (labels : List ℕ) (few : AreNumbered labels) (all
       (record {
         words = l.words ∷ w.words;
         are = AreCode.instruction place i l.words following others w.words l.spells w.are;
-        writes = writes_both (line_of skip_word (Code i)) (code_lines labels (place + 1) others) (l.words ∷ []) w.words (writes_line (GoesTo all place) (Code i) (bare_line skip_word (Code i)) l) w.writes;
+        writes = writes_both (line_of skip_word (Code i)) (code_lines labels (place + 1) others) (l.words ∷ []) w.words (writes_line (SkipsTo all place) (Code i) (bare_line skip_word (Code i)) l) w.writes;
       })
 
 -- ---- programs
 
 record IsWrittenProcedure (version : Version) (p : Procedure) (text : List ℕ) : Type 0 where
   pub words : List (List Word)
-  pub spells : SpellsProcedure version p words
+  pub spells : EncodesProcedure version p words
   pub writes : Writes text words
 
 written_procedure : (version : Version) (p : Procedure) → IsProcedureOf version p → IsProcedure p → IsWrittenProcedure version p (procedure_lines p)
@@ -196,12 +196,12 @@ written_procedure version p h wide =
     let all = placed_from labels 0 p.code in
     let is_placed : (goal number : ℕ) → label_at labels goal ≡ Some number → Contains all (placed number goal) = λ goal number e. label_is_there labels 0 p.code goal number (omega arith) (omega (arith, label_within p.code goal number e)) e in
     let code = written_code version labels few all is_placed 0 p.code h.code.1 in
-    let head = head_written version (GoesTo [] 0) (goal_word None) p.kind p.params (had_params version p.params h.params.1) wide.params in
-    let registers = registers_written version (GoesTo [] 0) (goal_word None) p.registers h.registers in
+    let head = head_written version (SkipsTo [] 0) (goal_word None) p.kind p.params (had_params version p.params h.params.1) wide.params in
+    let registers = registers_written version (SkipsTo [] 0) (goal_word None) p.registers h.registers in
     let head_line = line_of (goal_word None) (Head p.kind p.params) in
     let registers_line = line_of (goal_word None) (Registers p.registers) in
-    let first = writes_line (GoesTo [] 0) (Head p.kind p.params) (bare_line (goal_word None) (Head p.kind p.params)) head in
-    let second = writes_line (GoesTo [] 0) (Registers p.registers) (bare_line (goal_word None) (Registers p.registers)) registers in
+    let first = writes_line (SkipsTo [] 0) (Head p.kind p.params) (bare_line (goal_word None) (Head p.kind p.params)) head in
+    let second = writes_line (SkipsTo [] 0) (Registers p.registers) (bare_line (goal_word None) (Registers p.registers)) registers in
     record {
       words = head.words ∷ registers.words ∷ code.words;
       spells = record {
@@ -221,48 +221,48 @@ written_procedure version p h wide =
 
 record AreWritten (version : Version) (procedures : List Procedure) (text : List ℕ) : Type 0 where
   pub words : List (List Word)
-  pub spell : SpellProcedures version procedures words
+  pub spell : EncodeProcedures version procedures words
   pub writes : Writes text words
 
 written_procedures : (version : Version) (procedures : List Procedure) → AllByRecursion (IsProcedureOf version) procedures → AllByRecursion IsProcedure procedures → AreWritten version procedures (flat_map procedure_lines procedures)
-written_procedures version [] h wide = record { words = []; spell = SpellProcedures.end; writes = writes_nothing }
+written_procedures version [] h wide = record { words = []; spell = EncodeProcedures.end; writes = writes_nothing }
 written_procedures version (p ∷ procedures) h wide =
     let first = written_procedure version p h.0 wide.0 in
     let others = written_procedures version procedures h.1 wide.1 in
     record {
       words = first.words ++ others.words;
-      spell = SpellProcedures.one_more p procedures first.words others.words first.spells others.spell;
+      spell = EncodeProcedures.one_more p procedures first.words others.words first.spells others.spell;
       writes = writes_both (procedure_lines p) (flat_map procedure_lines procedures) first.words others.words first.writes others.writes;
     }
 
 -- the text of the version's line
 record IsFrontWritten (version : Version) (text : List ℕ) : Type 0 where
   pub words : List (List Word)
-  pub spells : SpellsVersion version words
+  pub spells : EncodesVersion version words
   pub writes : Writes text words
 
 written_version : (version : Version) → IsFrontWritten version (version_line version)
-written_version One = record { words = []; spells = SpellsVersion.unsaid; writes = writes_nothing }
+written_version One = record { words = []; spells = EncodesVersion.unsaid; writes = writes_nothing }
 written_version Two =
-    let l = version_written One (GoesTo [] 0) (goal_word None) 2 (number_within Two) in
+    let l = version_written One (SkipsTo [] 0) (goal_word None) 2 (number_within Two) in
     record {
       words = l.words ∷ [];
-      spells = SpellsVersion.said Two l.words l.spells;
-      writes = writes_line (GoesTo [] 0) (OfVersion 2) (bare_line (goal_word None) (OfVersion 2)) l;
+      spells = EncodesVersion.said Two l.words l.spells;
+      writes = writes_line (SkipsTo [] 0) (OfVersion 2) (bare_line (goal_word None) (OfVersion 2)) l;
     }
 written_version Four =
-    let l = version_written One (GoesTo [] 0) (goal_word None) 4 (number_within Four) in
+    let l = version_written One (SkipsTo [] 0) (goal_word None) 4 (number_within Four) in
     record {
       words = l.words ∷ [];
-      spells = SpellsVersion.said Four l.words l.spells;
-      writes = writes_line (GoesTo [] 0) (OfVersion 4) (bare_line (goal_word None) (OfVersion 4)) l;
+      spells = EncodesVersion.said Four l.words l.spells;
+      writes = writes_line (SkipsTo [] 0) (OfVersion 4) (bare_line (goal_word None) (OfVersion 4)) l;
     }
 
 record IsProgramWritten (program : Versioned) : Type 0 where
   pub front : List (List Word)
   pub words : List (List Word)
-  pub version_is : SpellsVersion program.version front
-  pub spell : SpellProcedures program.version program.procedures words
+  pub version_is : EncodesVersion program.version front
+  pub spell : EncodeProcedures program.version program.procedures words
   pub written : IsWritten (disassembly program) (front ++ words)
 
 written_program : (program : Versioned) → IsVersioned program → IsProgramWritten program
@@ -279,8 +279,8 @@ written_program program h =
           (subst (λ (words : List (List Word)). IsWritten (disassembly program ++ []) words) (append-nil (first.words ++ others.words)) (all [] [] nothing));
     }
 
-pub disassembly_spells : (program : Versioned) → IsVersioned program → SpellsProgram program (disassembly program)
-disassembly_spells program h =
+pub disassembly_encodes : (program : Versioned) → IsVersioned program → EncodesProgram program (disassembly program)
+disassembly_encodes program h =
     let w = written_program program h in
     let t = w.written in
     record {

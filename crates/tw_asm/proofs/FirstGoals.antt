@@ -1,13 +1,13 @@
 -- The first goal that can't be resolved is the first fault of its text.
 use Rattle.std.proofs.Common.{◌≡◌, ℕ, zero, suc, ◌+◌, ◌<◌, ◌≤◌, List, [], ◌∷◌, ◌++◌, length, map, take, drop, Option, Some, None, inl, inr, refl, sym, subst, ap, ◌∙◌, arith}
-use Rattle.tw_asm.proofs.AsmNames.{AllByRecursion, AnyShortName, AsmFault, Code, Contains, FaultNo, GoalFault, HasSections, Head, Instr, IsFirstGoalFault, IsLine, IsRead, IsWhole, Label, LineRead, LineSays, LinesRead, LinesSay, MayFollow, NamesLabel, OfVersion, Placed, Progress, Read, Registers, Section, ParserState, Statement, Version, Word, after, after_line, at_start, flat_map, labels_ahead, line_once, line_step, lines, map-append, not_forward, outset, situation_from, situation_of, slice_get, slice_index_or, unknown}
+use Rattle.tw_asm.proofs.AsmNames.{AllByRecursion, AnyShortName, AsmFault, Code, Contains, FaultNo, GoalFault, HasSections, Head, Instr, IsFirstGoalFault, IsLine, IsRead, IsWhole, Label, LineRead, HasStatement, LinesRead, HaveStatements, MayFollow, NamesLabel, OfVersion, Placed, Progress, Read, Registers, Section, ParserState, Statement, Version, Word, after, after_line, at_start, flat_map, labels_ahead, line_once, line_step, lines, map-append, not_forward, outset, situation_from, situation_of, slice_get, slice_index_or, unknown}
 use Rattle.std.proofs.lemmas.List.Elements.{Contains-append_cases, Contains-append_left, Contains-append_right}
 use Rattle.tw_asm.specs.reading.Goals.{FirstUnlinked, Goal, IsNoGoal, IsLabelAt, section_goals}
 use Rattle.tw_asm.proofs.Alike.{AreAlike, alike}
 use Rattle.tw_asm.proofs.NamedLabels.{named_once}
 use Rattle.tw_asm.proofs.Found.{ahead, ahead_by, all_goals, goals_are, goals_from, labels_after, place_after}
 use Rattle.tw_asm.proofs.Steps.{line_after, line_says, lines_say, read_says, said_by, situation_is, statement_of}
-use Rattle.tw_asm.proofs.Twice.{both_alike, line_is_same, none_spelled, same_ahead}
+use Rattle.tw_asm.proofs.Twice.{both_alike, line_is_same, none_encoded, same_ahead}
 use Rattle.tw_asm.proofs.Walk.{all_of, contains_none, higher, name_among}
 
 -- ---- elements
@@ -107,10 +107,10 @@ not_again number s (line ∷ more) (Some read ∷ others) name r c d =
 
 -- ---- two readings of the same lines
 
-line_alike : (number : ℕ) (s : ParserState) (line : List ℕ) (read : Option Read) (said : Option Statement) → LineRead s line read → LineSays s line said → after_line number said s ≡ after_line number (statement_of read) s
+line_alike : (number : ℕ) (s : ParserState) (line : List ℕ) (read : Option Read) (said : Option Statement) → LineRead s line read → HasStatement s line said → after_line number said s ≡ after_line number (statement_of read) s
 line_alike number s line read said r l = both_alike number s line said (statement_of read) l (line_says s line read r)
 
-reads_say : (number : ℕ) (s : ParserState) (ls : List (List ℕ)) (reads : List (Option Read)) → AreRead number s ls reads → LinesSay number s ls (said_by reads)
+reads_say : (number : ℕ) (s : ParserState) (ls : List (List ℕ)) (reads : List (Option Read)) → AreRead number s ls reads → HaveStatements number s ls (said_by reads)
 reads_say number s [] [] r = tt
 reads_say number s [] (read ∷ others) r = absurd r
 reads_say number s (line ∷ more) [] r = absurd r
@@ -266,7 +266,7 @@ first_later number k labels place others f (Code i) goal later (inl u) = no_late
 first_later number k labels place others f (Code i) goal later (inr u) = one_later f.line number k (later u.1)
 
 pub first_at : (number : ℕ) (s : ParserState) (labels : List Placed) (place : ℕ) (ls : List (List ℕ)) (reads : List (Option Read)) (said : List (Option Statement)) (f : AsmFault) (index : ℕ) (line : List ℕ) (which : FaultNo)
-    → AreRead number s ls reads → LinesSay number s ls said → HasLabelsBefore labels place s → FirstUnlinked (goals_from number labels place reads) f
+    → AreRead number s ls reads → HaveStatements number s ls said → HasLabelsBefore labels place s → FirstUnlinked (goals_from number labels place reads) f
     → slice_get ls index ≡ Some line → GoalFault (situation_from number s (take index said)) (labels_ahead (drop (index + 1) said)) line which → f.line ≤ number + index
 first_at number s labels place [] [] said f index line which r l b u e g = absurd u
 first_at number s labels place [] (read ∷ others) said f index line which r l b u e g = absurd r
@@ -274,21 +274,21 @@ first_at number s labels place (x ∷ more) [] said f index line which r l b u e
 first_at number s labels place (x ∷ more) (read ∷ others) [] f index line which r l b u e g = absurd l
 first_at number s labels place (x ∷ more) (None ∷ others) (y ∷ said) f zero line which r l b u e g =
     let a = at_name s (labels_ahead said) line which g in
-    absurd (none_spelled (λ skip word. word ≡ a.name) (Code a.names.i) a.words (line_once a.words [] x (subst (IsLine a.words) (line_is_same x line e) a.is_line) r.0) a.names.spells)
+    absurd (none_encoded (λ skip word. word ≡ a.name) (Code a.names.i) a.words (line_once a.words [] x (subst (IsLine a.words) (line_is_same x line e) a.is_line) r.0) a.names.spells)
 first_at number s labels place (x ∷ more) (Some read ∷ others) (y ∷ said) f zero line which r l b u e g =
-    let same = same_ahead (number + 1) (after number read.statement s) more said (said_by others) (subst (λ (t : ParserState). LinesSay (number + 1) t more said) (line_alike number s x (Some read) y r.0 l.0) l.1) (reads_say (number + 1) (after number read.statement s) more others r.1) in
+    let same = same_ahead (number + 1) (after number read.statement s) more said (said_by others) (subst (λ (t : ParserState). HaveStatements (number + 1) t more said) (line_alike number s x (Some read) y r.0 l.0) l.1) (reads_say (number + 1) (after number read.statement s) more others r.1) in
     from_here f.line number (first_here number s labels place x more others (labels_ahead said) f which read.statement read.goal r.0.0.0 b r.0.0.1 r.0.0.2 same r.1 u (subst (λ (z : List ℕ). GoalFault s (labels_ahead said) z which) (line_is_same x line e) g))
 first_at number s labels place (x ∷ more) (None ∷ others) (y ∷ said) f (suc k) line which r l b u e g =
     let t = line_alike number s x None y r.0 l.0 in
     let g2 = subst (λ (j : ℕ). GoalFault (situation_from (number + 1) (after_line number y s) (take k said)) (labels_ahead (drop j (y ∷ said))) line which) (one_on k) g in
-    one_later f.line number k (first_at (number + 1) s labels place more others said f k line which r.1 (subst (λ (z : ParserState). LinesSay (number + 1) z more said) t l.1) (record { names = b.names; low = b.low }) u e
+    one_later f.line number k (first_at (number + 1) s labels place more others said f k line which r.1 (subst (λ (z : ParserState). HaveStatements (number + 1) z more said) t l.1) (record { names = b.names; low = b.low }) u e
     (subst (λ (z : ParserState). GoalFault (situation_from (number + 1) z (take k said)) (labels_ahead (drop (k + 1) said)) line which) t g2))
 first_at number s labels place (x ∷ more) (Some read ∷ others) (y ∷ said) f (suc k) line which r l b u e g =
     let t = line_alike number s x (Some read) y r.0 l.0 in
     let g2 = subst (λ (j : ℕ). GoalFault (situation_from (number + 1) (after_line number y s) (take k said)) (labels_ahead (drop j (y ∷ said))) line which) (one_on k) g in
     first_later number k labels place others f read.statement read.goal
     (λ v. first_at (number + 1) (after number read.statement s) (labels_after read.statement place labels) (place_after read.statement place) more others said f k line which r.1
-    (subst (λ (z : ParserState). LinesSay (number + 1) z more said) t l.1) (labels_more number read.statement labels place s b) v e
+    (subst (λ (z : ParserState). HaveStatements (number + 1) z more said) t l.1) (labels_more number read.statement labels place s b) v e
     (subst (λ (z : ParserState). GoalFault (situation_from (number + 1) z (take k said)) (labels_ahead (drop (k + 1) said)) line which) t g2)) u
 
 -- ---- the whole text

@@ -1,6 +1,6 @@
 -- Procedures' heads: the words are read as a statement that they denote, or they denote none.
 use Rattle.std.proofs.Common.{◌≡◌, ℕ, List, [], ◌∷◌, ◌++◌, length, map, codes, None, Result, Ok, Err, refl, sym, ap, subst, ◌∙◌}
-use Rattle.tw_asm.proofs.AsmNames.{AllByRecursion, AnyName, AnyShortName, Bare, Closed, Code, TokenError, Form, Four, Goals, HasParam, HasType, Head, IsInLimits, IsList, IsParam, IsTypeOfMode, IsTypeUnderOf, Kind, Label, Limit, Mode, Name, Natural, NestedScalar, NoName, OfVersion, Param, Ref, Registers, SpellParts, Spells, Statement, Val, Version, Word, Write, as_is, both, flat_map, is_scalar, kind_word, mode_word, param_parts, register_part}
+use Rattle.tw_asm.proofs.AsmNames.{AllByRecursion, AnyName, AnyShortName, Bare, Closed, Code, TokenError, Form, Four, Goals, HasParam, HasType, Head, IsInLimits, IsList, IsParam, IsTypeOfMode, IsTypeUnderOf, Kind, Label, Limit, Mode, Name, Natural, NestedScalar, NoName, OfVersion, Param, Ref, Registers, EncodeParts, Encodes, Statement, Val, Version, Word, Write, as_is, both, flat_map, is_scalar, kind_word, mode_word, param_parts, register_part}
 use Rattle.tw_asm.proofs.Answered.{Judged, first_is, none_some, proc_is_none}
 use Rattle.tw_asm.proofs.OperandWords.{Free, kind_read}
 use Rattle.tw_asm.proofs.ParamWords.{AreParams, IsShallowParam, one_params, param_words, params_read}
@@ -16,13 +16,13 @@ use Rattle.tw_asm.specs.reading.Lines.{ended, few, head_in, head_read, kind_in, 
 
 -- ---- the words of parameters
 
-up : (G : Goals) (ps : List Param) → SpellParts G (flat_map param_parts ps) (flat_map param_words ps)
+up : (G : Goals) (ps : List Param) → EncodeParts G (flat_map param_parts ps) (flat_map param_words ps)
 up G [] = refl
 up G (p ∷ ps) =
     let ty = words_of p.ty.containers p.ty.map p.ty.scalar in
     (Bare (mode_word p.mode) ∷ [], ty ++ flat_map param_words ps, refl, refl, (ty, flat_map param_words ps, refl, refl, up G ps))
 
-down : (G : Goals) (ps : List Param) (ws : List Word) → SpellParts G (flat_map param_parts ps) ws → ws ≡ flat_map param_words ps
+down : (G : Goals) (ps : List Param) (ws : List Word) → EncodeParts G (flat_map param_parts ps) ws → ws ≡ flat_map param_words ps
 down G [] ws e = e
 down G (p ∷ ps) ws (first, others, cut, is, (words, rest, parts, has, whole)) =
     cut
@@ -63,32 +63,32 @@ module _ (version : Version) where
   abbrev IsHeadOf : Word → List Word → Kind × List Param → Type 0
   IsHeadOf w ws x = (w ≡ Bare (kind_word x.0)) × AreParams version ws x.1
 
-  head_parts_of : (G : Goals) (ws : List Word) (statement : Statement) → Spells version G statement (Bare (codes "proc") ∷ ws)
-      → (kind : Kind) × (params : List Param) × (statement ≡ Head kind params) × AllByRecursion (HasParam version) params × SpellParts G (Name (kind_word kind) ∷ flat_map param_parts params) ws
+  head_parts_of : (G : Goals) (ws : List Word) (statement : Statement) → Encodes version G statement (Bare (codes "proc") ∷ ws)
+      → (kind : Kind) × (params : List Param) × (statement ≡ Head kind params) × AllByRecursion (HasParam version) params × EncodeParts G (Name (kind_word kind) ∷ flat_map param_parts params) ws
   head_parts_of G ws (OfVersion number) h = absurd (proc_version (bare_is (codes "proc") (codes "version") (first_is G (codes "version") (Natural number ∷ []) (Bare (codes "proc")) ws h.parts).0))
   head_parts_of G ws (Head kind params) h = (kind, params, refl, h.form, (first_is G (codes "proc") (Name (kind_word kind) ∷ flat_map param_parts params) (Bare (codes "proc")) ws h.parts).1)
   head_parts_of G ws (Registers rs) h = absurd (proc_first (bare_is (codes "proc") (codes "regs") (first_is G (codes "regs") (map register_part rs) (Bare (codes "proc")) ws h.parts).0))
   head_parts_of G ws (Label name) h = absurd (no_label (codes "proc") name proc_no_label (bare_is (codes "proc") (name ++ codes ":") (first_is G (name ++ codes ":") [] (Bare (codes "proc")) ws h.parts).0))
   head_parts_of G ws (Code i) h = let k = code_first version G i (codes "proc") ws h in absurd (none_some k.0 (sym (proc_is_none version) ∙ k.1))
 
-  is_head : (G : Goals) (w : Word) (ws : List Word) (statement : Statement) → Spells version G statement (Bare (codes "proc") ∷ w ∷ ws) → (x : Kind × List Param) × (statement ≡ Head x.0 x.1) × IsHeadOf w ws x
+  is_head : (G : Goals) (w : Word) (ws : List Word) (statement : Statement) → Encodes version G statement (Bare (codes "proc") ∷ w ∷ ws) → (x : Kind × List Param) × (statement ≡ Head x.0 x.1) × IsHeadOf w ws x
   is_head G w ws statement h =
       let k = head_parts_of G (w ∷ ws) statement h in
       let f = first_is G (kind_word k.0) (flat_map param_parts k.1) w ws k.4 in
       ((k.0, k.1), k.2, (f.0, (down G k.1 ws f.1, k.3)))
 
-  head_spelled : (G : Goals) (w : Word) (ws : List Word) (x : Kind × List Param) → IsHeadOf w ws x → Spells version G (Head x.0 x.1) (Bare (codes "proc") ∷ w ∷ ws)
-  head_spelled G w ws x h =
-      record { form = h.1.1; parts = (Bare (codes "proc") ∷ [], w ∷ ws, refl, refl, (w ∷ [], ws, refl, ap (λ (v : Word). v ∷ []) h.0, subst (SpellParts G (flat_map param_parts x.1)) (sym h.1.0) (up G x.1))) }
+  head_encoded : (G : Goals) (w : Word) (ws : List Word) (x : Kind × List Param) → IsHeadOf w ws x → Encodes version G (Head x.0 x.1) (Bare (codes "proc") ∷ w ∷ ws)
+  head_encoded G w ws x h =
+      record { form = h.1.1; parts = (Bare (codes "proc") ∷ [], w ∷ ws, refl, refl, (w ∷ [], ws, refl, ap (λ (v : Word). v ∷ []) h.0, subst (EncodeParts G (flat_map param_parts x.1)) (sym h.1.0) (up G x.1))) }
 
   abbrev MayHead : Kind × List Param → Type 0
   MayHead x = Free x.0 × IsList 0 8 IsShallowParam x.1
 
   head_judged : (w : Word) (ws : List Word) (r : Result (Kind × List Param) TokenError) → Reads (IsHeadOf w ws) MayHead r → Judged version (as_is head_read r) (Bare (codes "proc") ∷ w ∷ ws)
-  head_judged w ws (Ok x) h = ((h.1.1.0, params_within version x.1 h.0.1.1 h.1.1.1), head_spelled NoName w ws x h.0)
+  head_judged w ws (Ok x) h = ((h.1.1.0, params_within version x.1 h.0.1.1 h.1.1.1), head_encoded NoName w ws x h.0)
   head_judged w ws (Err Form) h = λ form. let k = is_head AnyName w ws form.0 form.1 in h k.0 k.2
   head_judged w ws (Err Limit) h = (
-    (Head h.0.0.0 h.0.0.1, head_spelled AnyName w ws h.0.0 h.0.1),
+    (Head h.0.0.0 h.0.0.1, head_encoded AnyName w ws h.0.0 h.0.1),
     λ statement say.
         let k = is_head AnyShortName w ws statement say.0 in
         let limits = subst IsInLimits k.1 say.1 in

@@ -1,6 +1,7 @@
 pub mod Alike
 pub mod Begins
 pub mod Blank
+pub mod ByForms
 pub mod Disassembled
 pub mod FirstGoals
 pub mod Found

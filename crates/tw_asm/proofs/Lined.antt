@@ -1,6 +1,6 @@
 -- Reading the operands of a line, whatever the instruction.
 use Rattle.std.proofs.Common.{◌≡◌, ℕ, ◌≤◌, List, [], ◌∷◌, ◌++◌, length, map, codes, Option, Some, None, inl, inr, refl, sym, ap, subst, ◌∙◌, arith, append-nil}
-use Rattle.tw_asm.proofs.AsmNames.{AllByRecursion, Bare, Four, Goals, HasType, IsList, IsName, IsRegister, IsSkip, IsTypeOf, Natural, NoName, OnlyName, Part, Skip, SpellParts, SpellsPart, SpellsWith, TypeOf, Word, at_label, further, natural_in}
+use Rattle.tw_asm.proofs.AsmNames.{AllByRecursion, Bare, Four, Goals, HasType, IsList, IsName, IsRegister, IsSkip, IsTypeOf, Natural, NoName, OnlyName, Part, Skip, EncodeParts, EncodesPart, EncodesWith, TypeOf, Word, at_label, further, natural_in}
 use Rattle.tw_asm.proofs.Names.{HasGoal, MayGoal, goal_read, no_letter}
 use Rattle.tw_asm.proofs.OperandWords.{Has, IsFine, May, natural_read, operand_read, part_of}
 use Rattle.tw_lexer.proofs.Readings.{Reads}
@@ -10,7 +10,7 @@ use Rattle.tw_asm.proofs.Versions.{any_type}
 use Rattle.tw_asm.specs.reading.Lines.{Content, Line, LineContent, Operand, args, each, goal, label_in, line_in, literal, more, natural, never, nothing, number, right, target, type, value}
 
 abbrev pub IsArg : Word → ℕ → Type 0
-IsArg w n = SpellsWith [] n (w ∷ [])
+IsArg w n = EncodesWith [] n (w ∷ [])
 
 abbrev pub HasLine : (l : Line) → List Word → LineContent l → Type 0
 HasLine nothing [] x = Unit {0}
@@ -88,7 +88,7 @@ goals_by None = NoName
 goals_by (Some name) = OnlyName name
 
 -- words of a part that is no skip denote it with all goals
-plain : (o : Operand) (c : Content o) (G H : Goals) (ws : List Word) → SpellsPart G (part_of o c) ws → SpellsPart H (part_of o c) ws
+plain : (o : Operand) (c : Content o) (G H : Goals) (ws : List Word) → EncodesPart G (part_of o c) ws → EncodesPart H (part_of o c) ws
 plain value c G H ws h = h
 plain right c G H ws h = h
 plain number c G H ws h = h
@@ -97,7 +97,7 @@ plain literal c G H ws h = h
 plain target None G H ws h = h
 plain target (Some n) G H ws h = h
 
-word_alone : (o : Operand) (c : Content o) (G : Goals) (ws : List Word) → SpellsPart G (part_of o c) ws → (w : Word) × (ws ≡ w ∷ [])
+word_alone : (o : Operand) (c : Content o) (G : Goals) (ws : List Word) → EncodesPart G (part_of o c) ws → (w : Word) × (ws ≡ w ∷ [])
 word_alone value c G ws h = (_, h.2)
 word_alone right c G ws h = (_, h.2)
 word_alone number c G ws h = (_, h.2)
@@ -106,18 +106,18 @@ word_alone literal c G ws h = (_, h)
 word_alone target None G ws h = (_, h)
 word_alone target (Some n) G ws h = (_, h.2)
 
-args_up : (G : Goals) (ws : List Word) (ns : List ℕ) → HaveEach IsArg ws ns → SpellParts G (map Natural ns) ws
+args_up : (G : Goals) (ws : List Word) (ns : List ℕ) → HaveEach IsArg ws ns → EncodeParts G (map Natural ns) ws
 args_up G [] [] h = refl
 args_up G [] (n ∷ ns) h = absurd h
 args_up G (w ∷ ws) [] h = absurd h
 args_up G (w ∷ ws) (n ∷ ns) h = (w ∷ [], ws, refl, h.0, args_up G ws ns h.1)
 
-goal_up : (w : Word) (skip : ℕ) (label : Option (List ℕ)) → HasGoal w skip label → SpellParts (goals_by label) (Skip skip ∷ []) (w ∷ [])
+goal_up : (w : Word) (skip : ℕ) (label : Option (List ℕ)) → HasGoal w skip label → EncodeParts (goals_by label) (Skip skip ∷ []) (w ∷ [])
 goal_up w skip None h = (w ∷ [], [], refl, inl h, refl)
 goal_up w skip (Some name) (z, is_name, e) = (w ∷ [], [], refl, inr (name, (z, refl), ap (λ (v : Word). v ∷ []) e), refl)
 
 -- the words that are read denote the parts
-pub spelled : (l : Line) (ws : List Word) (x : LineContent l) → HasLine l ws x → SpellParts (goals_by (label_in l x)) (parts_of l x) ws
+pub spelled : (l : Line) (ws : List Word) (x : LineContent l) → HasLine l ws x → EncodeParts (goals_by (label_in l x)) (parts_of l x) ws
 spelled nothing [] x h = refl
 spelled nothing (w ∷ ws) x h = absurd h
 spelled goal [] x h = absurd h
@@ -132,7 +132,7 @@ spelled never ws x h = absurd h
 -- ---- the converse
 
 module _ (G : Goals) (names : (skip : ℕ) (name : List ℕ) → G skip name → IsName name) where
-  args_down : (ws : List Word) (ns : List ℕ) → SpellParts G (map Natural ns) ws → HaveEach IsArg ws ns
+  args_down : (ws : List Word) (ns : List ℕ) → EncodeParts G (map Natural ns) ws → HaveEach IsArg ws ns
   args_down [] [] e = tt
   args_down (w ∷ ws) [] e = absurd (some e)
     where
@@ -147,7 +147,7 @@ module _ (G : Goals) (names : (skip : ℕ) (name : List ℕ) → G skip name →
           nothing_is e = cc
   args_down (w ∷ ws) (n ∷ ns) (first, others, cut, h, rest) =
       let whole : w ∷ ws ≡ Bare h.0 ∷ others = cut ∙ ap (λ (vs : List Word). vs ++ others) h.2 in
-      ((h.0, h.1, ap (λ (v : Word). v ∷ []) (head_is whole)), args_down ws ns (subst (SpellParts G (map Natural ns)) (sym (tail_is whole)) rest))
+      ((h.0, h.1, ap (λ (v : Word). v ∷ []) (head_is whole)), args_down ws ns (subst (EncodeParts G (map Natural ns)) (sym (tail_is whole)) rest))
     where
       head_is : {v : Word} {vs : List Word} → w ∷ ws ≡ v ∷ vs → w ≡ v
       head_is e = cc
@@ -164,13 +164,13 @@ module _ (G : Goals) (names : (skip : ℕ) (name : List ℕ) → G skip name →
   at_first : (l : Line) (x : LineContent l) (w : Word) (first others ws : List Word) → ws ≡ first ++ others → first ≡ w ∷ [] → others ≡ [] → Found l (w ∷ []) x → Found l ws x
   at_first l x w first others ws cut is none found = subst (λ (vs : List Word). Found l vs x) (sym (cut ∙ (ap (λ (vs : List Word). vs ++ others) is ∙ ap (λ (vs : List Word). w ∷ vs) none))) found
 
-  goal_down : (ws : List Word) (skip : ℕ) (first others : List Word) → ws ≡ first ++ others → SpellsPart G (Skip skip) first → others ≡ [] → (label : Option (List ℕ)) → Found goal ws (record { skip = skip; label = label })
+  goal_down : (ws : List Word) (skip : ℕ) (first others : List Word) → ws ≡ first ++ others → EncodesPart G (Skip skip) first → others ≡ [] → (label : Option (List ℕ)) → Found goal ws (record { skip = skip; label = label })
   goal_down ws skip first others cut (inl h) none label =
       at_first goal (record { skip = skip; label = label }) (Bare (codes "+" ++ h.0)) first others ws cut h.2 none (further skip, (h.0, h.1, refl), λ short m. m.0)
   goal_down ws skip first others cut (inr h) none label =
       at_first goal (record { skip = skip; label = label }) (Bare h.0) first others ws cut h.2 none (at_label h.0, (refl, names skip h.0 h.1, refl), λ short m. short skip h.0 h.1)
 
-  pub found : (l : Line) (ws : List Word) (x : LineContent l) → Had l x → SpellParts G (parts_of l x) ws → Found l ws x
+  pub found : (l : Line) (ws : List Word) (x : LineContent l) → Had l x → EncodeParts G (parts_of l x) ws → Found l ws x
   found nothing [] x had e = (tt, tt, λ _ m. tt)
   found nothing (w ∷ ws) x had e = absurd (some e)
     where
@@ -185,11 +185,11 @@ module _ (G : Goals) (names : (skip : ℕ) (name : List ℕ) → G skip name →
       let w = word_alone o x.0 G first h in
       let y = found l others x.1 had.1 rest in
       subst (λ (vs : List Word). Found (more o l) vs x) (sym (cut ∙ ap (λ (vs : List Word). vs ++ others) w.1))
-      ((x.0, y.0), (plain o x.0 G NoName (w.0 ∷ []) (subst (SpellsPart G (part_of o x.0)) w.1 h), y.1), λ short m. (m.0, y.2 short m.1))
+      ((x.0, y.0), (plain o x.0 G NoName (w.0 ∷ []) (subst (EncodesPart G (part_of o x.0)) w.1 h), y.1), λ short m. (m.0, y.2 short m.1))
   found never ws x had h = absurd x
 
 -- a line that names a label has no number of instructions
-goal_named : (w : Word) (skip other : ℕ) (label : Option (List ℕ)) (name : List ℕ) → HasGoal w skip label → label ≡ Some name → SpellParts (λ _ _. ⊥) (Skip other ∷ []) (w ∷ []) → ⊥
+goal_named : (w : Word) (skip other : ℕ) (label : Option (List ℕ)) (name : List ℕ) → HasGoal w skip label → label ≡ Some name → EncodeParts (λ _ _. ⊥) (Skip other ∷ []) (w ∷ []) → ⊥
 goal_named w skip other None name h e s = none e
   where
     none : None ≡ Some name → ⊥
@@ -207,7 +207,7 @@ goal_named w skip other (Some given) name (z, is_name, same) e (first, others, c
         first_byte : Bare (b ∷ rest) ∷ others ≡ Bare (43 ∷ k.0) ∷ others → b ≡ 43
         first_byte e = cc
 
-pub unnumbered : (l : Line) (ws : List Word) (x y : LineContent l) (name : List ℕ) → HasLine l ws x → label_in l x ≡ Some name → SpellParts (λ _ _. ⊥) (parts_of l y) ws → ⊥
+pub unnumbered : (l : Line) (ws : List Word) (x y : LineContent l) (name : List ℕ) → HasLine l ws x → label_in l x ≡ Some name → EncodeParts (λ _ _. ⊥) (parts_of l y) ws → ⊥
 unnumbered nothing ws x y name h e s = none e
   where
     none : None ≡ Some name → ⊥
@@ -226,7 +226,7 @@ unnumbered args ws x y name h e s = none e
 unnumbered (more o l) [] x y name h e s = h
 unnumbered (more o l) (w ∷ ws) x y name h e (first, others, cut, k, rest) =
     let v = word_alone o y.0 (λ _ _. ⊥) first k in
-    unnumbered l ws x.1 y.1 name h.1 e (subst (SpellParts (λ _ _. ⊥) (parts_of l y.1)) (sym (tail_is (cut ∙ ap (λ (vs : List Word). vs ++ others) v.1))) rest)
+    unnumbered l ws x.1 y.1 name h.1 e (subst (EncodeParts (λ _ _. ⊥) (parts_of l y.1)) (sym (tail_is (cut ∙ ap (λ (vs : List Word). vs ++ others) v.1))) rest)
   where
     tail_is : {v : Word} {vs : List Word} → w ∷ ws ≡ v ∷ vs → ws ≡ vs
     tail_is e = cc

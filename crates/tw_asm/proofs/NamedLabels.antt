@@ -1,6 +1,6 @@
 -- The label that an instruction's words name.
 use Rattle.std.proofs.Common.{◌≡◌, ℕ, Bool, true, false, List, [], ◌∷◌, ◌++◌, Some, None, inl, inr, refl, sym, subst, ap, ◌∙◌, append_assoc}
-use Rattle.tw_asm.proofs.AsmNames.{Bare, Code, Goals, Instr, NamesLabel, Part, Skip, SpellParts, Spells, SpellsPart, Target, Version, Word, instr_parts}
+use Rattle.tw_asm.proofs.AsmNames.{Bare, Code, Goals, Instr, NamesLabel, Part, Skip, EncodeParts, Encodes, EncodesPart, Target, Version, Word, instr_parts}
 use Rattle.tw_asm.proofs.Rows.{row, skips_last}
 use Rattle.tw_asm.proofs.Spelled.{bare_is}
 
@@ -9,25 +9,25 @@ NoGoal skip word = ⊥
 
 -- the words of parts name no label, or the last word names one
 data LastNamed (goals : Goals) (parts : List Part) (words : List Word) : Type 0 where
-  none_named : SpellParts NoGoal parts words → LastNamed goals parts words
+  none_named : EncodeParts NoGoal parts words → LastNamed goals parts words
   named_last : (skip : ℕ) (name : List ℕ) (front : List Word) → goals skip name → words ≡ front ++ (Bare name ∷ []) → LastNamed goals parts words
 
 abbrev is_skip : Part → Bool
 is_skip (Skip skip) = true
 is_skip part = false
 
-plain : (goals : Goals) (part : Part) (words : List Word) → is_skip part ≡ false → SpellsPart goals part words → SpellsPart NoGoal part words
+plain : (goals : Goals) (part : Part) (words : List Word) → is_skip part ≡ false → EncodesPart goals part words → EncodesPart NoGoal part words
 plain goals (Skip skip) words other h = absurd cc
 plain goals (Target None) words other h = h
 plain goals (Target (Some number)) words other h = h
 plain goals part words other h = h
 
-after_plain : (goals : Goals) (part : Part) (parts : List Part) (first others words : List Word) → is_skip part ≡ false → words ≡ first ++ others → SpellsPart goals part first → LastNamed goals parts others → LastNamed goals (part ∷ parts) words
+after_plain : (goals : Goals) (part : Part) (parts : List Part) (first others words : List Word) → is_skip part ≡ false → words ≡ first ++ others → EncodesPart goals part first → LastNamed goals parts others → LastNamed goals (part ∷ parts) words
 after_plain goals part parts first others words other is h (none_named hs) = none_named (first, others, is, plain goals part first other h, hs)
 after_plain goals part parts first others words other is h (named_last skip name front goal e) =
     named_last skip name (first ++ front) goal (is ∙ ap (λ (x : List Word). first ++ x) e ∙ sym (append_assoc first front (Bare name ∷ [])))
 
-last_named : (goals : Goals) (parts : List Part) (words : List Word) → skips_last parts ≡ true → SpellParts goals parts words → LastNamed goals parts words
+last_named : (goals : Goals) (parts : List Part) (words : List Word) → skips_last parts ≡ true → EncodeParts goals parts words → LastNamed goals parts words
 last_named goals [] words last h = none_named h
 last_named goals (Skip skip ∷ []) words last (first, others, is, inl h, none) = none_named (first, others, is, inl h, none)
 last_named goals (Skip skip ∷ []) words last (first, others, is, inr (name, goal, has), none) =
@@ -52,7 +52,7 @@ last_same v w words front back e f =
 -- ---- goals
 
 -- words that name a label denote an instruction only by that name
-pub named_goal : {version : Version} (goals : Goals) (i : Instr) (name : List ℕ) (words : List Word) → NamesLabel version name words → Spells version goals (Code i) words → (skip : ℕ) × goals skip name
+pub named_goal : {version : Version} (goals : Goals) (i : Instr) (name : List ℕ) (words : List Word) → NamesLabel version name words → Encodes version goals (Code i) words → (skip : ℕ) × goals skip name
 named_goal goals i name words n s =
     both (last_named (λ skip word. word ≡ name) (instr_parts n.i) words (row n.i).last n.spells.parts) (last_named goals (instr_parts i) words (row i).last s.parts)
   where

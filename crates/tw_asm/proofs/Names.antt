@@ -1,6 +1,6 @@
 -- Reading names and goals.
 use Rattle.std.proofs.Common.{◌≡◌, ◌==◌, ℕ, ◌≤◌, Bool, true, false, cond, List, [], ◌∷◌, length, codes, Option, Some, None, inl, inr, Ok, Err, Decides, refl, sym, ap, subst, ◌∙◌, arith}
-use Rattle.tw_asm.proofs.AsmNames.{◌||◌, AllByRecursion, Bare, Decides-and, Decides-eqb, Decides-or, Form, IsInName, IsInRange, IsLetter, IsName, IsSkip, Limit, Quoted, SpellsDigits, SpellsWith, Word, eqb-true, ltb-true, nat_lt, nat_tests}
+use Rattle.tw_asm.proofs.AsmNames.{◌||◌, AllByRecursion, Bare, Decides-and, Decides-eqb, Decides-or, Form, IsInName, IsInRange, IsLetter, IsName, IsSkip, Limit, Quoted, EncodesDigits, EncodesWith, Word, eqb-true, ltb-true, nat_lt, nat_tests}
 use Rattle.tw_lexer.proofs.Decided.{within_decide}
 use Rattle.tw_lexer.specs.Digits.{is_within, as_is, digits_in}
 use Rattle.tw_lexer.proofs.Readings.{digits_read, Reads, carried}
@@ -41,7 +41,7 @@ name_read text = by (is_name text) (nat_lt 64 (length text)) refl refl
 -- ---- goals
 
 abbrev pub HasGoal : Word → ℕ → Option (List ℕ) → Type 0
-HasGoal w skip None = SpellsWith (codes "+") skip (w ∷ [])
+HasGoal w skip None = EncodesWith (codes "+") skip (w ∷ [])
 HasGoal w skip (Some name) = (skip ≡ 0) × IsName name × (w ≡ Bare name)
 
 abbrev pub MayGoal : ℕ → Option (List ℕ) → Type 0
@@ -78,8 +78,8 @@ goal_read (Bare (b ∷ rest)) = by (b == 43) refl
     name_is : (name : List ℕ) → Bare (b ∷ rest) ≡ Bare name → b ∷ rest ≡ name
     name_is name e = cc
 
-    plus : b ≡ 43 → (skip : ℕ) (label : Option (List ℕ)) → HasGoal (Bare (b ∷ rest)) skip label → (n : ℕ) × SpellsDigits n rest × (record { skip = skip; label = label } ≡ further n)
-    plus is skip None (digits, spells, e) = (skip, subst (SpellsDigits skip) (tail_is digits e) spells, refl)
+    plus : b ≡ 43 → (skip : ℕ) (label : Option (List ℕ)) → HasGoal (Bare (b ∷ rest)) skip label → (n : ℕ) × EncodesDigits n rest × (record { skip = skip; label = label } ≡ further n)
+    plus is skip None (digits, spells, e) = (skip, subst (EncodesDigits skip) (tail_is digits e) spells, refl)
     plus is skip (Some name) (z, is_name, e) = absurd (no_letter b (subst IsName (sym (name_is name e)) is_name).0 is)
 
     named : (b ≡ 43 → ⊥) → (skip : ℕ) (label : Option (List ℕ)) → HasGoal (Bare (b ∷ rest)) skip label → (name : List ℕ) × IsThisName (b ∷ rest) name × (record { skip = skip; label = label } ≡ at_label name)
@@ -88,7 +88,7 @@ goal_read (Bare (b ∷ rest)) = by (b == 43) refl
 
     by : (t : Bool) → (b == 43) ≡ t → Reads (λ g. HasGoal (Bare (b ∷ rest)) g.skip g.label) (λ g. MayGoal g.skip g.label) (cond t (as_is further (digits_in 0 65535 rest)) (as_is at_label (name_in (b ∷ rest))))
     by true is =
-        carried further (λ n. SpellsDigits n rest) (IsInRange 0 65535) (λ g. HasGoal (Bare (b ∷ rest)) g.skip g.label) (λ g. MayGoal g.skip g.label)
+        carried further (λ n. EncodesDigits n rest) (IsInRange 0 65535) (λ g. HasGoal (Bare (b ∷ rest)) g.skip g.label) (λ g. MayGoal g.skip g.label)
         (λ n h. (rest, h, ap (λ (c : ℕ). Bare (c ∷ rest) ∷ []) (eqb-true b 43 is))) (λ g h. plus (eqb-true b 43 is) g.skip g.label h)
         (λ n h m. m) (λ n h m. m) (digits_in 0 65535 rest) (digits_read 0 65535 rest)
     by false is =

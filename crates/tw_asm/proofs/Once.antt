@@ -1,6 +1,6 @@
 -- Words denote at most one statement, whose kind their first word shows.
 use Rattle.std.proofs.Common.{◌≡◌, inl, inr, ℕ, Bool, true, List, [], ◌∷◌, ◌++◌, map, codes, Some, refl, sym, ap, subst, ◌∙◌}
-use Rattle.tw_asm.proofs.AsmNames.{◌==◌, AllByRecursion, Bare, Closed, Code, First, Goals, HasForm, HasInstr, HasOperand, Head, Instr, Int, IsExpected, IsRead, Kind, Label, Mode, Name, Natural, OfVersion, Opcode, Operand, Param, Part, Ref, Registers, Scalar, SpellParts, Spells, Statement, Text, TypeOf, Val, Version, Word, Write, append_cancel_right, flat_map, has_opcode, head_parts, holds, if◌then◌else◌, instr_parts, kind_word, mode_word, param_parts, register_part, registers_parts, scalar_word, statement_parts, version_parts, with_skip}
+use Rattle.tw_asm.proofs.AsmNames.{◌==◌, AllByRecursion, Bare, Closed, Code, First, Goals, HasForm, HasInstr, HasOperand, Head, Instr, Int, IsExpected, IsRead, Kind, Label, Mode, Name, Natural, OfVersion, Opcode, Operand, Param, Part, Ref, Registers, Scalar, EncodeParts, Encodes, Statement, Text, TypeOf, Val, Version, Word, Write, append_cancel_right, flat_map, has_opcode, head_parts, holds, if◌then◌else◌, instr_parts, kind_word, mode_word, param_parts, register_part, registers_parts, scalar_word, statement_parts, version_parts, with_skip}
 use Rattle.tw_code.specs.declared.form.Form.TheVariants as form
 use Rattle.tw_code.specs.format.Table as table
 use Rattle.tw_types.specs.declared.actor.Kind.TheVariants.{Control, Leaf}
@@ -103,18 +103,18 @@ begins (Label name) = record { word = name ++ codes ":"; others = []; parts = re
 begins (Code i) = record { word = name_of i; others = operands_of i; parts = (row i).parts; class = (row i).class }
 
 -- the words of a statement begin with its first word
-pub first_word : {version : Version} (goals : Goals) (s : Statement) (words : List Word) → Spells version goals s words → (rest : List Word) × (words ≡ Bare (begins s).word ∷ rest)
+pub first_word : {version : Version} (goals : Goals) (s : Statement) (words : List Word) → Encodes version goals s words → (rest : List Word) × (words ≡ Bare (begins s).word ∷ rest)
 first_word goals s words h =
-    let parts : SpellParts goals (Name (begins s).word ∷ (begins s).others) words = subst (λ (ps : List Part). SpellParts goals ps words) (begins s).parts h.parts in
+    let parts : EncodeParts goals (Name (begins s).word ∷ (begins s).others) words = subst (λ (ps : List Part). EncodeParts goals ps words) (begins s).parts h.parts in
     (parts.1, parts.2 ∙ ap (λ (ws : List Word). ws ++ parts.1) parts.3)
 
-pub same_word : {version : Version} (a b : Goals) (s t : Statement) (words : List Word) → Spells version a s words → Spells version b t words → (begins s).word ≡ (begins t).word
+pub same_word : {version : Version} (a b : Goals) (s t : Statement) (words : List Word) → Encodes version a s words → Encodes version b t words → (begins s).word ≡ (begins t).word
 same_word a b s t words h k =
     let u = first_word a s words h in
     let v = first_word b t words k in
     bare_is (begins s).word (begins t).word (cons_is (Bare (begins s).word) (Bare (begins t).word) u.0 v.0 (sym u.1 ∙ v.1)).0
 
-pub same_class : {version : Version} (a b : Goals) (s t : Statement) (words : List Word) → Spells version a s words → Spells version b t words → class_of s ≡ class_of t
+pub same_class : {version : Version} (a b : Goals) (s t : Statement) (words : List Word) → Encodes version a s words → Encodes version b t words → class_of s ≡ class_of t
 same_class a b s t words h k = sym (begins s).class ∙ ap class_of_word (same_word a b s t words h k) ∙ (begins t).class
 
 abbrev pub first_of_class : ℕ → First
@@ -124,7 +124,7 @@ first_of_class class = if class == 0 then first.Head else if class == 1 then fir
 abbrev pub expected_of : Statement → First
 expected_of s = first_of_class (class_of s)
 
-pub expected : {version : Version} (goals : Goals) (s : Statement) (word : List ℕ) (rest : List Word) → Spells version goals s (Bare word ∷ rest) → IsExpected version (expected_of s) word
+pub expected : {version : Version} (goals : Goals) (s : Statement) (word : List ℕ) (rest : List Word) → Encodes version goals s (Bare word ∷ rest) → IsExpected version (expected_of s) word
 expected {version} goals s word rest h =
     let u = first_word goals s (Bare word ∷ rest) h in
     let is : word ≡ (begins s).word = bare_is word (begins s).word (cons_is (Bare word) (Bare (begins s).word) rest u.0 u.1).0 in
@@ -167,7 +167,7 @@ instrs_alike i j e =
     (refl, alike_by_sorts (row_among (name_of j) rows).sorts (operands_of i) (operands_of j) (subst (λ (name : List ℕ). have_sorts (row_among name rows).sorts (operands_of i) ≡ true) e (row i).sorts) (row j).sorts))
 
 module _ (a b : Goals) (names : AreNames a) (others : AreNames b) (alone : (n m : ℕ) (name : List ℕ) → a n name → b m name → n ≡ m) where
-  parts_are : (ps qs : List Part) (words : List Word) → AreAlike ps qs → SpellParts a ps words → SpellParts b qs words → ps ≡ qs
+  parts_are : (ps qs : List Part) (words : List Word) → AreAlike ps qs → EncodeParts a ps words → EncodeParts b qs words → ps ≡ qs
   parts_are ps qs words alike h k = tied_are a b names others alone ps qs (all_tied a b names others ps qs words words alike refl h k)
 
   label_is : (v w : List ℕ) → Name (v ++ codes ":") ∷ [] ≡ Name (w ++ codes ":") ∷ [] → v ≡ w
@@ -178,10 +178,10 @@ module _ (a b : Goals) (names : AreNames a) (others : AreNames b) (alone : (n m 
   number_in parts = 0
 
   -- words denote one statement if a name denotes one skip
-  pub spelled_once : {version : Version} (s t : Statement) (words : List Word) → Spells version a s words → Spells version b t words → s ≡ t
-  spelled_once s t words h k = by s t h.parts k.parts (same_class a b s t words h k) (same_word a b s t words h k)
+  pub encoded_once : {version : Version} (s t : Statement) (words : List Word) → Encodes version a s words → Encodes version b t words → s ≡ t
+  encoded_once s t words h k = by s t h.parts k.parts (same_class a b s t words h k) (same_word a b s t words h k)
     where
-      by : (u v : Statement) → SpellParts a (statement_parts u) words → SpellParts b (statement_parts v) words → class_of u ≡ class_of v → (begins u).word ≡ (begins v).word → u ≡ v
+      by : (u v : Statement) → EncodeParts a (statement_parts u) words → EncodeParts b (statement_parts v) words → class_of u ≡ class_of v → (begins u).word ≡ (begins v).word → u ≡ v
       by (OfVersion m) (OfVersion n) f g c w = ap (λ (parts : List Part). OfVersion (number_in parts)) (parts_are (version_parts m) (version_parts n) words (refl, (refl, tt)) f g)
       by (Head m ps) (Head n qs) f g c w = one_head m n ps qs (parts_are (head_parts m ps) (head_parts n qs) words (refl, (refl, params_alike ps qs)) f g)
       by (Registers rs) (Registers ss) f g c w = one_registers rs ss (parts_are (registers_parts rs) (registers_parts ss) words (refl, registers_alike rs ss) f g)
@@ -192,8 +192,8 @@ module _ (a b : Goals) (names : AreNames a) (others : AreNames b) (alone : (n m 
 -- ---- statements that are read, when goals are known
 
 -- words of a statement denote it also with more goals
-pub spells_more : {version : Version} (a b : Goals) → ((skip : ℕ) (name : List ℕ) → a skip name → b skip name) → (s : Statement) (words : List Word) → Spells version a s words → Spells version b s words
-spells_more a b more s words h = record { form = h.form; parts = parts_more a b more (statement_parts s) words h.parts }
+pub encodes_more : {version : Version} (a b : Goals) → ((skip : ℕ) (name : List ℕ) → a skip name → b skip name) → (s : Statement) (words : List Word) → Encodes version a s words → Encodes version b s words
+encodes_more a b more s words h = record { form = h.form; parts = parts_more a b more (statement_parts s) words h.parts }
 
 operands_had_still : (version : Version) (skip : ℕ) (os : List Operand) → AllByRecursion (HasOperand version) os → AllByRecursion (HasOperand version) (map (reskip_operand skip) os)
 operands_had_still version skip [] h = tt
@@ -205,10 +205,10 @@ had_still version skip i h =
     subst (λ (r : Opcode × List Operand). (has_opcode version r.0 ≡ true) × AllByRecursion (HasOperand version) r.1) (sym (others skip i)) (h.0, operands_had_still version skip (table.row i).1 h.1)
 
 -- the words of an instruction that names a label denote it with the label's skip
-pub resolved_spells : (version : Version) (goals : Goals) (name : List ℕ) (skip : ℕ) (i : Instr) (words : List Word) → IsRead version (record { statement = Code i; goal = Some name }) words → goals skip name
-    → Spells version goals (Code (with_skip skip i)) words
-resolved_spells version goals name skip i words read goal = record { form = had_still version skip i read.1.1.form; parts = by (resolved goals name skip goal (instr_parts i) words (row i).last read.1.1.parts) }
+pub resolved_encodes : (version : Version) (goals : Goals) (name : List ℕ) (skip : ℕ) (i : Instr) (words : List Word) → IsRead version (record { statement = Code i; goal = Some name }) words → goals skip name
+    → Encodes version goals (Code (with_skip skip i)) words
+resolved_encodes version goals name skip i words read goal = record { form = had_still version skip i read.1.1.form; parts = by (resolved goals name skip goal (instr_parts i) words (row i).last read.1.1.parts) }
   where
-    by : Resolved goals skip (instr_parts i) words → SpellParts goals (instr_parts (with_skip skip i)) words
+    by : Resolved goals skip (instr_parts i) words → EncodeParts goals (instr_parts (with_skip skip i)) words
     by (as_is h) = absurd (read.1.2.names i (record { form = read.1.1.form; parts = h }))
-    by (with_goal h) = subst (λ (ps : List Part). SpellParts goals ps words) (sym ((row i).reskipped skip)) h
+    by (with_goal h) = subst (λ (ps : List Part). EncodeParts goals ps words) (sym ((row i).reskipped skip)) h

@@ -1,6 +1,6 @@
 -- A text has one first fault.
 use Rattle.std.proofs.Common.{◌≡◌, ℕ, zero, suc, ◌+◌, ◌<◌, ◌≤◌, ◌⊎◌, List, [], ◌∷◌, ◌++◌, length, take, drop, Option, inl, inr, refl, sym, subst, ap, ◌∙◌, arith}
-use Rattle.tw_asm.proofs.AsmNames.{AnyShortName, Bare, Begins, Code, Contains, FaultNo, First, GoalFault, HasWords, InBody, Instr, IsEmpty, IsEndFault, IsExpected, IsFirstFault, IsFirstGoalFault, IsLine, IsLineFault, IsUnfinished, Label, LineFault, LineSays, LinesSay, MayBegin, NamesLabel, Say, ParserState, Stage, Statement, Version, Word, after_line, at_start, cases_lt, first_word_once, labels_ahead, line_once, lines, not_forward, situation, situation_from, slice_get, unknown}
+use Rattle.tw_asm.proofs.AsmNames.{AnyShortName, Bare, Begins, Code, Contains, FaultNo, First, GoalFault, HasWords, InBody, Instr, IsEmpty, IsEndFault, IsExpected, IsFirstFault, IsFirstGoalFault, IsLine, IsLineFault, IsUnfinished, Label, LineFault, HasStatement, HaveStatements, MayBegin, NamesLabel, EncodesInLimits, ParserState, Stage, Statement, Version, Word, after_line, at_start, cases_lt, first_word_once, labels_ahead, line_once, lines, not_forward, situation, situation_from, slice_get, unknown}
 use Rattle.tw_asm.specs.declared.statement.First.TheVariants as first
 use Rattle.tw_asm.specs.declared.fault.FaultNo.TheVariants as fault
 use Rattle.tw_asm.proofs.Begins.{line_begins}
@@ -23,10 +23,10 @@ body_head e = absurd cc
 body_may : (s : ParserState) → s.stage ≡ InBody → MayBegin s.stage first.Body
 body_may s body = subst (λ (stage : Stage). MayBegin stage first.Body) (sym body) (inr refl)
 
-label_begins : (s : ParserState) (line name : List ℕ) (words : List Word) → s.stage ≡ InBody → IsLine words line → Say s.version (Label name) words → Begins s line first.Body
+label_begins : (s : ParserState) (line name : List ℕ) (words : List Word) → s.stage ≡ InBody → IsLine words line → EncodesInLimits s.version (Label name) words → Begins s line first.Body
 label_begins s line name words body is say = line_begins AnyShortName (Label name) words s line is say.0 (body_may s body)
 
-code_begins : (s : ParserState) (line : List ℕ) (i : Instr) (words : List Word) → s.stage ≡ InBody → IsLine words line → Say s.version (Code i) words → Begins s line first.Body
+code_begins : (s : ParserState) (line : List ℕ) (i : Instr) (words : List Word) → s.stage ≡ InBody → IsLine words line → EncodesInLimits s.version (Code i) words → Begins s line first.Body
 code_begins s line i words body is say = line_begins AnyShortName (Code i) words s line is say.0 (body_may s body)
 
 -- Holds if the line has the fault of this kind. The kinds are in the order in which a line is checked: no first word, no form, an empty procedure
@@ -35,7 +35,7 @@ abbrev IsSo : ParserState → List ℕ → ℕ → Type 0
 IsSo s line zero = (expected : First) → Begins s line expected → ⊥
 IsSo s line (suc zero) = HasWords s.version line → ⊥
 IsSo s line (suc (suc zero)) = Begins s line first.Head × IsEmpty s
-IsSo s line (suc (suc (suc zero))) = (name : List ℕ) × (words : List Word) × (s.stage ≡ InBody) × IsLine words line × Say s.version (Label name) words
+IsSo s line (suc (suc (suc zero))) = (name : List ℕ) × (words : List Word) × (s.stage ≡ InBody) × IsLine words line × EncodesInLimits s.version (Label name) words
 IsSo s line (suc (suc (suc (suc k)))) = Unit {0}
 
 -- holds if the line has no fault of the kinds before this one
@@ -126,7 +126,7 @@ line_faults number s line a b m n f g = by (cases_lt x.kind y.kind) (cases_lt y.
 
 -- ---- two readings of the same lines
 
-same_end : (number : ℕ) (s : ParserState) (ls : List (List ℕ)) (said also_said : List (Option Statement)) → LinesSay number s ls said → LinesSay number s ls also_said
+same_end : (number : ℕ) (s : ParserState) (ls : List (List ℕ)) (said also_said : List (Option Statement)) → HaveStatements number s ls said → HaveStatements number s ls also_said
     → situation_from number s said ≡ situation_from number s also_said
 same_end number s [] [] [] h l = refl
 same_end number s [] (x ∷ said) also_said h l = absurd h
@@ -137,7 +137,7 @@ same_end number s (line ∷ more) (x ∷ said) (y ∷ also_said) h l =
     same_end (number + 1) (after_line number x s) more said also_said h.1 (others_say number s line more x y also_said h.0 l.0 l.1)
     ∙ ap (λ (t : ParserState). situation_from (number + 1) t also_said) (both_alike number s line x y h.0 l.0)
 
-same_at : (index number : ℕ) (s : ParserState) (ls : List (List ℕ)) (said also_said : List (Option Statement)) → LinesSay number s ls said → LinesSay number s ls also_said
+same_at : (index number : ℕ) (s : ParserState) (ls : List (List ℕ)) (said also_said : List (Option Statement)) → HaveStatements number s ls said → HaveStatements number s ls also_said
     → situation_from number s (take index said) ≡ situation_from number s (take index also_said)
 same_at zero number s ls said also_said h l = refl
 same_at (suc k) number s [] [] [] h l = refl
@@ -162,7 +162,7 @@ line_fault_at k l t u line next which at e f g h =
     subst (λ (z : List ℕ). LineFault k t z which at) g (subst (λ (v : ParserState). LineFault k v next which at) f (subst (λ (j : ℕ). LineFault j u next which at) e h))
 
 one_line_fault : (number : ℕ) (s : ParserState) (before after : List (List ℕ)) (line next : List ℕ) (others more : List (List ℕ)) (said also_said : List (Option Statement)) (k l : ℕ) (t u : ParserState) (a b : FaultNo) (m n : ℕ)
-    → before ++ (line ∷ others) ≡ after ++ (next ∷ more) → LinesSay number s before said → LinesSay number s after also_said → k ≡ length before + number → l ≡ length after + number
+    → before ++ (line ∷ others) ≡ after ++ (next ∷ more) → HaveStatements number s before said → HaveStatements number s after also_said → k ≡ length before + number → l ≡ length after + number
     → situation_from number s said ≡ t → situation_from number s also_said ≡ u → LineFault k t line a m → LineFault l u next b n → (a ≡ b) × (m ≡ n)
 one_line_fault number s [] [] line next others more [] [] k l t u a b m n e h j ke le te ue f g =
     line_faults k t line a b m n f (line_fault_at k l t u line next b n (omega (arith, ke, le)) (sym ue ∙ te) (sym (head_line_is line next others more e)) g)
@@ -180,13 +180,13 @@ one_line_fault number s (first ∷ before) (second ∷ after) line next others m
 one_line_fault number s (first ∷ before) (second ∷ after) line next others more (x ∷ said) [] k l t u a b m n e h j ke le te ue f g = absurd j
 one_line_fault number s (first ∷ before) (second ∷ after) line next others more (x ∷ said) (y ∷ also_said) k l t u a b m n e h j ke le te ue f g =
     let same = head_line_is first second (before ++ (line ∷ others)) (after ++ (next ∷ more)) e in
-    let here : LineSays s first y = subst (λ (z : List ℕ). LineSays s z y) (sym same) j.0 in
+    let here : HasStatement s first y = subst (λ (z : List ℕ). HasStatement s z y) (sym same) j.0 in
     one_line_fault (number + 1) (after_line number x s) before after line next others more said also_said k l t u a b m n
     (more_lines_are first second (before ++ (line ∷ others)) (after ++ (next ∷ more)) e) h.1 (others_say number s first after x y also_said h.0 here j.1)
     (omega (arith, ke)) (omega (arith, le)) te (ap (λ (v : ParserState). situation_from (number + 1) v also_said) (both_alike number s first x y h.0 here) ∙ ue) f g
 
-next_said : (number : ℕ) (s : ParserState) (before : List (List ℕ)) (line : List ℕ) (more : List (List ℕ)) (said also_said : List (Option Statement)) → LinesSay number s (before ++ (line ∷ more)) said → LinesSay number s before also_said
-    → (x : Option Statement) × LineSays (situation_from number s also_said) line x
+next_said : (number : ℕ) (s : ParserState) (before : List (List ℕ)) (line : List ℕ) (more : List (List ℕ)) (said also_said : List (Option Statement)) → HaveStatements number s (before ++ (line ∷ more)) said → HaveStatements number s before also_said
+    → (x : Option Statement) × HasStatement (situation_from number s also_said) line x
 next_said number s [] line more [] also_said h l = absurd h
 next_said number s [] line more (x ∷ said) [] h l = (x, h.0)
 next_said number s [] line more (x ∷ said) (y ∷ also_said) h l = absurd l
@@ -194,12 +194,12 @@ next_said number s (first ∷ before) line more [] also_said h l = absurd h
 next_said number s (first ∷ before) line more (x ∷ said) [] h l = absurd l
 next_said number s (first ∷ before) line more (x ∷ said) (y ∷ also_said) h l =
     let r = next_said (number + 1) (after_line number x s) before line more said also_said h.1 (others_say number s first before x y also_said h.0 l.0 l.1) in
-    (r.0, subst (λ (t : ParserState). LineSays (situation_from (number + 1) t also_said) line r.0) (both_alike number s first x y h.0 l.0) r.1)
+    (r.0, subst (λ (t : ParserState). HasStatement (situation_from (number + 1) t also_said) line r.0) (both_alike number s first x y h.0 l.0) r.1)
 
 -- no line has a fault if all lines are allowed
-no_line_fault : {Z : Type 0} (text : List ℕ) (which : FaultNo) (at : ℕ) (said : List (Option Statement)) → LinesSay 1 at_start (lines text) said → IsLineFault text which at → Z
+no_line_fault : {Z : Type 0} (text : List ℕ) (which : FaultNo) (at : ℕ) (said : List (Option Statement)) → HaveStatements 1 at_start (lines text) said → IsLineFault text which at → Z
 no_line_fault text which at said h f =
-    let next = next_said 1 at_start f.before f.line f.others said f.said (subst (λ (ls : List (List ℕ)). LinesSay 1 at_start ls said) f.parts h) f.say in
+    let next = next_said 1 at_start f.before f.line f.others said f.said (subst (λ (ls : List (List ℕ)). HaveStatements 1 at_start ls said) f.parts h) f.say in
     absurd (line_no_fault (length f.before + 1) (situation f.said) f.line next.0 which at next.1 f.wrong)
 
 -- ---- the text's end

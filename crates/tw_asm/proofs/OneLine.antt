@@ -1,6 +1,6 @@
 -- An instruction comes from one line.
 use Rattle.std.proofs.Common.{◌≡◌, ◌⊎◌, ℕ, suc, ◌+◌, ◌<◌, ◌≤◌, List, [], ◌∷◌, ◌++◌, length, Option, Some, None, inl, inr, refl, sym, subst, ap, ◌∙◌, arith}
-use Rattle.tw_asm.proofs.AsmNames.{Code, Head, Instr, Label, LineSays, LinesSay, OfVersion, Registers, ParserState, Statement, after_line, at_start, lines, situation_from}
+use Rattle.tw_asm.proofs.AsmNames.{Code, Head, Instr, Label, HasStatement, HaveStatements, OfVersion, Registers, ParserState, Statement, after_line, at_start, lines, situation_from}
 use Rattle.tw_asm.specs.Theorems.{OneLine}
 use Rattle.tw_asm.proofs.Twice.{both_alike, others_say}
 
@@ -27,14 +27,14 @@ past_all number s [] = inr (refl, omega arith)
 past_all number s (x ∷ said) = past_both s (after_line number x s) (situation_from (number + 1) (after_line number x s) said) (past_after number x s) (past_all (number + 1) (after_line number x s) said)
 
 -- after the line of an instruction no line has its place
-never_again : {Z : Type 0} (number : ℕ) (s : ParserState) (line : List ℕ) (i : Instr) (x : Option Statement) (said : List (Option Statement)) → LineSays s line (Some (Code i)) → LineSays s line x
+never_again : {Z : Type 0} (number : ℕ) (s : ParserState) (line : List ℕ) (i : Instr) (x : Option Statement) (said : List (Option Statement)) → HasStatement s line (Some (Code i)) → HasStatement s line x
     → s.procedures ≡ (situation_from (number + 1) (after_line number x s) said).procedures → s.instructions ≡ (situation_from (number + 1) (after_line number x s) said).instructions → Z
 never_again number s line i x said h l p q =
     let t = situation_from (number + 1) (after_line number x s) said in
     let past = subst (λ (u : ParserState). IsPast u t) (sym (both_alike number s line (Some (Code i)) x h l)) (past_all (number + 1) (after_line number x s) said) in
     elim past [ inl more ↦ absurd (omega (arith, more, p)) | inr same ↦ absurd (omega (arith, same.1, q)) ]
 
-same_before : (number : ℕ) (s : ParserState) (ls : List (List ℕ)) (a b c d : List (Option Statement)) (i j : Instr) → LinesSay number s ls (a ++ (Some (Code i) ∷ c)) → LinesSay number s ls (b ++ (Some (Code j) ∷ d))
+same_before : (number : ℕ) (s : ParserState) (ls : List (List ℕ)) (a b c d : List (Option Statement)) (i j : Instr) → HaveStatements number s ls (a ++ (Some (Code i) ∷ c)) → HaveStatements number s ls (b ++ (Some (Code j) ∷ d))
     → (situation_from number s a).procedures ≡ (situation_from number s b).procedures → (situation_from number s a).instructions ≡ (situation_from number s b).instructions → length a ≡ length b
 same_before number s [] [] b c d i j h l p q = absurd h
 same_before number s [] (x ∷ a) b c d i j h l p q = absurd h
@@ -50,6 +50,6 @@ same_before number s (line ∷ more) (x ∷ a) (y ∷ b) c d i j h l p q =
 pub one_line : OneLine
 one_line text procedure place number other f g =
     let same =
-    same_before 1 at_start (lines text) f.before g.before f.after g.after f.i g.i (subst (LinesSay 1 at_start (lines text)) f.parts f.say) (subst (LinesSay 1 at_start (lines text)) g.parts g.say)
+    same_before 1 at_start (lines text) f.before g.before f.after g.after f.i g.i (subst (HaveStatements 1 at_start (lines text)) f.parts f.say) (subst (HaveStatements 1 at_start (lines text)) g.parts g.say)
     (f.procedure_is ∙ sym g.procedure_is) (f.place_is ∙ sym g.place_is) in
     f.number_is ∙ ap (λ (n : ℕ). n + 1) same ∙ sym g.number_is

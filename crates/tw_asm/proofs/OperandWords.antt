@@ -1,6 +1,6 @@
 -- Reading single words.
 use Rattle.std.proofs.Common.{◌≡◌, ◌==◌, ℕ, ◌≤◌, Bool, true, false, cond, List, [], ◌∷◌, length, codes, Option, Some, None, Ok, Err, refl, sym, ap, subst, ◌∙◌, arith}
-use Rattle.tw_asm.proofs.AsmNames.{Bare, Closed, FitsSigned, Form, Four, IsIn64, IsInRange, IsRegister, IsSubscriptOf, IsTarget, IsUtf8, IsWithin, Limit, Literal, Natural, NoName, Number, One, Part, Quoted, Ref, Right, Scalar, SpellsDigits, SpellsNumber, SpellsPart, SpellsWith, Target, Two, Val, Value, Version, Word, Write, as_is, bytes_eq, bytes_eq-Decides, container_in, container_word, digits_in, eqb-true, is_sum, kind_word, literal_in, ltb-true, map_in, map_word, mode_in, mode_word, nat_lt, nat_tests, natural_in, number_in, register_in, scalar_in, scalar_word, signed_in, sum_word, target_in, text_container, w64}
+use Rattle.tw_asm.proofs.AsmNames.{Bare, Closed, FitsSigned, Form, Four, IsIn64, IsInRange, IsRegister, IsSubscriptOf, IsTarget, IsUtf8, IsWithin, Limit, Literal, Natural, NoName, Number, One, Part, Quoted, Ref, Right, Scalar, EncodesDigits, EncodesNumber, EncodesPart, EncodesWith, Target, Two, Val, Value, Version, Word, Write, as_is, bytes_eq, bytes_eq-Decides, container_in, container_word, digits_in, eqb-true, is_sum, kind_word, literal_in, ltb-true, map_in, map_word, mode_in, mode_word, nat_lt, nat_tests, natural_in, number_in, register_in, scalar_in, scalar_word, signed_in, sum_word, target_in, text_container, w64}
 use Rattle.tw_lexer.proofs.Readings.{digits_read, signed_read, Reads, carried}
 use Rattle.tw_asm.proofs.Readings.{likewise}
 use Rattle.tw_asm.proofs.TypeWords.{other_bytes}
@@ -31,7 +31,7 @@ May literal c = IsText c
 May target c = IsTarget c
 
 abbrev pub Has : (o : Operand) → Word → Content o → Type 0
-Has o w c = SpellsPart NoName (part_of o c) (w ∷ [])
+Has o w c = EncodesPart NoName (part_of o c) (w ∷ [])
 
 no : false ≡ true → ⊥
 no e = cc
@@ -39,7 +39,7 @@ no e = cc
 pub apart : (b c : ℕ) → (b == c) ≡ false → b ≡ c → ⊥
 apart b c e is = grind (arith, nat_tests)
 
-pub register_read : (letter : ℕ) (w : Word) → Reads (λ n. SpellsWith (letter ∷ []) n (w ∷ [])) IsRegister (register_in letter w)
+pub register_read : (letter : ℕ) (w : Word) → Reads (λ n. EncodesWith (letter ∷ []) n (w ∷ [])) IsRegister (register_in letter w)
 register_read letter (Quoted text) = λ n h. none h.0 h.2
   where
     none : (digits : List ℕ) → Quoted text ∷ [] ≡ Bare (letter ∷ digits) ∷ [] → ⊥
@@ -56,10 +56,10 @@ register_read letter (Bare (b ∷ rest)) = by (b == letter) refl
     head_is : (digits : List ℕ) → Bare (b ∷ rest) ∷ [] ≡ Bare (letter ∷ digits) ∷ [] → b ≡ letter
     head_is digits e = cc
 
-    by : (t : Bool) → (b == letter) ≡ t → Reads (λ n. SpellsWith (letter ∷ []) n (Bare (b ∷ rest) ∷ [])) IsRegister (cond t (digits_in 0 15 rest) (Err Form))
+    by : (t : Bool) → (b == letter) ≡ t → Reads (λ n. EncodesWith (letter ∷ []) n (Bare (b ∷ rest) ∷ [])) IsRegister (cond t (digits_in 0 15 rest) (Err Form))
     by true is =
-        likewise (λ n. SpellsDigits n rest) (IsInRange 0 15) (λ n. SpellsWith (letter ∷ []) n (Bare (b ∷ rest) ∷ [])) IsRegister
-        (λ n h. (rest, h, ap (λ (c : ℕ). Bare (c ∷ rest) ∷ []) (eqb-true b letter is))) (λ n h. subst (SpellsDigits n) (tail_is h.0 h.2) h.1)
+        likewise (λ n. EncodesDigits n rest) (IsInRange 0 15) (λ n. EncodesWith (letter ∷ []) n (Bare (b ∷ rest) ∷ [])) IsRegister
+        (λ n h. (rest, h, ap (λ (c : ℕ). Bare (c ∷ rest) ∷ []) (eqb-true b letter is))) (λ n h. subst (EncodesDigits n) (tail_is h.0 h.2) h.1)
         (λ n h m. m) (λ n h m. m) (digits_in 0 15 rest) (digits_read 0 15 rest)
     by false is = λ n h. apart b letter is (head_is h.0 h.2)
 
@@ -69,17 +69,17 @@ bare_is text digits e = cc
 not_bare : (text digits : List ℕ) → Quoted text ∷ [] ≡ Bare digits ∷ [] → ⊥
 not_bare text digits e = cc
 
-pub natural_read : (low high : ℕ) (w : Word) → Reads (λ n. SpellsWith [] n (w ∷ [])) (IsWithin low high) (natural_in low high w)
+pub natural_read : (low high : ℕ) (w : Word) → Reads (λ n. EncodesWith [] n (w ∷ [])) (IsWithin low high) (natural_in low high w)
 natural_read low high (Quoted text) = λ n h. not_bare text h.0 h.2
 natural_read low high (Bare text) =
-    likewise (λ n. SpellsDigits n text) (IsInRange low high) (λ n. SpellsWith [] n (Bare text ∷ [])) (IsWithin low high)
-    (λ n h. (text, h, refl)) (λ n h. subst (SpellsDigits n) (bare_is text h.0 h.2) h.1) (λ n h m. m) (λ n h m. m) (digits_in low high text) (digits_read low high text)
+    likewise (λ n. EncodesDigits n text) (IsInRange low high) (λ n. EncodesWith [] n (Bare text ∷ [])) (IsWithin low high)
+    (λ n h. (text, h, refl)) (λ n h. subst (EncodesDigits n) (bare_is text h.0 h.2) h.1) (λ n h m. m) (λ n h m. m) (digits_in low high text) (digits_read low high text)
 
 number_read : (w : Word) → Reads (Has number w) (May number) (number_in w)
 number_read (Quoted text) = λ n h. not_bare text h.0 h.2
 number_read (Bare text) =
-    likewise (λ n. SpellsNumber n text) IsIn64 (Has number (Bare text)) (May number)
-    (λ n h. (text, h, refl)) (λ n h. subst (SpellsNumber n) (bare_is text h.0 h.2) h.1) (λ n h m. m) (λ n h m. m) (signed_in text) (signed_read text)
+    likewise (λ n. EncodesNumber n text) IsIn64 (Has number (Bare text)) (May number)
+    (λ n h. (text, h, refl)) (λ n h. subst (EncodesNumber n) (bare_is text h.0 h.2) h.1) (λ n h m. m) (λ n h m. m) (signed_in text) (signed_read text)
 
 literal_read : (w : Word) → IsFine w → Reads (Has literal w) (May literal) (literal_in w)
 literal_read (Bare text) fine = λ c e. none c e
@@ -101,19 +101,19 @@ literal_read (Quoted text) fine = by (nat_lt 4096 (length text)) refl
 target_read : (w : Word) → Reads (Has target w) (May target) (target_in w)
 target_read (Quoted text) = λ c h. none c h
   where
-    none : (c : Option ℕ) → SpellsPart NoName (Target c) (Quoted text ∷ []) → ⊥
+    none : (c : Option ℕ) → EncodesPart NoName (Target c) (Quoted text ∷ []) → ⊥
     none None e = not_bare text (codes "any") e
     none (Some n) h = not_bare text h.0 h.2
 target_read (Bare text) = by (bytes_eq text (codes "any")) refl
   where
-    some : bytes_eq text (codes "any") ≡ false → (c : Option ℕ) → SpellsPart NoName (Target c) (Bare text ∷ []) → (n : ℕ) × SpellsWith [] n (Bare text ∷ []) × (c ≡ Some n)
+    some : bytes_eq text (codes "any") ≡ false → (c : Option ℕ) → EncodesPart NoName (Target c) (Bare text ∷ []) → (n : ℕ) × EncodesWith [] n (Bare text ∷ []) × (c ≡ Some n)
     some isnt None e = absurd (no (sym isnt ∙ (bytes_eq-Decides text (codes "any")).1 (sym (bare_is text (codes "any") e))))
     some isnt (Some n) h = (n, h, refl)
 
     by : (t : Bool) → bytes_eq text (codes "any") ≡ t → Reads (Has target (Bare text)) (May target) (cond t (Ok None) (as_is (λ n. Some n) (digits_in 0 15 text)))
     by true is = (ap (λ (t : List ℕ). Bare t ∷ []) ((bytes_eq-Decides text (codes "any")).0 is), tt)
     by false isnt =
-        carried (λ n. Some n) (λ n. SpellsWith [] n (Bare text ∷ [])) (IsWithin 0 15) (Has target (Bare text)) (May target)
+        carried (λ n. Some n) (λ n. EncodesWith [] n (Bare text ∷ [])) (IsWithin 0 15) (Has target (Bare text)) (May target)
         (λ n h. h) (some isnt) (λ n h m. m) (λ n h m. m) (digits_in 0 15 text) (natural_read 0 15 (Bare text))
 
 pub operand_read : (o : Operand) (w : Word) → IsFine w → Reads (Has o w) (May o) (operand_in o w)

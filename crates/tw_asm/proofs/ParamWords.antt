@@ -8,7 +8,7 @@ use Rattle.tw_lexer.proofs.Readings.{Reads, carried}
 use Rattle.tw_asm.proofs.Readings.{both_read}
 use Rattle.tw_asm.proofs.Sequences.{IsShallow}
 use Rattle.tw_asm.proofs.TypeWords.{first_is, first_no_mode, first_no_sum, has_map, has_sums_of, map_no_container, map_no_scalar, map_since, mode_no_map, mode_no_sum, one_mode, one_type, rest_is, some_words, sum_no_scalar, sums_since, words_of}
-use Rattle.tw_asm.specs.reading.Lines.{begins, broken, contained, ended, ends, goes_on, param_of, params_from, put_first, taken, under}
+use Rattle.tw_asm.specs.reading.Lines.{begins, broken, contained, ended, ends, params_with, param_of, params_from, put_first, taken, under}
 
 abbrev pub param_words : Param → List Word
 param_words p = Bare (mode_word p.mode) ∷ words_of p.ty.containers p.ty.map p.ty.scalar
@@ -327,7 +327,7 @@ module _ (version : Version) where
             (broken_kept deep_or_map))
 
     goes_on_kept : (r m : Result Scalar TokenError) → Reads (IsContainerOf version w) Free r → Reads (IsMapWordOf version w) Free m → (o : Result Mode TokenError) → Reads (λ mode. w ≡ Bare (mode_word mode)) Free o
-        → IsKept version (w ∷ ws) (goes_on whole read r m o).whole (goes_on whole read r m o).begun
+        → IsKept version (w ∷ ws) (params_with whole read r m o).whole (params_with whole read r m o).begun
     goes_on_kept (Ok by) m h k o l = record {
       ty = container_of by b.ty;
       rest = b.rest;

@@ -1,6 +1,6 @@
 -- Registers, the version and labels: the words are read as a statement that they denote, or they denote none.
 use Rattle.std.proofs.Common.{◌≡◌, ◌≢◌, ◌==◌, ℕ, zero, suc, ◌≤◌, Bool, true, false, inl, inr, arith, List, [], ◌∷◌, ◌++◌, length, map, codes, Option, Some, None, Result, Ok, Err, refl, sym, ap, subst, ◌∙◌}
-use Rattle.tw_asm.proofs.AsmNames.{AllByRecursion, AnyName, AnyShortName, Bare, Code, TokenError, Form, Goals, HasForm, Head, Instr, IsInLimits, IsList, IsName, IsRead, IsVersionNumber, IsWithin, Label, Limit, Name, Natural, NoName, OfVersion, Opcode, Part, Registers, Scalar, SpellParts, Spells, SpellsWith, Statement, Version, Word, as_is, eqb-true, flat_map, if◌then◌else◌, kind_word, name_in, natural_in, operand_parts, param_parts, register_part, row, scalar_in, scalar_word, version_known, word_of}
+use Rattle.tw_asm.proofs.AsmNames.{AllByRecursion, AnyName, AnyShortName, Bare, Code, TokenError, Form, Goals, HasForm, Head, Instr, IsInLimits, IsList, IsName, IsRead, IsVersionNumber, IsWithin, Label, Limit, Name, Natural, NoName, OfVersion, Opcode, Part, Registers, Scalar, EncodeParts, Encodes, EncodesWith, Statement, Version, Word, as_is, eqb-true, flat_map, if◌then◌else◌, kind_word, name_in, natural_in, operand_parts, param_parts, register_part, row, scalar_in, scalar_word, version_known, word_of}
 use Rattle.tw_asm.proofs.Answered.{Judged, first_is, none_some, regs_is_none, version_is_none}
 use Rattle.tw_lexer.proofs.Colons.{before, found_before}
 use Rattle.tw_asm.proofs.Names.{IsThisName, name_read}
@@ -16,12 +16,12 @@ use Rattle.tw_asm.specs.reading.Lines.{each, few, label_line, label_read, named_
 use Rattle.tw_code.specs.format.Table.{opcode_in}
 
 -- the table finds the name of an instruction
-pub code_first : (version : Version) (G : Goals) (i : Instr) (word : List ℕ) (ws : List Word) → Spells version G (Code i) (Bare word ∷ ws) → (o : Opcode) × (opcode_in version word ≡ Some o)
+pub code_first : (version : Version) (G : Goals) (i : Instr) (word : List ℕ) (ws : List Word) → Encodes version G (Code i) (Bare word ∷ ws) → (o : Opcode) × (opcode_in version word ≡ Some o)
 code_first version G i word ws h =
     let k = first_is G (word_of (row i).0) (flat_map operand_parts (row i).1) (Bare word) ws h.parts in
     ((row i).0, ap (opcode_in version) (bare_is word (word_of (row i).0) k.0) ∙ tables.named_in version (row i).0 h.form.0)
 
-pub nonempty : (G : Goals) (name : List ℕ) (parts : List Part) → SpellParts G (Name name ∷ parts) [] → ⊥
+pub nonempty : (G : Goals) (name : List ℕ) (parts : List Part) → EncodeParts G (Name name ∷ parts) [] → ⊥
 nonempty G name parts (first, others, cut, h, rest) = no_word (cut ∙ ap (λ (vs : List Word). vs ++ others) h)
   where
     no_word : [] ≡ Bare name ∷ others → ⊥
@@ -36,13 +36,13 @@ no_label word name none e = none_some name (sym none ∙ (ap before_colon e ∙ 
 abbrev pub IsScalarWord : Word → Scalar → Type 0
 IsScalarWord w s = w ≡ Bare (scalar_word s)
 
-scalars_up : (G : Goals) (ws : List Word) (rs : List Scalar) → HaveEach IsScalarWord ws rs → SpellParts G (map register_part rs) ws
+scalars_up : (G : Goals) (ws : List Word) (rs : List Scalar) → HaveEach IsScalarWord ws rs → EncodeParts G (map register_part rs) ws
 scalars_up G [] [] h = refl
 scalars_up G [] (r ∷ rs) h = absurd h
 scalars_up G (w ∷ ws) [] h = absurd h
 scalars_up G (w ∷ ws) (r ∷ rs) h = (w ∷ [], ws, refl, ap (λ (v : Word). v ∷ []) h.0, scalars_up G ws rs h.1)
 
-scalars_down : (G : Goals) (ws : List Word) (rs : List Scalar) → SpellParts G (map register_part rs) ws → HaveEach IsScalarWord ws rs
+scalars_down : (G : Goals) (ws : List Word) (rs : List Scalar) → EncodeParts G (map register_part rs) ws → HaveEach IsScalarWord ws rs
 scalars_down G [] [] h = tt
 scalars_down G [] (r ∷ rs) h = nonempty G (scalar_word r) (map register_part rs) h
 scalars_down G (w ∷ ws) [] h = none h
@@ -60,25 +60,25 @@ regs_version e = other_bytes (codes "regs") (codes "version") refl (ap (λ (t : 
 regs_no_label : before_colon (codes "regs") ≡ None
 regs_no_label = refl
 
-is_registers : (version : Version) (G : Goals) (ws : List Word) (statement : Statement) → Spells version G statement (Bare (codes "regs") ∷ ws) → (rs : List Scalar) × (statement ≡ Registers rs) × HaveEach IsScalarWord ws rs
+is_registers : (version : Version) (G : Goals) (ws : List Word) (statement : Statement) → Encodes version G statement (Bare (codes "regs") ∷ ws) → (rs : List Scalar) × (statement ≡ Registers rs) × HaveEach IsScalarWord ws rs
 is_registers version G ws (OfVersion number) h = absurd (regs_version (bare_is (codes "regs") (codes "version") (first_is G (codes "version") (Natural number ∷ []) (Bare (codes "regs")) ws h.parts).0))
 is_registers version G ws (Head kind params) h = absurd (regs_first (bare_is (codes "regs") (codes "proc") (first_is G (codes "proc") (Name (kind_word kind) ∷ flat_map param_parts params) (Bare (codes "regs")) ws h.parts).0))
 is_registers version G ws (Registers rs) h = (rs, refl, scalars_down G ws rs (first_is G (codes "regs") (map register_part rs) (Bare (codes "regs")) ws h.parts).1)
 is_registers version G ws (Label name) h = absurd (no_label (codes "regs") name regs_no_label (bare_is (codes "regs") (name ++ codes ":") (first_is G (name ++ codes ":") [] (Bare (codes "regs")) ws h.parts).0))
 is_registers version G ws (Code i) h = let k = code_first version G i (codes "regs") ws h in absurd (none_some k.0 (sym (regs_is_none version) ∙ k.1))
 
-registers_spelled : (version : Version) (G : Goals) (ws : List Word) (rs : List Scalar) → HaveEach IsScalarWord ws rs → Spells version G (Registers rs) (Bare (codes "regs") ∷ ws)
-registers_spelled version G ws rs h = record { form = tt; parts = (Bare (codes "regs") ∷ [], ws, refl, refl, scalars_up G ws rs h) }
+registers_encoded : (version : Version) (G : Goals) (ws : List Word) (rs : List Scalar) → HaveEach IsScalarWord ws rs → Encodes version G (Registers rs) (Bare (codes "regs") ∷ ws)
+registers_encoded version G ws rs h = record { form = tt; parts = (Bare (codes "regs") ∷ [], ws, refl, refl, scalars_up G ws rs h) }
 
 all_free : (rs : List Scalar) → AllByRecursion Free rs
 all_free [] = tt
 all_free (r ∷ rs) = (tt, all_free rs)
 
 registers_judged : (version : Version) (ws : List Word) (r : Result (List Scalar) TokenError) → Reads (HaveEach IsScalarWord ws) (IsList 0 16 Free) r → Judged version (as_is registers_read r) (Bare (codes "regs") ∷ ws)
-registers_judged version ws (Ok rs) h = (h.1.0, registers_spelled version NoName ws rs h.0)
+registers_judged version ws (Ok rs) h = (h.1.0, registers_encoded version NoName ws rs h.0)
 registers_judged version ws (Err Form) h = λ form. let k = is_registers version AnyName ws form.0 form.1 in h k.0 k.2
 registers_judged version ws (Err Limit) h = (
-  (Registers h.0.0, registers_spelled version AnyName ws h.0.0 h.0.1),
+  (Registers h.0.0, registers_encoded version AnyName ws h.0.0 h.0.1),
   λ statement say. let k = is_registers version AnyShortName ws statement say.0 in h.1 k.0 k.2 (subst IsInLimits k.1 say.1, all_free k.0),
 )
 
@@ -99,37 +99,37 @@ version_no_label : before_colon (codes "version") ≡ None
 version_no_label = refl
 
 -- a single number has one word
-number_alone : (G : Goals) (n : ℕ) (ws : List Word) → SpellParts G (Natural n ∷ []) ws → (w : Word) × (ws ≡ w ∷ []) × SpellsWith [] n (w ∷ [])
+number_alone : (G : Goals) (n : ℕ) (ws : List Word) → EncodeParts G (Natural n ∷ []) ws → (w : Word) × (ws ≡ w ∷ []) × EncodesWith [] n (w ∷ [])
 number_alone G n ws (first, others, cut, (digits, spells, is), none) =
     (Bare digits, cut ∙ ap (λ (vs : List Word). vs ++ others) is ∙ ap (λ (vs : List Word). Bare digits ∷ vs) none, (digits, spells, refl))
 
-is_version : (version : Version) (G : Goals) (ws : List Word) (statement : Statement) → Spells version G statement (Bare (codes "version") ∷ ws)
-    → (n : ℕ) × (statement ≡ OfVersion n) × ((w : Word) × (ws ≡ w ∷ []) × SpellsWith [] n (w ∷ []))
+is_version : (version : Version) (G : Goals) (ws : List Word) (statement : Statement) → Encodes version G statement (Bare (codes "version") ∷ ws)
+    → (n : ℕ) × (statement ≡ OfVersion n) × ((w : Word) × (ws ≡ w ∷ []) × EncodesWith [] n (w ∷ []))
 is_version version G ws (OfVersion number) h = (number, refl, number_alone G number ws (first_is G (codes "version") (Natural number ∷ []) (Bare (codes "version")) ws h.parts).1)
 is_version version G ws (Head kind params) h = absurd (version_first (bare_is (codes "version") (codes "proc") (first_is G (codes "proc") (Name (kind_word kind) ∷ flat_map param_parts params) (Bare (codes "version")) ws h.parts).0))
 is_version version G ws (Registers rs) h = absurd (version_regs (bare_is (codes "version") (codes "regs") (first_is G (codes "regs") (map register_part rs) (Bare (codes "version")) ws h.parts).0))
 is_version version G ws (Label name) h = absurd (no_label (codes "version") name version_no_label (bare_is (codes "version") (name ++ codes ":") (first_is G (name ++ codes ":") [] (Bare (codes "version")) ws h.parts).0))
 is_version version G ws (Code i) h = let k = code_first version G i (codes "version") ws h in absurd (none_some k.0 (sym (version_is_none version) ∙ k.1))
 
-version_spelled : (version : Version) (G : Goals) (w : Word) (n : ℕ) → SpellsWith [] n (w ∷ []) → Spells version G (OfVersion n) (Bare (codes "version") ∷ w ∷ [])
-version_spelled version G w n h = record { form = tt; parts = (Bare (codes "version") ∷ [], w ∷ [], refl, refl, (w ∷ [], [], refl, h, refl)) }
+version_encoded : (version : Version) (G : Goals) (w : Word) (n : ℕ) → EncodesWith [] n (w ∷ []) → Encodes version G (OfVersion n) (Bare (codes "version") ∷ w ∷ [])
+version_encoded version G w n h = record { form = tt; parts = (Bare (codes "version") ∷ [], w ∷ [], refl, refl, (w ∷ [], [], refl, h, refl)) }
 
-version_judged : (version : Version) (w : Word) (r : Result ℕ TokenError) → Reads (λ n. SpellsWith [] n (w ∷ [])) IsVersionNumber r → Judged version (as_is version_read r) (Bare (codes "version") ∷ w ∷ [])
+version_judged : (version : Version) (w : Word) (r : Result ℕ TokenError) → Reads (λ n. EncodesWith [] n (w ∷ [])) IsVersionNumber r → Judged version (as_is version_read r) (Bare (codes "version") ∷ w ∷ [])
 version_judged version w (Ok n) h =
-    subst (λ (k : ℕ). IsRead version (record { statement = OfVersion k; goal = None }) (Bare (codes "version") ∷ w ∷ [])) (sym (by_number n h.1)) (h.1, version_spelled version NoName w n h.0)
+    subst (λ (k : ℕ). IsRead version (record { statement = OfVersion k; goal = None }) (Bare (codes "version") ∷ w ∷ [])) (sym (by_number n h.1)) (h.1, version_encoded version NoName w n h.0)
 version_judged version w (Err Form) h = λ form. let k = is_version version AnyName (w ∷ []) form.0 form.1 in h k.0 (same k.0 k.2.0 k.2.1 k.2.2)
   where
-    same : (n : ℕ) (v : Word) → w ∷ [] ≡ v ∷ [] → SpellsWith [] n (v ∷ []) → SpellsWith [] n (w ∷ [])
-    same n v e s = subst (SpellsWith [] n) (sym e) s
+    same : (n : ℕ) (v : Word) → w ∷ [] ≡ v ∷ [] → EncodesWith [] n (v ∷ []) → EncodesWith [] n (w ∷ [])
+    same n v e s = subst (EncodesWith [] n) (sym e) s
 version_judged version w (Err Limit) h = (
-  (OfVersion h.0.0, version_spelled version AnyName w h.0.0 h.0.1),
+  (OfVersion h.0.0, version_encoded version AnyName w h.0.0 h.0.1),
   λ statement say.
       let k = is_version version AnyShortName (w ∷ []) statement say.0 in
-      h.1 k.0 (subst (SpellsWith [] k.0) (sym k.2.1) k.2.2) (subst IsInLimits k.1 say.1),
+      h.1 k.0 (subst (EncodesWith [] k.0) (sym k.2.1) k.2.2) (subst IsInLimits k.1 say.1),
 )
 
 -- from 1 to 4, but not 3
-known_read : (w : Word) (r : Result ℕ TokenError) → Reads (λ n. SpellsWith [] n (w ∷ [])) (IsWithin 1 4) r → Reads (λ n. SpellsWith [] n (w ∷ [])) IsVersionNumber (version_known r)
+known_read : (w : Word) (r : Result ℕ TokenError) → Reads (λ n. EncodesWith [] n (w ∷ [])) (IsWithin 1 4) r → Reads (λ n. EncodesWith [] n (w ∷ [])) IsVersionNumber (version_known r)
 known_read w (Ok n) h = by (n == 3) refl
   where
     number : (n : ℕ) → IsWithin 1 4 n → (n == 3) ≡ false → IsVersionNumber n
@@ -144,7 +144,7 @@ known_read w (Ok n) h = by (n == 3) refl
     no_third k e (inl m) = omega (arith, e, m.1)
     no_third k e (inr m) = omega (arith, e, m)
 
-    by : (t : Bool) → (n == 3) ≡ t → Reads (λ n. SpellsWith [] n (w ∷ [])) IsVersionNumber (if t then Err Limit else Ok n)
+    by : (t : Bool) → (n == 3) ≡ t → Reads (λ n. EncodesWith [] n (w ∷ [])) IsVersionNumber (if t then Err Limit else Ok n)
     by true e = ((n, h.0), λ k s m. no_third k ((digits_same [] k n (w ∷ []) (w ∷ []) [] [] s h.0 refl).0 ∙ eqb-true n 3 e) m)
     by false e = (h.0, number n h.1 e)
 known_read w (Err Form) h = h
@@ -168,7 +168,7 @@ version_answered version (w ∷ x ∷ ws) = λ form. let k = is_version version 
 -- ---- labels
 
 is_label : (version : Version) (G : Goals) (word : List ℕ) (ws : List Word) → word ≢ codes "proc" → word ≢ codes "regs" → word ≢ codes "version" → opcode_in version word ≡ None → (statement : Statement)
-    → Spells version G statement (Bare word ∷ ws) → (name : List ℕ) × (statement ≡ Label name) × (word ≡ name ++ codes ":") × (ws ≡ [])
+    → Encodes version G statement (Bare word ∷ ws) → (name : List ℕ) × (statement ≡ Label name) × (word ≡ name ++ codes ":") × (ws ≡ [])
 is_label version G word ws no_proc no_regs no_version no_code (OfVersion number) h = absurd (no_version (bare_is word (codes "version") (first_is G (codes "version") (Natural number ∷ []) (Bare word) ws h.parts).0))
 is_label version G word ws no_proc no_regs no_version no_code (Head kind params) h = absurd (no_proc (bare_is word (codes "proc") (first_is G (codes "proc") (Name (kind_word kind) ∷ flat_map param_parts params) (Bare word) ws h.parts).0))
 is_label version G word ws no_proc no_regs no_version no_code (Registers rs) h = absurd (no_regs (bare_is word (codes "regs") (first_is G (codes "regs") (map register_part rs) (Bare word) ws h.parts).0))
@@ -176,11 +176,11 @@ is_label version G word ws no_proc no_regs no_version no_code (Label name) h = l
 is_label version G word ws no_proc no_regs no_version no_code (Code i) h = let k = code_first version G i word ws h in absurd (none_some k.0 (sym no_code ∙ k.1))
 
 module _ (version : Version) (word : List ℕ) (no_proc : word ≢ codes "proc") (no_regs : word ≢ codes "regs") (no_version : word ≢ codes "version") (no_code : opcode_in version word ≡ None) where
-  only_label : (G : Goals) (ws : List Word) (statement : Statement) → Spells version G statement (Bare word ∷ ws) → (name : List ℕ) × (statement ≡ Label name) × (word ≡ name ++ codes ":") × (ws ≡ [])
+  only_label : (G : Goals) (ws : List Word) (statement : Statement) → Encodes version G statement (Bare word ∷ ws) → (name : List ℕ) × (statement ≡ Label name) × (word ≡ name ++ codes ":") × (ws ≡ [])
   only_label G ws statement h = is_label version G word ws no_proc no_regs no_version no_code statement h
 
-  label_spelled : (G : Goals) (name : List ℕ) → word ≡ name ++ codes ":" → IsName name → Spells version G (Label name) (Bare word ∷ [])
-  label_spelled G name e is = record { form = is; parts = (Bare word ∷ [], [], refl, ap (λ (t : List ℕ). Bare t ∷ []) e, refl) }
+  label_encoded : (G : Goals) (name : List ℕ) → word ≡ name ++ codes ":" → IsName name → Encodes version G (Label name) (Bare word ∷ [])
+  label_encoded G name e is = record { form = is; parts = (Bare word ∷ [], [], refl, ap (λ (t : List ℕ). Bare t ∷ []) e, refl) }
 
   inner : (a b : List ℕ) → Some a ≡ Some b → a ≡ b
   inner a b e = cc
@@ -189,18 +189,18 @@ module _ (version : Version) (word : List ℕ) (no_proc : word ≢ codes "proc")
   one_name : (found name : List ℕ) → before_colon word ≡ Some found → word ≡ name ++ codes ":" → found ≡ name
   one_name found name is e = inner found name (sym is ∙ (ap before_colon e ∙ before name))
 
-  spelled_name : (G : Goals) (found : List ℕ) → before_colon word ≡ Some found → (statement : Statement) → Spells version G statement (Bare word ∷ []) → (statement ≡ Label found) × IsName found
-  spelled_name G found is statement spells =
+  encoded_name : (G : Goals) (found : List ℕ) → before_colon word ≡ Some found → (statement : Statement) → Encodes version G statement (Bare word ∷ []) → (statement ≡ Label found) × IsName found
+  encoded_name G found is statement spells =
       let k = only_label G [] statement spells in
       let is_label_of : statement ≡ Label found = k.1 ∙ ap (λ (name : List ℕ). Label name) (sym (one_name found k.0 is k.2)) in
       (is_label_of, subst (HasForm version) is_label_of spells.form)
 
   label_judged : (found : List ℕ) → before_colon word ≡ Some found → (r : Result (List ℕ) TokenError) → Reads (IsThisName found) (λ name. length name ≤ 64) r → Judged version (as_is label_read r) (Bare word ∷ [])
-  label_judged found is (Ok name) h = (h.1, label_spelled NoName name (found_before word found is ∙ ap (λ (t : List ℕ). t ++ codes ":") h.0.1) h.0.0)
-  label_judged found is (Err Form) h = λ form. h found ((spelled_name AnyName found is form.0 form.1).1, refl)
+  label_judged found is (Ok name) h = (h.1, label_encoded NoName name (found_before word found is ∙ ap (λ (t : List ℕ). t ++ codes ":") h.0.1) h.0.0)
+  label_judged found is (Err Form) h = λ form. h found ((encoded_name AnyName found is form.0 form.1).1, refl)
   label_judged found is (Err Limit) h = (
-    (Label h.0.0, label_spelled AnyName h.0.0 (found_before word found is ∙ ap (λ (t : List ℕ). t ++ codes ":") h.0.1.1) h.0.1.0),
-    λ statement say. let k = spelled_name AnyShortName found is statement say.0 in h.1 found (k.1, refl) (subst IsInLimits k.0 say.1),
+    (Label h.0.0, label_encoded AnyName h.0.0 (found_before word found is ∙ ap (λ (t : List ℕ). t ++ codes ":") h.0.1.1) h.0.1.0),
+    λ statement say. let k = encoded_name AnyShortName found is statement say.0 in h.1 found (k.1, refl) (subst IsInLimits k.0 say.1),
   )
 
   none_judged : before_colon word ≡ None → Judged version (Err Form) (Bare word ∷ [])

@@ -1,10 +1,10 @@
 -- The procedures that are read, and the words that denote them.
 use Rattle.std.proofs.Common.{true, ◌≡◌, ◌≢◌, ℕ, suc, ◌+◌, ◌<◌, ◌≤◌, List, [], ◌∷◌, ◌++◌, length, map, Option, Some, None, inl, inr, refl, sym, subst, ap, ◌∙◌, append_assoc, arith}
-use Rattle.tw_asm.proofs.AsmNames.{AllByRecursion, AllPairs, AnyShortName, AreCode, AtStart, Bare, HeadRead, VersionRead, Code, Contains, Drafted, Four, Goals, GoesTo, HasInstr, HasSections, HaveWords, Head, Instr, IsGoalOf, IsInLimits, IsInstr, IsInstrOf, IsLine, IsOperand, IsProcedureOf, IsProgramOf, IsRead, IsWhole, Kind, Label, LinesRead, MayFollow, NoName, OfVersion, One, Opcode, Operand, Param, Place, Placed, Procedure, Progress, Read, Registers, Scalar, Section, SpellProcedures, Spells, SpellsProcedure, SpellsProgram, SpellsVersion, Statement, Version, Within, Word, append-nil, begun, ended, get_or_default, has_opcode, holds, length-append, line_step, lines, map-append, outset, progress_from, row, situation_of, step, version_by, with_skip}
+use Rattle.tw_asm.proofs.AsmNames.{AllByRecursion, AllPairs, AnyShortName, AreCode, AtStart, Bare, HeadRead, VersionRead, Code, Contains, Drafted, Four, Goals, SkipsTo, HasInstr, HasSections, HaveWords, Head, Instr, IsGoalOf, IsInLimits, IsInstr, IsInstrOf, IsLine, IsOperand, IsProcedureOf, IsProgramOf, IsRead, IsWhole, Kind, Label, LinesRead, MayFollow, NoName, OfVersion, One, Opcode, Operand, Param, Place, Placed, Procedure, Progress, Read, Registers, Scalar, Section, EncodeProcedures, Encodes, EncodesProcedure, EncodesProgram, EncodesVersion, Statement, Version, Within, Word, append-nil, begun, ended, get_or_default, has_opcode, holds, length-append, line_step, lines, map-append, outset, progress_from, row, situation_of, step, version_by, with_skip}
 use Rattle.std.proofs.lemmas.List.Quantifiers.{all_pairs_push}
 use Rattle.tw_code.specs.declared.form.Form.TheVariants as form
 use Rattle.tw_asm.specs.reading.Goals.{AreLinkedCode, AreLinkedProcedures, HasLabelsWithin, IsLinkedProcedure, IsLinkedTo, goals_in}
-use Rattle.tw_asm.proofs.Once.{had_still, resolved_spells, spells_more}
+use Rattle.tw_asm.proofs.Once.{had_still, resolved_encodes, encodes_more}
 use Rattle.tw_asm.proofs.Begins.{first_of_words}
 use Rattle.tw_asm.proofs.Rows.{others, reskip_operand}
 use Rattle.tw_asm.proofs.Stages.{body_head, body_start, head_body, head_start, progress, start_body, start_head, version_body, version_head, version_start}
@@ -17,14 +17,14 @@ use Rattle.tw_asm.proofs.Walk.{higher}
 pub data AreDrafts (version : Version) : ℕ → List Placed → List Drafted → List (List Word) → Type 0 where
   no_drafts : (place : ℕ) → AreDrafts version place [] [] []
   a_label : (place : ℕ) (name : List ℕ) (words : List Word) (labels : List Placed) (drafts : List Drafted) (others : List (List Word))
-      → Spells version NoName (Label name) words → IsInLimits (Label name) → AreDrafts version place labels drafts others
+      → Encodes version NoName (Label name) words → IsInLimits (Label name) → AreDrafts version place labels drafts others
       → AreDrafts version place (record { name = name; place = place } ∷ labels) drafts (words ∷ others)
   a_draft : (place : ℕ) (draft : Drafted) (words : List Word) (labels : List Placed) (drafts : List Drafted) (others : List (List Word))
       → IsRead version (record { statement = Code draft.instr; goal = draft.goal }) words → AreDrafts version (place + 1) labels drafts others
       → AreDrafts version place labels (draft ∷ drafts) (words ∷ others)
 
 label_more : (version : Version) (place : ℕ) (labels : List Placed) (drafts : List Drafted) (body : List (List Word)) (name : List ℕ) (words : List Word)
-    → AreDrafts version place labels drafts body → Spells version NoName (Label name) words → IsInLimits (Label name)
+    → AreDrafts version place labels drafts body → Encodes version NoName (Label name) words → IsInLimits (Label name)
     → AreDrafts version place (labels ++ (record { name = name; place = place + length drafts } ∷ [])) drafts (body ++ (words ∷ []))
 label_more version place _ _ _ name words (no_drafts _) s l =
     let e : place ≡ place + 0 = omega arith in
@@ -55,25 +55,25 @@ labels_within version place _ _ _ (a_draft _ d ws labels drafts others q more) =
 
 -- ---- skips for goals
 
-no_name : {version : Version} (goals : Goals) (statement : Statement) (words : List Word) → Spells version NoName statement words → Spells version goals statement words
-no_name goals statement words s = spells_more NoName goals (λ skip name n. absurd n) statement words s
+no_name : {version : Version} (goals : Goals) (statement : Statement) (words : List Word) → Encodes version NoName statement words → Encodes version goals statement words
+no_name goals statement words s = encodes_more NoName goals (λ skip name n. absurd n) statement words s
 
-linked_spells : (version : Version) (all : List Placed) (place : ℕ) (draft : Instr) (goal : Option (List ℕ)) (i : Instr) (words : List Word)
-    → IsRead version (record { statement = Code draft; goal = goal }) words → IsLinkedTo all place goal draft i → Spells version (GoesTo all place) (Code i) words
-linked_spells version all place draft None i words r l =
-    subst (λ (x : Instr). Spells version (GoesTo all place) (Code x) words) (sym l) (no_name (GoesTo all place) (Code draft) words r.1)
-linked_spells version all place draft (Some name) i words r l =
-    subst (λ (x : Instr). Spells version (GoesTo all place) (Code x) words) (sym l.3) (resolved_spells version (GoesTo all place) name l.0 draft words r l.1)
+linked_encodes : (version : Version) (all : List Placed) (place : ℕ) (draft : Instr) (goal : Option (List ℕ)) (i : Instr) (words : List Word)
+    → IsRead version (record { statement = Code draft; goal = goal }) words → IsLinkedTo all place goal draft i → Encodes version (SkipsTo all place) (Code i) words
+linked_encodes version all place draft None i words r l =
+    subst (λ (x : Instr). Encodes version (SkipsTo all place) (Code x) words) (sym l) (no_name (SkipsTo all place) (Code draft) words r.1)
+linked_encodes version all place draft (Some name) i words r l =
+    subst (λ (x : Instr). Encodes version (SkipsTo all place) (Code x) words) (sym l.3) (resolved_encodes version (SkipsTo all place) name l.0 draft words r l.1)
 
 pub linked_code : (version : Version) (all : List Placed) (place : ℕ) (labels : List Placed) (drafts : List Drafted) (body : List (List Word)) (code : List Instr)
     → AreDrafts version place labels drafts body → AreLinkedCode (goals_in all place drafts) code → AreCode version all place labels code body
 linked_code version all place _ _ _ [] (no_drafts _) l = AreCode.end place
 linked_code version all place _ _ _ (i ∷ code) (no_drafts _) l = absurd l
 linked_code version all place _ _ _ is (a_label _ n ws labels drafts others a b more) l =
-    AreCode.label place n ws labels is others (no_name (GoesTo all place) (Label n) ws a) b (linked_code version all place labels drafts others is more l)
+    AreCode.label place n ws labels is others (no_name (SkipsTo all place) (Label n) ws a) b (linked_code version all place labels drafts others is more l)
 linked_code version all place _ _ _ [] (a_draft _ d ws labels drafts others q more) l = absurd l
 linked_code version all place _ _ _ (i ∷ is) (a_draft _ d ws labels drafts others q more) l =
-    AreCode.instruction place i ws labels is others (linked_spells version all place d.instr d.goal i ws q l.0) (linked_code version all (place + 1) labels drafts others is more l.1)
+    AreCode.instruction place i ws labels is others (linked_encodes version all place d.instr d.goal i ws q l.0) (linked_code version all (place + 1) labels drafts others is more l.1)
 
 operands_fit : (skip : ℕ) (os : List Operand) → skip ≤ 65535 → AllByRecursion IsOperand os → AllByRecursion IsOperand (map (reskip_operand skip) os)
 operands_fit skip [] f l = tt
@@ -120,23 +120,23 @@ pub record IsSection (version : Version) (section : Section) (words : List (List
   pub registers : List Word
   pub body : List (List Word)
   pub parts : words ≡ head ∷ registers ∷ body
-  pub head_is : Spells version NoName (Head section.kind section.params) head
+  pub head_is : Encodes version NoName (Head section.kind section.params) head
   pub params_fit : IsInLimits (Head section.kind section.params)
-  pub registers_are : Spells version NoName (Registers section.registers) registers
+  pub registers_are : Encodes version NoName (Registers section.registers) registers
   pub registers_fit : IsInLimits (Registers section.registers)
   pub drafts_are : AreDrafts version 0 section.labels section.drafts body
   pub once : AllPairs (λ a b. a ≢ b) (map (λ label. label.name) section.labels)
   pub few : length section.drafts ≤ 4096
 
-linked_procedure : (version : Version) (section : Section) (words : List (List Word)) (procedure : Procedure) → IsSection version section words → IsLinkedProcedure section procedure → SpellsProcedure version procedure words
+linked_procedure : (version : Version) (section : Section) (words : List (List Word)) (procedure : Procedure) → IsSection version section words → IsLinkedProcedure section procedure → EncodesProcedure version procedure words
 linked_procedure version section words procedure s l = record {
   head = s.head;
   registers = s.registers;
   body = s.body;
   labels = section.labels;
   parts = s.parts;
-  head_is = rw (l.kind, l.params) (no_name (GoesTo [] 0) (Head section.kind section.params) s.head s.head_is);
-  registers_are = rw l.registers (no_name (GoesTo [] 0) (Registers section.registers) s.registers s.registers_are);
+  head_is = rw (l.kind, l.params) (no_name (SkipsTo [] 0) (Head section.kind section.params) s.head s.head_is);
+  registers_are = rw l.registers (no_name (SkipsTo [] 0) (Registers section.registers) s.registers s.registers_are);
   body_is = linked_code version section.labels 0 section.labels section.drafts s.body procedure.code s.drafts_are l.code;
   once = s.once;
 }
@@ -162,12 +162,12 @@ section_more version _ _ section last no_sections s some = subst (AreSections ve
 section_more version _ _ section last (a_section x others first after a n more) s some =
     subst (AreSections version (x ∷ (others ++ (section ∷ [])))) (sym (append_assoc first after last)) (a_section x (others ++ (section ∷ [])) first (after ++ last) a n (section_more version others after section last more s some))
 
-pub linked_sections : (version : Version) (sections : List Section) (words : List (List Word)) (procedures : List Procedure) → AreSections version sections words → AreLinkedProcedures sections procedures → SpellProcedures version procedures words
-linked_sections version _ _ [] no_sections l = SpellProcedures.end
+pub linked_sections : (version : Version) (sections : List Section) (words : List (List Word)) (procedures : List Procedure) → AreSections version sections words → AreLinkedProcedures sections procedures → EncodeProcedures version procedures words
+linked_sections version _ _ [] no_sections l = EncodeProcedures.end
 linked_sections version _ _ (p ∷ ps) no_sections l = absurd l
 linked_sections version _ _ [] (a_section x others first after a n more) l = absurd l
 linked_sections version _ _ (p ∷ ps) (a_section x others first after a n more) l =
-    SpellProcedures.one_more p ps first after (linked_procedure version x first p a l.0) (linked_sections version others after ps more l.1)
+    EncodeProcedures.one_more p ps first after (linked_procedure version x first p a l.0) (linked_sections version others after ps more l.1)
 
 pub linked_procedures : (version : Version) (sections : List Section) (words : List (List Word)) (procedures : List Procedure) → AreSections version sections words → AreLinkedProcedures sections procedures
     → AllByRecursion (IsProcedureOf version) procedures × (length procedures ≡ length sections)
@@ -183,15 +183,15 @@ linked_procedures version _ _ (p ∷ ps) (a_section x others first after a n mor
 abbrev pub IsPlace : Version → Place → List (List Word) → Type 0
 IsPlace version AtStart words = words ≡ []
 IsPlace version VersionRead words = words ≡ []
-IsPlace version (HeadRead kind params) words = (head : List Word) × (words ≡ head ∷ []) × Spells version NoName (Head kind params) head × IsInLimits (Head kind params)
+IsPlace version (HeadRead kind params) words = (head : List Word) × (words ≡ head ∷ []) × Encodes version NoName (Head kind params) head × IsInLimits (Head kind params)
 IsPlace version (Within section) words = IsSection version section words
 
 -- holds if the version's words are before all others; at the start there are none
 abbrev pub IsFront : Place → Version → List Section → List (List Word) → List (List Word) → Type 0
 IsFront AtStart version sections front done = (version ≡ One) × (sections ≡ []) × (front ≡ []) × (done ≡ [])
-IsFront VersionRead version sections front done = SpellsVersion version front
-IsFront (HeadRead kind params) version sections front done = SpellsVersion version front
-IsFront (Within section) version sections front done = SpellsVersion version front
+IsFront VersionRead version sections front done = EncodesVersion version front
+IsFront (HeadRead kind params) version sections front done = EncodesVersion version front
+IsFront (Within section) version sections front done = EncodesVersion version front
 
 pub record IsSpelled (p : Progress) (words : List (List Word)) : Type 0 where
   pub front : List (List Word)
@@ -203,7 +203,7 @@ pub record IsSpelled (p : Progress) (words : List (List Word)) : Type 0 where
   pub place_is : IsPlace p.version p.place current
   pub few : length p.sections + begun p.place ≤ 64
 
-plain : (version : Version) (statement : Statement) (goal : Option (List ℕ)) (words : List Word) → goal ≡ None → IsRead version (record { statement = statement; goal = goal }) words → Spells version NoName statement words
+plain : (version : Version) (statement : Statement) (goal : Option (List ℕ)) (words : List Word) → goal ≡ None → IsRead version (record { statement = statement; goal = goal }) words → Encodes version NoName statement words
 plain version statement None words e r = r.1
 plain version statement (Some name) words e r = absurd cc
 
@@ -223,21 +223,21 @@ next_word all front done current words e = ap (λ (x : List (List Word)). x ++ (
 nothing_there : (all front done current : List (List Word)) → all ≡ front ++ (done ++ current) → front ≡ [] → done ≡ [] → current ≡ [] → all ≡ []
 nothing_there all front done current e f d c = e ∙ (ap (λ (x : List (List Word)). x ++ (done ++ current)) f ∙ (ap (λ (x : List (List Word)). x ++ current) d ∙ c))
 
-unsaid_there : (version : Version) (front : List (List Word)) → version ≡ One → front ≡ [] → SpellsVersion version front
-unsaid_there version front v f = subst (λ (x : Version). SpellsVersion x front) (sym v) (subst (SpellsVersion One) (sym f) SpellsVersion.unsaid)
+unsaid_there : (version : Version) (front : List (List Word)) → version ≡ One → front ≡ [] → EncodesVersion version front
+unsaid_there version front v f = subst (λ (x : Version). EncodesVersion x front) (sym v) (subst (EncodesVersion One) (sym f) EncodesVersion.unsaid)
 
 version_step : (number n : ℕ) (goal : Option (List ℕ)) (version : Version) (sections : List Section) (head_line : ℕ) (place : Place) (all : List (List Word)) (words : List Word)
     → IsSpelled (progress version sections head_line place) all → IsRead version (record { statement = OfVersion n; goal = goal }) words → MayFollow (OfVersion n) (situation_of (progress version sections head_line place)) → goal ≡ None
     → IsSpelled (step number (OfVersion n) goal (progress version sections head_line place)) (all ++ (words ∷ []))
 version_step number n goal version sections head_line AtStart all words s r m g =
     let fits = read_limits version (OfVersion n) goal words r in
-    let line : Spells One NoName (OfVersion n) words = subst (λ (v : Version). Spells v NoName (OfVersion n) words) s.front_is.0 (plain version (OfVersion n) goal words g r) in
+    let line : Encodes One NoName (OfVersion n) words = subst (λ (v : Version). Encodes v NoName (OfVersion n) words) s.front_is.0 (plain version (OfVersion n) goal words g r) in
     record {
       front = words ∷ [];
       done = [];
       current = [];
       parts = ap (λ (x : List (List Word)). x ++ (words ∷ [])) (nothing_there all s.front s.done s.current s.parts s.front_is.2 s.front_is.3 s.place_is);
-      front_is = SpellsVersion.said (version_by n) words (subst (λ (k : ℕ). Spells One (GoesTo [] 0) (OfVersion k) words) (sym (by_number n fits)) (no_name (GoesTo [] 0) (OfVersion n) words line));
+      front_is = EncodesVersion.said (version_by n) words (subst (λ (k : ℕ). Encodes One (SkipsTo [] 0) (OfVersion k) words) (sym (by_number n fits)) (no_name (SkipsTo [] 0) (OfVersion n) words line));
       sections_are = subst (λ (x : List Section). AreSections (version_by n) x []) (sym s.front_is.1) no_sections;
       place_is = refl;
       few = s.few;
@@ -382,13 +382,13 @@ code_step number i goal version sections head_line (Within section) all words s 
     body_step version sections head_line section section.labels (section.drafts ++ (draft ∷ [])) all words s
     (λ body d. draft_more version 0 section.labels section.drafts body draft words d r) s.place_is.once (omega (arith, m.1, length-append section.drafts (draft ∷ [])))
 
-spelled_step : (number : ℕ) (statement : Statement) (goal : Option (List ℕ)) (p : Progress) (all : List (List Word)) (words : List Word)
+encoded_step : (number : ℕ) (statement : Statement) (goal : Option (List ℕ)) (p : Progress) (all : List (List Word)) (words : List Word)
     → IsSpelled p all → IsRead p.version (record { statement = statement; goal = goal }) words → MayFollow statement (situation_of p) → IsGoalOf statement goal → IsSpelled (step number statement goal p) (all ++ (words ∷ []))
-spelled_step number (OfVersion n) goal p all words s r m g = version_step number n goal p.version p.sections p.head_line p.place all words s r m g
-spelled_step number (Head kind params) goal p all words s r m g = head_step number kind params goal p.version p.sections p.head_line p.place all words s r m g
-spelled_step number (Registers registers) goal p all words s r m g = registers_step number registers goal p.version p.sections p.head_line p.place all words s r m g
-spelled_step number (Label name) goal p all words s r m g = label_step number name goal p.version p.sections p.head_line p.place all words s r m g
-spelled_step number (Code i) goal p all words s r m g = code_step number i goal p.version p.sections p.head_line p.place all words s r m
+encoded_step number (OfVersion n) goal p all words s r m g = version_step number n goal p.version p.sections p.head_line p.place all words s r m g
+encoded_step number (Head kind params) goal p all words s r m g = head_step number kind params goal p.version p.sections p.head_line p.place all words s r m g
+encoded_step number (Registers registers) goal p all words s r m g = registers_step number registers goal p.version p.sections p.head_line p.place all words s r m g
+encoded_step number (Label name) goal p all words s r m g = label_step number name goal p.version p.sections p.head_line p.place all words s r m g
+encoded_step number (Code i) goal p all words s r m g = code_step number i goal p.version p.sections p.head_line p.place all words s r m
 
 pub record AreSpelledLines (number : ℕ) (p : Progress) (ls : List (List ℕ)) (reads : List (Option Read)) (all : List (List Word)) : Type 0 where
   pub words : List (List Word)
@@ -399,16 +399,16 @@ one_line : (ls : List (List ℕ)) (line : List ℕ) (ws : List Word) (words : Li
 one_line ls line ws words first after e l h =
     subst (λ (x : List Word). HaveWords (line ∷ ls) (x ∷ words)) (sym e) (HaveWords.one_more line ls first after words (subst (λ (x : List Word). IsLine x line) e l) h)
 
-pub spelled_lines : (number : ℕ) (p : Progress) (ls : List (List ℕ)) (reads : List (Option Read)) (all : List (List Word)) → LinesRead number p ls reads → IsSpelled p all → AreSpelledLines number p ls reads all
-spelled_lines number p [] [] all r s = record { words = []; lines_are = HaveWords.end; spelled = subst (IsSpelled p) (sym (append-nil all)) s }
-spelled_lines number p [] (read ∷ others) all r s = absurd r
-spelled_lines number p (line ∷ after) [] all r s = absurd r
-spelled_lines number p (line ∷ after) (None ∷ others) all r s =
-    let t = spelled_lines (number + 1) p after others all r.1 s in
+pub encoded_lines : (number : ℕ) (p : Progress) (ls : List (List ℕ)) (reads : List (Option Read)) (all : List (List Word)) → LinesRead number p ls reads → IsSpelled p all → AreSpelledLines number p ls reads all
+encoded_lines number p [] [] all r s = record { words = []; lines_are = HaveWords.end; spelled = subst (IsSpelled p) (sym (append-nil all)) s }
+encoded_lines number p [] (read ∷ others) all r s = absurd r
+encoded_lines number p (line ∷ after) [] all r s = absurd r
+encoded_lines number p (line ∷ after) (None ∷ others) all r s =
+    let t = encoded_lines (number + 1) p after others all r.1 s in
     record { words = t.words; lines_are = HaveWords.blank line after t.words r.0 t.lines_are; spelled = t.spelled }
-spelled_lines number p (line ∷ after) (Some read ∷ others) all r s =
+encoded_lines number p (line ∷ after) (Some read ∷ others) all r s =
     let f = first_of_words AnyShortName read.statement r.0.0.0 (read_says p.version read r.0.0.0 r.0.0.2).0 in
-    let t = spelled_lines (number + 1) (line_step number (Some read) p) after others (all ++ (r.0.0.0 ∷ [])) r.1 (spelled_step number read.statement read.goal p all r.0.0.0 s r.0.0.2 r.0.1 r.0.2) in
+    let t = encoded_lines (number + 1) (line_step number (Some read) p) after others (all ++ (r.0.0.0 ∷ [])) r.1 (encoded_step number read.statement read.goal p all r.0.0.0 s r.0.0.2 r.0.1 r.0.2) in
     record {
       words = r.0.0.0 ∷ t.words;
       lines_are = one_line after line r.0.0.0 t.words (Bare f.word) f.others f.parts r.0.0.1 t.lines_are;
@@ -421,7 +421,7 @@ pub record AreEnded (version : Version) (sections : List Section) (words : List 
   pub front : List (List Word)
   pub following : List (List Word)
   pub parts : words ≡ front ++ following
-  pub version_is : SpellsVersion version front
+  pub version_is : EncodesVersion version front
   pub sections_are : AreSections version sections following
   pub some : 1 ≤ length sections
   pub few : length sections ≤ 64
@@ -441,17 +441,17 @@ ended_at version sections head_line (Within section) words s w = record {
   few = omega (arith, s.few, length-append sections (section ∷ []));
 }
 
-outset_spelled : IsSpelled outset []
-outset_spelled = record { front = []; done = []; current = []; parts = refl; front_is = (refl, refl, refl, refl); sections_are = no_sections; place_is = refl; few = omega arith }
+outset_encoded : IsSpelled outset []
+outset_encoded = record { front = []; done = []; current = []; parts = refl; front_is = (refl, refl, refl, refl); sections_are = no_sections; place_is = refl; few = omega arith }
 
 pub record AreSpelled (text : List ℕ) (version : Version) (sections : List Section) : Type 0 where
   pub words : List (List Word)
   pub lines_are : HaveWords (lines text) words
   pub ended : AreEnded version sections words
 
-pub sections_spelled : (text : List ℕ) (version : Version) (all : List Section) → HasSections text version all → AreSpelled text version all
-sections_spelled text version all h =
-    let t = spelled_lines 1 outset (lines text) h.read.reads [] h.read.are_read outset_spelled in
+pub sections_encoded : (text : List ℕ) (version : Version) (all : List Section) → HasSections text version all → AreSpelled text version all
+sections_encoded text version all h =
+    let t = encoded_lines 1 outset (lines text) h.read.reads [] h.read.are_read outset_encoded in
     let s = subst (λ (p : Progress). IsSpelled p t.words) (sym h.read.progress) t.spelled in
     let e = ended_at h.p.version h.p.sections h.p.head_line h.p.place t.words s h.whole in
     record {
@@ -462,14 +462,14 @@ sections_spelled text version all h =
 
 pub is_program : (text : List ℕ) (version : Version) (all : List Section) (procedures : List Procedure) → HasSections text version all → AreLinkedProcedures all procedures → IsProgramOf version procedures
 is_program text version all procedures h l =
-    let s = sections_spelled text version all h in
+    let s = sections_encoded text version all h in
     let m = linked_procedures version all s.ended.following procedures s.ended.sections_are l in
     ((omega (arith, m.1, s.ended.some), omega (arith, m.1, s.ended.few)), m.0)
 
-pub spells_program : (text : List ℕ) (version : Version) (all : List Section) (procedures : List Procedure) → HasSections text version all → AreLinkedProcedures all procedures
-    → SpellsProgram (record { version = version; procedures = procedures }) text
-spells_program text version all procedures h l =
-    let s = sections_spelled text version all h in
+pub encodes_program : (text : List ℕ) (version : Version) (all : List Section) (procedures : List Procedure) → HasSections text version all → AreLinkedProcedures all procedures
+    → EncodesProgram (record { version = version; procedures = procedures }) text
+encodes_program text version all procedures h l =
+    let s = sections_encoded text version all h in
     record {
       front = s.ended.front;
       words = s.ended.following;
@@ -485,4 +485,4 @@ sections_within version _ _ (a_section x others first after a n more) =
     (higher (0 + length x.drafts) 4096 x.labels (omega (arith, a.few)) (labels_within version 0 x.labels x.drafts a.body a.drafts_are), sections_within version others after more)
 
 pub labels_fit : (text : List ℕ) (version : Version) (all : List Section) → HasSections text version all → AllByRecursion HasLabelsWithin all
-labels_fit text version all h = let s = sections_spelled text version all h in sections_within version all s.ended.following s.ended.sections_are
+labels_fit text version all h = let s = sections_encoded text version all h in sections_within version all s.ended.following s.ended.sections_are

@@ -1,9 +1,9 @@
 -- Reading one more line.
 use Rattle.std.proofs.Common.{◌≡◌, ◌⊎◌, ℕ, suc, ◌+◌, List, [], ◌∷◌, ◌++◌, length, map, Option, Some, None, Result, Ok, Err, MatchResult, inl, inr, refl, sym, subst, ap, ◌∙◌, arith}
-use Rattle.tw_asm.proofs.AsmNames.{AfterHead, AnyShortName, AreNotRead, AreTextRead, AsmFault, AtStart, HeadRead, VersionRead, Code, FaultNo, Head, InBody, IsLineFault, IsMemory, IsNotFinished, IsRead, IsShortName, IsUnfinished, Label, LineFault, LineRead, LineSays, LinesRead, LinesSay, MayFollow, NoName, OfVersion, OnlyName, Place, Placed, Progress, Read, Registers, Say, Section, ParserState, Stage, Statement, Version, Within, Word, after, after_line, enumerate_from, length-append, line_step, lines, map-append, outset, progress_from, situation_from, situation_of, step}
+use Rattle.tw_asm.proofs.AsmNames.{AfterHead, AnyShortName, AreNotRead, AreTextRead, AsmFault, AtStart, HeadRead, VersionRead, Code, FaultNo, Head, InBody, IsLineFault, IsMemory, IsNotFinished, IsRead, IsShortName, IsUnfinished, Label, LineFault, LineRead, HasStatement, LinesRead, HaveStatements, MayFollow, NoName, OfVersion, OnlyName, Place, Placed, Progress, Read, Registers, EncodesInLimits, Section, ParserState, Stage, Statement, Version, Within, Word, after, after_line, enumerate_from, length-append, line_step, lines, map-append, outset, progress_from, situation_from, situation_of, step}
 use denote.Ref.{Bor}
 use Rattle.tw_lexer.proofs.LineLoops.{IsAtLine, all_lines}
-use Rattle.tw_asm.proofs.Once.{spells_more}
+use Rattle.tw_asm.proofs.Once.{encodes_more}
 use Rattle.tw_asm.proofs.Stages.{body_head, body_start, head_body, head_start, progress, start_body, start_head, version_body, version_head, version_start}
 
 -- ---- the state after a statement
@@ -51,11 +51,11 @@ step_after number statement goal p m = step_at number statement goal p.version p
 only_short : (name : List ℕ) → IsShortName name → (skip : ℕ) (word : List ℕ) → OnlyName name skip word → AnyShortName skip word
 only_short name short skip word only = subst IsShortName (sym only.1) short
 
-said_at : (version : Version) (statement : Statement) (goal : Option (List ℕ)) (words : List Word) → IsRead version (record { statement = statement; goal = goal }) words → Say version statement words
-said_at version statement None words r = (spells_more NoName AnyShortName (λ skip name n. absurd n) statement words r.1, r.0)
-said_at version statement (Some name) words r = (spells_more (OnlyName name) AnyShortName (only_short name r.1.0) statement words r.1.1, r.0)
+said_at : (version : Version) (statement : Statement) (goal : Option (List ℕ)) (words : List Word) → IsRead version (record { statement = statement; goal = goal }) words → EncodesInLimits version statement words
+said_at version statement None words r = (encodes_more NoName AnyShortName (λ skip name n. absurd n) statement words r.1, r.0)
+said_at version statement (Some name) words r = (encodes_more (OnlyName name) AnyShortName (only_short name r.1.0) statement words r.1.1, r.0)
 
-pub read_says : (version : Version) (read : Read) (words : List Word) → IsRead version read words → Say version read.statement words
+pub read_says : (version : Version) (read : Read) (words : List Word) → IsRead version read words → EncodesInLimits version read.statement words
 read_says version read words r = said_at version read.statement read.goal words r
 
 -- ---- lines
@@ -67,7 +67,7 @@ statement_of (Some read) = Some read.statement
 abbrev pub said_by : List (Option Read) → List (Option Statement)
 said_by reads = map statement_of reads
 
-pub line_says : (s : ParserState) (line : List ℕ) (read : Option Read) → LineRead s line read → LineSays s line (statement_of read)
+pub line_says : (s : ParserState) (line : List ℕ) (read : Option Read) → LineRead s line read → HasStatement s line (statement_of read)
 line_says s line None r = r
 line_says s line (Some read) r = ((r.0.0, r.0.1, read_says s.version read r.0.0 r.0.2), r.1)
 
@@ -75,12 +75,12 @@ pub line_after : (number : ℕ) (p : Progress) (line : List ℕ) (read : Option 
 line_after number p line None r = refl
 line_after number p line (Some read) r = step_after number read.statement read.goal p r.1
 
-pub lines_say : (number : ℕ) (p : Progress) (ls : List (List ℕ)) (reads : List (Option Read)) → LinesRead number p ls reads → LinesSay number (situation_of p) ls (said_by reads)
+pub lines_say : (number : ℕ) (p : Progress) (ls : List (List ℕ)) (reads : List (Option Read)) → LinesRead number p ls reads → HaveStatements number (situation_of p) ls (said_by reads)
 lines_say number p [] [] r = tt
 lines_say number p [] (read ∷ others) r = absurd r
 lines_say number p (line ∷ after) [] r = absurd r
 lines_say number p (line ∷ after) (read ∷ others) r =
-    (line_says (situation_of p) line read r.0, subst (λ (s : ParserState). LinesSay (number + 1) s after (said_by others)) (line_after number p line read r.0) (lines_say (number + 1) (line_step number read p) after others r.1))
+    (line_says (situation_of p) line read r.0, subst (λ (s : ParserState). HaveStatements (number + 1) s after (said_by others)) (line_after number p line read r.0) (lines_say (number + 1) (line_step number read p) after others r.1))
 
 pub situation_is : (number : ℕ) (p : Progress) (ls : List (List ℕ)) (reads : List (Option Read)) → LinesRead number p ls reads → situation_of (progress_from number p reads) ≡ situation_from number (situation_of p) (said_by reads)
 situation_is number p [] [] r = refl

@@ -1,5 +1,5 @@
 -- The fault of a line, by its words.
-use Rattle.tw_asm.proofs.AsmNames.{AnyName, AnyShortName, AreClosed, AreFinished, AsmFault, AtStart, Bare, Begins, HeadRead, VersionRead, Code, Contains, FaultNo, First, HasWords, HaveForm, Head, InBody, Instr, IsBrokenLine, IsEmptyAt, IsExpected, IsFirstWord, IsGoalOf, IsLimit, IsLimitLine, IsLine, IsLineRead, IsMemory, IsNotClosed, IsNotFinished, IsOutset, Kind, Label, LineFault, MayBegin, MayFollow, Param, Place, Progress, Quoted, Say, Section, ParserState, Stage, Statement, Stopped, TakenLine, TakenStatement, Version, Within, Word, WordsRead, begun, blank_no_word, broken_here, broken_no_line, drafts_at, empty, ended, first_word_once, instructions, label_twice, length-append, limit, line_blank, line_once, operand, procedures, situation_of, slice_get, stage_of, step, word}
+use Rattle.tw_asm.proofs.AsmNames.{AnyName, AnyShortName, AreClosed, AreFinished, AsmFault, AtStart, Bare, Begins, HeadRead, VersionRead, Code, Contains, FaultNo, First, HasWords, HaveForm, Head, InBody, Instr, IsBrokenLine, IsEmptyAt, IsExpected, IsFirstWord, IsGoalOf, IsLimit, IsLimitLine, IsLine, IsLineRead, IsMemory, IsNotClosed, IsNotFinished, IsOutset, Kind, Label, LineFault, MayBegin, MayFollow, Param, Place, Progress, Quoted, EncodesInLimits, Section, ParserState, Stage, Statement, Stopped, TakenLine, TakenStatement, Version, Within, Word, WordsRead, begun, blank_no_word, broken_here, broken_no_line, drafts_at, empty, ended, first_word_once, instructions, label_twice, length-append, limit, line_blank, line_once, operand, procedures, situation_of, slice_get, stage_of, step, word}
 use Rattle.tw_asm.specs.declared.statement.Statement as statements
 use Rattle.tw_asm.specs.declared.statement.Statement.TheVariants as statement
 use Rattle.tw_asm.specs.declared.reading.Reading as readings
@@ -11,7 +11,7 @@ use Rattle.tw_asm.specs.reading.Expected.{IsExpectedBy, expectation}
 use Rattle.tw_asm.proofs.Begins.{first_of_words, front_of, line_begins}
 use Rattle.tw_asm.proofs.Stages.{head_body, progress, start_body, version_body}
 use Rattle.tw_asm.proofs.Steps.{read_says}
-use Rattle.tw_asm.proofs.Once.{one_expected, spells_more}
+use Rattle.tw_asm.proofs.Once.{one_expected, encodes_more}
 
 begins : (s : ParserState) (line : List ℕ) (w : Word) (rest : List ℕ) (expected : First) → IsFirstWord w line rest → IsExpectedBy s.version w expected → MayBegin s.stage expected → Begins s line expected
 begins s line (Bare bytes) rest expected f p m = (bytes, rest, f, p, m)
@@ -59,7 +59,7 @@ is_empty (HeadRead kind params) s e = head_body s
 is_empty (Within section) s e = e
 
 pub limit_fault : (number at : ℕ) (p : Progress) (line : List ℕ) (w : Word) (others : List Word) (expected : First) → IsLine (w ∷ others) line → IsExpectedBy p.version w expected → MayBegin (stage_of p.place) expected
-    → HaveForm p.version (w ∷ others) → ((statement : Statement) → Say p.version statement (w ∷ others) → ⊥) → IsLimitLine p expected number at → LineFault number (situation_of p) line fault.Limit at
+    → HaveForm p.version (w ∷ others) → ((statement : Statement) → EncodesInLimits p.version statement (w ∷ others) → ⊥) → IsLimitLine p expected number at → LineFault number (situation_of p) line fault.Limit at
 limit_fault number at p line w others expected l b m form none (inl h) =
     let f = front_of w others line l in
     let x = begins (situation_of p) line w f.0 expected f.1 b m in
@@ -69,7 +69,7 @@ limit_fault number at p line w others expected l b m form none (inr h) =
     let f = front_of w others line l in
     subst (LineFault number (situation_of p) line fault.Limit) (sym h.1)
     (limit expected (begins (situation_of p) line w f.0 expected f.1 b m) (w ∷ others, l, form) (λ e x. h.0 e (is_empty p.place x.0 x.1))
-    (λ statement ws k say. none statement (subst (Say p.version statement) (line_once ws (w ∷ others) line k l) say)))
+    (λ statement ws k say. none statement (subst (EncodesInLimits p.version statement) (line_once ws (w ∷ others) line k l) say)))
 
 -- the statement has the kind that the first word shows
 expected_by : (version : Version) (w v : Word) (bytes : List ℕ) (a b : First) → w ≡ Bare bytes → IsExpectedBy version w a → IsExpected version b bytes → a ≡ b
@@ -86,7 +86,7 @@ may_follow version stage read w others expected r p m =
 -- ---- heads
 
 has_words : (version : Version) (read : Read) (words : List Word) (line : List ℕ) → IsLine words line → IsRead version read words → HasWords version line
-has_words version read words line l r = (words, l, (read.statement, spells_more AnyShortName AnyName (λ skip name short. short.0) read.statement words (read_says version read words r).0))
+has_words version read words line l r = (words, l, (read.statement, encodes_more AnyShortName AnyName (λ skip name short. short.0) read.statement words (read_says version read words r).0))
 
 head_begins : (p : Progress) (kind : Kind) (params : List Param) (line : List ℕ) (words : List Word) → IsLine words line → IsRead p.version (record { statement = Head kind params; goal = None }) words → MayBegin (stage_of p.place) first.Head
     → Begins (situation_of p) line first.Head

@@ -1,13 +1,13 @@
 -- A text with a fault denotes no program.
 use Rattle.std.proofs.Common.{◌≡◌, ◌⊎◌, ℕ, zero, suc, ◌+◌, ◌<◌, List, [], ◌∷◌, ◌++◌, length, take, drop, Option, Some, None, inl, inr, refl, sym, subst, arith}
-use Rattle.tw_asm.proofs.AsmNames.{AfterHead, AfterVersion, AnyName, AnyShortName, Bare, Begins, Code, Contains, FaultNo, First, GoalFault, HasWords, Head, InBody, Instr, IsEmpty, IsExpected, IsFirstFault, IsLine, IsLineFault, IsOutset, IsUnfinished, IsWhole, Label, LineFault, LineSays, LinesSay, MayBegin, MayFollow, NamesLabel, OfVersion, Registers, Say, ParserState, SpellsProgram, Stage, Start, Statement, Version, Versioned, Word, after_line, at_start, blank_no_word, first_word_once, labels_ahead, line_blank, lines, not_forward, situation, situation_from, slice_get, unknown}
+use Rattle.tw_asm.proofs.AsmNames.{AfterHead, AfterVersion, AnyName, AnyShortName, Bare, Begins, Code, Contains, FaultNo, First, GoalFault, HasWords, Head, InBody, Instr, IsEmpty, IsExpected, IsFirstFault, IsLine, IsLineFault, IsOutset, IsUnfinished, IsWhole, Label, LineFault, HasStatement, HaveStatements, MayBegin, MayFollow, NamesLabel, OfVersion, Registers, EncodesInLimits, ParserState, EncodesProgram, Stage, Start, Statement, Version, Versioned, Word, after_line, at_start, blank_no_word, first_word_once, labels_ahead, line_blank, lines, not_forward, situation, situation_from, slice_get, unknown}
 use Rattle.tw_code.proofs.Widening.{widened}
 use Rattle.tw_asm.specs.declared.statement.First.TheVariants as first
 use Rattle.tw_asm.specs.reading.Expected.{expectation}
 use Rattle.tw_asm.proofs.Alike.{AreAlike}
 use Rattle.tw_asm.proofs.Begins.{first_in_line, line_begins}
 use Rattle.tw_asm.proofs.Twice.{both_alike, line_is_same, nothing_says, others_say, same_ahead, says_alike}
-use Rattle.tw_asm.proofs.Once.{one_expected, spells_more}
+use Rattle.tw_asm.proofs.Once.{one_expected, encodes_more}
 use Rattle.tw_asm.proofs.Spelled.{bare_is}
 use Rattle.tw_asm.proofs.Walk.{LinesHold, lines_hold, procedures_said, program_said, program_says}
 
@@ -41,7 +41,7 @@ nothing_begins : {Z : Type 0} (s : ParserState) (line : List ℕ) (expected : Fi
 nothing_begins s line expected blank b = absurd (blank_no_word (Bare b.0) line b.1 (line_blank line blank) b.2)
 
 -- the first word of the line begins its statement
-is_expectation : (s : ParserState) (line : List ℕ) (statement : Statement) (words : List Word) (expected : First) → IsLine words line → Say s.version statement words → Begins s line expected → expected ≡ expectation statement
+is_expectation : (s : ParserState) (line : List ℕ) (statement : Statement) (words : List Word) (expected : First) → IsLine words line → EncodesInLimits s.version statement words → Begins s line expected → expected ≡ expectation statement
 is_expectation s line statement words expected is say b =
     let f = first_in_line AnyShortName statement words line is say.0 in
     let same = bare_is b.0 f.word (first_word_once (Bare b.0) (Bare f.word) line b.1 f.rest b.2 f.first).0 in
@@ -75,8 +75,8 @@ code_may : (statement : Statement) (i : Instr) (s : ParserState) → AreAlike st
 code_may (Code j) i s a may = may.1
 code_may statement i s a may = absurd a
 
-pub has_words : (version : Version) (statement : Statement) (words : List Word) (line : List ℕ) → IsLine words line → Say version statement words → HasWords version line
-has_words version statement words line is say = (words, is, (statement, spells_more AnyShortName AnyName (λ skip name short. short.0) statement words say.0))
+pub has_words : (version : Version) (statement : Statement) (words : List Word) (line : List ℕ) → IsLine words line → EncodesInLimits version statement words → HasWords version line
+has_words version statement words line is say = (words, is, (statement, encodes_more AnyShortName AnyName (λ skip name short. short.0) statement words say.0))
 
 blank_no_fault : (number : ℕ) (s : ParserState) (line : List ℕ) (which : FaultNo) (at : ℕ) → IsLine [] line → LineFault number s line which at → ⊥
 blank_no_fault number s line _ _ blank (LineFault.word some none) = some blank
@@ -87,7 +87,7 @@ blank_no_fault number s line _ _ blank (LineFault.limit expected b has e unsaid)
 blank_no_fault number s line _ _ blank (LineFault.procedures b has e many) = nothing_begins s line first.Head blank b
 blank_no_fault number s line _ _ blank (LineFault.instructions i words body is say many) = nothing_says s.version (Code i) words line blank is say
 
-said_no_fault : (number : ℕ) (s : ParserState) (line : List ℕ) (statement : Statement) (ws : List Word) (which : FaultNo) (at : ℕ) → IsLine ws line → Say s.version statement ws → MayFollow statement s → LineFault number s line which at → ⊥
+said_no_fault : (number : ℕ) (s : ParserState) (line : List ℕ) (statement : Statement) (ws : List Word) (which : FaultNo) (at : ℕ) → IsLine ws line → EncodesInLimits s.version statement ws → MayFollow statement s → LineFault number s line which at → ⊥
 said_no_fault number s line statement ws _ _ l h may (LineFault.word some none) = none (expectation statement) (line_begins AnyShortName statement ws s line l h.0 (may_begin statement s may))
 said_no_fault number s line statement ws _ _ l h may (LineFault.operand expected b formless) = formless (has_words s.version statement ws line l h)
 said_no_fault number s line statement ws _ _ l h may (LineFault.label_twice name words body is say c) = label_may statement name s (says_alike s.version statement (Label name) ws words line l h is say) may c
@@ -96,14 +96,14 @@ said_no_fault number s line statement ws _ _ l h may (LineFault.limit expected b
 said_no_fault number s line statement ws _ _ l h may (LineFault.procedures b has e many) = omega (arith, many, (head_may statement s (is_expectation s line statement ws first.Head l h b) may).1)
 said_no_fault number s line statement ws _ _ l h may (LineFault.instructions i words body is say many) = omega (arith, many, code_may statement i s (says_alike s.version statement (Code i) ws words line l h is say) may)
 
-pub line_no_fault : (number : ℕ) (s : ParserState) (line : List ℕ) (said : Option Statement) (which : FaultNo) (at : ℕ) → LineSays s line said → LineFault number s line which at → ⊥
+pub line_no_fault : (number : ℕ) (s : ParserState) (line : List ℕ) (said : Option Statement) (which : FaultNo) (at : ℕ) → HasStatement s line said → LineFault number s line which at → ⊥
 line_no_fault number s line None which at l f = blank_no_fault number s line which at l f
 line_no_fault number s line (Some statement) which at l f = said_no_fault number s line statement l.0.0 which at l.0.1 l.0.2 l.1 f
 
 -- ---- two readings of the same lines
 
 -- lines that hold have these statements
-hold_say : (number : ℕ) (s : ParserState) (ls : List (List ℕ)) (held : List (Option Statement)) → LinesHold number s ls held → LinesSay number s ls held
+hold_say : (number : ℕ) (s : ParserState) (ls : List (List ℕ)) (held : List (Option Statement)) → LinesHold number s ls held → HaveStatements number s ls held
 hold_say number s [] [] h = tt
 hold_say number s [] (x ∷ held) h = absurd h
 hold_say number s (line ∷ more) [] h = absurd h
@@ -111,8 +111,8 @@ hold_say number s (line ∷ more) (x ∷ held) h = (h.0, hold_say (number + 1) (
 
 -- ---- no fault of a line
 
-next_says : (number : ℕ) (s : ParserState) (before : List (List ℕ)) (line : List ℕ) (more : List (List ℕ)) (held said : List (Option Statement)) → LinesHold number s (before ++ (line ∷ more)) held → LinesSay number s before said
-    → (x : Option Statement) × LineSays (situation_from number s said) line x
+next_says : (number : ℕ) (s : ParserState) (before : List (List ℕ)) (line : List ℕ) (more : List (List ℕ)) (held said : List (Option Statement)) → LinesHold number s (before ++ (line ∷ more)) held → HaveStatements number s before said
+    → (x : Option Statement) × HasStatement (situation_from number s said) line x
 next_says number s [] line more [] said h l = absurd h
 next_says number s [] line more (x ∷ held) [] h l = (x, h.0)
 next_says number s [] line more (x ∷ held) (y ∷ said) h l = absurd l
@@ -120,11 +120,11 @@ next_says number s (first ∷ before) line more [] said h l = absurd h
 next_says number s (first ∷ before) line more (x ∷ held) [] h l = absurd l
 next_says number s (first ∷ before) line more (x ∷ held) (y ∷ said) h l =
     let r = next_says (number + 1) (after_line number x s) before line more held said h.2 (others_say number s first before x y said h.0 l.0 l.1) in
-    (r.0, subst (λ (t : ParserState). LineSays (situation_from (number + 1) t said) line r.0) (both_alike number s first x y h.0 l.0) r.1)
+    (r.0, subst (λ (t : ParserState). HasStatement (situation_from (number + 1) t said) line r.0) (both_alike number s first x y h.0 l.0) r.1)
 
 -- ---- no fault at the end
 
-ends_whole : (number : ℕ) (s : ParserState) (ls : List (List ℕ)) (held said : List (Option Statement)) → LinesHold number s ls held → LinesSay number s ls said → IsWhole (situation_from number s said)
+ends_whole : (number : ℕ) (s : ParserState) (ls : List (List ℕ)) (held said : List (Option Statement)) → LinesHold number s ls held → HaveStatements number s ls said → IsWhole (situation_from number s said)
 ends_whole number s [] [] [] h l = h
 ends_whole number s [] (x ∷ held) said h l = absurd h
 ends_whole number s [] [] (y ∷ said) h l = absurd l
@@ -149,7 +149,7 @@ no_line : (line : List ℕ) (k : ℕ) → slice_get {X = List ℕ} [] k ≡ Some
 no_line line zero e = absurd cc
 no_line line (suc k) e = absurd cc
 
-no_goal_fault : (number : ℕ) (s : ParserState) (ls : List (List ℕ)) (held said : List (Option Statement)) (index : ℕ) (line : List ℕ) (which : FaultNo) → LinesHold number s ls held → LinesSay number s ls said
+no_goal_fault : (number : ℕ) (s : ParserState) (ls : List (List ℕ)) (held said : List (Option Statement)) (index : ℕ) (line : List ℕ) (which : FaultNo) → LinesHold number s ls held → HaveStatements number s ls said
     → slice_get ls index ≡ Some line → GoalFault (situation_from number s (take index said)) (labels_ahead (drop (index + 1) said)) line which → ⊥
 no_goal_fault number s [] [] said index line which h l e g = no_line line index e
 no_goal_fault number s [] (x ∷ held) said index line which h l e g = absurd h
@@ -166,7 +166,7 @@ no_goal_fault number s (first ∷ more) (x ∷ held) (y ∷ said) (suc k) line w
 
 -- ---- no fault at all
 
-hold : (text : List ℕ) (program : Versioned) → SpellsProgram program text → (held : List (Option Statement)) × LinesHold 1 at_start (lines text) held
+hold : (text : List ℕ) (program : Versioned) → EncodesProgram program text → (held : List (Option Statement)) × LinesHold 1 at_start (lines text) held
 hold text program s =
     let fits = widened program.version program.procedures s.is_program in
     let says = program_says program.version s.front s.version_is program.procedures s.words s.procedures_are fits.1 fits.0.0 fits.0.1 in
@@ -179,7 +179,7 @@ no_line_fault text which at held h f =
     line_no_fault (length f.before + 1) (situation f.said) f.line next.0 which at next.1 f.wrong
 
 -- a text with a fault denotes no program
-pub fault_none : (text : List ℕ) (which : FaultNo) (at : ℕ) (program : Versioned) → IsFirstFault text which at → SpellsProgram program text → ⊥
+pub fault_none : (text : List ℕ) (which : FaultNo) (at : ℕ) (program : Versioned) → IsFirstFault text which at → EncodesProgram program text → ⊥
 fault_none text which at program (inl f) s = let h = hold text program s in no_line_fault text which at h.0 h.1 f
 fault_none text which at program (inr (inl f)) s = let h = hold text program s in finished (situation f.said) at (ends_whole 1 at_start (lines text) h.0 f.said h.1 f.say) f.unfinished
 fault_none text which at program (inr (inr f)) s = let h = hold text program s in no_goal_fault 1 at_start (lines text) h.0 f.0.said f.0.index f.0.line which h.1 f.0.say f.0.line_is f.0.wrong

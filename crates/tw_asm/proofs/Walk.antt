@@ -1,11 +1,11 @@
 -- The lines of a text that denotes a program are allowed, one after another, and each goal is a later label.
 use Rattle.std.proofs.Common.{◌≡◌, ◌≢◌, ◌⊎◌, ℕ, zero, suc, ◌+◌, ◌<◌, ◌≤◌, List, [], ◌∷◌, ◌++◌, length, map, Option, Some, None, inl, inr, refl, sym, subst, ap, ◌∙◌, arith}
 use Rattle.std.proofs.lemmas.List.Elements.{All-contains, All-from_recursion, Contains-push_cases}
-use Rattle.tw_asm.proofs.AsmNames.{AllByRecursion, AllPairs, AnyShortName, AreCode, Code, Contains, Goals, GoesTo, HaveWords, Head, InBody, Instr, IsInstr, IsLine, IsOutset, IsProcedure, IsShortName, IsWhole, Label, LineSays, MayFollow, NamesLabel, OfVersion, One, Placed, Procedure, Registers, Say, ParserState, SpellProcedures, Spells, SpellsProcedure, SpellsVersion, Statement, Version, Word, after, after_line, at_start, labels_ahead, line_once, slice_index_or, version_number}
+use Rattle.tw_asm.proofs.AsmNames.{AllByRecursion, AllPairs, AnyShortName, AreCode, Code, Contains, Goals, SkipsTo, HaveWords, Head, InBody, Instr, IsInstr, IsLine, IsOutset, IsProcedure, IsShortName, IsWhole, Label, HasStatement, MayFollow, NamesLabel, OfVersion, One, Placed, Procedure, Registers, EncodesInLimits, ParserState, EncodeProcedures, Encodes, EncodesProcedure, EncodesVersion, Statement, Version, Word, after, after_line, at_start, labels_ahead, line_once, slice_index_or, version_number}
 use Rattle.tw_asm.proofs.Alike.{AreAlike, alike}
 use Rattle.tw_asm.proofs.NamedLabels.{named_goal}
-use Rattle.tw_asm.proofs.Twice.{none_spelled}
-use Rattle.tw_asm.proofs.Once.{spells_more}
+use Rattle.tw_asm.proofs.Twice.{none_encoded}
+use Rattle.tw_asm.proofs.Once.{encodes_more}
 use Rattle.tw_asm.proofs.Versions.{number_back, number_within}
 
 -- ---- elements
@@ -76,9 +76,9 @@ WordsSay s [] [] = IsWhole s
 WordsSay s [] (statement ∷ others) = ⊥
 WordsSay s (words ∷ more) [] = ⊥
 WordsSay s (words ∷ more) (statement ∷ others) =
-    Say s.version statement words × MayFollow statement s × NamesAhead s (ahead_of others) words × ((number : ℕ) → WordsSay (after number statement s) more others)
+    EncodesInLimits s.version statement words × MayFollow statement s × NamesAhead s (ahead_of others) words × ((number : ℕ) → WordsSay (after number statement s) more others)
 
-no_code : (G : Goals) (statement : Statement) (words : List Word) (s : ParserState) (ahead : List (List ℕ)) → Spells s.version G statement words → ((i : Instr) → AreAlike statement (Code i) → ⊥) → NamesAhead s ahead words
+no_code : (G : Goals) (statement : Statement) (words : List Word) (s : ParserState) (ahead : List (List ℕ)) → Encodes s.version G statement words → ((i : Instr) → AreAlike statement (Code i) → ⊥) → NamesAhead s ahead words
 no_code G statement words s ahead h apart name n = absurd (apart n.i (alike G (λ skip word. word ≡ name) statement (Code n.i) words h n.spells))
 
 -- ---- the statements of a body
@@ -114,9 +114,9 @@ record Within (version : Version) (all : List Placed) (place : ℕ) (labels : Li
   apart : (name : List ℕ) → Contains s.labels name → Contains (names_of labels) name → ⊥
   once : AreOnce (names_of labels)
 
-says_short : (version : Version) (all : List Placed) (place : ℕ) (statement : Statement) (words : List Word) → ((label : Placed) → Contains all label → IsShortName label.name) → Spells version (GoesTo all place) statement words
-    → Spells version AnyShortName statement words
-says_short version all place statement words short h = spells_more (GoesTo all place) AnyShortName (λ skip name goal. short (record { name = name; place = place + 1 + skip }) goal) statement words h
+says_short : (version : Version) (all : List Placed) (place : ℕ) (statement : Statement) (words : List Word) → ((label : Placed) → Contains all label → IsShortName label.name) → Encodes version (SkipsTo all place) statement words
+    → Encodes version AnyShortName statement words
+says_short version all place statement words short h = encodes_more (SkipsTo all place) AnyShortName (λ skip name goal. short (record { name = name; place = place + 1 + skip }) goal) statement words h
 
 within_label : (version : Version) (all : List Placed) (place : ℕ) (name : List ℕ) (labels : List Placed) (count number : ℕ) (s : ParserState) → Within version all place (record { name = name; place = place } ∷ labels) count s
     → Within version all place labels count (after number (Label name) s)
@@ -159,10 +159,10 @@ within_code version all place labels count number i s w = record {
 }
 
 -- the goal of an instruction is after it
-goal_ahead : (version : Version) (all : List Placed) (place : ℕ) (labels : List Placed) (count : ℕ) (i : Instr) (words : List Word) (s : ParserState) (ahead : List (List ℕ)) → Within version all place labels count s → Spells version (GoesTo all place) (Code i) words
+goal_ahead : (version : Version) (all : List Placed) (place : ℕ) (labels : List Placed) (count : ℕ) (i : Instr) (words : List Word) (s : ParserState) (ahead : List (List ℕ)) → Within version all place labels count s → Encodes version (SkipsTo all place) (Code i) words
     → ahead ≡ names_of labels → NamesAhead s ahead words
 goal_ahead version all place labels count i words s ahead w h is name n =
-    let goal = named_goal (GoesTo all place) i name words (subst (λ (v : Version). NamesLabel v name words) w.version_is n) h in
+    let goal = named_goal (SkipsTo all place) i name words (subst (λ (v : Version). NamesLabel v name words) w.version_is n) h in
     let label : Placed = record { name = name; place = place + 1 + goal.0 } in
     elim (w.known label goal.1) [
       | inl low ↦ absurd (omega (arith, low))
@@ -170,11 +170,11 @@ goal_ahead version all place labels count i words s ahead w h is name n =
     ]
 
 -- the statement in a state with this version
-say_here : (version : Version) (s : ParserState) (statement : Statement) (words : List Word) → s.version ≡ version → Say version statement words → Say s.version statement words
-say_here version s statement words e h = subst (λ (v : Version). Say v statement words) (sym e) h
+say_here : (version : Version) (s : ParserState) (statement : Statement) (words : List Word) → s.version ≡ version → EncodesInLimits version statement words → EncodesInLimits s.version statement words
+say_here version s statement words e h = subst (λ (v : Version). EncodesInLimits v statement words) (sym e) h
 
-spells_here : (version : Version) (s : ParserState) (G : Goals) (statement : Statement) (words : List Word) → s.version ≡ version → Spells version G statement words → Spells s.version G statement words
-spells_here version s G statement words e h = subst (λ (v : Version). Spells v G statement words) (sym e) h
+encodes_here : (version : Version) (s : ParserState) (G : Goals) (statement : Statement) (words : List Word) → s.version ≡ version → Encodes version G statement words → Encodes s.version G statement words
+encodes_here version s G statement words e h = subst (λ (v : Version). Encodes v G statement words) (sym e) h
 
 code_says : (version : Version) (all : List Placed) (place : ℕ) (labels : List Placed) (code : List Instr) (body : List (List Word)) (c : AreCode version all place labels code body) (s : ParserState) (following : List (List Word)) (rest : List Statement)
     → Within version all place labels (length code) s → AllByRecursion IsInstr code → ahead_of rest ≡ []
@@ -186,7 +186,7 @@ code_says version all _ _ _ _ (AreCode.end place) s following rest w fits none t
 code_says version all _ _ _ _ (AreCode.label place name words labels code others h limits more) s following rest w fits none then = (
   say_here version s (Label name) words w.version_is (says_short version all place (Label name) words w.short h, limits),
   (w.stage, λ c. w.apart name c (contains_first name (names_of labels))),
-  no_code (GoesTo all place) (Label name) words s (ahead_of (said_in version all place labels code others more ++ rest)) (spells_here version s (GoesTo all place) (Label name) words w.version_is h) (λ i a. a),
+  no_code (SkipsTo all place) (Label name) words s (ahead_of (said_in version all place labels code others more ++ rest)) (encodes_here version s (SkipsTo all place) (Label name) words w.version_is h) (λ i a. a),
   λ number. code_says version all place labels code others more (after number (Label name) s) following rest (within_label version all place name labels (length code) number s w) fits none then,
 )
 code_says version all _ _ _ _ (AreCode.instruction place i words labels code others h more) s following rest w fits none then = (
@@ -200,13 +200,13 @@ code_says version all _ _ _ _ (AreCode.instruction place i words labels code oth
 
 -- ---- procedures
 
-abbrev pub procedure_said : (version : Version) (p : Procedure) (words : List (List Word)) → SpellsProcedure version p words → List Statement
+abbrev pub procedure_said : (version : Version) (p : Procedure) (words : List (List Word)) → EncodesProcedure version p words → List Statement
 procedure_said version p words h = Head p.kind p.params ∷ Registers p.registers ∷ said_in version h.labels 0 h.labels p.code h.body h.body_is
 
-says_plain : (version : Version) (statement : Statement) (words : List Word) → Spells version (GoesTo [] 0) statement words → Spells version AnyShortName statement words
-says_plain version statement words h = spells_more (GoesTo [] 0) AnyShortName (λ skip name goal. contains_none {X = Placed} (record { name = name; place = 0 + 1 + skip }) goal) statement words h
+says_plain : (version : Version) (statement : Statement) (words : List Word) → Encodes version (SkipsTo [] 0) statement words → Encodes version AnyShortName statement words
+says_plain version statement words h = encodes_more (SkipsTo [] 0) AnyShortName (λ skip name goal. contains_none {X = Placed} (record { name = name; place = 0 + 1 + skip }) goal) statement words h
 
-within_start : (version : Version) (p : Procedure) (words : List (List Word)) (h : SpellsProcedure version p words) (s : ParserState) (number other : ℕ) → s.version ≡ version → IsProcedure p
+within_start : (version : Version) (p : Procedure) (words : List (List Word)) (h : EncodesProcedure version p words) (s : ParserState) (number other : ℕ) → s.version ≡ version → IsProcedure p
     → Within version h.labels 0 h.labels (length p.code) (after other (Registers p.registers) (after number (Head p.kind p.params) s))
 within_start version p words h s number other is fits = record {
   version_is = is;
@@ -219,18 +219,18 @@ within_start version p words h s number other is fits = record {
   once = once_by_pairs (names_of h.labels) h.once;
 }
 
-procedure_says : (version : Version) (p : Procedure) (words : List (List Word)) (h : SpellsProcedure version p words) (s : ParserState) (following : List (List Word)) (rest : List Statement) → s.version ≡ version → IsProcedure p → IsOutset s.stage ⊎ IsWhole s
+procedure_says : (version : Version) (p : Procedure) (words : List (List Word)) (h : EncodesProcedure version p words) (s : ParserState) (following : List (List Word)) (rest : List Statement) → s.version ≡ version → IsProcedure p → IsOutset s.stage ⊎ IsWhole s
     → s.procedures < 64 → ahead_of rest ≡ [] → ((t : ParserState) → t.version ≡ version → IsWhole t → t.procedures ≡ s.procedures + 1 → WordsSay t following rest) → WordsSay s (words ++ following) (procedure_said version p words h ++ rest)
 procedure_says version p words h s following rest is fits may few none then =
     let body = said_in version h.labels 0 h.labels p.code h.body h.body_is in
     subst (λ (x : List (List Word)). WordsSay s (x ++ following) (procedure_said version p words h ++ rest)) (sym h.parts) (
       say_here version s (Head p.kind p.params) h.head is (says_plain version (Head p.kind p.params) h.head h.head_is, fits.params),
       (may, few),
-      no_code (GoesTo [] 0) (Head p.kind p.params) h.head s (ahead_of (Registers p.registers ∷ body ++ rest)) (spells_here version s (GoesTo [] 0) (Head p.kind p.params) h.head is h.head_is) (λ i a. a),
+      no_code (SkipsTo [] 0) (Head p.kind p.params) h.head s (ahead_of (Registers p.registers ∷ body ++ rest)) (encodes_here version s (SkipsTo [] 0) (Head p.kind p.params) h.head is h.head_is) (λ i a. a),
       λ number. (
         say_here version s (Registers p.registers) h.registers is (says_plain version (Registers p.registers) h.registers h.registers_are, fits.registers),
         refl,
-        no_code (GoesTo [] 0) (Registers p.registers) h.registers (after number (Head p.kind p.params) s) (ahead_of (body ++ rest)) (spells_here version s (GoesTo [] 0) (Registers p.registers) h.registers is h.registers_are) (λ i a. a),
+        no_code (SkipsTo [] 0) (Registers p.registers) h.registers (after number (Head p.kind p.params) s) (ahead_of (body ++ rest)) (encodes_here version s (SkipsTo [] 0) (Registers p.registers) h.registers is h.registers_are) (λ i a. a),
         λ other.
             code_says version h.labels 0 h.labels p.code h.body h.body_is (after other (Registers p.registers) (after number (Head p.kind p.params) s)) following rest (within_start version p words h s number other is fits) fits.code.1 none
             (λ t version_is stage count procedures. then t version_is (stage, omega (arith, count, fits.code.0.0)) procedures),
@@ -239,19 +239,19 @@ procedure_says version p words h s following rest is fits may few none then =
 
 -- ---- programs
 
-abbrev pub procedures_said : (version : Version) (procedures : List Procedure) (words : List (List Word)) → SpellProcedures version procedures words → List Statement
-procedures_said version _ _ SpellProcedures.end = []
-procedures_said version _ _ (SpellProcedures.one_more p others first following h more) = procedure_said version p first h ++ procedures_said version others following more
+abbrev pub procedures_said : (version : Version) (procedures : List Procedure) (words : List (List Word)) → EncodeProcedures version procedures words → List Statement
+procedures_said version _ _ EncodeProcedures.end = []
+procedures_said version _ _ (EncodeProcedures.one_more p others first following h more) = procedure_said version p first h ++ procedures_said version others following more
 
-none_ahead : (version : Version) (procedures : List Procedure) (words : List (List Word)) (h : SpellProcedures version procedures words) → ahead_of (procedures_said version procedures words h) ≡ []
-none_ahead version _ _ SpellProcedures.end = refl
-none_ahead version _ _ (SpellProcedures.one_more p others first following h more) = refl
+none_ahead : (version : Version) (procedures : List Procedure) (words : List (List Word)) (h : EncodeProcedures version procedures words) → ahead_of (procedures_said version procedures words h) ≡ []
+none_ahead version _ _ EncodeProcedures.end = refl
+none_ahead version _ _ (EncodeProcedures.one_more p others first following h more) = refl
 
-pub procedures_say : (version : Version) (procedures : List Procedure) (words : List (List Word)) (h : SpellProcedures version procedures words) (s : ParserState) → s.version ≡ version → AllByRecursion IsProcedure procedures
+pub procedures_say : (version : Version) (procedures : List Procedure) (words : List (List Word)) (h : EncodeProcedures version procedures words) (s : ParserState) → s.version ≡ version → AllByRecursion IsProcedure procedures
     → s.procedures + length procedures ≤ 64 → IsWhole s ⊎ (IsOutset s.stage × (1 ≤ length procedures)) → WordsSay s words (procedures_said version procedures words h)
-procedures_say version _ _ SpellProcedures.end s is fits few (inl whole) = whole
-procedures_say version _ _ SpellProcedures.end s is fits few (inr outset) = absurd (omega (arith, outset.1))
-procedures_say version _ _ (SpellProcedures.one_more p others first following h more) s is fits few may =
+procedures_say version _ _ EncodeProcedures.end s is fits few (inl whole) = whole
+procedures_say version _ _ EncodeProcedures.end s is fits few (inr outset) = absurd (omega (arith, outset.1))
+procedures_say version _ _ (EncodeProcedures.one_more p others first following h more) s is fits few may =
     procedure_says version p first h s following (procedures_said version others following more) is fits.0 (may_begin may) (omega (arith, few)) (none_ahead version others following more)
     (λ t version_is whole procedures. procedures_say version others following more t version_is fits.1 (omega (arith, procedures, few)) (inl whole))
   where
@@ -260,17 +260,17 @@ procedures_say version _ _ (SpellProcedures.one_more p others first following h 
     may_begin (inr outset) = inl outset.0
 
 -- returns the statement of the version's line, if there is one, and those of the procedures
-abbrev pub program_said : (version : Version) (front : List (List Word)) → SpellsVersion version front → List Statement → List Statement
-program_said _ _ SpellsVersion.unsaid others = others
-program_said _ _ (SpellsVersion.said version words h) others = OfVersion (version_number version) ∷ others
+abbrev pub program_said : (version : Version) (front : List (List Word)) → EncodesVersion version front → List Statement → List Statement
+program_said _ _ EncodesVersion.unsaid others = others
+program_said _ _ (EncodesVersion.said version words h) others = OfVersion (version_number version) ∷ others
 
-pub program_says : (version : Version) (front : List (List Word)) (f : SpellsVersion version front) (procedures : List Procedure) (words : List (List Word)) (h : SpellProcedures version procedures words) → AllByRecursion IsProcedure procedures
+pub program_says : (version : Version) (front : List (List Word)) (f : EncodesVersion version front) (procedures : List Procedure) (words : List (List Word)) (h : EncodeProcedures version procedures words) → AllByRecursion IsProcedure procedures
     → 1 ≤ length procedures → length procedures ≤ 64 → WordsSay at_start (front ++ words) (program_said version front f (procedures_said version procedures words h))
-program_says _ _ SpellsVersion.unsaid procedures words h fits some few = procedures_say One procedures words h at_start refl fits (omega (arith, few)) (inr (tt, some))
-program_says _ _ (SpellsVersion.said version line f) procedures words h fits some few = (
+program_says _ _ EncodesVersion.unsaid procedures words h fits some few = procedures_say One procedures words h at_start refl fits (omega (arith, few)) (inr (tt, some))
+program_says _ _ (EncodesVersion.said version line f) procedures words h fits some few = (
   (says_plain One (OfVersion (version_number version)) line f, number_within version),
   refl,
-  no_code (GoesTo [] 0) (OfVersion (version_number version)) line at_start (ahead_of (procedures_said version procedures words h)) f (λ i a. a),
+  no_code (SkipsTo [] 0) (OfVersion (version_number version)) line at_start (ahead_of (procedures_said version procedures words h)) f (λ i a. a),
   λ number. procedures_say version procedures words h (after number (OfVersion (version_number version)) at_start) (number_back version) fits (omega (arith, few)) (inr (tt, some)),
 )
 
@@ -284,7 +284,7 @@ abbrev pub LinesHold : ℕ → ParserState → List (List ℕ) → List (Option 
 LinesHold number s [] [] = IsWhole s
 LinesHold number s [] (said ∷ others) = ⊥
 LinesHold number s (line ∷ more) [] = ⊥
-LinesHold number s (line ∷ more) (said ∷ others) = LineSays s line said × LineNamesAhead s (labels_ahead others) line × LinesHold (number + 1) (after_line number said s) more others
+LinesHold number s (line ∷ more) (said ∷ others) = HasStatement s line said × LineNamesAhead s (labels_ahead others) line × LinesHold (number + 1) (after_line number said s) more others
 
 pub record Held (number : ℕ) (s : ParserState) (ls : List (List ℕ)) (statements : List Statement) : Type 0 where
   pub said : List (Option Statement)
@@ -299,7 +299,7 @@ ahead_more (Label name) said others e = ap (λ (names : List (List ℕ)). name �
 ahead_more (Code i) said others e = e
 
 blank_names : (s : ParserState) (ahead : List (List ℕ)) (line : List ℕ) → IsLine [] line → LineNamesAhead s ahead line
-blank_names s ahead line blank name words is n = absurd (none_spelled (λ skip word. word ≡ name) (Code n.i) words (line_once words [] line is blank) n.spells)
+blank_names s ahead line blank name words is n = absurd (none_encoded (λ skip word. word ≡ name) (Code n.i) words (line_once words [] line is blank) n.spells)
 
 line_names : (s : ParserState) (ahead names : List (List ℕ)) (line : List ℕ) (words : List Word) → IsLine words line → ahead ≡ names → NamesAhead s names words → LineNamesAhead s ahead line
 line_names s ahead names line words is e named name others other_is n =

@@ -1,6 +1,6 @@
 -- Whole lines: the words are read as a statement that they denote, or they denote none.
 use Rattle.std.proofs.Common.{◌≡◌, ◌≢◌, Bool, true, false, cond, ℕ, List, [], ◌∷◌, ◌++◌, map, codes, Option, Some, None, Result, Ok, Err, refl, sym, subst, ◌∙◌}
-use Rattle.tw_asm.proofs.AsmNames.{AllByRecursion, AnyName, Bare, Code, TokenError, Goals, Head, Label, Name, Natural, OfVersion, Opcode, Part, Quoted, Registers, SpellParts, Statement, Version, Word, bytes_eq, bytes_eq-Decides, flat_map, kind_word, operand_parts, param_parts, register_part, row, statement_parts, word_of}
+use Rattle.tw_asm.proofs.AsmNames.{AllByRecursion, AnyName, Bare, Code, TokenError, Goals, Head, Label, Name, Natural, OfVersion, Opcode, Part, Quoted, Registers, EncodeParts, Statement, Version, Word, bytes_eq, bytes_eq-Decides, flat_map, kind_word, operand_parts, param_parts, register_part, row, statement_parts, word_of}
 use Rattle.std.proofs.lemmas.Str.{IsUtf8-string_bytes}
 use Rattle.tw_lexer.specs.Seen as lines
 use Rattle.tw_lexer.specs.declared.word.Word as words
@@ -25,16 +25,16 @@ begins (Registers rs) = (codes "regs", map register_part rs, refl)
 begins (Label name) = (name ++ codes ":", [], refl)
 begins (Code i) = (word_of (row i).0, flat_map operand_parts (row i).1, refl)
 
-bare_first : (G : Goals) (text : List ℕ) (ws : List Word) (statement : Statement) → SpellParts G (statement_parts statement) (Quoted text ∷ ws) → ⊥
+bare_first : (G : Goals) (text : List ℕ) (ws : List Word) (statement : Statement) → EncodeParts G (statement_parts statement) (Quoted text ∷ ws) → ⊥
 bare_first G text ws statement h =
     let b = begins statement in
-    apart b.0 (first_is G b.0 b.1 (Quoted text) ws (subst (λ (ps : List Part). SpellParts G ps (Quoted text ∷ ws)) b.2 h)).0
+    apart b.0 (first_is G b.0 b.1 (Quoted text) ws (subst (λ (ps : List Part). EncodeParts G ps (Quoted text ∷ ws)) b.2 h)).0
   where
     apart : (name : List ℕ) → Quoted text ≡ Bare name → ⊥
     apart name e = cc
 
-some_word : (G : Goals) (statement : Statement) → SpellParts G (statement_parts statement) [] → ⊥
-some_word G statement h = let b = begins statement in nonempty G b.0 b.1 (subst (λ (ps : List Part). SpellParts G ps []) b.2 h)
+some_word : (G : Goals) (statement : Statement) → EncodeParts G (statement_parts statement) [] → ⊥
+some_word G statement h = let b = begins statement in nonempty G b.0 b.1 (subst (λ (ps : List Part). EncodeParts G ps []) b.2 h)
 
 other_word : (a b : List ℕ) → bytes_eq a b ≡ false → a ≢ b
 other_word a b isnt e = no (sym isnt ∙ (bytes_eq-Decides a b).1 e)

@@ -1,6 +1,6 @@
 -- The written line of a statement denotes it.
 use Rattle.std.proofs.Common.{◌≡◌, ◌≢◌, inl, inr, ◌≤◌, ◌<◌, ◌^◌, ◌==◌, ℕ, suc, ℤ, pos, negsuc, Bool, true, false, List, [], ◌∷◌, ◌++◌, map, length, codes, Option, Some, None, refl, ap, subst, ◌∙◌, arith}
-use Rattle.tw_asm.proofs.AsmNames.{◌&&◌, ◌||◌, AllByRecursion, Bare, Closed, Code, FitsSigned, Goals, HasForm, HasInstr, Head, Instr, Int, IsAscii, IsInLimits, IsInName, IsInstr, IsLine, IsName, IsOperand, IsRegister, IsSkip, IsTarget, IsUtf8, IsVersionNumber, IsWord, Kind, Label, Literal, MapKind, Mode, Name, Natural, NoMap, Number, OfVersion, Opcode, Operand, Param, Part, Quoted, Ref, Registers, Right, Scalar, Skip, SpellParts, Spells, SpellsPart, SpellsWith, Statement, Sums, Target, Text, TypeOf, Val, Value, Values, Version, Word, Write, container_word, decimal, flat_map, goal_word, holds, if◌then◌else◌, instr_parts, is_edge, join_with_byte, kind_word, leaf_words, ltb-true, map-append, map_word, mode_word, nat_lt, nat_tests, operand_parts, param_parts, part_words, register_part, scalar_word, skip_among, skip_of, statement_parts, sum_word, w64, word_of}
+use Rattle.tw_asm.proofs.AsmNames.{◌&&◌, ◌||◌, AllByRecursion, Bare, Closed, Code, FitsSigned, Goals, HasForm, HasInstr, Head, Instr, Int, IsAscii, IsInLimits, IsInName, IsInstr, IsLine, IsName, IsOperand, IsRegister, IsSkip, IsTarget, IsUtf8, IsVersionNumber, IsWord, Kind, Label, Literal, MapKind, Mode, Name, Natural, NoMap, Number, OfVersion, Opcode, Operand, Param, Part, Quoted, Ref, Registers, Right, Scalar, Skip, EncodeParts, Encodes, EncodesPart, EncodesWith, Statement, Sums, Target, Text, TypeOf, Val, Value, Values, Version, Word, Write, container_word, decimal, flat_map, goal_word, holds, if◌then◌else◌, instr_parts, is_edge, join_with_byte, kind_word, leaf_words, ltb-true, map-append, map_word, mode_word, nat_lt, nat_tests, operand_parts, param_parts, part_words, register_part, scalar_word, skip_among, skip_of, statement_parts, sum_word, w64, word_of}
 use Rattle.std.specs.Fmt.{signed_decimal}
 use Rattle.std.specs.Str.Parse.{AllDigits, IsNumeral}
 use Rattle.std.proofs.lemmas.Fmt.{decimal_is_IsNumeral}
@@ -13,7 +13,7 @@ use Rattle.tw_code.specs.format.Table as table
 use Rattle.tw_types.specs.declared.actor.Kind.TheVariants.{Control, Leaf}
 use Rattle.tw_lexer.specs.Quoted.{quoted}
 use Rattle.tw_lexer.proofs.Numerals.{shown}
-use Rattle.tw_lexer.proofs.Written.{quoted_spells}
+use Rattle.tw_lexer.proofs.Written.{quoted_encodes}
 use Rattle.tw_lexer.proofs.Breaks.{IsOneLine}
 use Rattle.tw_lexer.proofs.Writing.{AreWords, joined_line, joined_one_line, quoted_one_line}
 use Rattle.tw_asm.proofs.Quotes.{after_ascii, quoted_utf8}
@@ -211,13 +211,13 @@ IsInPart (Target target) = IsTarget target
 
 -- holds if the word of a skip denotes it
 abbrev pub IsGoalWord : Goals → (ℕ → List ℕ) → ℕ → Type 0
-IsGoalWord goals skip_word skip = SpellsPart goals (Skip skip) (Bare (skip_word skip) ∷ []) × IsClearWord (skip_word skip)
+IsGoalWord goals skip_word skip = EncodesPart goals (Skip skip) (Bare (skip_word skip) ∷ []) × IsClearWord (skip_word skip)
 
-digits_spell : (front : List ℕ) (number : ℕ) → number < 2 ^ 64 → SpellsWith front number (Bare (front ++ decimal number) ∷ [])
-digits_spell front number small = let k = decimal_is_IsNumeral number small in (decimal number, record { digits = k.0; value = k.1 }, refl)
+digits_encode : (front : List ℕ) (number : ℕ) → number < 2 ^ 64 → EncodesWith front number (Bare (front ++ decimal number) ∷ [])
+digits_encode front number small = let k = decimal_is_IsNumeral number small in (decimal number, record { digits = k.0; value = k.1 }, refl)
 
 abbrev SpellsWell : Goals → Part → List Word → Type 0
-SpellsWell goals part words = SpellsPart goals part words × AllByRecursion IsWellWritten words
+SpellsWell goals part words = EncodesPart goals part words × AllByRecursion IsWellWritten words
 
 scalar_clear : (scalar : Scalar) → IsClearWord (scalar_word scalar)
 scalar_clear Int = clear_word (codes "int") refl
@@ -252,23 +252,23 @@ module _ (goals : Goals) (skip_word : ℕ → List ℕ) where
   part_well (Name word) h g = (refl, (bare_word word h, tt))
   part_well (Value n) h g =
       let small = register_small n h in
-      (digits_spell (codes "v") n small, (bare_word (codes "v" ++ decimal n) (numbered_clear (codes "v") n (is_clear-true 118 refl, tt) small), tt))
+      (digits_encode (codes "v") n small, (bare_word (codes "v" ++ decimal n) (numbered_clear (codes "v") n (is_clear-true 118 refl, tt) small), tt))
   part_well (Right n) h g =
       let small = register_small n h in
-      (digits_spell (codes "d") n small, (bare_word (codes "d" ++ decimal n) (numbered_clear (codes "d") n (is_clear-true 100 refl, tt) small), tt))
+      (digits_encode (codes "d") n small, (bare_word (codes "d" ++ decimal n) (numbered_clear (codes "d") n (is_clear-true 100 refl, tt) small), tt))
   part_well (Number n) h g = ((signed_decimal n, shown n h, refl), (bare_word (signed_decimal n) (signed_clear n h), tt))
-  part_well (Natural n) h g = let small = number_small n h in (digits_spell [] n small, (bare_word (decimal n) (numbered_clear [] n tt small), tt))
-  part_well (Literal text) h g = (refl, ((quoted_spells text, quoted_one_line text, quoted_utf8 text h), tt))
+  part_well (Natural n) h g = let small = number_small n h in (digits_encode [] n small, (bare_word (decimal n) (numbered_clear [] n tt small), tt))
+  part_well (Literal text) h g = (refl, ((quoted_encodes text, quoted_one_line text, quoted_utf8 text h), tt))
   part_well (TypeOf ty) h g = (refl, type_well ty.containers ty.map ty.scalar)
   part_well (Skip n) h g = let goal = g n refl in (goal.0, (bare_word (skip_word n) goal.1, tt))
   part_well (Target None) h g = (refl, (bare_word (codes "any") (clear_word (codes "any") refl), tt))
-  part_well (Target (Some n)) h g = let small = register_small n h in (digits_spell [] n small, (bare_word (decimal n) (numbered_clear [] n tt small), tt))
+  part_well (Target (Some n)) h g = let small = register_small n h in (digits_encode [] n small, (bare_word (decimal n) (numbered_clear [] n tt small), tt))
 
   -- holds if this is so for all skips of the parts
   abbrev pub AreGoalWords : List Part → Type 0
   AreGoalWords parts = AllByRecursion (λ part. (skip : ℕ) → part ≡ Skip skip → IsGoalWord goals skip_word skip) parts
 
-  pub parts_well : (parts : List Part) → AllByRecursion IsInPart parts → AreGoalWords parts → SpellParts goals parts (flat_map (written_part skip_word) parts) × AllByRecursion IsWellWritten (flat_map (written_part skip_word) parts)
+  pub parts_well : (parts : List Part) → AllByRecursion IsInPart parts → AreGoalWords parts → EncodeParts goals parts (flat_map (written_part skip_word) parts) × AllByRecursion IsWellWritten (flat_map (written_part skip_word) parts)
   parts_well [] h g = (refl, tt)
   parts_well (part ∷ parts) h g =
       let one = part_well part h.0 g.0 in
@@ -349,7 +349,7 @@ statement_in version (Code i) form h = instr_in i h
 -- a line in UTF-8 whose words denote the statement
 pub record IsLineOf (version : Version) (goals : Goals) (s : Statement) (line : List ℕ) : Type 0 where
   pub words : List Word
-  pub spells : Spells version goals s words
+  pub spells : Encodes version goals s words
   pub is_line : IsLine words line
   pub single : IsOneLine line
   pub utf8 : IsUtf8 line
@@ -358,8 +358,8 @@ pub record IsLineOf (version : Version) (goals : Goals) (s : Statement) (line : 
 abbrev pub bare_line : (ℕ → List ℕ) → Statement → List ℕ
 bare_line skip_word s = join_with_byte 32 (flat_map (part_words skip_word) (statement_parts s))
 
-pub written_spells : (version : Version) (goals : Goals) (skip_word : ℕ → List ℕ) (s : Statement) → HasForm version s → IsInLimits s → AreGoalWords goals skip_word (statement_parts s) → IsLineOf version goals s (bare_line skip_word s)
-written_spells version goals skip_word s form limits goal =
+pub written_encodes : (version : Version) (goals : Goals) (skip_word : ℕ → List ℕ) (s : Statement) → HasForm version s → IsInLimits s → AreGoalWords goals skip_word (statement_parts s) → IsLineOf version goals s (bare_line skip_word s)
+written_encodes version goals skip_word s form limits goal =
     let well = parts_well goals skip_word (statement_parts s) (statement_in version s form limits) goal in
     let texts = ap (join_with_byte 32) (parts_texts skip_word (statement_parts s)) in
     record {
@@ -375,7 +375,7 @@ written_spells version goals skip_word s form limits goal =
 plus_word : (goals : Goals) (skip : ℕ) → IsSkip skip → IsGoalWord goals (goal_word None) skip
 plus_word goals skip h =
     let small = number_small skip h.1 in
-    (inl (digits_spell (codes "+") skip small), numbered_clear (codes "+") skip (is_clear-true 43 refl, tt) small)
+    (inl (digits_encode (codes "+") skip small), numbered_clear (codes "+") skip (is_clear-true 43 refl, tt) small)
 
 label_word : (goals : Goals) (label skip : ℕ) → label < 2 ^ 64 → goals skip (codes "L" ++ decimal label) → IsGoalWord goals (goal_word (Some label)) skip
 label_word goals label skip small goal = (inr (codes "L" ++ decimal label, goal, refl), numbered_clear (codes "L") label (is_clear-true 76 refl, tt) small)
@@ -416,7 +416,7 @@ module _ (P : ℕ → Type 0) where
 -- the line of an instruction denotes it; its goal is written as this label, or as a number
 pub instr_written : (version : Version) (goals : Goals) (label : Option ℕ) (i : Instr) → HasInstr version i → IsInstr i → ((skip : ℕ) → skip_of i ≡ Some skip → IsGoal goals label skip) → IsLineOf version goals (Code i) (bare_line (goal_word label) (Code i))
 instr_written version goals label i had limits goal =
-    written_spells version goals (goal_word label) (Code i) had limits (all_goals goals label (instr_parts i) (instr_in i limits) (skip_alone (IsGoal goals label) (instr_parts i) (row i).last goal))
+    written_encodes version goals (goal_word label) (Code i) had limits (all_goals goals label (instr_parts i) (instr_in i limits) (skip_alone (IsGoal goals label) (instr_parts i) (row i).last goal))
 
 -- the line of a statement without a skip denotes it, whatever the goals
 params_without : (P : ℕ → Type 0) (params : List Param) → AllByRecursion (λ part. (skip : ℕ) → part ≡ Skip skip → P skip) (flat_map param_parts params)
@@ -430,20 +430,20 @@ registers_without P (scalar ∷ registers) = (no_skip P (Name (scalar_word scala
 pub head_written : (version : Version) (goals : Goals) (skip_word : ℕ → List ℕ) (kind : Kind) (params : List Param) → HasForm version (Head kind params) → IsInLimits (Head kind params) → IsLineOf version goals (Head kind params) (bare_line skip_word (Head kind params))
 head_written version goals skip_word kind params form limits =
     let P = IsGoalWord goals skip_word in
-    written_spells version goals skip_word (Head kind params) form limits
+    written_encodes version goals skip_word (Head kind params) form limits
     (no_skip P (Name (codes "proc")) (λ seven. different 0 7 seven refl), (no_skip P (Name (kind_word kind)) (λ seven. different 0 7 seven refl), params_without P params))
 
 pub registers_written : (version : Version) (goals : Goals) (skip_word : ℕ → List ℕ) (registers : List Scalar) → IsInLimits (Registers registers) → IsLineOf version goals (Registers registers) (bare_line skip_word (Registers registers))
 registers_written version goals skip_word registers limits =
     let P = IsGoalWord goals skip_word in
-    written_spells version goals skip_word (Registers registers) tt limits (no_skip P (Name (codes "regs")) (λ seven. different 0 7 seven refl), registers_without P registers)
+    written_encodes version goals skip_word (Registers registers) tt limits (no_skip P (Name (codes "regs")) (λ seven. different 0 7 seven refl), registers_without P registers)
 
 pub label_written : (version : Version) (goals : Goals) (skip_word : ℕ → List ℕ) (name : List ℕ) → IsName name → length name ≤ 64 → IsLineOf version goals (Label name) (bare_line skip_word (Label name))
 label_written version goals skip_word name form limits =
     let P = IsGoalWord goals skip_word in
-    written_spells version goals skip_word (Label name) form limits (no_skip P (Name (name ++ codes ":")) (λ seven. different 0 7 seven refl), tt)
+    written_encodes version goals skip_word (Label name) form limits (no_skip P (Name (name ++ codes ":")) (λ seven. different 0 7 seven refl), tt)
 
 pub version_written : (version : Version) (goals : Goals) (skip_word : ℕ → List ℕ) (number : ℕ) → IsInLimits (OfVersion number) → IsLineOf version goals (OfVersion number) (bare_line skip_word (OfVersion number))
 version_written version goals skip_word number limits =
     let P = IsGoalWord goals skip_word in
-    written_spells version goals skip_word (OfVersion number) tt limits (no_skip P (Name (codes "version")) (λ seven. different 0 7 seven refl), (no_skip P (Natural number) (λ seven. different 4 7 seven refl), tt))
+    written_encodes version goals skip_word (OfVersion number) tt limits (no_skip P (Name (codes "version")) (λ seven. different 0 7 seven refl), (no_skip P (Natural number) (λ seven. different 4 7 seven refl), tt))

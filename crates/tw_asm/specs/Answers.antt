@@ -7,12 +7,12 @@ use Rattle.tw_asm.specs.declared.fault.FaultNo.{FaultNo}
 use Rattle.tw_asm.specs.declared.fault.FaultNo.TheVariants as fault
 use Rattle.tw_asm.specs.Fault.{IsFirstFault}
 use Rattle.tw_asm.specs.Origins.{AreOrigins}
-use Rattle.tw_asm.specs.Spelling.{SpellsProgram}
+use Rattle.tw_asm.specs.Spelling.{EncodesProgram}
 
 -- the first fault of a text that denotes no program
 pub record HasFault (text : List ℕ) (no : FaultNo) (line : ℕ) : Type 0 where
   pub first : IsFirstFault text no line
-  pub none : (program : Versioned) → SpellsProgram program text → ⊥
+  pub none : (program : Versioned) → EncodesProgram program text → ⊥
 
 abbrev pub IsFault : List ℕ → FaultNo → ℕ → Type 0
 IsFault text fault.Word line = HasFault text fault.Word line
@@ -25,10 +25,10 @@ IsFault text fault.NoMemory line = line ≡ 0
 
 -- holds if the result is the program that the text denotes, or its first fault, or an allocation fails
 abbrev pub IsAssembled : List ℕ → Result Versioned AsmFault → Type 0
-IsAssembled text (Ok program) = SpellsProgram program text
+IsAssembled text (Ok program) = EncodesProgram program text
 IsAssembled text (Err f) = IsFault text f.no f.line
 
 -- like `IsAssembled`, and each instruction has its line
 abbrev pub IsLined : List ℕ → Result LinedProgram AsmFault → Type 0
-IsLined text (Ok lined) = SpellsProgram lined.program text × AreOrigins text lined.program.procedures lined.lines.procedures
+IsLined text (Ok lined) = EncodesProgram lined.program text × AreOrigins text lined.program.procedures lined.lines.procedures
 IsLined text (Err f) = IsFault text f.no f.line

@@ -12,7 +12,7 @@ use Rattle.std.specs.Str.Lines.{lines}
 use Rattle.tw_lexer.specs.Words.{Bare, IsFirstWord, IsLine, Word}
 use Rattle.tw_asm.specs.declared.statement.First.{First}
 use Rattle.tw_asm.specs.declared.statement.First.TheVariants as first
-use Rattle.tw_asm.specs.Statement.{Statement, OfVersion, Head, Registers, Label, Code, HaveForm, IsExpected, NamesLabel, Say, version_by}
+use Rattle.tw_asm.specs.Statement.{Statement, OfVersion, Head, Registers, Label, Code, HaveForm, IsExpected, NamesLabel, EncodesInLimits, version_by}
 use Rattle.tw_asm.specs.declared.fault.FaultNo.{FaultNo}
 use Rattle.tw_asm.specs.declared.fault.FaultNo.TheVariants as fault
 
@@ -79,20 +79,20 @@ MayFollow (Code i) s = (s.stage ≡ InBody) × (s.instructions < 4096)
 -- ---- lines that are allowed
 
 -- holds if the line has this statement, which is allowed in the state, or has no words
-abbrev pub LineSays : ParserState → List ℕ → Option Statement → Type 0
-LineSays s line None = IsLine [] line
-LineSays s line (Some statement) = ((words : List Word) × IsLine words line × Say s.version statement words) × MayFollow statement s
+abbrev pub HasStatement : ParserState → List ℕ → Option Statement → Type 0
+HasStatement s line None = IsLine [] line
+HasStatement s line (Some statement) = ((words : List Word) × IsLine words line × EncodesInLimits s.version statement words) × MayFollow statement s
 
 abbrev pub after_line : ℕ → Option Statement → ParserState → ParserState
 after_line number None s = s
 after_line number (Some statement) s = after number statement s
 
 -- holds if the lines, the first with this number, have these statements, and each is allowed in its state
-abbrev pub LinesSay : ℕ → ParserState → List (List ℕ) → List (Option Statement) → Type 0
-LinesSay number s [] [] = Unit {0}
-LinesSay number s [] (said ∷ others) = ⊥
-LinesSay number s (line ∷ after) [] = ⊥
-LinesSay number s (line ∷ after) (said ∷ others) = LineSays s line said × LinesSay (number + 1) (after_line number said s) after others
+abbrev pub HaveStatements : ℕ → ParserState → List (List ℕ) → List (Option Statement) → Type 0
+HaveStatements number s [] [] = Unit {0}
+HaveStatements number s [] (said ∷ others) = ⊥
+HaveStatements number s (line ∷ after) [] = ⊥
+HaveStatements number s (line ∷ after) (said ∷ others) = HasStatement s line said × HaveStatements (number + 1) (after_line number said s) after others
 
 -- returns the state after lines with these statements, the first with this number
 abbrev pub situation_from : ℕ → ParserState → List (Option Statement) → ParserState
@@ -129,15 +129,15 @@ pub data LineFault (number : ℕ) (s : ParserState) (line : List ℕ) : FaultNo 
   -- it has something, but no first word that is allowed here
   word : (IsLine [] line → ⊥) → ((expected : First) → Begins s line expected → ⊥) → LineFault number s line fault.Word number
   operand : (expected : First) → Begins s line expected → (HasWords s.version line → ⊥) → LineFault number s line fault.Operand number
-  label_twice : (name : List ℕ) (words : List Word) → s.stage ≡ InBody → IsLine words line → Say s.version (Label name) words
+  label_twice : (name : List ℕ) (words : List Word) → s.stage ≡ InBody → IsLine words line → EncodesInLimits s.version (Label name) words
       → Contains s.labels name → LineFault number s line fault.LabelTwice number
   -- a procedure without instructions is found at the next head, and reported at its own
   empty : Begins s line first.Head → HasWords s.version line → IsEmpty s → LineFault number s line fault.Limit s.head_line
   limit : (expected : First) → Begins s line expected → HasWords s.version line → (expected ≡ first.Head → IsEmpty s → ⊥)
-      → ((statement : Statement) (words : List Word) → IsLine words line → Say s.version statement words → ⊥)
+      → ((statement : Statement) (words : List Word) → IsLine words line → EncodesInLimits s.version statement words → ⊥)
       → LineFault number s line fault.Limit number
   procedures : Begins s line first.Head → HasWords s.version line → (IsEmpty s → ⊥) → 64 ≤ s.procedures → LineFault number s line fault.Limit number
-  instructions : (i : Instr) (words : List Word) → s.stage ≡ InBody → IsLine words line → Say s.version (Code i) words
+  instructions : (i : Instr) (words : List Word) → s.stage ≡ InBody → IsLine words line → EncodesInLimits s.version (Code i) words
       → 4096 ≤ s.instructions → LineFault number s line fault.Limit number
 
 -- the first line that isn't allowed
@@ -147,7 +147,7 @@ pub record IsLineFault (text : List ℕ) (no : FaultNo) (at : ℕ) : Type 0 wher
   pub others : List (List ℕ)
   pub parts : lines text ≡ before ++ (line ∷ others)
   pub said : List (Option Statement)
-  pub say : LinesSay 1 at_start before said
+  pub say : HaveStatements 1 at_start before said
   pub wrong : LineFault (length before + 1) (situation said) line no at
 
 -- holds if there is no procedure, or the last one has no instruction
@@ -157,7 +157,7 @@ IsUnfinished s at = (IsOutset s.stage × (at ≡ 1)) ⊎ ((IsOutset s.stage → 
 -- a text whose lines are all allowed, but which may not end there
 pub record IsEndFault (text : List ℕ) (no : FaultNo) (at : ℕ) : Type 0 where
   pub said : List (Option Statement)
-  pub say : LinesSay 1 at_start (lines text) said
+  pub say : HaveStatements 1 at_start (lines text) said
   pub number : no ≡ fault.Limit
   pub unfinished : IsUnfinished (situation said) at
 
@@ -183,7 +183,7 @@ pub data GoalFault (s : ParserState) (ahead : List (List ℕ)) (line : List ℕ)
 -- a text that may end, and in which the line of this number has such a goal
 pub record IsGoalFault (text : List ℕ) (no : FaultNo) (at : ℕ) : Type 0 where
   pub said : List (Option Statement)
-  pub say : LinesSay 1 at_start (lines text) said
+  pub say : HaveStatements 1 at_start (lines text) said
   pub whole : IsWhole (situation said)
   pub index : ℕ
   pub at_is : at ≡ index + 1

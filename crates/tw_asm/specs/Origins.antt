@@ -5,13 +5,13 @@ use Rattle.std.specs.Str.Lines.{lines}
 use Rattle.tw_code.specs.declared.instr.Instr.{Instr}
 use Rattle.tw_code.specs.declared.procedure.Procedure.{Procedure}
 use Rattle.tw_asm.specs.Statement.{Statement, Code}
-use Rattle.tw_asm.specs.Fault.{LinesSay, at_start, situation}
+use Rattle.tw_asm.specs.Fault.{HaveStatements, at_start, situation}
 
 -- The line with this number, counted from 1 over all lines, has the instruction at this place of this procedure, both counted from 0. When the line
 -- is read, `procedure + 1` procedures have begun, and the last one has `place` instructions.
 pub record ComesFrom (text : List ℕ) (procedure place number : ℕ) : Type 0 where
   pub said : List (Option Statement)
-  pub say : LinesSay 1 at_start (lines text) said
+  pub say : HaveStatements 1 at_start (lines text) said
   pub before : List (Option Statement)
   pub i : Instr
   pub after : List (Option Statement)

@@ -11,7 +11,7 @@ use Rattle.tw_code.specs.declared.version.Version.{Version}
 use Rattle.tw_lexer.specs.Words.{Word}
 use Rattle.tw_asm.specs.declared.statement.Statement as statements
 use Rattle.tw_asm.specs.declared.statement.Statement.TheVariants as statement
-use Rattle.tw_asm.specs.Statement.{Statement, OfVersion, Head, Registers, Label, Code, Goals, Spells, IsInLimits, IsShortName, NamesLabel, version_number}
+use Rattle.tw_asm.specs.Statement.{Statement, OfVersion, Head, Registers, Label, Code, Goals, Encodes, IsInLimits, IsShortName, NamesLabel, version_number}
 
 -- a statement, and the label that it names, if it is an instruction
 pub record Read : Type 0 where
@@ -41,8 +41,8 @@ abbrev pub IsRead : Version → Read → List Word → Type 0
 IsRead version read words = IsInLimits read.statement × spelled read.goal
   where
     spelled : Option (List ℕ) → Type 0
-    spelled None = Spells version NoName read.statement words
-    spelled (Some name) = IsShortName name × Spells version (OnlyName name) read.statement words × NamesLabel version name words
+    spelled None = Encodes version NoName read.statement words
+    spelled (Some name) = IsShortName name × Encodes version (OnlyName name) read.statement words × NamesLabel version name words
 
 -- ---- an instruction with another skip, if it has one
 

@@ -15,7 +15,7 @@ use Rattle.tw_code.specs.declared.version.Version.{Version}
 use Rattle.tw_code.specs.declared.version.Version.TheVariants.{One, Two, Four}
 use Rattle.tw_code.specs.format.Program.{IsInstr, IsList, IsMapOf, IsParam, IsSubscriptOf, IsWithin}
 use Rattle.tw_code.specs.format.Table.{Operand, has_opcode, holds, row}
-use Rattle.tw_lexer.specs.Number.{SpellsDigits, SpellsNumber}
+use Rattle.tw_lexer.specs.Number.{EncodesDigits, EncodesNumber}
 use Rattle.tw_lexer.specs.Words.{Word, Bare, Quoted}
 use Rattle.tw_asm.specs.declared.statement.First.{First}
 use Rattle.tw_asm.specs.declared.statement.First.TheVariants as first
@@ -80,26 +80,26 @@ abbrev pub Goals : Type 1
 Goals = ℕ → List ℕ → Type 0
 
 -- holds for a letter and the digits of a number
-abbrev pub SpellsWith : List ℕ → ℕ → List Word → Type 0
-SpellsWith front number words = (digits : List ℕ) × SpellsDigits number digits × (words ≡ Bare (front ++ digits) ∷ [])
+abbrev pub EncodesWith : List ℕ → ℕ → List Word → Type 0
+EncodesWith front number words = (digits : List ℕ) × EncodesDigits number digits × (words ≡ Bare (front ++ digits) ∷ [])
 
-abbrev pub SpellsPart : Goals → Part → List Word → Type 0
-SpellsPart goals (Name word) words = words ≡ Bare word ∷ []
-SpellsPart goals (Value register) words = SpellsWith (codes "v") register words
-SpellsPart goals (Right register) words = SpellsWith (codes "d") register words
-SpellsPart goals (Number number) words = (word : List ℕ) × SpellsNumber number word × (words ≡ Bare word ∷ [])
-SpellsPart goals (Natural number) words = SpellsWith [] number words
-SpellsPart goals (Literal text) words = words ≡ Quoted text ∷ []
-SpellsPart goals (TypeOf ty) words = words ≡ map Bare (type_words ty)
-SpellsPart goals (Skip skip) words = SpellsWith (codes "+") skip words ⊎ ((name : List ℕ) × goals skip name × (words ≡ Bare name ∷ []))
-SpellsPart goals (Target None) words = words ≡ Bare (codes "any") ∷ []
-SpellsPart goals (Target (Some number)) words = SpellsWith [] number words
+abbrev pub EncodesPart : Goals → Part → List Word → Type 0
+EncodesPart goals (Name word) words = words ≡ Bare word ∷ []
+EncodesPart goals (Value register) words = EncodesWith (codes "v") register words
+EncodesPart goals (Right register) words = EncodesWith (codes "d") register words
+EncodesPart goals (Number number) words = (word : List ℕ) × EncodesNumber number word × (words ≡ Bare word ∷ [])
+EncodesPart goals (Natural number) words = EncodesWith [] number words
+EncodesPart goals (Literal text) words = words ≡ Quoted text ∷ []
+EncodesPart goals (TypeOf ty) words = words ≡ map Bare (type_words ty)
+EncodesPart goals (Skip skip) words = EncodesWith (codes "+") skip words ⊎ ((name : List ℕ) × goals skip name × (words ≡ Bare name ∷ []))
+EncodesPart goals (Target None) words = words ≡ Bare (codes "any") ∷ []
+EncodesPart goals (Target (Some number)) words = EncodesWith [] number words
 
 -- holds for the words of each part, one after another
-abbrev pub SpellParts : Goals → List Part → List Word → Type 0
-SpellParts goals [] words = words ≡ []
-SpellParts goals (part ∷ parts) words =
-    (first : List Word) × (others : List Word) × (words ≡ first ++ others) × SpellsPart goals part first × SpellParts goals parts others
+abbrev pub EncodeParts : Goals → List Part → List Word → Type 0
+EncodeParts goals [] words = words ≡ []
+EncodeParts goals (part ∷ parts) words =
+    (first : List Word) × (others : List Word) × (words ≡ first ++ others) × EncodesPart goals part first × EncodeParts goals parts others
 
 -- ---- what a version has
 
@@ -135,9 +135,9 @@ HasForm version (Label name) = IsName name
 HasForm version (Code i) = HasInstr version i
 
 -- these words denote the statement, whatever its limits
-pub record Spells (version : Version) (goals : Goals) (statement : Statement) (words : List Word) : Type 0 where
+pub record Encodes (version : Version) (goals : Goals) (statement : Statement) (words : List Word) : Type 0 where
   pub form : HasForm version statement
-  pub parts : SpellParts goals (statement_parts statement) words
+  pub parts : EncodeParts goals (statement_parts statement) words
 
 -- holds if numbers, counts and texts are within the limits of programs
 abbrev pub IsInLimits : Statement → Type 0
@@ -159,17 +159,17 @@ AnyShortName skip name = IsShortName name
 
 -- holds if the words denote a statement, whatever its limits
 abbrev pub HaveForm : Version → List Word → Type 0
-HaveForm version words = (statement : Statement) × Spells version AnyName statement words
+HaveForm version words = (statement : Statement) × Encodes version AnyName statement words
 
 -- holds if the words denote this statement, which is within the limits
-abbrev pub Say : Version → Statement → List Word → Type 0
-Say version statement words = Spells version AnyShortName statement words × IsInLimits statement
+abbrev pub EncodesInLimits : Version → Statement → List Word → Type 0
+EncodesInLimits version statement words = Encodes version AnyShortName statement words × IsInLimits statement
 
 -- the instruction names this label as its goal, and has no number of instructions instead
 pub record NamesLabel (version : Version) (name : List ℕ) (words : List Word) : Type 0 where
   pub i : Instr
-  pub spells : Spells version (λ skip word. word ≡ name) (Code i) words
-  pub names : (other : Instr) → Spells version (λ skip word. ⊥) (Code other) words → ⊥
+  pub spells : Encodes version (λ skip word. word ≡ name) (Code i) words
+  pub names : (other : Instr) → Encodes version (λ skip word. ⊥) (Code other) words → ⊥
 
 -- ---- first words
 

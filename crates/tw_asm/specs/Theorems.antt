@@ -4,10 +4,10 @@ use Rattle.tw_code.specs.format.Program.{Versioned}
 use Rattle.tw_asm.specs.declared.fault.FaultNo.{FaultNo}
 use Rattle.tw_asm.specs.Fault.{IsFirstFault}
 use Rattle.tw_asm.specs.Origins.{ComesFrom}
-use Rattle.tw_asm.specs.Spelling.{SpellsProgram}
+use Rattle.tw_asm.specs.Spelling.{EncodesProgram}
 
-abbrev pub SpellsOnce : Type 0
-SpellsOnce = (text : List ℕ) (p q : Versioned) → SpellsProgram p text → SpellsProgram q text → p ≡ q
+abbrev pub OneProgram : Type 0
+OneProgram = (text : List ℕ) (p q : Versioned) → EncodesProgram p text → EncodesProgram q text → p ≡ q
 
 -- says that a text has one fault number and one line
 abbrev pub OneFirstFault : Type 0

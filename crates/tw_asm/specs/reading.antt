@@ -4,6 +4,5 @@ pub mod Progress
 pub mod Goals
 pub mod Operands
 pub mod Lines
-pub mod Forms
-pub mod Shapes
+pub mod ByForms
 pub mod Heads

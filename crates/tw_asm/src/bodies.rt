@@ -12,6 +12,7 @@ use crate::reading::{Labels, Reading, Section, Stage, UnlinkedLine};
 use crate::statement::Unlinked;
 use tw_code::Procedure;
 
+/// Adds a label at a place, or returns a fault if its name has a place.
 fn add_label<'a>(
     labels: &mut Labels<'a>,
     name: &'a [u8],
@@ -26,6 +27,7 @@ fn add_label<'a>(
     }
 }
 
+/// Adds a label after the instructions so far.
 fn with_label<'a>(section: &mut Section<'a>, number: usize, name: &'a [u8]) -> Result<(), AsmFault>
     ensures { WithLabel (seen_section section.old) (seen_section section.new) number name.now result }
 {
@@ -33,6 +35,7 @@ fn with_label<'a>(section: &mut Section<'a>, number: usize, name: &'a [u8]) -> R
     add_label(&mut section.labels, name, place, number)
 }
 
+/// Adds an instruction, or returns a fault if there is no place left for it.
 fn with_draft<'a>(section: &mut Section<'a>, line: UnlinkedLine<'a>) -> Result<(), AsmFault>
     ensures { WithDraft (seen_section section.old) (seen_section section.new) (seen_draft line.entry) result }
 {
@@ -43,6 +46,7 @@ fn with_draft<'a>(section: &mut Section<'a>, line: UnlinkedLine<'a>) -> Result<(
     Ok(())
 }
 
+/// Takes a label of the body.
 pub(crate) fn take_label<'a>(
     mut reading: Reading<'a>,
     number: usize,
@@ -57,6 +61,7 @@ pub(crate) fn take_label<'a>(
     Ok(reading)
 }
 
+/// Takes an instruction of the body.
 pub(crate) fn take_draft<'a>(
     mut reading: Reading<'a>,
     number: usize,

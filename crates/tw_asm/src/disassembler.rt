@@ -5,7 +5,7 @@ ghost use Rattle.std.specs.List.{AllByRecursion, flat_map};
 ghost use Rattle.std.specs.Option.{option_and_then};
 ghost use Rattle.tw_code.specs.format.Program.{IsInstr, IsProcedure};
 ghost use Rattle.tw_asm.specs.Disassembly.{code_lines, disassembly, label_at, label_line, label_places, procedure_lines, version_line};
-ghost use Rattle.tw_asm.specs.Spelling.{SpellsProgram};
+ghost use Rattle.tw_asm.specs.Spelling.{EncodesProgram};
 ghost use Rattle.tw_asm.specs.Parts.{skip_of};
 ghost use Rattle.tw_asm.specs.Statement.{Code};
 ghost use Rattle.tw_asm.specs.Written.{goal_word, line_of};
@@ -127,7 +127,7 @@ fn lines_of(
 /// Returns the canonical text of a program. `assemble` returns the same program for it.
 pub fn disassemble(alloc: Global, program: &Program) -> Result<String, NoMemory>
     ensures text { IfOk result (λ text. string_bytes text ≡ disassembly program.now) }
-    ensures spells { IfOk result (λ text. SpellsProgram program.now (string_bytes text)) }
+    ensures spells { IfOk result (λ text. EncodesProgram program.now (string_bytes text)) }
 {
     let out = lines_of(alloc, program.version(), program.procedures())?;
     match String::from_utf8(out) {

@@ -46,6 +46,7 @@ pub struct AsmFault {
 }
 
 impl AsmFault {
+    /// Makes a fault of a line.
     pub(crate) fn new(no: FaultNo, line: usize) -> AsmFault
         ensures no { result.no ≡ no }
         ensures line { result.line ≡ line }
@@ -53,6 +54,7 @@ impl AsmFault {
         AsmFault { no, line }
     }
 
+    /// Makes the fault of an allocation that failed.
     pub(crate) fn memory() -> AsmFault
         ensures no { result.no ≡ NoMemory }
         ensures line { result.line ≡ 0 }
@@ -69,6 +71,7 @@ impl From<AllocError> for AsmFault {
 
     ghost from_gives = { λ _ f. f ≡ record { no = NoMemory; line = 0 } };
 
+    /// Returns the fault of a text for a failed allocation.
     fn from(_e: AllocError) -> AsmFault {
         AsmFault::memory()
     }
@@ -79,6 +82,7 @@ impl<T: Drop> From<AllocFailed<T>> for AsmFault {
 
     ghost from_gives = { λ _ f. f ≡ record { no = NoMemory; line = 0 } };
 
+    /// Drops what wasn't added, and returns the fault of a text for a failed allocation.
     fn from(_e: AllocFailed<T>) -> AsmFault {
         AsmFault::memory()
     }

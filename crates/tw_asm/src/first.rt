@@ -9,6 +9,7 @@ use crate::statement::First;
 use tw_code::{Version, opcode_in};
 use tw_lexer::{before, is_name};
 
+/// Returns whether a first word is a label.
 #[tactic(auto, using(crate::proofs::Firsts::no_label))]
 fn is_label(word: &[u8]) -> bool
     ensures { IsTrue result ↔ IsLabelWord word.now }
@@ -19,6 +20,7 @@ fn is_label(word: &[u8]) -> bool
     }
 }
 
+/// Returns whether a first word is the name of an instruction in this version.
 #[tactic(auto, using(crate::proofs::Firsts::named_word))]
 fn is_instr_name(version: Version, word: &[u8]) -> bool
     ensures { IsTrue result ↔ IsInstrWord version word.now }

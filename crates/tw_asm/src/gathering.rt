@@ -63,6 +63,7 @@ pub fn few<A: Drop>(most: u8, items: Result<Vec<A>, TokenError>) -> Result<Items
     }
 }
 
+/// Reads the registers of arguments, however many there are.
 fn arg_list(alloc: Global, words: &[Word<'_>]) -> Result<Result<Vec<u8>, TokenError>, AllocError>
     ensures { IfOk result (λ read. as_is (λ v. v.items) read ≡ each (natural_in 0 15) (map seen_word words.now)) }
 {
@@ -84,6 +85,7 @@ pub fn args_of(
     Ok(few(Procedure::MAX_PARAMS, args))
 }
 
+/// Reads the types of value registers, however many there are.
 fn scalar_list(
     alloc: Global,
     words: &[Word<'_>],

@@ -3,7 +3,7 @@
 ghost use Rattle.std.specs.Prelude.{◌≡◌, IfOk, map, reverse};
 ghost use Rattle.tw_lexer.specs.Words.{Bare};
 ghost use Rattle.tw_lexer.specs.Seen.{seen as seen_word};
-ghost use Rattle.tw_asm.specs.reading.Lines.{begins, broken, ended, ends, few, goes_on, kind_in, param_of, params_from, taken, under, with_type};
+ghost use Rattle.tw_asm.specs.reading.Lines.{begins, broken, ended, ends, few, params_with, kind_in, param_of, params_from, taken, under, with_type};
 ghost use Rattle.tw_lexer.specs.Digits.{as_is};
 ghost use Rattle.tw_asm.specs.reading.Operands.{container_in, is_sum, map_in, mode_in, scalar_in};
 ghost use Rattle.tw_asm.specs.reading.Heads.{seen_params};
@@ -22,6 +22,7 @@ struct Params {
     begun: Begun,
 }
 
+/// Makes parameters that are in error, whatever follows.
 fn broken() -> Params
     ensures { seen_params result ≡ broken }
 {
@@ -71,6 +72,7 @@ fn under(mode: Mode, ty: Result<DataType, TokenError>) -> Result<DataType, Token
     }
 }
 
+/// Makes a parameter of a mode and a type, or returns the error of `under`.
 fn param_of(mode: Mode, ty: Result<DataType, TokenError>) -> Result<Param, TokenError>
     ensures { result ≡ as_is (param_of mode) (under mode ty) }
 {
@@ -104,7 +106,7 @@ fn gone_on(
     ty: Result<DataType, TokenError>,
     word: &Word<'_>,
 ) -> Result<Params, AllocError>
-    ensures { IfOk result (λ params. seen_params params ≡ goes_on (as_is (λ v. reverse v.items) whole) ty (container_in version (seen_word word.now)) (map_in version (seen_word word.now)) (mode_in (seen_word word.now))) }
+    ensures { IfOk result (λ params. seen_params params ≡ params_with (as_is (λ v. reverse v.items) whole) ty (container_in version (seen_word word.now)) (map_in version (seen_word word.now)) (mode_in (seen_word word.now))) }
 {
     match container_of(version, word) {
         Ok(by) => Ok(Params {
@@ -148,6 +150,7 @@ fn ended(params: Params) -> Result<Vec<Param>, TokenError>
     }
 }
 
+/// Reads parameters, however many there are.
 fn param_list(
     alloc: Global,
     version: Version,
@@ -177,6 +180,7 @@ pub fn params_of(
     Ok(few(Procedure::MAX_PARAMS, params))
 }
 
+/// Reads the kind of a procedure from its word.
 fn kind_in(text: &[u8]) -> Result<Kind, TokenError>
     ensures { result ≡ kind_in (Bare text.now) }
 {

@@ -21,7 +21,6 @@ mod operands;
 mod read;
 mod reading;
 mod rejection;
-mod shapes;
 mod skip;
 mod statement;
 mod theorems;

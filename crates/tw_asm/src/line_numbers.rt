@@ -24,6 +24,7 @@ impl LineNumbers {
     }
 }
 
+/// Returns the lines of the instructions of a procedure.
 fn numbers_of(alloc: Global, section: &Section<'_>) -> Result<Items<usize>, AllocError>
     ensures { IfOk result (λ numbers. numbers ≡ section_numbers (seen_section section.now)) }
 {

@@ -30,6 +30,7 @@ fn skip_to(labels: &Labels<'_>, place: usize, name: &[u8]) -> Result<u16, FaultN
     }
 }
 
+/// Links an instruction at a place: replaces its goal, if that is a label, by a skip.
 fn link_instr(labels: &Labels<'_>, place: usize, line: UnlinkedLine<'_>) -> Result<Instr, AsmFault>
     requires { AreWithin (map seen_label labels.now.entries) }
     ensures { IsLinkedInstr (map seen_label labels.now.entries) place (seen_draft line.entry) result }
@@ -44,6 +45,7 @@ fn link_instr(labels: &Labels<'_>, place: usize, line: UnlinkedLine<'_>) -> Resu
     }
 }
 
+/// Links the instructions of a procedure.
 fn link_code(
     alloc: Global,
     labels: &Labels<'_>,
@@ -62,6 +64,7 @@ fn link_code(
     Ok(code)
 }
 
+/// Links a procedure.
 fn link_section(alloc: Global, section: Section<'_>) -> Result<Procedure, AsmFault>
     requires { AreWithin (map seen_label section.labels.entries) }
     ensures { IsLinkedSection (seen_section section.entry) result }

@@ -67,6 +67,7 @@ fn signed_of(text: &[u8]) -> Result<i64, TokenError>
     number(text)
 }
 
+/// Reads a number of one byte, from `low` to `high`, from its digits.
 fn byte_in(low: u8, high: u8, text: &[u8]) -> Result<u8, TokenError>
     ensures { result ≡ digits_in low high text.now }
 {
@@ -192,6 +193,7 @@ pub fn name_of(text: &[u8]) -> Result<&[u8], TokenError>
     }
 }
 
+/// Reads a goal from a word that isn't quoted.
 fn goal_in(text: &[u8]) -> Result<Goal<'_>, TokenError>
     ensures { result ≡ goal_in (Bare text.now) }
 {
@@ -224,6 +226,7 @@ pub fn goal_of<'a>(word: &Word<'a>) -> Result<Goal<'a>, TokenError>
     }
 }
 
+/// Reads a scalar type from a word that isn't quoted.
 fn scalar_in(text: &[u8]) -> Result<Scalar, TokenError>
     ensures { result ≡ scalar_in (Bare text.now) }
 {
@@ -256,6 +259,7 @@ fn text_container(version: Version) -> Result<Scalar, TokenError>
     }
 }
 
+/// Reads a container's word that isn't quoted.
 fn container_in(version: Version, text: &[u8]) -> Result<Scalar, TokenError>
     ensures { result ≡ container_in version (Bare text.now) }
 {
@@ -278,6 +282,7 @@ pub fn container_of(version: Version, word: &Word<'_>) -> Result<Scalar, TokenEr
     }
 }
 
+/// Reads a map's word that isn't quoted.
 fn map_word_in(text: &[u8]) -> Result<Scalar, TokenError>
     ensures { result ≡ map_in Four (Bare text.now) }
 {
@@ -313,6 +318,7 @@ pub fn is_sum(word: &Word<'_>) -> bool
     }
 }
 
+/// Reads a mode from a word that isn't quoted.
 fn mode_in(text: &[u8]) -> Result<Mode, TokenError>
     ensures { result ≡ mode_in (Bare text.now) }
 {

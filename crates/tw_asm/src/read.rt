@@ -139,6 +139,7 @@ fn words_read<'a>(
     }
 }
 
+/// Reads a statement from all of its words.
 #[tactic(auto, unfolding(crate::specs::reading::Lines::statement_in))]
 fn read_of<'a>(
     alloc: Global,

@@ -67,6 +67,7 @@ pub struct Reading<'a> {
     pub stage: Stage<'a>,
 }
 
+/// Returns whether such a statement is allowed at this stage.
 fn may_begin(stage: &Stage<'_>, expected: First) -> bool
     ensures { IsTrue result ↔ MayBegin (stage_of (seen_stage stage.now)) expected }
 {
@@ -118,6 +119,7 @@ fn limit_line(reading: &Reading<'_>, first: First, number: usize) -> usize
     }
 }
 
+/// Reads the statement of a line, or `None` if the line has no word.
 fn read_words<'a>(
     alloc: Global,
     reading: &Reading<'_>,
@@ -178,6 +180,7 @@ fn take_version<'a>(reading: Reading<'a>, version: Version) -> Reading<'a>
     }
 }
 
+/// Takes the head of a procedure, and ends the procedure before it.
 fn take_head<'a>(
     reading: Reading<'a>,
     number: usize,
@@ -206,6 +209,7 @@ fn take_head<'a>(
     })
 }
 
+/// Takes the types of value registers, and begins the body of the procedure.
 fn take_registers<'a>(
     alloc: Global,
     reading: Reading<'a>,
@@ -240,6 +244,7 @@ fn take_registers<'a>(
     })
 }
 
+/// Takes a statement, by its kind.
 fn take_statement<'a>(
     alloc: Global,
     reading: Reading<'a>,
@@ -257,6 +262,7 @@ fn take_statement<'a>(
     }
 }
 
+/// Reads a line and takes its statement, if it has one.
 fn take_line<'a>(
     alloc: Global,
     reading: Reading<'a>,

@@ -16,6 +16,7 @@ pub enum Rejection {
 impl From<AllocError> for Rejection {
     ghost from_gives = { λ _ rejection. rejection ≡ NoMemory };
 
+    /// Returns the rejection of a line of assembly for which an allocation failed.
     fn from(_refused: AllocError) -> Rejection {
         Rejection::NoMemory
     }
@@ -24,6 +25,7 @@ impl From<AllocError> for Rejection {
 impl<T: Drop> From<AllocFailed<T>> for Rejection {
     ghost from_gives = { λ _ rejection. rejection ≡ NoMemory };
 
+    /// Drops what wasn't added, and returns the rejection of a line of assembly.
     fn from(_refused: AllocFailed<T>) -> Rejection {
         Rejection::NoMemory
     }
@@ -32,6 +34,7 @@ impl<T: Drop> From<AllocFailed<T>> for Rejection {
 impl From<TokenError> for Rejection {
     ghost from_gives = { λ flaw rejection. rejection ≡ Flawed flaw };
 
+    /// Returns the rejection of a line with a wrong word.
     fn from(flaw: TokenError) -> Rejection {
         Rejection::Flawed(flaw)
     }

@@ -7,6 +7,7 @@ ghost use Rattle.tw_asm.specs.Seen.{data_with_skip, local_with_skip, with_skip};
 
 use tw_code::{DataInstr, Flow, Instr, LocalInstr};
 
+/// Replaces the skip of a local instruction, if it has one.
 #[rattlefmt::skip]
 fn local_with_skip(instr: LocalInstr, skip: u16) -> LocalInstr
     ensures { result ≡ local_with_skip skip instr }
@@ -22,6 +23,7 @@ fn local_with_skip(instr: LocalInstr, skip: u16) -> LocalInstr
     }
 }
 
+/// Replaces the skip of an instruction on data, if it has one.
 #[rattlefmt::skip]
 fn data_with_skip(instr: DataInstr, skip: u16) -> DataInstr
     ensures { result ≡ data_with_skip skip instr }
@@ -47,6 +49,7 @@ pub fn with_skip(instr: Instr, skip: u16) -> Instr
     }
 }
 
+/// Returns how many instructions may be skipped, if the flow has a skip.
 fn skip_in(flow: Flow) -> Option<u16>
     ensures { result ≡ skip_in flow }
 {

@@ -1,10 +1,10 @@
 //! Theorems about all texts.
 
-ghost use Rattle.tw_asm.specs.Theorems.{OneFirstFault, OneLine, SpellsOnce};
+ghost use Rattle.tw_asm.specs.Theorems.{OneFirstFault, OneLine, OneProgram};
 
 /// Proves that a text denotes at most one program. So `assemble` returns the program that was given to `disassemble`.
 pub fn spells_once()
-    ensures { SpellsOnce }
+    ensures { OneProgram }
 {}
 
 /// Proves that a text has at most one first fault. So `assemble` can return no other, however it reads the text.

@@ -20,6 +20,7 @@ use tw_code::{Instr, Opcode, Operand, Sink, Version, word_of};
 use tw_lexer::{put, put_both, put_numbered, put_quoted};
 use tw_types::{DataType, Kind, Mode, Param, Scalar};
 
+/// Returns the word of a kind of procedures.
 fn kind_word(kind: Kind) -> &'static str
     ensures { result.now ≡ kind_word kind }
 {
@@ -29,6 +30,7 @@ fn kind_word(kind: Kind) -> &'static str
     }
 }
 
+/// Returns the word of a mode.
 fn mode_word(mode: Mode) -> &'static str
     ensures { result.now ≡ mode_word mode }
 {
@@ -40,6 +42,7 @@ fn mode_word(mode: Mode) -> &'static str
     }
 }
 
+/// Returns the word of a scalar type.
 fn scalar_word(scalar: Scalar) -> &'static str
     ensures { result.now ≡ scalar_word scalar }
 {
@@ -60,6 +63,7 @@ fn word_of_container(ty: DataType) -> &'static str
     }
 }
 
+/// Returns the word of a map, by the type of its subscripts.
 fn map_word(by: Scalar) -> &'static str
     ensures { result.now ≡ map_word by }
 {
@@ -79,7 +83,7 @@ fn sum_word(scalar: Scalar) -> &'static str
     }
 }
 
-/// Returns the word of a map's values, or of its sums.
+/// Returns the last word of a map's type: that of its values, or of its sums.
 fn word_of_values(ty: DataType) -> &'static str
     ensures { result.now ≡ (if has_sums ty.map then sum_word ty.scalar else scalar_word ty.scalar) }
 {
@@ -90,6 +94,7 @@ fn word_of_values(ty: DataType) -> &'static str
     }
 }
 
+/// Writes a number after a space.
 fn put_number(alloc: Global, out: &mut Vec<u8>, number: i64) -> Result<(), AllocError>
     ensures { OnOk result (out.new.items ≡ out.old.items ++ (codes " " ++ signed_decimal number)) }
 {
@@ -99,12 +104,14 @@ fn put_number(alloc: Global, out: &mut Vec<u8>, number: i64) -> Result<(), Alloc
 
 // ---- a part, with a space before each of its words
 
+/// Writes a word after a space.
 fn put_name(out: &mut Vec<u8>, name: &str) -> Result<(), AllocError>
     ensures { OnOk result (out.new.items ≡ out.old.items ++ spaced_all (name.now ∷ [])) }
 {
     put_both(out, " ", name)
 }
 
+/// Writes a type: its containers from the outermost on, then its leaf.
 #[tactic(auto, using(crate::proofs::Lines::spaced_more))]
 fn put_type(out: &mut Vec<u8>, ty: DataType) -> Result<(), AllocError>
     ensures { OnOk result (out.new.items ≡ out.old.items ++ spaced_all (part_words (goal_word None) (type_part ty))) }
@@ -131,6 +138,7 @@ fn put_leaf(out: &mut Vec<u8>, ty: DataType) -> Result<(), AllocError>
     }
 }
 
+/// Writes a scalar type.
 fn put_scalar(out: &mut Vec<u8>, scalar: Scalar) -> Result<(), AllocError>
     ensures { OnOk result (out.new.items ≡ out.old.items ++ spaced_all (scalar_word scalar ∷ [])) }
 {
@@ -146,6 +154,7 @@ pub fn put_param(out: &mut Vec<u8>, param: Param) -> Result<(), AllocError>
     put_type(out, param.ty)
 }
 
+/// Writes a target: the number of an actor, or `any`.
 fn put_target(alloc: Global, out: &mut Vec<u8>, target: Option<u8>) -> Result<(), AllocError>
     ensures { OnOk result (out.new.items ≡ out.old.items ++ spaced_all (part_words (goal_word None) (target_part target))) }
 {
@@ -155,6 +164,7 @@ fn put_target(alloc: Global, out: &mut Vec<u8>, target: Option<u8>) -> Result<()
     }
 }
 
+/// Writes a skip: as a label if there is one, else as a number.
 fn put_goal(
     alloc: Global,
     out: &mut Vec<u8>,
@@ -169,6 +179,7 @@ fn put_goal(
     }
 }
 
+/// Writes a text in quotation marks.
 fn put_literal(out: &mut Vec<u8>, text: &str) -> Result<(), AllocError>
     ensures { OnOk result (out.new.items ≡ out.old.items ++ spaced_all (quoted text.now ∷ [])) }
 {
@@ -176,12 +187,14 @@ fn put_literal(out: &mut Vec<u8>, text: &str) -> Result<(), AllocError>
     put_quoted(out, text)
 }
 
+/// Writes the register of an argument.
 fn put_argument(alloc: Global, out: &mut Vec<u8>, register: u8) -> Result<(), AllocError>
     ensures { OnOk result (out.new.items ≡ out.old.items ++ spaced_all (decimal register ∷ [])) }
 {
     put_numbered(alloc, out, " ", usize::from(register))
 }
 
+/// Writes the registers of arguments.
 fn put_args(alloc: Global, out: &mut Vec<u8>, args: &[u8]) -> Result<(), AllocError>
     ensures { OnOk result (out.new.items ≡ out.old.items ++ spaced_all (flat_map (λ arg. decimal arg ∷ []) args.now)) }
 {
@@ -191,6 +204,7 @@ fn put_args(alloc: Global, out: &mut Vec<u8>, args: &[u8]) -> Result<(), AllocEr
     Ok(())
 }
 
+/// Writes an operand by its form.
 #[tactic(auto, using(crate::proofs::Lines::one_part))]
 fn put_operand(
     alloc: Global,
@@ -245,11 +259,13 @@ impl Sink for Lines {
 
     ghost puts = { λ s o operands t. t.out.items ≡ s.out.items ++ row_line (goal_word s.label) o operands };
 
+    /// Appends the line of an instruction.
     fn put(&mut self, opcode: Opcode, operands: &[Operand<'_>]) -> Result<(), AllocError> {
         put_row(self.alloc, &mut self.out, self.label, opcode, operands)
     }
 }
 
+/// Writes the line of an instruction with this opcode and these operands.
 fn put_row(
     alloc: Global,
     out: &mut Vec<u8>,

@@ -6,7 +6,7 @@ use Rattle.tw_binary.specs.declared.fault.FaultNo.{FaultNo}
 use Rattle.tw_binary.specs.declared.fault.FaultNo.TheVariants.{Magic, Version, Missing, Limit, Unknown, Nesting, Utf8, Trailing, NoMemory}
 use Rattle.tw_binary.specs.Fault.{IsDue, IsWrongItem, IsFirstFault}
 use Rattle.tw_code.specs.format.Program.{IsVersioned, Versioned}
-use Rattle.tw_binary.specs.Spelling.{spelling}
+use Rattle.tw_binary.specs.Spelling.{encoding}
 use Rattle.tw_binary.specs.Reading.{front_at, whole, wrong}
 use Rattle.tw_binary.proofs.Formats.{IsBytes}
 use Rattle.tw_binary.proofs.Breaks.{IsOfItem, IsDueIn, FailsAt, bind_err, no_err, refused}
@@ -25,8 +25,8 @@ due_of before size d = record {
 }
 
 -- bytes that can't be parsed are no program's encoding
-not_spelled : (bytes : List ℕ) (f : Broken) (other : Versioned) → front_at bytes ≡ Err f → IsVersioned other → spelling other ≡ bytes → ⊥
-not_spelled bytes f other e fits spelled = no_err _ f (sym (front_again other fits) ∙ ap front_at spelled ∙ e)
+not_encoded : (bytes : List ℕ) (f : Broken) (other : Versioned) → front_at bytes ≡ Err f → IsVersioned other → encoding other ≡ bytes → ⊥
+not_encoded bytes f other e fits spelled = no_err _ f (sym (front_again other fits) ∙ ap front_at spelled ∙ e)
 
 -- a fault of an item, by its code
 of_item : (no : FaultNo) (bytes : List ℕ) (offset : ℕ) → IsOfItem no → IsWrongItem bytes offset → IsFirstFault no bytes offset
@@ -58,11 +58,11 @@ in_item bytes f offset at (inr b) = of_item f.no bytes offset b.of_item (record 
   parts = b.parts;
   offset_is = omega (arith, at, b.left, ap length b.parts, length-append b.before (b.item ++ b.after));
   due = due_of b.before (length b.item) b.due;
-  stops = λ other rest fits spelled. not_spelled (b.before ++ (b.item ++ rest)) _ other (b.stops rest) fits spelled;
+  stops = λ other rest fits spelled. not_encoded (b.before ++ (b.item ++ rest)) _ other (b.stops rest) fits spelled;
 })
 
 -- bytes follow the last procedure
-after_end : (bytes : List ℕ) (ps : Versioned) (rest : List ℕ) (f : Broken) (offset : ℕ) → IsVersioned ps → bytes ≡ spelling ps ++ rest → cond (eqb (length rest) 0) (Ok ps) (wrong Trailing rest) ≡ Err f → offset ≡ length bytes - f.left
+after_end : (bytes : List ℕ) (ps : Versioned) (rest : List ℕ) (f : Broken) (offset : ℕ) → IsVersioned ps → bytes ≡ encoding ps ++ rest → cond (eqb (length rest) 0) (Ok ps) (wrong Trailing rest) ≡ Err f → offset ≡ length bytes - f.left
     → IsFirstFault f.no bytes offset
 after_end bytes ps [] f offset fits parts e at = absurd (no_err _ f e)
 after_end bytes ps (b ∷ rest) f offset fits parts e at =
@@ -73,7 +73,7 @@ after_end bytes ps (b ∷ rest) f offset fits parts e at =
       after = b ∷ rest;
       parts = parts;
       some = omega arith;
-      offset_is = omega (arith, at, ap length parts, ap (λ (d : Broken). d.left) is, length-append (spelling ps) (b ∷ rest));
+      offset_is = omega (arith, at, ap length parts, ap (λ (d : Broken). d.left) is, length-append (encoding ps) (b ∷ rest));
     })
 
 pub first_fault : (bytes : List ℕ) (f : Broken) (offset : ℕ) → IsBytes bytes → whole bytes ≡ Err f → offset ≡ length bytes - f.left → IsFirstFault f.no bytes offset

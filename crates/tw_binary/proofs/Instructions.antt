@@ -86,7 +86,7 @@ contents_strict version (form ∷ forms) = both_strict (content_strict version f
 
 -- ---- an instruction of this opcode
 
-by_row : (version : Version) (r : Row) (bytes : List ℕ) → made_at version r bytes ≡ as_is (instr_in r) (contents_at version (forms_in r)) bytes
+pub by_row : (version : Version) (r : Row) (bytes : List ℕ) → made_at version r bytes ≡ as_is (instr_in r) (contents_at version (forms_in r)) bytes
 by_row version (a_row code forms make) bytes = refl
 
 module _ (version : Version) (o : Opcode) (had : has_opcode version o ≡ true) where

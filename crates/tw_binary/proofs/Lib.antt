@@ -2,6 +2,7 @@ pub mod Breaks
 pub mod Bytes
 pub mod FirstFault
 pub mod Formats
+pub mod Gathering
 pub mod Instructions
 pub mod Joined
 pub mod Loop

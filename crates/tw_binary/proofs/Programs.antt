@@ -12,7 +12,7 @@ use Rattle.tw_code.specs.declared.version.Version.{Version}
 use Rattle.tw_code.specs.declared.instr.Instr.{Instr}
 use Rattle.tw_code.specs.declared.procedure.Procedure.{Procedure}
 use Rattle.tw_code.specs.format.Program.{IsList, IsInstrOf, IsParamOf, IsProcedureOf, IsProgramOf, IsVersioned, Versioned}
-use Rattle.tw_binary.specs.Spelling.{Item, byte, wide, param_items, scalar_items, instr_items, counted_items, procedure_items, magic, version_items, spelling}
+use Rattle.tw_binary.specs.Spelling.{Item, byte, wide, param_items, scalar_items, instr_items, counted_items, procedure_items, magic, version_items, encoding}
 use Rattle.tw_binary.specs.Reading.{counted, byte_at, wide_at, scalar_at, param_at, instr_at, procedure_at, header_at, front_at, whole, wrong}
 use Rattle.tw_binary.proofs.Formats.{IsBytes, bind_ok, passed, ok_is, IsMade}
 use Rattle.tw_binary.proofs.Breaks.{IsStrict, both_strict, then_strict, counted_strict, as_is_strict}
@@ -76,34 +76,34 @@ pub front_strict : IsStrict FrontFits front_items front_at
 front_strict = then_strict header_strict (λ v. counted_strict (procedure_strict v) (byte_strict 1 64 (omega arith)))
 
 -- a program's encoding is parsed to its end
-pub front_again : (p : Versioned) → IsVersioned p → front_at (spelling p) ≡ Ok ((p.version, p.procedures), [])
-front_again p fits = ap front_at (sym (append-nil (spelling p))) ∙ front_strict.format.again (p.version, p.procedures) [] (tt, fits)
+pub front_again : (p : Versioned) → IsVersioned p → front_at (encoding p) ≡ Ok ((p.version, p.procedures), [])
+front_again p fits = ap front_at (sym (append-nil (encoding p))) ∙ front_strict.format.again (p.version, p.procedures) [] (tt, fits)
 
 -- ---- the two theorems
 
 abbrev pub versioned : Version × List Procedure → Versioned
 versioned x = record { version = x.0; procedures = x.1 }
 
-pub whole_takes : (bytes : List ℕ) (p : Versioned) → IsBytes bytes → whole bytes ≡ Ok p → IsVersioned p × (bytes ≡ spelling p)
+pub whole_takes : (bytes : List ℕ) (p : Versioned) → IsBytes bytes → whole bytes ≡ Ok p → IsVersioned p × (bytes ≡ encoding p)
 unfolding whole
 whole_takes bytes p fits e =
     let a = bind_ok (front_at bytes) (λ x. cond (eqb (length x.1) 0) (Ok (versioned x.0)) (wrong Trailing x.1)) p e in
     let g = passed (eqb (length a.0.1) 0) _ (versioned a.0.0) p a.2 in
     let t = front_strict.format.takes bytes a.0.0 a.0.1 fits a.1 in
     let nothing : a.0.1 ≡ [] = nil_from_length a.0.1 (eqb-true _ _ g.0) in
-    let all : bytes ≡ spelling (versioned a.0.0) = t.0.parts ∙ ap (λ (r : List ℕ). spelling (versioned a.0.0) ++ r) nothing ∙ append-nil (spelling (versioned a.0.0)) in
-    subst (λ (v : Versioned). IsVersioned v × (bytes ≡ spelling v)) g.1 (t.1.1, all)
+    let all : bytes ≡ encoding (versioned a.0.0) = t.0.parts ∙ ap (λ (r : List ℕ). encoding (versioned a.0.0) ++ r) nothing ∙ append-nil (encoding (versioned a.0.0)) in
+    subst (λ (v : Versioned). IsVersioned v × (bytes ≡ encoding v)) g.1 (t.1.1, all)
 
-pub whole_again : (p : Versioned) → IsVersioned p → whole (spelling p) ≡ Ok p
+pub whole_again : (p : Versioned) → IsVersioned p → whole (encoding p) ≡ Ok p
 unfolding whole
 whole_again p fits = rw (front_again p fits) refl
 
 -- ---- as decoding needs them
 
-pub one_program : (bytes : List ℕ) (p q : Versioned) → whole bytes ≡ Ok p → IsVersioned q → bytes ≡ spelling q → q ≡ p
+pub one_program : (bytes : List ℕ) (p q : Versioned) → whole bytes ≡ Ok p → IsVersioned q → bytes ≡ encoding q → q ≡ p
 one_program bytes p q e fits spelled = ok_is q p (sym (ap whole spelled ∙ whole_again q fits) ∙ e)
 
-pub no_program : (bytes : List ℕ) (f : Broken) (q : Versioned) → whole bytes ≡ Err f → IsVersioned q → bytes ≡ spelling q → ⊥
+pub no_program : (bytes : List ℕ) (f : Broken) (q : Versioned) → whole bytes ≡ Err f → IsVersioned q → bytes ≡ encoding q → ⊥
 no_program bytes f q e fits spelled = apart q f (sym (ap whole spelled ∙ whole_again q fits) ∙ e) where
   apart : (q : Versioned) (f : Broken) → Ok q ≡ Err f → ⊥
   apart q f h = cc

@@ -24,10 +24,10 @@ use Rattle.tw_code.specs.declared.procedure.Procedure.{Procedure}
 use Rattle.tw_code.specs.declared.version.Version.{Version}
 use Rattle.tw_code.specs.declared.version.Version.TheVariants.{One, Two, Four}
 use Rattle.tw_code.specs.format.Program.{IsInstrOf, IsMapOf, IsOperandOf, IsParamOf, IsProcedureOf, IsProgramOf, IsSubscriptOf, IsTypeUnderOf, IsVersioned}
-use Rattle.tw_binary.specs.Spelling.{Item, byte, leaf_items, mode_code, magic, nested_items, scalar_items, type_items, param_items, operand_items, instr_items, procedure_items, spelling}
+use Rattle.tw_binary.specs.Spelling.{Item, byte, leaf_items, mode_code, magic, nested_items, scalar_items, type_items, param_items, operand_items, instr_items, procedure_items, encoding}
 use Rattle.tw_code.specs.format.Table.{Operand, action_operands, code_of, has_opcode, holds, opcode_by, opcode_of_priority, row}
 use Rattle.tw_binary.specs.VersionOne as one
-use Rattle.tw_binary.specs.VersionOne.{SpellProgram, KeepsVersionOne}
+use Rattle.tw_binary.specs.VersionOne.{IsEncodingOf, KeepsVersionOne}
 
 -- lists whose items are alike
 pub alike : {A : Type 0} (P : A → Type 0) (f g : A → List Item) → ((x : A) → P x → f x ≡ g x) → (xs : List A) → AllByRecursion P xs → flat_map f xs ≡ flat_map g xs
@@ -103,16 +103,16 @@ same_instr i h = same_items i h (same_row i h)
 same_procedure : (p : Procedure) → IsProcedureOf One p → procedure_items p ≡ one.procedure_items p
 same_procedure p h = rw (alike (IsParamOf One) param_items one.param_items same_param p.params h.params.1, alike (IsInstrOf One) instr_items one.instr_items same_instr p.code h.code.1) refl
 
-same_spelling : (procedures : List Procedure) → IsProgramOf One procedures → spelling (record { version = One; procedures = procedures }) ≡ one.spelling_of procedures
-same_spelling procedures h = ap (λ (items : List Item). concat (magic ++ (byte 1 ∷ [] ++ (byte (length procedures) ∷ items)))) (alike (IsProcedureOf One) procedure_items one.procedure_items same_procedure procedures h.1)
+same_encoding : (procedures : List Procedure) → IsProgramOf One procedures → encoding (record { version = One; procedures = procedures }) ≡ one.encoding_of procedures
+same_encoding procedures h = ap (λ (items : List Item). concat (magic ++ (byte 1 ∷ [] ++ (byte (length procedures) ∷ items)))) (alike (IsProcedureOf One) procedure_items one.procedure_items same_procedure procedures h.1)
 
 pub keeps_version_one : KeepsVersionOne
 keeps_version_one bytes p first = (there p.version, back)
   where
-    there : (version : Version) → IsVersioned (record p { version = version }) × (bytes ≡ spelling (record p { version = version })) → (version ≡ One) × SpellProgram bytes p.procedures
-    there One h = (refl, record { is_program = h.0; spelled = h.1 ∙ same_spelling p.procedures h.0 })
+    there : (version : Version) → IsVersioned (record p { version = version }) × (bytes ≡ encoding (record p { version = version })) → (version ≡ One) × IsEncodingOf bytes p.procedures
+    there One h = (refl, record { is_program = h.0; spelled = h.1 ∙ same_encoding p.procedures h.0 })
     there Two h = let two : ◌≡◌ {A = Option ℕ} (Some 2) (Some 1) = sym (ap (λ (bs : List ℕ). slice_get bs 3) h.1) ∙ first in cc
     there Four h = let four : ◌≡◌ {A = Option ℕ} (Some 4) (Some 1) = sym (ap (λ (bs : List ℕ). slice_get bs 3) h.1) ∙ first in cc
 
-    back : (p.version ≡ One) × SpellProgram bytes p.procedures → IsVersioned p × (bytes ≡ spelling p)
-    back h = (subst (λ (v : Version). IsProgramOf v p.procedures) (sym h.0) h.1.is_program, h.1.spelled ∙ sym (same_spelling p.procedures h.1.is_program) ∙ ap (λ (v : Version). spelling (record p { version = v })) (sym h.0))
+    back : (p.version ≡ One) × IsEncodingOf bytes p.procedures → IsVersioned p × (bytes ≡ encoding p)
+    back h = (subst (λ (v : Version). IsProgramOf v p.procedures) (sym h.0) h.1.is_program, h.1.spelled ∙ sym (same_encoding p.procedures h.1.is_program) ∙ ap (λ (v : Version). encoding (record p { version = v })) (sym h.0))

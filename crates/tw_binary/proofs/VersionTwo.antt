@@ -16,10 +16,10 @@ use Rattle.tw_code.specs.declared.procedure.Procedure.{Procedure}
 use Rattle.tw_code.specs.declared.version.Version.{Version}
 use Rattle.tw_code.specs.declared.version.Version.TheVariants.{One, Two, Four}
 use Rattle.tw_code.specs.format.Program.{IsInstrOf, IsMapOf, IsOperandOf, IsParamOf, IsProcedureOf, IsProgramOf, IsTypeUnderOf, IsVersioned}
-use Rattle.tw_binary.specs.Spelling.{Item, byte, container_code, leaf_items, mode_code, magic, nested_items, scalar_items, type_items, param_items, operand_items, instr_items, procedure_items, spelling}
+use Rattle.tw_binary.specs.Spelling.{Item, byte, container_code, leaf_items, mode_code, magic, nested_items, scalar_items, type_items, param_items, operand_items, instr_items, procedure_items, encoding}
 use Rattle.tw_code.specs.format.Table.{Operand, code_of, holds, row}
 use Rattle.tw_binary.specs.VersionTwo as two
-use Rattle.tw_binary.specs.VersionTwo.{SpellProgram, KeepsVersionTwo}
+use Rattle.tw_binary.specs.VersionTwo.{IsEncodingOf, KeepsVersionTwo}
 use Rattle.tw_binary.proofs.VersionOne.{alike}
 
 -- ---- types
@@ -62,16 +62,16 @@ same_instr i h = ap (λ (items : List Item). byte (code_of (row i).0) ∷ items)
 same_procedure : (p : Procedure) → IsProcedureOf Two p → procedure_items p ≡ two.procedure_items p
 same_procedure p h = rw (alike (IsParamOf Two) param_items two.param_items same_param p.params h.params.1, alike (IsInstrOf Two) instr_items two.instr_items same_instr p.code h.code.1) refl
 
-same_spelling : (procedures : List Procedure) → IsProgramOf Two procedures → spelling (record { version = Two; procedures = procedures }) ≡ two.spelling_of procedures
-same_spelling procedures h = ap (λ (items : List Item). concat (magic ++ (byte 2 ∷ [] ++ (byte (length procedures) ∷ items)))) (alike (IsProcedureOf Two) procedure_items two.procedure_items same_procedure procedures h.1)
+same_encoding : (procedures : List Procedure) → IsProgramOf Two procedures → encoding (record { version = Two; procedures = procedures }) ≡ two.encoding_of procedures
+same_encoding procedures h = ap (λ (items : List Item). concat (magic ++ (byte 2 ∷ [] ++ (byte (length procedures) ∷ items)))) (alike (IsProcedureOf Two) procedure_items two.procedure_items same_procedure procedures h.1)
 
 pub keeps_version_two : KeepsVersionTwo
 keeps_version_two bytes p first = (there p.version, back)
   where
-    there : (version : Version) → IsVersioned (record p { version = version }) × (bytes ≡ spelling (record p { version = version })) → (version ≡ Two) × SpellProgram bytes p.procedures
+    there : (version : Version) → IsVersioned (record p { version = version }) × (bytes ≡ encoding (record p { version = version })) → (version ≡ Two) × IsEncodingOf bytes p.procedures
     there One h = let one : ◌≡◌ {A = Option ℕ} (Some 1) (Some 2) = sym (ap (λ (bs : List ℕ). slice_get bs 3) h.1) ∙ first in cc
-    there Two h = (refl, record { is_program = h.0; spelled = h.1 ∙ same_spelling p.procedures h.0 })
+    there Two h = (refl, record { is_program = h.0; spelled = h.1 ∙ same_encoding p.procedures h.0 })
     there Four h = let four : ◌≡◌ {A = Option ℕ} (Some 4) (Some 2) = sym (ap (λ (bs : List ℕ). slice_get bs 3) h.1) ∙ first in cc
 
-    back : (p.version ≡ Two) × SpellProgram bytes p.procedures → IsVersioned p × (bytes ≡ spelling p)
-    back h = (subst (λ (v : Version). IsProgramOf v p.procedures) (sym h.0) h.1.is_program, h.1.spelled ∙ sym (same_spelling p.procedures h.1.is_program) ∙ ap (λ (v : Version). spelling (record p { version = v })) (sym h.0))
+    back : (p.version ≡ Two) × IsEncodingOf bytes p.procedures → IsVersioned p × (bytes ≡ encoding p)
+    back h = (subst (λ (v : Version). IsProgramOf v p.procedures) (sym h.0) h.1.is_program, h.1.spelled ∙ sym (same_encoding p.procedures h.1.is_program) ∙ ap (λ (v : Version). encoding (record p { version = v })) (sym h.0))

@@ -4,7 +4,7 @@ use Rattle.std.specs.List.{concat}
 use Rattle.tw_binary.specs.declared.fault.FaultNo.{FaultNo}
 use Rattle.tw_binary.specs.declared.fault.FaultNo.TheVariants.{Magic, Version, Missing, Limit, Unknown, Nesting, Utf8, Trailing, NoMemory}
 use Rattle.tw_code.specs.format.Program.{IsVersioned, Versioned}
-use Rattle.tw_binary.specs.Spelling.{Item, items_of, spelling}
+use Rattle.tw_binary.specs.Spelling.{Item, items_of, encoding}
 
 -- returns the code, F01 to F09
 abbrev pub fault_number : FaultNo → ℕ
@@ -37,7 +37,7 @@ pub record IsWrongItem (bytes : List ℕ) (offset : ℕ) : Type 0 where
   pub parts : bytes ≡ before ++ (item ++ after)
   pub offset_is : offset ≡ length before
   pub due : IsDue before (length item)
-  pub stops : (other : Versioned) (rest : List ℕ) → IsVersioned other → spelling other ≡ before ++ (item ++ rest) → ⊥
+  pub stops : (other : Versioned) (rest : List ℕ) → IsVersioned other → encoding other ≡ before ++ (item ++ rest) → ⊥
 
 -- The input ends before the item that is due is complete.
 pub record IsCutOff (bytes : List ℕ) (offset : ℕ) : Type 0 where
@@ -54,9 +54,9 @@ pub record HasMore (bytes : List ℕ) (offset : ℕ) : Type 0 where
   pub program : Versioned
   pub is_program : IsVersioned program
   pub after : List ℕ
-  pub parts : bytes ≡ spelling program ++ after
+  pub parts : bytes ≡ encoding program ++ after
   pub some : 0 < length after
-  pub offset_is : offset ≡ length (spelling program)
+  pub offset_is : offset ≡ length (encoding program)
 
 -- holds if the bytes have such a fault at this offset
 abbrev pub IsFirstFault : FaultNo → List ℕ → ℕ → Type 0

@@ -28,8 +28,10 @@ use Rattle.tw_code.specs.declared.opcode.Opcode.{Opcode}
 use Rattle.tw_code.specs.declared.procedure.Procedure.{Procedure}
 use Rattle.tw_code.specs.declared.version.Version.{Version}
 use Rattle.tw_code.specs.declared.version.Version.TheVariants.{One, Two, Four}
+use Rattle.tw_code.specs.declared.operands.Operands.{Operands}
+use Rattle.tw_code.specs.format.Operands.{gathered}
 use Rattle.tw_code.specs.format.Program.{Versioned}
-use Rattle.tw_code.specs.format.Table.{Content, Contents, Row, a_row, opcode_at, row_of}
+use Rattle.tw_code.specs.format.Table.{Content, Contents, Operand, Row, a_row, holds, opcode_at, row_of}
 
 -- A parser returns a value and the bytes after it, or a fault: its code, and how many bytes there are from its item on.
 abbrev pub Reading : Type 0 → Type 0
@@ -189,10 +191,19 @@ content_at version Callee = byte_at 0 255
 content_at version Target = target_at
 content_at version Args = args_at
 
+-- parses an operand of a form
+abbrev pub operand_at : Version → Form → Reading Operand
+operand_at version Value = as_is (holds Value) (content_at version Value)
+operand_at version form = as_is (holds form) (content_at version form)
+
 -- parses the contents of operands of these forms, in sequence
 abbrev pub contents_at : Version → (forms : List Form) → Reading (Contents forms)
 contents_at version [] bytes = Ok (tt, bytes)
 contents_at version (form ∷ forms) bytes = both (content_at version form) (contents_at version forms) bytes
+
+-- parses operands of these forms, and gathers them
+abbrev pub gathers : Version → List Form → Reading Operands
+gathers version forms bytes = as_is (gathered forms) (contents_at version forms) bytes
 
 -- parses the operands of a row, and returns its instruction
 abbrev pub made_at : Version → Row → Reading Instr

@@ -12,7 +12,7 @@ use Rattle.tw_code.specs.declared.opcode.Opcode.TheVariants as opcode
 use Rattle.tw_code.specs.declared.procedure.Procedure.{Procedure}
 use Rattle.tw_code.specs.declared.version.Version.TheVariants.{One}
 use Rattle.tw_code.specs.format.Program.{IsProgramOf, IsVersioned, Versioned}
-use Rattle.tw_binary.specs.Spelling.{Item, byte, wide, number, kind_code, mode_code, scalar_items, text_items, target_code, counted_items, register_items, magic, spelling}
+use Rattle.tw_binary.specs.Spelling.{Item, byte, wide, number, kind_code, mode_code, scalar_items, text_items, target_code, counted_items, register_items, magic, encoding}
 use Rattle.tw_code.specs.format.Table.{Operand, holds, action_operands, code_of, local_row}
 use Rattle.tw_types.specs.Nesting.{NestedScalar}
 use Rattle.tw_types.specs.declared.data_type.Scalar.{Scalar}
@@ -71,14 +71,14 @@ abbrev pub procedure_items : Procedure → List Item
 procedure_items p = byte (kind_code p.kind) ∷ (counted_items byte param_items p.params ++ (counted_items byte scalar_items p.registers ++ counted_items wide instr_items p.code))
 
 -- encodes "TWB", a 1, and the procedures
-abbrev pub spelling_of : List Procedure → List ℕ
-spelling_of procedures = concat (magic ++ (byte 1 ∷ [] ++ counted_items byte procedure_items procedures))
+abbrev pub encoding_of : List Procedure → List ℕ
+encoding_of procedures = concat (magic ++ (byte 1 ∷ [] ++ counted_items byte procedure_items procedures))
 
 -- holds if the bytes encode this program in version 1
-pub record SpellProgram (bytes : List ℕ) (procedures : List Procedure) : Type 0 where
+pub record IsEncodingOf (bytes : List ℕ) (procedures : List Procedure) : Type 0 where
   pub is_program : IsProgramOf One procedures
-  pub spelled : bytes ≡ spelling_of procedures
+  pub spelled : bytes ≡ encoding_of procedures
 
 -- Bytes whose version is 1 encode a program if and only if they did so before version 2 existed.
 abbrev pub KeepsVersionOne : Type 0
-KeepsVersionOne = (bytes : List ℕ) (p : Versioned) → slice_get bytes 3 ≡ Some 1 → (IsVersioned p × (bytes ≡ spelling p)) ↔ ((p.version ≡ One) × SpellProgram bytes p.procedures)
+KeepsVersionOne = (bytes : List ℕ) (p : Versioned) → slice_get bytes 3 ≡ Some 1 → (IsVersioned p × (bytes ≡ encoding p)) ↔ ((p.version ≡ One) × IsEncodingOf bytes p.procedures)

@@ -90,6 +90,7 @@ impl Stop {
 impl From<AllocError> for Stop {
     ghost from_gives = { λ _ e. e ≡ stop.NoMemory };
 
+    /// Returns the end of decoding for a failed allocation.
     fn from(_e: AllocError) -> Stop {
         Stop::NoMemory
     }
@@ -98,6 +99,7 @@ impl From<AllocError> for Stop {
 impl<T: Drop> From<AllocFailed<T>> for Stop {
     ghost from_gives = { λ _ e. e ≡ stop.NoMemory };
 
+    /// Drops what wasn't added, and returns the end of decoding for a failed allocation.
     fn from(_e: AllocFailed<T>) -> Stop {
         Stop::NoMemory
     }

@@ -10,6 +10,7 @@ use std::alloc::Global;
 use tw_code::{Instr, Procedure, Version};
 use tw_types::{DataType, Items, Mode, Param, Scalar};
 
+/// Decodes the type of a parameter of this mode. Under `val` it is a scalar type.
 fn type_under_mode(version: Version, mode: Mode, bytes: &[u8]) -> Result<(DataType, &[u8]), Stop>
     ensures { Gives (λ x. (x.0, x.1.now)) result (type_under version mode bytes.now) }
 {
@@ -19,6 +20,7 @@ fn type_under_mode(version: Version, mode: Mode, bytes: &[u8]) -> Result<(DataTy
     }
 }
 
+/// Decodes a parameter: its mode and its type.
 #[tactic(auto, unfolding(crate::specs::Reading::param_at))]
 fn param_of(version: Version, bytes: &[u8]) -> Result<(Param, &[u8]), Stop>
     ensures { Gives (λ x. (x.0, x.1.now)) result (param_at version bytes.now) }

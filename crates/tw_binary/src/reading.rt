@@ -4,7 +4,7 @@ ghost use Rattle.std.specs.Prelude.{◌≡◌, IfOk, IfErr, Ok};
 ghost use Rattle.tw_binary.specs.Fault.{IsFirstFault};
 ghost use Rattle.tw_code.specs.format.Program.{IsVersioned, Versioned};
 ghost use Rattle.tw_binary.specs.Reading.{Gives, procedure_at, header_at, counted, byte_at, whole, program_of, Answers};
-ghost use Rattle.tw_binary.specs.Spelling.{spelling};
+ghost use Rattle.tw_binary.specs.Spelling.{encoding};
 
 use crate::fault::{Fault, FaultNo, Stop};
 use crate::items::*;
@@ -13,6 +13,7 @@ use crate::parts::*;
 use std::alloc::Global;
 use tw_code::{Procedure, Program, Version};
 
+/// Decodes a procedure: its kind, parameters, registers and code.
 #[tactic(auto, unfolding(crate::specs::Reading::procedure_at))]
 fn procedure_of(alloc: Global, version: Version, bytes: &[u8]) -> Result<(Procedure, &[u8]), Stop>
     ensures { Gives (λ x. (x.0, x.1.now)) result (procedure_at version bytes.now) }
@@ -63,6 +64,7 @@ fn header_of(bytes: &[u8]) -> Result<(Version, &[u8]), Stop>
     version_of(rest)
 }
 
+/// Decodes a program, after which no byte may follow.
 #[tactic(auto, unfolding(crate::specs::Reading::whole))]
 fn whole_of(alloc: Global, bytes: &[u8]) -> Result<(Version, Vec<Procedure>), Stop>
     ensures { Gives (λ x. record { version = x.0; procedures = x.1.items }) result (whole bytes.now) }
@@ -83,10 +85,10 @@ fn whole_of(alloc: Global, bytes: &[u8]) -> Result<(Version, Vec<Procedure>), St
 /// Decodes a program from all of the bytes. Returns the first fault from the left if they encode none, or if an allocation fails.
 pub fn decode(alloc: Global, bytes: &[u8]) -> Result<Program, Fault>
     // A program that is returned has these bytes as its encoding.
-    ensures found { IfOk result (λ p. IsVersioned p × (bytes.now ≡ spelling p)) }
+    ensures found { IfOk result (λ p. IsVersioned p × (bytes.now ≡ encoding p)) }
     // A program with this encoding is returned, unless an allocation fails.
     ensures only { (p : Versioned)
-        → IsVersioned p → bytes.now ≡ spelling p → Answers result (Ok p) }
+        → IsVersioned p → bytes.now ≡ encoding p → Answers result (Ok p) }
     // An error is the first fault, defined by the encodings of programs alone: the item that is due
     // is wrong or cut off, or bytes follow a whole program.
     ensures first { IfErr result (λ f. IsFirstFault f.no bytes.now f.offset) }

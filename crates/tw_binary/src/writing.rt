@@ -5,7 +5,7 @@ ghost use Rattle.std.specs.List.{concat, flat_map};
 ghost use Rattle.tw_code.specs.format.Program.{IsInstr, IsList, IsOperand, IsProcedure, IsTarget};
 ghost use Rattle.tw_code.specs.format.Sink.{AreOperands, seen};
 ghost use Rattle.tw_code.specs.format.Table.{code_of};
-ghost use Rattle.tw_binary.specs.Spelling.{kind_code, mode_code, scalar_code, container_code, leaf_items, map_code, version_code, target_code, byte, wide, text_items, type_items, param_items, scalar_items, register_items, operand_items, instr_items, counted_items, procedure_items, spelling};
+ghost use Rattle.tw_binary.specs.Spelling.{kind_code, mode_code, scalar_code, container_code, leaf_items, map_code, version_code, target_code, byte, wide, text_items, type_items, param_items, scalar_items, register_items, operand_items, instr_items, counted_items, procedure_items, encoding};
 ghost use Rattle.tw_types.specs.DataType.{has_sums, is_container_by};
 ghost use Rattle.tw_types.specs.declared.data_type.Scalar.TheVariants.{Int, Text};
 
@@ -13,6 +13,7 @@ use std::alloc::{AllocError, Global};
 use tw_code::{Instr, NoMemory, Opcode, Operand, Procedure, Program, Sink, Version, put_instr};
 use tw_types::{DataType, Kind, Mode, Param, Scalar};
 
+/// Returns the byte of a kind of procedures.
 fn code_of_kind(kind: Kind) -> u8
     ensures { result ≡ kind_code kind }
 {
@@ -22,6 +23,7 @@ fn code_of_kind(kind: Kind) -> u8
     }
 }
 
+/// Returns the byte of a mode.
 fn code_of_mode(mode: Mode) -> u8
     ensures { result ≡ mode_code mode }
 {
@@ -33,6 +35,7 @@ fn code_of_mode(mode: Mode) -> u8
     }
 }
 
+/// Returns the byte of a scalar type.
 fn code_of_scalar(scalar: Scalar) -> u8
     ensures { result ≡ scalar_code scalar }
 {
@@ -53,6 +56,7 @@ fn code_of_container(ty: DataType) -> u8
     }
 }
 
+/// Returns the byte of a version.
 fn code_of_version(version: Version) -> u8
     ensures { result ≡ version_code version }
 {
@@ -74,6 +78,7 @@ fn code_of_target(target: Option<u8>) -> u8
     }
 }
 
+/// Encodes a type: its containers from the outermost on, then its leaf.
 fn put_type(out: &mut Vec<u8>, ty: DataType) -> Result<(), AllocError>
     ensures { OnOk result (out.new.items ≡ out.old.items ++ concat (type_items ty)) }
 {
@@ -117,6 +122,7 @@ fn put_leaf(out: &mut Vec<u8>, ty: DataType) -> Result<(), AllocError>
     }
 }
 
+/// Encodes a parameter: its mode and its type.
 fn put_param(out: &mut Vec<u8>, param: Param) -> Result<(), AllocError>
     ensures { OnOk result (out.new.items ≡ out.old.items ++ concat (param_items param)) }
 {
@@ -124,6 +130,7 @@ fn put_param(out: &mut Vec<u8>, param: Param) -> Result<(), AllocError>
     put_type(out, param.ty)
 }
 
+/// Encodes a text: its length and its bytes.
 fn put_literal(out: &mut Vec<u8>, text: &str) -> Result<(), AllocError>
     requires { length text.now ≤ 4096 }
     ensures { OnOk result (out.new.items ≡ out.old.items ++ concat (text_items text.now)) }
@@ -133,6 +140,7 @@ fn put_literal(out: &mut Vec<u8>, text: &str) -> Result<(), AllocError>
     out.extend_from_slice(bytes)
 }
 
+/// Encodes the arguments of a call: their count and their registers.
 fn put_args(out: &mut Vec<u8>, args: &[u8]) -> Result<(), AllocError>
     requires { length args.now ≤ 8 }
     ensures { OnOk result (out.new.items
@@ -143,6 +151,7 @@ fn put_args(out: &mut Vec<u8>, args: &[u8]) -> Result<(), AllocError>
     Ok(())
 }
 
+/// Encodes an operand by its form.
 fn put_operand(out: &mut Vec<u8>, operand: &Operand<'_>) -> Result<(), AllocError>
     requires { IsOperand (seen operand.now) }
     ensures { OnOk result (out.new.items
@@ -190,11 +199,13 @@ impl Sink for Bytes {
 
     ghost puts = { λ s o operands t. t.out.items ≡ s.out.items ++ concat (byte (code_of o) ∷ flat_map operand_items operands) };
 
+    /// Appends the bytes of an instruction.
     fn put(&mut self, opcode: Opcode, operands: &[Operand<'_>]) -> Result<(), AllocError> {
         put_row(&mut self.out, opcode, operands)
     }
 }
 
+/// Encodes parameters after their count.
 fn put_params(out: &mut Vec<u8>, params: &[Param]) -> Result<(), AllocError>
     requires { length params.now ≤ 8 }
     ensures { OnOk result (out.new.items
@@ -207,6 +218,7 @@ fn put_params(out: &mut Vec<u8>, params: &[Param]) -> Result<(), AllocError>
     Ok(())
 }
 
+/// Encodes the types of value registers after their count.
 fn put_registers(out: &mut Vec<u8>, registers: &[Scalar]) -> Result<(), AllocError>
     requires { length registers.now ≤ 16 }
     ensures { OnOk result (out.new.items
@@ -219,6 +231,7 @@ fn put_registers(out: &mut Vec<u8>, registers: &[Scalar]) -> Result<(), AllocErr
     Ok(())
 }
 
+/// Encodes instructions after their count.
 fn put_code(bytes: &mut Bytes, code: &[Instr]) -> Result<(), AllocError>
     requires { IsList 1 4096 IsInstr code.now }
     ensures { OnOk result (bytes.new.out.items
@@ -233,6 +246,7 @@ fn put_code(bytes: &mut Bytes, code: &[Instr]) -> Result<(), AllocError>
     Ok(())
 }
 
+/// Encodes a procedure: its kind, parameters, registers and code.
 fn put_procedure(bytes: &mut Bytes, procedure: &Procedure) -> Result<(), AllocError>
     requires { IsProcedure procedure.now }
     ensures { OnOk result (bytes.new.out.items
@@ -247,7 +261,7 @@ fn put_procedure(bytes: &mut Bytes, procedure: &Procedure) -> Result<(), AllocEr
 
 /// Returns the encoding of a program. Fails only if an allocation fails.
 pub fn encode(alloc: Global, program: &Program) -> Result<Vec<u8>, NoMemory>
-    ensures { IfOk result (λ bytes. bytes.items ≡ spelling program.now) }
+    ensures { IfOk result (λ bytes. bytes.items ≡ encoding program.now) }
 {
     let procedures = program.procedures();
     let mut bytes = Bytes {

@@ -51,7 +51,7 @@ use Rattle.tw_code.specs.machine.Machine.{RunningInstr, step}
 use Rattle.tw_code.specs.machine.Opening.{Opened, closed_map, closed_scalar, main_params, nothing_opened, numbered, opened, opening, with_container, with_given, added_given, with_output}
 use Rattle.tw_code.specs.machine.Position.{int_at, must_have_type, of_type_at, value_at}
 use Rattle.tw_code.specs.machine.Rights.{Rights, held, must_be_empty}
-use Rattle.tw_code.specs.machine.State.{Frame, Frames, State, context_of, filled, frame_of, values_in, gone_after, with_frame, with_rule, with_task, new_rule}
+use Rattle.tw_code.specs.machine.State.{Frame, Frames, State, context_of, filled, frame_of, values_in, frame_after_call, with_frame, with_rule, with_task, new_rule}
 use Rattle.tw_code.proofs.Leaving.{take_leaves, local_leaves, call_leaves, end_leaves, ask_leaves, deliver_leaves, release_leaves}
 
 -- ---- the store
@@ -281,13 +281,13 @@ module _ (actor : Actor) (s : State) where
   framed bound size frame few all = each_insert actor_cmp_total (HasSpent (bound + size)) s.frames (more_spent bound size s all) actor frame few
 
   -- the frame is after a RULE or PUT
-  one_more : (at : RunningInstr) → get s.frames actor ≡ Some at.frame → (rights : Rights) (t : State) → Grown 1 s t → t.frames ≡ s.frames → Grown 1 s (with_frame t actor (gone_after at.frame rights))
+  one_more : (at : RunningInstr) → get s.frames actor ≡ Some at.frame → (rights : Rights) (t : State) → Grown 1 s t → t.frames ≡ s.frames → Grown 1 s (with_frame t actor (frame_after_call at.frame rights))
   one_more at here rights t grown same = record {
     some = omega arith;
     store = grown.store;
     task = grown.task;
     rule = grown.rule;
-    spent = λ bound all. subst (λ (m : Frames). Each (HasSpent (bound + 1)) (insert m actor (gone_after at.frame rights))) (sym same) (framed bound 1 (gone_after at.frame rights) (let few = all actor at.frame here in omega arith) all);
+    spent = λ bound all. subst (λ (m : Frames). Each (HasSpent (bound + 1)) (insert m actor (frame_after_call at.frame rights))) (sym same) (framed bound 1 (frame_after_call at.frame rights) (let few = all actor at.frame here in omega arith) all);
   }
 
 one_subscriber_more : (s : Store) (id : ℕ) (subscriber : Subscriber) → StoreGrown s (subscribed s id subscriber)

@@ -28,7 +28,7 @@ use Rattle.tw_code.specs.machine.Arguments.{Called, called, procedure_of, put_ca
 use Rattle.tw_code.specs.machine.Data.{Context, data_instr}
 use Rattle.tw_code.specs.machine.Machine.{RunningInstr, ask_event, call_by, call_event, deliver_event, end_event, id_in, is_ret, local_event, local_steps, own_rule, ready_at, release_event, running_instr_of, take_event}
 use Rattle.tw_code.specs.machine.Position.{Position}
-use Rattle.tw_code.specs.machine.State.{Frame, State, after_context, context_of, frame_of, gone_after, new_rule, with_frame, with_rule, with_stage, with_task}
+use Rattle.tw_code.specs.machine.State.{Frame, State, after_context, context_of, frame_of, frame_after_call, new_rule, with_frame, with_rule, with_stage, with_task}
 
 -- ---- before the event
 
@@ -79,9 +79,9 @@ module _ (program : List Procedure) (actor : Actor) (s : State) {P : State → T
 
   pub call_leaves : ((at : RunningInstr) (i : DataInstr) (c : Context) → IsRunningAt program actor s at → data_instr i (context_of s at.frame) ≡ Ok c → P (after_context s actor at.frame c))
       → ((at : RunningInstr) (action : Action) (call : Called) → IsRunningAt program actor s at → called program at.procedure.kind (context_of s at.frame) action ≡ Ok call
-      → P (with_frame (with_rule s (new_rule (number_in_kind actor) call.params call.task)) actor (gone_after at.frame call.rights)))
+      → P (with_frame (with_rule s (new_rule (number_in_kind actor) call.params call.task)) actor (frame_after_call at.frame call.rights)))
       → ((at : RunningInstr) (action : Action) (call : Called) → IsRunningAt program actor s at → put_called program at.procedure.kind (context_of s at.frame) action ≡ Ok call
-      → P (with_frame (with_task s call.task) actor (gone_after at.frame call.rights)))
+      → P (with_frame (with_task s call.task) actor (frame_after_call at.frame call.rights)))
       → IfWent (call_event program actor s) P
   call_leaves on_data rule put = if_both (running_instr_of program actor s) (λ at fits_place. by at (is_running_at program actor s at fits_place) at.instr)
     where

@@ -42,7 +42,7 @@ use Rattle.tw_code.specs.declared.instr.Action.{Action}
 use Rattle.tw_code.specs.declared.instr.Instr.{Instr}
 use Rattle.tw_code.specs.declared.instr.Instr.TheVariants as instr
 use Rattle.tw_code.specs.declared.procedure.Procedure.{Procedure}
-use Rattle.tw_code.specs.machine.Arguments.{HandedOver, handed_over, with_arg, priority_at, values_suit, all_pass, is_live, is_of_type, is_closed_if_asked, Called, called, put_called}
+use Rattle.tw_code.specs.machine.Arguments.{MovedArgs, moved_args, with_arg, priority_at, values_suit, all_pass, is_live, is_of_type, is_closed_if_required, Called, called, put_called}
 use Rattle.tw_code.specs.machine.Data.{Context, data_instr}
 use Rattle.tw_code.specs.machine.Machine.{RunningInstr, running_instr_of, call_by, call_event, own_rule, id_in, ask_event, ready_at, deliver_event, release_event, is_ret, local_steps, step, run}
 use Rattle.tw_code.specs.machine.Opening.{opening, reached}
@@ -70,19 +70,19 @@ not_of_value Closed v e = cc
 not_of_value Ref v e = cc
 not_of_value Write v e = cc
 
-handed_asks : (values : List Value) (rights : Rights) (params : List Param) (registers : List ℕ) → length registers ≡ length params → WhereOk (handed_over values rights params registers) (λ (given : HandedOver). AsksRights (first_stages params) given.args)
+handed_asks : (values : List Value) (rights : Rights) (params : List Param) (registers : List ℕ) → length registers ≡ length params → WhereOk (moved_args values rights params registers) (λ (given : MovedArgs). AsksRights (first_stages params) given.args)
 handed_asks values rights [] registers few = record { is = λ k e. cc }
 handed_asks values rights (p ∷ params) [] few = absurd (omega arith)
 handed_asks values rights (p ∷ params) (register ∷ registers) few = by (is_val p.mode) refl (λ r. handed_asks values r params registers (omega arith))
   where
-    by : (b : Bool) → is_val p.mode ≡ b → ((r : Rights) → WhereOk (handed_over values r params registers) (λ (given : HandedOver). AsksRights (first_stages params) given.args))
-        → WhereOk (if b then (ok_or (slice_get values register) WrongRegister >>= λ x. handed_over values rights params registers >>= λ others. Ok (with_arg (ValueArg x) others))
-        else (held rights register >>= λ id. handed_over values (slice_set rights register None) params registers >>= λ others. Ok (with_arg (RightArg id) others))) (λ (given : HandedOver). AsksRights (first_stages (p ∷ params)) given.args)
-    by true v rest = ok_both (ok_or (slice_get values register) WrongRegister) (λ x _. ok_both (handed_over values rights params registers) (λ others e. record {
-      is = asks_more (first_stages params) others.args (first_stage p.mode) (ValueArg x) (ok_of (handed_over values rights params registers) _ others (rest rights) e) (λ u. absurd (not_of_value p.mode v u));
+    by : (b : Bool) → is_val p.mode ≡ b → ((r : Rights) → WhereOk (moved_args values r params registers) (λ (given : MovedArgs). AsksRights (first_stages params) given.args))
+        → WhereOk (if b then (ok_or (slice_get values register) WrongRegister >>= λ x. moved_args values rights params registers >>= λ others. Ok (with_arg (ValueArg x) others))
+        else (held rights register >>= λ id. moved_args values (slice_set rights register None) params registers >>= λ others. Ok (with_arg (RightArg id) others))) (λ (given : MovedArgs). AsksRights (first_stages (p ∷ params)) given.args)
+    by true v rest = ok_both (ok_or (slice_get values register) WrongRegister) (λ x _. ok_both (moved_args values rights params registers) (λ others e. record {
+      is = asks_more (first_stages params) others.args (first_stage p.mode) (ValueArg x) (ok_of (moved_args values rights params registers) _ others (rest rights) e) (λ u. absurd (not_of_value p.mode v u));
     }))
-    by false v rest = ok_both (held rights register) (λ id _. ok_both (handed_over values (slice_set rights register None) params registers) (λ others e. record {
-      is = asks_more (first_stages params) others.args (first_stage p.mode) (RightArg id) (ok_of (handed_over values (slice_set rights register None) params registers) _ others (rest (slice_set rights register None)) e) (λ u. (id, refl));
+    by false v rest = ok_both (held rights register) (λ id _. ok_both (moved_args values (slice_set rights register None) params registers) (λ others e. record {
+      is = asks_more (first_stages params) others.args (first_stage p.mode) (RightArg id) (ok_of (moved_args values (slice_set rights register None) params registers) _ others (rest (slice_set rights register None)) e) (λ u. (id, refl));
     }))
 
 pub record IsCalled (program : List Procedure) (kind : Kind) (action : Action) (call : Called) : Type 0 where
@@ -102,7 +102,7 @@ called_is program kind c action =
     ok_then (must (is_control kind) WrongCall) (λ control.
     ok_then (must (values_suit c.position.values p.params action.args) WrongRegister) (λ _.
     ok_both (priority_at c.position action.priority) (λ priority _.
-    ok_both (handed_over c.position.values c.rights p.params action.args) (λ given e.
+    ok_both (moved_args c.position.values c.rights p.params action.args) (λ given e.
     ok_then (must (all_pass is_live c.store.live p.params given.args) FreedDatum) (λ _.
     ok_then (must (all_pass is_of_type c.store.live p.params given.args) WrongType) (λ _.
     record {
@@ -114,13 +114,13 @@ called_is program kind c action =
         params = refl;
         of_kind = refl;
         target = refl;
-        asks = ok_of (handed_over c.position.values c.rights p.params action.args) _ given (handed_asks c.position.values c.rights p.params action.args (eqb-true (length action.args) (length p.params) (must_ok (length action.args == length p.params) WrongCall few))) e;
+        asks = ok_of (moved_args c.position.values c.rights p.params action.args) _ given (handed_asks c.position.values c.rights p.params action.args (eqb-true (length action.args) (length p.params) (must_ok (length action.args == length p.params) WrongCall few))) e;
       };
     }))))))))
 
 pub put_called_is : (program : List Procedure) (kind : Kind) (c : Context) (action : Action) → WhereOk (put_called program kind c action) (IsCalled program kind action)
 put_called_is program kind c action =
-    ok_both (called program kind c action) (λ call e. ok_then (must (all_pass is_closed_if_asked c.store.live call.params call.task.args) ArgumentNotClosed) (λ _. record { is = ok_of (called program kind c action) _ call (called_is program kind c action) e }))
+    ok_both (called program kind c action) (λ call e. ok_then (must (all_pass is_closed_if_required c.store.live call.params call.task.args) ArgumentNotClosed) (λ _. record { is = ok_of (called program kind c action) _ call (called_is program kind c action) e }))
 
 -- ---- targets are in the layout
 

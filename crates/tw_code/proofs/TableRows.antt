@@ -1,6 +1,7 @@
 -- The instruction table: an opcode and operands make an instruction with that opcode and those operands, and each instruction is
 -- made of its own. An instruction with several opcodes has a line of its own; the others follow by computing.
-use Rattle.std.proofs.Common.{◌≡◌, ◌==◌, ℕ, pos, List, [], ◌∷◌, Option, Some, None, refl}
+use Rattle.std.proofs.Common.{rules, arith, ◌≡◌, ◌==◌, ◌-◌, ◌≤◌, ℕ, pos, List, [], ◌∷◌, Option, Some, None, ap, drop, get_or, length, refl, sym, take}
+use Rattle.std.proofs.lemmas.List.{take_all}
 use Rattle.std.specs.List.{find}
 use Rattle.tw_code.specs.declared.form.Form.{Form}
 use Rattle.tw_code.specs.declared.form.Form.TheVariants.{Value, Right, Number, Iterations, Literal, TypeOf, Skip, Callee, Target, Args}
@@ -17,6 +18,7 @@ use Rattle.tw_code.specs.declared.instr.Priority.TheVariants.{Constant, Computed
 use Rattle.tw_code.specs.declared.opcode.Opcode.{Opcode}
 use Rattle.tw_code.specs.declared.opcode.Opcode.TheVariants as opcode
 use Rattle.tw_code.specs.declared.opcode.TheConstants.{OPCODES}
+use Rattle.tw_code.specs.format.Operands.{ArePlain, gathered, made_of}
 use Rattle.tw_code.specs.format.Table.{Content, Contents, Operand, Row, a_row, code_of, forms_in, forms_of, holds, row, row_of}
 use Rattle.tw_types.specs.declared.data_type.MapKind.TheVariants.{NoMap}
 use Rattle.tw_types.specs.declared.data_type.Scalar.TheVariants.{Int, Text}
@@ -40,6 +42,28 @@ code_known o = refl
 pub is_made : (o : Opcode) (x : Contents (forms_of o)) → row (instr_of o x) ≡ (o, operands_of (forms_of o) x)
 is_made opcode.Int x = refl
 is_made o x = refl
+
+-- gathered operands make the instruction of their contents
+pub made_again : (o : Opcode) (x : Contents (forms_of o)) → ArePlain (forms_of o) → made_of o (gathered (forms_of o) x) ≡ instr_of o x
+made_again opcode.Text x plain = absurd plain.2.0
+made_again opcode.Rule x plain = absurd plain.0
+made_again opcode.Put x plain = absurd plain.0
+made_again opcode.RuleComputed x plain = absurd plain.0
+made_again opcode.PutComputed x plain = absurd plain.0
+made_again o x plain = refl
+
+pub plain_others : (o : Opcode) → (o ≡ opcode.Text → ⊥) → (o ≡ opcode.Rule → ⊥) → (o ≡ opcode.Put → ⊥) → (o ≡ opcode.RuleComputed → ⊥) → (o ≡ opcode.PutComputed → ⊥) → ArePlain (forms_of o)
+plain_others opcode.Text text rule put rule_computed put_computed = absurd (text refl)
+plain_others opcode.Rule text rule put rule_computed put_computed = absurd (rule refl)
+plain_others opcode.Put text rule put rule_computed put_computed = absurd (put refl)
+plain_others opcode.RuleComputed text rule put rule_computed put_computed = absurd (rule_computed refl)
+plain_others opcode.PutComputed text rule put rule_computed put_computed = absurd (put_computed refl)
+plain_others o text rule put rule_computed put_computed = search rules
+
+-- the first form, and those after it
+pub split : (all : List Form) (d : Form) → 1 ≤ length all → all ≡ get_or all 0 d ∷ take (length all - 1) (drop 1 all)
+split [] d some = absurd (omega (arith, some))
+split (form ∷ forms) d some = ap (λ (fs : List Form). form ∷ fs) (sym (take_all (length (form ∷ forms) - 1) forms (omega arith)))
 
 -- ---- the contents of operands, by the forms that they should have
 

@@ -17,7 +17,7 @@ use Rattle.tw_types.proofs.Best.{best_waits}
 use Rattle.tw_types.proofs.Outcomes.{IfWent, went_of}
 use Rattle.tw_types.proofs.Parts.{before_removal, put_or_before}
 use Rattle.tw_code.specs.declared.procedure.Procedure.{Procedure}
-use Rattle.tw_code.specs.machine.History.{if_went, put_between, puts, taken_by, takes}
+use Rattle.tw_code.specs.machine.History.{if_succeeded, put_between, puts, taken_by, takes}
 use Rattle.tw_code.specs.machine.Machine.{step}
 use Rattle.tw_code.specs.machine.Once.{TakesOnce}
 use Rattle.tw_code.specs.machine.Opening.{opening}
@@ -173,7 +173,7 @@ module _ (program : List Procedure) (layout : ActorCounts) where
   run_follows (event ∷ events) s h = by (step program layout event s) (λ t e. went_of (step program layout event s) (Iterations (taken_by event s) s) t (event_turns s program layout event) e) (λ t later. run_follows events t later)
     where
       by : (o : Outcome State) → ((t : State) → o ≡ Went t → Iterations (taken_by event s) s t) → ((t : State) → HasEarlier t → Follows (takes program layout events t) (puts program layout events t) t)
-          → Follows (if_went o (λ t. taken_by event s ++ takes program layout events t)) (if_went o (λ t. put_between s t ++ puts program layout events t)) s
+          → Follows (if_succeeded o (λ t. taken_by event s ++ takes program layout events t)) (if_succeeded o (λ t. put_between s t ++ puts program layout events t)) s
       by (Went t) turn rest = joined (taken_by event s) (takes program layout events t) (puts program layout events t) s t h (turn t refl) (rest t (earlier_still (taken_by event s) s t (turn t refl) h))
       by NotEnabled turn rest = nothing_follows s
       by (Trap cause) turn rest = nothing_follows s

@@ -33,7 +33,7 @@ pub enum Way {
 }
 
 impl LocalInstr {
-    /// Returns where a task may continue after it.
+    /// Returns where a task may continue after a local instruction.
     fn flow(&self) -> Flow
         ensures { result ≡ local_flow self.now }
     {
@@ -52,7 +52,7 @@ impl LocalInstr {
 }
 
 impl DataInstr {
-    /// Returns where a task may continue after it.
+    /// Returns where a task may continue after an instruction on data.
     fn flow(self) -> Flow
         ensures { result ≡ data_flow self }
     {

@@ -1,6 +1,6 @@
 //! Checks of a program's inputs.
 
-ghost use Rattle.std.specs.Prelude.{◌≡◌, ◌&&◌, if◌then◌else◌, length};
+ghost use Rattle.std.specs.Prelude.{◌≡◌, ◌&&◌, if◌then◌else◌, length, slice_get};
 ghost use Rattle.tw_code.specs.machine.Inputs.{are_entries, are_inputs_of, are_members, has_fitting_inputs, has_input_count, input_params, is_given_for, is_input_of, rises, rises_from};
 ghost use Rattle.std.specs.List.{list_all};
 ghost use Rattle.tw_types.specs.DataType.{container_of, has_sums, is_map, same_type, scalar_type};
@@ -36,6 +36,22 @@ pub fn input_count(params: &[Param]) -> usize
     ensures { result ≡ length (input_params params.now) }
 {
     params.iter().filter(|param| !param.mode.is_write()).count()
+}
+
+/// Returns the parameter that takes the input after `index` others.
+pub fn input_param(params: &[Param], index: usize) -> Option<Param>
+    ensures { result ≡ slice_get (input_params params.now) index }
+{
+    let mut left = index;
+    for param in params {
+        if !param.mode.is_write() {
+            if left == 0 {
+                return Some(*param);
+            }
+            left -= 1;
+        }
+    }
+    None
 }
 
 /// Returns whether each input fits its parameter, as far as there are both.
@@ -87,6 +103,7 @@ fn fits<K: AsValue, V: AsValue>(
     }
 }
 
+/// Returns whether a type is this scalar.
 fn is_scalar_of(ty: DataType, scalar: Scalar) -> bool
     ensures { result ≡ same_type ty (scalar_type scalar) }
 {
@@ -124,6 +141,7 @@ pub fn rises<K: AsValue, V: AsValue>(members: &[(K, V)]) -> bool
     }
 }
 
+/// Returns whether each subscript is greater than the one before, and the first one than this one.
 fn rises_from<K: AsValue, V: AsValue>(first: &K, members: &[(K, V)]) -> bool
     ensures { result ≡ rises_from (K.value first.now) (members_by K.value V.value members.now) }
 {
@@ -137,6 +155,7 @@ fn rises_from<K: AsValue, V: AsValue>(first: &K, members: &[(K, V)]) -> bool
     true
 }
 
+/// Returns whether no subscript and no value is too long a text.
 fn are_short<K: AsValue, V: AsValue>(members: &[(K, V)]) -> bool
     ensures { result ≡ list_all (λ e. is_short e.0 && is_short e.1) (members_by K.value V.value members.now) }
 {

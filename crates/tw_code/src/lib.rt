@@ -9,6 +9,7 @@ mod instr;
 mod main_shape;
 mod memory;
 mod opcode;
+mod operands;
 mod procedure;
 mod program;
 mod sink;
@@ -18,12 +19,13 @@ mod version;
 pub use flow::{Flow, Way, flow_at};
 pub use form::Form;
 pub use inputs::{
-    MAX_ENTRIES, MAX_MEMBERS, has_fitting_inputs, has_input_count, input_count, rises,
+    MAX_ENTRIES, MAX_MEMBERS, has_fitting_inputs, has_input_count, input_count, input_param, rises,
 };
 pub use instr::{Action, Arithmetic, DataInstr, Instr, LocalInstr, Priority};
 pub use main_shape::{has_main_shape, main_params};
 pub use memory::NoMemory;
 pub use opcode::{OPCODES, Opcode, form_at, opcode_at, opcode_in, word_of};
+pub use operands::{Operands, PlainOperand, make};
 pub use procedure::Procedure;
 pub use program::Program;
 pub use sink::{Operand, Sink, put_instr};

@@ -29,12 +29,14 @@ pub fn main_params(program: &[Procedure]) -> &[Param]
     }
 }
 
+/// Returns whether main may have these parameters.
 fn are_main_params(params: &[Param]) -> bool
     ensures { result ≡ list_all is_main_param params.now }
 {
     params.iter().all(is_main_param)
 }
 
+/// Returns whether main may have this parameter: not of mode `val`, and of a scalar or a container of scalars.
 fn is_main_param(param: &Param) -> bool
     ensures { result ≡ is_main_param param.now }
 {

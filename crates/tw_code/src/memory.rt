@@ -9,12 +9,14 @@ use thiserror::Error;
 pub struct NoMemory;
 
 impl From<AllocError> for NoMemory {
+    /// Returns the error of a call for a failed allocation.
     fn from(_e: AllocError) -> NoMemory {
         NoMemory
     }
 }
 
 impl<T: Drop> From<AllocFailed<T>> for NoMemory {
+    /// Drops what wasn't added, and returns the error of a call for a failed allocation.
     fn from(_e: AllocFailed<T>) -> NoMemory {
         NoMemory
     }

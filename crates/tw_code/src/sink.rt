@@ -37,11 +37,13 @@ use Operand::{Args, Callee, Iterations, Literal, Number, Right, Skip, Target, Ty
 pub trait Sink {
     ghost puts: { Self → Opcode → List Operand → Self → Type 0 };
 
+    /// Appends an instruction with this opcode and these operands.
     fn put(&mut self, opcode: Opcode, operands: &[Operand<'_>]) -> Result<(), AllocError>
         requires { AreOperands operands.now }
         ensures { OnOk result (puts self.old opcode (map seen operands.now) self.new) };
 }
 
+/// Returns the opcode of an operation on integers.
 fn opcode_of_operation(operation: Arithmetic) -> Opcode
     ensures { result ≡ opcode_of_operation operation }
 {
@@ -77,6 +79,7 @@ fn put_local<S: Sink>(sink: &mut S, instr: &LocalInstr) -> Result<(), AllocError
     }
 }
 
+/// Returns the first opcode if subscripts are integers, the second if they are texts.
 fn opcode_by(for_integers: Opcode, for_texts: Opcode, by: Scalar) -> Opcode
     ensures { result ≡ opcode_by for_integers for_texts by }
 {
@@ -110,6 +113,7 @@ fn put_data<S: Sink>(sink: &mut S, instr: DataInstr) -> Result<(), AllocError>
     }
 }
 
+/// Returns the first opcode if the priority is a constant, the second if it is computed.
 fn opcode_of_priority(constant: Opcode, computed: Opcode, priority: Priority) -> Opcode
     ensures { result ≡ opcode_of_priority constant computed priority }
 {
@@ -119,6 +123,7 @@ fn opcode_of_priority(constant: Opcode, computed: Opcode, priority: Priority) ->
     }
 }
 
+/// Returns the operand of a priority: a number, or the register that holds it.
 fn operand_of_priority<'a>(priority: Priority) -> Operand<'a>
     ensures { seen result ≡ priority_operand priority }
 {
@@ -128,6 +133,7 @@ fn operand_of_priority<'a>(priority: Priority) -> Operand<'a>
     }
 }
 
+/// Puts an action: its opcode, by its priority, and its operands.
 #[rattlefmt::skip]
 fn put_action<S: Sink>(sink: &mut S, constant: Opcode, computed: Opcode, action: &Action) -> Result<(), AllocError>
     requires { IsAction action.now }

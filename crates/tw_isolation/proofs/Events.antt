@@ -19,7 +19,7 @@ use Rattle.tw_code.specs.declared.procedure.Procedure.{Procedure}
 use Rattle.tw_code.specs.machine.Data.{Context, data_instr}
 use Rattle.tw_code.specs.machine.History.{actor_of}
 use Rattle.tw_code.specs.machine.Machine.{RunningInstr, step}
-use Rattle.tw_code.specs.machine.State.{Frame, Frames, State, after_context, context_of, gone_after}
+use Rattle.tw_code.specs.machine.State.{Frame, Frames, State, after_context, context_of, frame_after_call}
 use Rattle.tw_code.proofs.Leaving.{IsRunningAt, ask_leaves, call_leaves, deliver_leaves, end_leaves, local_leaves, release_leaves, take_leaves}
 use Rattle.tw_isolation.specs.Isolation.{AreIsolated, HasRight, HoldsRight, IsIsolated}
 use Rattle.tw_isolation.proofs.Keeping.{Lives, changed_later, data_lives, lives, same}
@@ -75,8 +75,8 @@ event_isolated program layout (Take actor) s = take_leaves program actor s layou
 event_isolated program layout (Local actor n) s = local_leaves program actor s n (λ frame at some here. framed actor s (Local actor n) refl _ refl (other_frame actor s (record frame { position = at; spent = frame.spent + n })))
 event_isolated program layout (Call actor) s = call_leaves program actor s
     (λ at i c here went. called program actor s at i c here went)
-    (λ at action call here _. framed actor s (Call actor) refl _ refl (other_frame actor s (gone_after at.frame call.rights)))
-    (λ at action call here _. framed actor s (Call actor) refl _ refl (other_frame actor s (gone_after at.frame call.rights)))
+    (λ at action call here _. framed actor s (Call actor) refl _ refl (other_frame actor s (frame_after_call at.frame call.rights)))
+    (λ at action call here _. framed actor s (Call actor) refl _ refl (other_frame actor s (frame_after_call at.frame call.rights)))
 event_isolated program layout (End actor) s = end_leaves program actor s
     (framed actor s (End actor) refl _ refl (λ other apart. remove_other actor_cmp actor_cmp_total actor_cmp-IsAntisymmetric s.frames actor other apart))
 event_isolated program layout (Ask engine number parameter) s = ask_leaves s engine number parameter

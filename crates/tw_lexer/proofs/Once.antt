@@ -3,7 +3,7 @@ use Rattle.std.proofs.Common.{[], ◌≡◌, ℕ, Bool, true, false, List, ◌�
 use Rattle.std.specs.Prelude.{◌||◌}
 use Rattle.std.specs.List.{AllByRecursion}
 use Rattle.std.proofs.lemmas.Bool.{eqb-true}
-use Rattle.tw_lexer.specs.Quoted.{SpellsQuoted}
+use Rattle.tw_lexer.specs.Quoted.{EncodesQuoted}
 use Rattle.tw_lexer.proofs.Insides.{head_is, one_text, tail_is}
 use Rattle.tw_lexer.specs.Words.{AreFirstWords, Bare, IsAtEdge, IsAtEnd, IsAtWord, IsBare, IsBlank, IsBroken, IsBrokenLine, IsFirstWord, IsGap, IsLine, IsWord, Quoted, Word, is_comment_sign, is_edge, is_parting}
 
@@ -60,7 +60,7 @@ clean_once (c ∷ t) (d ∷ u) a b clean other at here e =
     (ap (λ (x : ℕ). x ∷ t) (head_is c d (t ++ a) (u ++ b) e) ∙ ap (λ (x : List ℕ). d ∷ x) more.0, more.1)
 
 -- a bare word doesn't begin with a quote
-bare_unquoted : (x q t u a b : List ℕ) → IsBare x → t ≡ x → SpellsQuoted q u → t ++ a ≡ u ++ b → ⊥
+bare_unquoted : (x q t u a b : List ℕ) → IsBare x → t ≡ x → EncodesQuoted q u → t ++ a ≡ u ++ b → ⊥
 bare_unquoted [] q t u a b bare _ _ _ = bare
 bare_unquoted (c ∷ x) q t u a b bare same (inside, is, quotes) e =
     bare.0 (head_is c 34 (x ++ a) ((inside ++ 34 ∷ []) ++ b) (ap (λ (y : List ℕ). y ++ a) (sym same) ∙ e ∙ ap (λ (y : List ℕ). y ++ b) quotes))

@@ -5,7 +5,7 @@ use Rattle.std.proofs.lemmas.Bool.Decides.{nat_tests}
 use Rattle.std.specs.Int.{IsInRange}
 use Rattle.std.specs.Str.Parse.{digits_value}
 use Rattle.tw_lexer.specs.Digits.{are_digits, as_is, digits_in, is_within, negative, signed_in}
-use Rattle.tw_lexer.specs.Number.{IsIn64, IsRead, SpellsDigits, SpellsNumber}
+use Rattle.tw_lexer.specs.Number.{IsIn64, IsRead, EncodesDigits, EncodesNumber}
 use Rattle.tw_lexer.specs.declared.numbers.TokenError.{TokenError}
 use Rattle.tw_lexer.specs.declared.numbers.TokenError.TheVariants.{Form, Limit}
 use Rattle.tw_lexer.proofs.Decided.{digits_decide, within_decide}
@@ -41,12 +41,12 @@ module _ {A B : Type 0} (make : A → B) (Has May : A → Type 0) (Has' May' : B
 
 -- ---- numbers
 
-pub digits_read : (low high : ℕ) (text : List ℕ) → Reads (λ n. SpellsDigits n text) (IsInRange low high) (digits_in low high text)
+pub digits_read : (low high : ℕ) (text : List ℕ) → Reads (λ n. EncodesDigits n text) (IsInRange low high) (digits_in low high text)
 unfolding digits_in
 digits_read low high text = by (are_digits text) (is_within low high (digits_value 10 text)) refl refl
   where
     by : (d w : Bool) → are_digits text ≡ d → is_within low high (digits_value 10 text) ≡ w
-        → Reads (λ n. SpellsDigits n text) (IsInRange low high) (cond d (cond w (Ok (digits_value 10 text)) (Err Limit)) (Err Form))
+        → Reads (λ n. EncodesDigits n text) (IsInRange low high) (cond d (cond w (Ok (digits_value 10 text)) (Err Limit)) (Err Form))
     by true true is has = (record { digits = (digits_decide text).0 is; value = refl }, (within_decide low high (digits_value 10 text)).0 has)
     by true false is has = ((digits_value 10 text, record { digits = (digits_decide text).0 is; value = refl }), λ n spells may. absurd (no (sym has ∙ (within_decide low high (digits_value 10 text)).1 (subst (IsInRange low high) (sym spells.value) may))))
       where
@@ -57,8 +57,8 @@ digits_read low high text = by (are_digits text) (is_within low high (digits_val
         no : false ≡ true → ⊥
         no e = cc
 
-pub digits_same : (low high : ℕ) (text : List ℕ) (r : Result ℕ TokenError) → IsRead (λ n. SpellsDigits n text) (IsInRange low high) r → r ≡ digits_in low high text
-digits_same low high text r h = same (λ n. SpellsDigits n text) (IsInRange low high) (λ a b. one_size a b text) r (digits_in low high text) h (digits_read low high text)
+pub digits_same : (low high : ℕ) (text : List ℕ) (r : Result ℕ TokenError) → IsRead (λ n. EncodesDigits n text) (IsInRange low high) r → r ≡ digits_in low high text
+digits_same low high text r h = same (λ n. EncodesDigits n text) (IsInRange low high) (λ a b. one_size a b text) r (digits_in low high text) h (digits_read low high text)
 
 -- ---- with a sign
 
@@ -66,11 +66,11 @@ negative_fits : (size : ℕ) → size ≤ 2 ^ 63 → IsIn64 (neg_ℤ (pos size))
 negative_fits zero h = record { sfits = omega arith }
 negative_fits (suc n) h = record { sfits = omega (arith, h) }
 
-pub signed_read : (text : List ℕ) → Reads (λ n. SpellsNumber n text) IsIn64 (signed_in text)
+pub signed_read : (text : List ℕ) → Reads (λ n. EncodesNumber n text) IsIn64 (signed_in text)
 unfolding signed_in
 signed_read [] = λ n spells. none n spells
   where
-    none : (n : ℤ) → SpellsNumber n [] → ⊥
+    none : (n : ℤ) → EncodesNumber n [] → ⊥
     none n (inl (k, h, e)) = omega (arith, h.digits.0)
     none n (inr (k, ds, is, h, e)) = no is
       where
@@ -78,11 +78,11 @@ signed_read [] = λ n spells. none n spells
         no e = cc
 signed_read (b ∷ rest) = by (b == 45) refl
   where
-    after_sign : (is : b ≡ 45) (n : ℤ) → SpellsNumber n (b ∷ rest) → (size : ℕ) × SpellsDigits size rest × (n ≡ negative size)
-    after_sign is n (inl (k, h, e)) = absurd (no_sign k rest (subst (λ (c : ℕ). SpellsDigits k (c ∷ rest)) is h))
-    after_sign is n (inr (k, ds, has, h, e)) = (k, subst (SpellsDigits k) (sym (tail_is b 45 rest ds has)) h, e)
+    after_sign : (is : b ≡ 45) (n : ℤ) → EncodesNumber n (b ∷ rest) → (size : ℕ) × EncodesDigits size rest × (n ≡ negative size)
+    after_sign is n (inl (k, h, e)) = absurd (no_sign k rest (subst (λ (c : ℕ). EncodesDigits k (c ∷ rest)) is h))
+    after_sign is n (inr (k, ds, has, h, e)) = (k, subst (EncodesDigits k) (sym (tail_is b 45 rest ds has)) h, e)
 
-    no_minus : (b ≡ 45 → ⊥) → (n : ℤ) → SpellsNumber n (b ∷ rest) → (size : ℕ) × SpellsDigits size (b ∷ rest) × (n ≡ pos size)
+    no_minus : (b ≡ 45 → ⊥) → (n : ℤ) → EncodesNumber n (b ∷ rest) → (size : ℕ) × EncodesDigits size (b ∷ rest) × (n ≡ pos size)
     no_minus isnt n (inl (k, h, e)) = (k, h, e)
     no_minus isnt n (inr (k, ds, has, h, e)) = absurd (isnt (head_is b 45 rest ds has))
 
@@ -95,15 +95,15 @@ signed_read (b ∷ rest) = by (b == 45) refl
     apart : (b == 45) ≡ false → b ≡ 45 → ⊥
     apart e is = grind (arith, nat_tests)
 
-    by : (t : Bool) → (b == 45) ≡ t → Reads (λ n. SpellsNumber n (b ∷ rest)) IsIn64 (cond t (as_is negative (digits_in 0 0x8000000000000000 rest)) (as_is pos (digits_in 0 0x7FFFFFFFFFFFFFFF (b ∷ rest))))
+    by : (t : Bool) → (b == 45) ≡ t → Reads (λ n. EncodesNumber n (b ∷ rest)) IsIn64 (cond t (as_is negative (digits_in 0 0x8000000000000000 rest)) (as_is pos (digits_in 0 0x7FFFFFFFFFFFFFFF (b ∷ rest))))
     by true is =
-        carried negative (λ n. SpellsDigits n rest) (IsInRange 0 0x8000000000000000) (λ n. SpellsNumber n (b ∷ rest)) IsIn64
+        carried negative (λ n. EncodesDigits n rest) (IsInRange 0 0x8000000000000000) (λ n. EncodesNumber n (b ∷ rest)) IsIn64
         (λ k h. inr (k, rest, ap (λ (c : ℕ). c ∷ rest) (eqb-true b 45 is), h, refl)) (after_sign (eqb-true b 45 is))
         (λ k h m. negative_fits k m.1) (λ k h m. size_fits k m) (digits_in 0 0x8000000000000000 rest) (digits_read 0 0x8000000000000000 rest)
     by false is =
-        carried pos (λ n. SpellsDigits n (b ∷ rest)) (IsInRange 0 0x7FFFFFFFFFFFFFFF) (λ n. SpellsNumber n (b ∷ rest)) IsIn64
+        carried pos (λ n. EncodesDigits n (b ∷ rest)) (IsInRange 0 0x7FFFFFFFFFFFFFFF) (λ n. EncodesNumber n (b ∷ rest)) IsIn64
         (λ k h. inl (k, h, refl)) (no_minus (apart is))
         (λ k h m. plain_fits k m) (λ k h m. plain_back k m) (digits_in 0 0x7FFFFFFFFFFFFFFF (b ∷ rest)) (digits_read 0 0x7FFFFFFFFFFFFFFF (b ∷ rest))
 
-pub signed_same : (text : List ℕ) (r : Result ℤ TokenError) → IsRead (λ n. SpellsNumber n text) IsIn64 r → r ≡ signed_in text
-signed_same text r h = same (λ n. SpellsNumber n text) IsIn64 (λ a b. one_number a b text) r (signed_in text) h (signed_read text)
+pub signed_same : (text : List ℕ) (r : Result ℤ TokenError) → IsRead (λ n. EncodesNumber n text) IsIn64 r → r ≡ signed_in text
+signed_same text r h = same (λ n. EncodesNumber n text) IsIn64 (λ a b. one_number a b text) r (signed_in text) h (signed_read text)

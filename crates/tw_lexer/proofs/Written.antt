@@ -6,7 +6,7 @@ use Rattle.std.specs.List.{flat_map}
 use Rattle.std.proofs.lemmas.Bool.{eqb-true}
 use Rattle.std.proofs.lemmas.Bool.Decides.{nat_tests}
 use Rattle.tw_lexer.specs.Theorems.{QuotedTextsAreReadBack}
-use Rattle.tw_lexer.specs.Quoted.{BeginsQuoted, IsInside, IsPiece, SpellsQuoted, backslash, escaped, hex, hex_digit, line_feed, nothing, one_more, plain, quote, quoted}
+use Rattle.tw_lexer.specs.Quoted.{BeginsQuoted, IsInside, IsPiece, EncodesQuoted, backslash, escaped, hex, hex_digit, line_feed, nothing, one_more, plain, quote, quoted}
 use Rattle.tw_lexer.proofs.Insides.{one_text}
 
 hex_back : (n : ℕ) → n < 16 → digit_value (hex_digit n) ≡ n
@@ -44,12 +44,12 @@ inside_written : (text : List ℕ) → IsInside text (flat_map escaped text)
 inside_written [] = nothing
 inside_written (b ∷ text) = one_more b (escaped b) text (flat_map escaped text) (piece_written b) (inside_written text)
 
-pub quoted_spells : (text : List ℕ) → SpellsQuoted text (quoted text)
-quoted_spells text = (flat_map escaped text, inside_written text, refl)
+pub quoted_encodes : (text : List ℕ) → EncodesQuoted text (quoted text)
+quoted_encodes text = (flat_map escaped text, inside_written text, refl)
 
 pub quoted_texts_are_read_back : QuotedTextsAreReadBack
 quoted_texts_are_read_back text rest found after =
-    let own : BeginsQuoted text (quoted text ++ rest) rest = (quoted text, quoted_spells text, refl) in (
+    let own : BeginsQuoted text (quoted text ++ rest) rest = (quoted text, quoted_encodes text, refl) in (
       λ begins. one_text found text (quoted text ++ rest) after rest begins own,
       λ same. subst (λ (t : List ℕ). BeginsQuoted t (quoted text ++ rest) after) (sym same.0) (subst (λ (r : List ℕ). BeginsQuoted text (quoted text ++ rest) r) (sym same.1) own),
     )

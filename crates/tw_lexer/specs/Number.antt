@@ -6,15 +6,15 @@ use Rattle.tw_lexer.specs.declared.numbers.TokenError.{TokenError}
 use Rattle.tw_lexer.specs.declared.numbers.TokenError.TheVariants.{Form, Limit}
 
 -- decimal digits, one or more, that write this number; leading zeros are allowed
-pub record SpellsDigits (n : ℕ) (text : List ℕ) : Type 0 where
+pub record EncodesDigits (n : ℕ) (text : List ℕ) : Type 0 where
   pub digits : IsNumeral 10 text
   pub value : digits_value 10 text ≡ n
 
 -- holds for digits, with or without a `-` before them
-abbrev pub SpellsNumber : ℤ → List ℕ → Type 0
-SpellsNumber n text =
-    ((size : ℕ) × SpellsDigits size text × (n ≡ pos size))
-    ⊎ ((size : ℕ) × (digits : List ℕ) × (text ≡ 45 ∷ digits) × SpellsDigits size digits × (n ≡ neg_ℤ (pos size)))
+abbrev pub EncodesNumber : ℤ → List ℕ → Type 0
+EncodesNumber n text =
+    ((size : ℕ) × EncodesDigits size text × (n ≡ pos size))
+    ⊎ ((size : ℕ) × (digits : List ℕ) × (text ≡ 45 ∷ digits) × EncodesDigits size digits × (n ≡ neg_ℤ (pos size)))
 
 -- holds if it fits 64 bits, signed
 abbrev pub IsIn64 : ℤ → Type 0

@@ -20,12 +20,12 @@ pub data IsInside : List ℕ → List ℕ → Type 0 where
   one_more : (b : ℕ) (piece text inside : List ℕ) → IsPiece b piece → IsInside text inside → IsInside (b ∷ text) (piece ++ inside)
 
 -- holds for a text, by its bytes, between two quotes
-abbrev pub SpellsQuoted : List ℕ → List ℕ → Type 0
-SpellsQuoted text word = (inside : List ℕ) × IsInside text inside × (word ≡ 34 ∷ (inside ++ 34 ∷ []))
+abbrev pub EncodesQuoted : List ℕ → List ℕ → Type 0
+EncodesQuoted text word = (inside : List ℕ) × IsInside text inside × (word ≡ 34 ∷ (inside ++ 34 ∷ []))
 
 -- holds if the bytes begin with the quoted text, and this follows
 abbrev pub BeginsQuoted : List ℕ → List ℕ → List ℕ → Type 0
-BeginsQuoted text bytes rest = (word : List ℕ) × SpellsQuoted text word × (bytes ≡ word ++ rest)
+BeginsQuoted text bytes rest = (word : List ℕ) × EncodesQuoted text word × (bytes ≡ word ++ rest)
 
 -- ---- the written form
 

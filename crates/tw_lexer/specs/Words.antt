@@ -1,7 +1,7 @@
 -- How a line of text is split into words.
 use Rattle.std.specs.Prelude.{◌≡◌, ◌≢◌, ◌==◌, ◌||◌, ℕ, Bool, true, false, List, [], ◌∷◌, ◌++◌}
 use Rattle.std.specs.List.{AllByRecursion}
-use Rattle.tw_lexer.specs.Quoted.{SpellsQuoted}
+use Rattle.tw_lexer.specs.Quoted.{EncodesQuoted}
 
 -- returns whether it separates words: spaces, tabs and carriage returns do
 abbrev pub is_parting : ℕ → Bool
@@ -28,7 +28,7 @@ IsBare (b ∷ others) = b ≢ 34 × AllByRecursion (λ c. is_edge c ≡ false) (
 -- holds if these bytes write the word
 abbrev pub IsWord : Word → List ℕ → Type 0
 IsWord (Bare word) bytes = IsBare word × (bytes ≡ word)
-IsWord (Quoted text) bytes = SpellsQuoted text bytes
+IsWord (Quoted text) bytes = EncodesQuoted text bytes
 
 abbrev pub IsGap : List ℕ → Type 0
 IsGap bytes = AllByRecursion (λ b. is_parting b ≡ true) bytes

@@ -5,14 +5,14 @@ ghost use Rattle.std.specs.Fmt.{signed_decimal};
 
 use std::alloc::{AllocError, Global};
 
-/// Appends the bytes of a text.
+/// Appends the bytes of a text to a vector of bytes.
 pub fn put(out: &mut Vec<u8>, text: &str) -> Result<(), AllocError>
     ensures { OnOk result (out.new.items ≡ out.old.items ++ text.now) }
 {
     out.extend_from_slice(text.as_bytes())
 }
 
-/// Appends two texts.
+/// Appends two texts to a vector of bytes.
 pub fn put_both(out: &mut Vec<u8>, front: &str, back: &str) -> Result<(), AllocError>
     ensures { OnOk result (out.new.items ≡ out.old.items ++ (front.now ++ back.now)) }
 {
@@ -20,7 +20,7 @@ pub fn put_both(out: &mut Vec<u8>, front: &str, back: &str) -> Result<(), AllocE
     put(out, back)
 }
 
-/// Appends a number in decimal digits.
+/// Appends a number in decimal digits to a vector of bytes.
 pub fn put_decimal(alloc: Global, out: &mut Vec<u8>, number: usize) -> Result<(), AllocError>
     ensures { OnOk result (out.new.items ≡ out.old.items ++ decimal number) }
 {
@@ -28,7 +28,7 @@ pub fn put_decimal(alloc: Global, out: &mut Vec<u8>, number: usize) -> Result<()
     put(out, &digits)
 }
 
-/// Appends a text, and a number after it.
+/// Appends a text, and a number after it, to a vector of bytes.
 pub fn put_numbered(
     alloc: Global,
     out: &mut Vec<u8>,
@@ -41,7 +41,7 @@ pub fn put_numbered(
     put_decimal(alloc, out, number)
 }
 
-/// Appends an integer in decimal, with `-` if it is negative.
+/// Appends an integer in decimal, with `-` if it is negative, to a vector of bytes.
 pub fn put_signed(alloc: Global, out: &mut Vec<u8>, number: i64) -> Result<(), AllocError>
     ensures { OnOk result (out.new.items ≡ out.old.items ++ signed_decimal number) }
 {

@@ -31,6 +31,7 @@ pub enum ByteEffect {
     Byte(u8),
 }
 
+/// Returns the value of a digit of base 16, in either case, of an escape in a quoted text.
 fn hex_value(byte: u8) -> Option<u8>
     ensures { SomeIff result (digit_value byte < 16) (digit_value byte) }
 {
@@ -42,7 +43,7 @@ fn hex_value(byte: u8) -> Option<u8>
     }
 }
 
-/// Returns the effect of a byte after this much of an escape.
+/// Returns the effect of a byte of a quoted text, after this much of an escape.
 #[tactic(auto, unfolding(crate::specs::reading::Inside::inside_from))]
 pub fn read_byte(escape: Escape, byte: u8) -> ByteEffect
     requires { IsInEscape escape }

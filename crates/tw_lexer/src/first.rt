@@ -2,7 +2,7 @@
 
 ghost use Rattle.std.specs.Prelude.{◌≡◌, ◌≢◌, ◌++◌, ℕ, List, MatchOption};
 
-/// Returns the bytes after this prefix, or `None` if they don't begin with it.
+/// Returns the bytes of a word or line after this prefix, or `None` if they don't begin with it.
 pub fn after<'a>(front: &[u8], bytes: &'a [u8]) -> Option<&'a [u8]>
     ensures { MatchOption result
         ((rest : List ℕ) → bytes.entry.now ≢ front.now ++ rest)

@@ -15,7 +15,7 @@ pub struct TextHash {
 }
 
 impl TextHash {
-    /// Returns the hash of the names of this text.
+    /// Returns the hash for the names of this text, which has read the whole text.
     pub fn new(text: &str) -> TextHash
         ensures { after_text result ≡ write initial text.now }
     {
@@ -30,6 +30,7 @@ impl BuildHasher for TextHash {
 
     ghost build_hasher = { after_text };
 
+    /// Returns a hasher for a name, which has read the whole text first.
     fn build_hasher(&self) -> DefaultHasher {
         self.after_text
     }

@@ -4,7 +4,7 @@ ghost use Rattle.std.specs.Prelude.{◌≡◌, ◌<◌, ◌≤◌, ◌^◌, pos,
 ghost use Rattle.std.specs.Char.{digit_value};
 ghost use Rattle.std.specs.Int.{IsInRange};
 ghost use Rattle.std.specs.Option.{SomeIff};
-ghost use Rattle.tw_lexer.specs.Number.{IsIn64, IsRead, SpellsDigits, SpellsNumber};
+ghost use Rattle.tw_lexer.specs.Number.{IsIn64, IsRead, EncodesDigits, EncodesNumber};
 
 use crate::first::after;
 
@@ -17,6 +17,7 @@ pub enum TokenError {
     Limit,
 }
 
+/// Returns the value of a decimal digit of a word.
 fn digit_of(byte: u8) -> Option<u8>
     ensures { SomeIff result (digit_value byte < 10) (digit_value byte) }
 {
@@ -29,7 +30,7 @@ fn digit_of(byte: u8) -> Option<u8>
 /// Returns the number between these limits that the digits write. Fails with `Form` if they aren't digits, with `Limit` if the number is out of the
 /// limits.
 pub fn digits(text: &[u8], low: u64, high: u64) -> Result<u64, TokenError>
-    ensures { IsRead (λ n. SpellsDigits n text.now) (IsInRange low high) result }
+    ensures { IsRead (λ n. EncodesDigits n text.now) (IsInRange low high) result }
 {
     let past = u128::from(high) + 1;
     let mut value = 0;
@@ -48,6 +49,7 @@ pub fn digits(text: &[u8], low: u64, high: u64) -> Result<u64, TokenError>
     }
 }
 
+/// Returns the negative integer of this size, of a word with `-` before its digits.
 fn negated(size: u64) -> i64
     requires { size ≤ 2 ^ 63 }
     ensures { result ≡ neg_ℤ (pos size) }
@@ -57,7 +59,7 @@ fn negated(size: u64) -> i64
 
 /// Returns the number that the text writes: digits, with or without `-` before them. Fails with `Limit` if it doesn't fit 64 bits.
 pub fn number(text: &[u8]) -> Result<i64, TokenError>
-    ensures { IsRead (λ n. SpellsNumber n text.now) IsIn64 result }
+    ensures { IsRead (λ n. EncodesNumber n text.now) IsIn64 result }
 {
     match after(b"-", text) {
         Some(size) => match digits(size, 0, 1 << 63) {

@@ -10,8 +10,8 @@ use crate::escape::{ByteEffect, Escape, read_byte};
 use crate::first::after;
 use std::alloc::{AllocError, Global};
 
-/// Decodes bytes up to the closing quote into the empty `text`, and returns the bytes after the quote. Returns `None` if an escape
-/// is wrong or the quote isn't closed.
+/// Decodes a quoted text up to the closing quote into the empty `text`, and returns the bytes after the quote. Returns `None` if
+/// an escape is wrong or the quote isn't closed.
 fn inside<'a>(text: &mut Vec<u8>, bytes: &'a [u8]) -> Result<Option<&'a [u8]>, AllocError>
     requires { text.old.items ≡ [] }
     ensures { IfOk result (λ read. option_map (λ rest. (text.new.items, rest.now)) read ≡ inside_from Nothing bytes.entry.now) }
@@ -56,7 +56,7 @@ pub fn quoted_text(alloc: Global, bytes: &[u8]) -> Result<Option<(String, &[u8])
     }
 }
 
-/// Returns a digit of base 16, in lower case.
+/// Returns a digit of base 16, in lower case, for an escape in a quoted text.
 fn hex_digit(n: u8) -> u8
     requires { n < 16 }
     ensures { result ≡ hex_digit n }
@@ -64,7 +64,7 @@ fn hex_digit(n: u8) -> u8
     if n < 10 { b'0' + n } else { b'a' + (n - 10) }
 }
 
-/// Appends a byte, escaped if necessary.
+/// Appends a byte of a quoted text, escaped if necessary.
 fn put_escaped(out: &mut Vec<u8>, byte: u8) -> Result<(), AllocError>
     ensures { OnOk result (out.new.items ≡ out.old.items ++ escaped byte) }
 {
@@ -91,7 +91,7 @@ pub(crate) fn put_quoted_bytes(out: &mut Vec<u8>, text: &[u8]) -> Result<(), All
     out.extend_from_slice(b"\"")
 }
 
-/// Appends a text as a string literal.
+/// Appends a text as a string literal: in quotes, with escapes.
 pub fn put_quoted(out: &mut Vec<u8>, text: &str) -> Result<(), AllocError>
     ensures { OnOk result (out.new.items ≡ out.old.items ++ quoted text.now) }
 {

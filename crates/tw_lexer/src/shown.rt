@@ -10,14 +10,14 @@ use std::alloc::AllocError;
 /// The greatest number of characters of a line or a word that a message shows.
 const MOST_CHARACTERS: usize = 200;
 
-/// Returns whether a byte of a text begins a character.
+/// Returns whether a byte of UTF-8 begins a character, so that a message may be cut before it.
 pub fn begins_character(byte: u8) -> bool
     ensures { result ≡ begins_character byte }
 {
     byte < 128 || 191 < byte
 }
 
-/// Returns the first characters of a text, at most `most`.
+/// Returns the first characters of a text that a message shows, at most `most`.
 fn first_characters(most: usize, text: &[u8]) -> &[u8]
     ensures { result.now ≡ first_characters most text.now }
 {

@@ -36,12 +36,14 @@ pub enum Next<'a> {
     Found(Word<'a>, &'a [u8]),
 }
 
+/// Returns whether a byte is a space, a tab or a carriage return, which separate words of a line.
 fn parts_words(byte: u8) -> bool
     ensures { result ≡ is_parting byte }
 {
     byte == b' ' || byte == b'\t' || byte == b'\r'
 }
 
+/// Returns whether a byte ends a word of a line: one that separates words, or `;`.
 fn ends_word(byte: u8) -> bool
     ensures { result ≡ is_edge byte }
 {
@@ -64,7 +66,7 @@ pub fn without_gap(bytes: &[u8]) -> &[u8]
     rest
 }
 
-/// Returns how many bytes are before the first one that ends a word.
+/// Returns how many bytes a word without quotes has, up to the first byte that ends one.
 fn length_of_bare(bytes: &[u8]) -> usize
     ensures { result ≡ bare_length bytes.now }
 {
@@ -78,6 +80,7 @@ fn length_of_bare(bytes: &[u8]) -> usize
     count
 }
 
+/// Returns whether a quoted word may end before these bytes: nothing, or a byte that ends a word.
 fn is_at_edge(bytes: &[u8]) -> bool
     ensures { result ≡ is_at_edge bytes.now }
 {

@@ -130,10 +130,10 @@ abbrev pub ends : Result (List Param) TokenError → Result NestedScalar TokenEr
 ends whole ty (Ok mode) = record { whole = put_first (as_is (param_of mode) (under mode ty)) whole; begun = so_far.Nothing }
 ends whole ty (Err e) = broken
 
-abbrev pub goes_on : Result (List Param) TokenError → Result NestedScalar TokenError → Result Scalar TokenError → Result Scalar TokenError → Result Mode TokenError → Params
-goes_on whole ty (Ok by) map mode = record { whole = whole; begun = so_far.Type (contained (Ok by) ty) }
-goes_on whole ty (Err e) (Ok by) mode = with_type whole (mapped by ty)
-goes_on whole ty (Err e) (Err f) mode = ends whole ty mode
+abbrev pub params_with : Result (List Param) TokenError → Result NestedScalar TokenError → Result Scalar TokenError → Result Scalar TokenError → Result Mode TokenError → Params
+params_with whole ty (Ok by) map mode = record { whole = whole; begun = so_far.Type (contained (Ok by) ty) }
+params_with whole ty (Err e) (Ok by) mode = with_type whole (mapped by ty)
+params_with whole ty (Err e) (Err f) mode = ends whole ty mode
 
 -- reads a word before the others
 abbrev pub taken : Version → Word → Params → Params
@@ -142,7 +142,7 @@ taken version w params = by params.whole params.begun
     by : Result (List Param) TokenError → Begun → Params
     by whole so_far.Nothing = begins whole (is_sum w) (scalar_in w)
     by whole so_far.Sum = with_type whole (as_is sums_of (map_in version w))
-    by whole (so_far.Type ty) = goes_on whole ty (container_in version w) (map_in version w) (mode_in w)
+    by whole (so_far.Type ty) = params_with whole ty (container_in version w) (map_in version w) (mode_in w)
 
 abbrev pub params_from : Version → List Word → Params
 params_from version [] = no_params

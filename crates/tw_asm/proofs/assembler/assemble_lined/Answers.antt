@@ -1,7 +1,7 @@
 use Rattle.std.proofs.Common.{map}
 use Rattle.tw_asm.proofs.AsmNames.{err_from_is_err_and, seen_section}
 use Rattle.tw_asm.proofs.Origins.{origins}
-use Rattle.tw_asm.proofs.SpelledSections.{is_program, labels_fit, spells_program}
+use Rattle.tw_asm.proofs.SpelledSections.{is_program, labels_fit, encodes_program}
 use Rattle.tw_asm.proofs.FaultTheorems.{not_linked, not_read}
 use Rattle.tw_asm.proofs.assembler.assemble_lined.Goals as goal
 
@@ -24,6 +24,6 @@ new-requires c = is_program c.args.text.now c.in_ok-unlinked.unlinked.version (m
 pub returns : goal.returns
 returns c =
     let all = map seen_section c.in_ok-unlinked.unlinked.sections.items in (
-      rw c.new.ensures (spells_program c.args.text.now c.in_ok-unlinked.unlinked.version all c.in_ok-procedures.procedures.items c.in_ok-unlinked.ensures c.in_ok-procedures.ensures),
+      rw c.new.ensures (encodes_program c.args.text.now c.in_ok-unlinked.unlinked.version all c.in_ok-procedures.procedures.items c.in_ok-unlinked.ensures c.in_ok-procedures.ensures),
       rw (c.new.ensures, c.in_ok-lines.ensures, c.deref.ensures.value) (origins c.args.text.now c.in_ok-unlinked.unlinked.version all c.in_ok-procedures.procedures.items c.in_ok-unlinked.ensures c.in_ok-procedures.ensures),
     )

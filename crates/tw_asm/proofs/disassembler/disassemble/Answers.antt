@@ -1,6 +1,6 @@
 use Rattle.std.proofs.Common.{◌≡◌, ◌++◌, ℕ, Global, List, Vec, true, false, sym, ap, subst, ◌∙◌}
-use Rattle.tw_asm.proofs.AsmNames.{IsUtf8, Procedure, SpellsProgram, Version, disassembly, flat_map, procedure_lines, version_line}
-use Rattle.tw_asm.proofs.Disassembled.{disassembly_spells, disassembly_text}
+use Rattle.tw_asm.proofs.AsmNames.{IsUtf8, Procedure, EncodesProgram, Version, disassembly, flat_map, procedure_lines, version_line}
+use Rattle.tw_asm.proofs.Disassembled.{disassembly_encodes, disassembly_text}
 use Rattle.tw_asm.proofs.disassembler.disassemble.Goals as goal
 
 not_true : false ≡ true → ⊥
@@ -26,4 +26,4 @@ pub returns-clause-spells : goal.returns-clause-spells
 returns-clause-spells c =
     let program = c.args.program.now in
     let text : c.in_ok-out.out.items ≡ disassembly program = parts_text _ c.version.result program.version c.procedures.result.now program.procedures c.in_ok-out.ensures c.version.ensures c.procedures.ensures.is in
-    subst (SpellsProgram program) (sym (ap (λ (v : Vec ℕ Global). v.items) c.in-Ok.ensures.ok ∙ text)) (disassembly_spells program c.procedures.ensures.version)
+    subst (EncodesProgram program) (sym (ap (λ (v : Vec ℕ Global). v.items) c.in-Ok.ensures.ok ∙ text)) (disassembly_encodes program c.procedures.ensures.version)
