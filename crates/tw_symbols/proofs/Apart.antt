@@ -4,11 +4,11 @@ use Rattle.std.specs.Prelude.{◌&&◌, ◌||◌}
 use Rattle.std.specs.Option.{option_map_or}
 use Rattle.std.proofs.lemmas.Bool.Decides.{nat_tests}
 use Rattle.std.proofs.lemmas.Bool.{eqb-true}
-use Rattle.tw_symbols.proofs.TextNames.{Line, Names, Procedures, Said, Table, flat_map, name_register, nat_lt, no_names, pieces, procedures_of, slice_get, taken_says}
+use Rattle.tw_symbols.proofs.TextNames.{Line, Names, Procedures, Expanded, Table, flat_map, name_register, nat_lt, no_names, pieces, procedures_of, slice_get, expanded_taken}
 use Rattle.tw_symbols.specs.Answers.{lists_entry}
 use Rattle.tw_symbols.specs.Theorems.{NamesDiffer}
 use Rattle.tw_symbols.specs.Meanings.{above, is_listed, is_origin, lists}
-use Rattle.tw_symbols.specs.Registers.{names_after_line, registers_at, said_then}
+use Rattle.tw_symbols.specs.Registers.{names_after_line, registers_at, names_then}
 use Rattle.tw_symbols.specs.declared.meaning.Bank.{Bank}
 use Rattle.tw_symbols.specs.declared.meaning.Bank.TheVariants as bank
 use Rattle.tw_symbols.specs.declared.meaning.Origin.{Origin}
@@ -175,13 +175,13 @@ apart_step = record {
 
 -- ---- line by line
 
-line_apart : (p : Procedures) (number : ℕ) (names : Names) (front : List ℕ) (t : Line) (said : Names × List ℕ) → taken_says p number names front t ≡ Ok said → IsApart names → IsApart said.0
+line_apart : (p : Procedures) (number : ℕ) (names : Names) (front : List ℕ) (t : Line) (said : Names × List ℕ) → expanded_taken p number names front t ≡ Ok said → IsApart names → IsApart said.0
 line_apart p number names front t = taken_step StaysApart apart_step p number names front t (λ first others _ _ later e _. head_step StaysApart apart_step p number names (front ++ first) (flat_map pieces others) later e (tt, tt))
 
 lines_apart : (p : Procedures) (last number : ℕ) (names : Names) (front : List ℕ) (all : List Line) (after : Names) → names_after_line p last number names front all ≡ Some after → IsApart names → IsApart after
 lines_apart p last number names front [] after e h = absurd cc
 lines_apart p last number names front (t ∷ others) after e h =
-    by (taken_says p number names front t) (line_apart p number names front t) e (λ (said : Names × List ℕ). lines_apart p last (number + 1) said.0 said.1 others after) h
+    by (expanded_taken p number names front t) (line_apart p number names front t) e (λ (said : Names × List ℕ). lines_apart p last (number + 1) said.0 said.1 others after) h
   where
     some_is : (a b : Names) → Some a ≡ Some b → a ≡ b
     some_is a b f = cc
@@ -190,8 +190,8 @@ lines_apart p last number names front (t ∷ others) after e h =
     or_further true here more g further k = subst IsApart (some_is here after g) k
     or_further false here more g further k = further g k
 
-    by : (says : Said) → ((said : Names × List ℕ) → says ≡ Ok said → IsApart names → IsApart said.0)
-        → said_then says (λ said. cond (number == last) (Some said.0) (names_after_line p last (number + 1) said.0 said.1 others)) ≡ Some after
+    by : (says : Expanded) → ((said : Names × List ℕ) → says ≡ Ok said → IsApart names → IsApart said.0)
+        → names_then says (λ said. cond (number == last) (Some said.0) (names_after_line p last (number + 1) said.0 said.1 others)) ≡ Some after
         → ((said : Names × List ℕ) → names_after_line p last (number + 1) said.0 said.1 others ≡ Some after → IsApart said.0 → IsApart after) → IsApart names → IsApart after
     by (Err flaw) each g further k = absurd cc
     by (Ok said) each g further k = or_further (number == last) said.0 (names_after_line p last (number + 1) said.0 said.1 others) g (further said) (each said refl k)

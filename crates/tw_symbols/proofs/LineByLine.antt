@@ -1,6 +1,6 @@
 -- An expansion has as many lines as its text, and is in UTF-8 if the text is.
 use Rattle.std.proofs.Common.{[], ◌≡◌, ◌==◌, ◌<◌, ◌-◌, ◌+◌, ℕ, suc, Bool, true, false, cond, List, ◌∷◌, ◌++◌, length, take, drop, get_or, Result, Ok, Err, inl, inr, refl, sym, ap, subst, ◌∙◌, append_assoc, append-nil, codes, arith, Option, Some, None}
-use Rattle.tw_symbols.proofs.TextNames.{AllByRecursion, AreTaken, Broken, IsTaken, IsUtf8, Line, Names, Procedures, Rejection, Said, Says, StartWith, Worded, at_number, ended, line_rest, line_words, lines, lines_of_parts, lines_say, no_names, onto_first, or_unread, procedures_of, read_says, slice_index, slice_split, strip_carriage_return, take-append-drop, taken_says, unread}
+use Rattle.tw_symbols.proofs.TextNames.{AllByRecursion, AreTaken, Broken, IsTaken, IsUtf8, Line, Names, Procedures, Rejection, Expanded, HasExpansion, StartWith, Worded, at_number, ended, line_rest, line_words, lines, lines_of_parts, expanded_from, no_names, onto_first, or_unread, procedures_of, expanded_if_read, slice_index, slice_split, strip_carriage_return, take-append-drop, expanded_taken, unread}
 use Rattle.std.proofs.lemmas.Bool.{eqb-true}
 use Rattle.std.proofs.lemmas.List.Splits.{slice_split-cons_no}
 use Rattle.std.proofs.lemmas.Str.{IsCharBoundary-before_ascii, IsUtf8-append, IsUtf8-nil, IsUtf8-take}
@@ -22,7 +22,7 @@ abbrev joined : List (List ℕ) → List ℕ
 joined [] = []
 joined (l ∷ ls) = l ++ 10 ∷ joined ls
 
-number_then : (n : ℕ) (says : Said) (next : Names × List ℕ → Result (List ℕ) Rejection) (plain : List ℕ) → at_number n says next ≡ Ok plain → (said : Names × List ℕ) × (says ≡ Ok said) × (next said ≡ Ok plain)
+number_then : (n : ℕ) (says : Expanded) (next : Names × List ℕ → Result (List ℕ) Rejection) (plain : List ℕ) → at_number n says next ≡ Ok plain → (said : Names × List ℕ) × (says ≡ Ok said) × (next said ≡ Ok plain)
 number_then n (Ok said) next plain e = (said, refl, e)
 number_then n (Err flaw) next plain e = absurd cc
 
@@ -49,7 +49,7 @@ module _ (Q : List ℕ → Type 0) (kept : IsKept Q) where
   lines_in (t ∷ all) [] are h = absurd are
   lines_in (t ∷ all) (l ∷ ls) (is, more) h = (line_in t l is h.0, lines_in all ls more h.1)
 
-  ended_kept : (p : Procedures) (n : ℕ) (names : Names) (front : List ℕ) (t : Line) (said : Names × List ℕ) → AllKept Q names.types → LineKept Q t → taken_says p n names front t ≡ Ok said
+  ended_kept : (p : Procedures) (n : ℕ) (names : Names) (front : List ℕ) (t : Line) (said : Names × List ℕ) → AllKept Q names.types → LineKept Q t → expanded_taken p n names front t ≡ Ok said
       → (line : List ℕ) × (said.1 ≡ front ++ (line ++ 10 ∷ [])) × Q line × AllKept Q said.0.types
   ended_kept p n names front t said h k e =
       let rest = line_rest t in
@@ -73,22 +73,22 @@ module _ (Q : List ℕ → Type 0) (kept : IsKept Q) where
   unread_kept p n names words =
       either IfUnread (is_past p n) _ _ kept.none (either IfUnread (reads_heads p) _ _ tt (either IfUnread (is_open_call p names words) _ _ ret_kept tt))
 
-  read_kept : (p : Procedures) (n : ℕ) (names : Names) (front : List ℕ) (t : Line) (said : Names × List ℕ) → AllKept Q names.types → LineKept Q t → read_says p n names front t ≡ Ok said
+  read_kept : (p : Procedures) (n : ℕ) (names : Names) (front : List ℕ) (t : Line) (said : Names × List ℕ) → AllKept Q names.types → LineKept Q t → expanded_if_read p n names front t ≡ Ok said
       → (line : List ℕ) × (said.1 ≡ front ++ (line ++ 10 ∷ [])) × Q line × AllKept Q said.0.types
   read_kept p n names front t said h k = by (unread p n names (line_words t)) (unread_kept p n names (line_words t))
     where
-      by : (u : Option (List ℕ)) → IfUnread u → or_unread u names front (taken_says p n names front t) ≡ Ok said → (line : List ℕ) × (said.1 ≡ front ++ (line ++ 10 ∷ [])) × Q line × AllKept Q said.0.types
+      by : (u : Option (List ℕ)) → IfUnread u → or_unread u names front (expanded_taken p n names front t) ≡ Ok said → (line : List ℕ) × (said.1 ≡ front ++ (line ++ 10 ∷ [])) × Q line × AllKept Q said.0.types
       by None u e = ended_kept p n names front t said h k e
       by (Some text) u e =
           let is = ok_is (names, front ++ ended text) said e in
           (text, ap (λ (x : Names × List ℕ). x.1) (sym is), u, subst (λ (x : Names × List ℕ). AllKept Q x.0.types) is h)
 
   -- each line expands to one line
-  lines_kept : (p : Procedures) (n : ℕ) (names : Names) (front : List ℕ) (all : List Line) (plain : List ℕ) → AllKept Q names.types → AllByRecursion (LineKept Q) all → lines_say p n names front all ≡ Ok plain
+  lines_kept : (p : Procedures) (n : ℕ) (names : Names) (front : List ℕ) (all : List Line) (plain : List ℕ) → AllKept Q names.types → AllByRecursion (LineKept Q) all → expanded_from p n names front all ≡ Ok plain
       → (ls : List (List ℕ)) × (plain ≡ front ++ joined ls) × AllKept Q ls × (length ls ≡ length all)
   lines_kept p n names front [] plain h k e = ([], sym (plain_is front plain e) ∙ sym (append-nil front), tt, refl)
   lines_kept p n names front (t ∷ others) plain h k e =
-      let went = number_then n (read_says p n names front t) (λ (said : Names × List ℕ). lines_say p (n + 1) said.0 said.1 others) plain e in
+      let went = number_then n (expanded_if_read p n names front t) (λ (said : Names × List ℕ). expanded_from p (n + 1) said.0 said.1 others) plain e in
       let one = read_kept p n names front t went.0 h k.0 went.1 in
       let more = lines_kept p (n + 1) went.0.0 went.0.1 others plain one.3 k.1 went.2 in (
         one.0 ∷ more.0,
@@ -146,7 +146,7 @@ parts_count (l ∷ m ∷ ls) = ap suc (parts_count (m ∷ ls))
 lines_count : (ls : List (List ℕ)) → AllKept HasNoLineFeed ls → length (lines (joined ls)) ≡ length ls
 lines_count ls h = ap (λ (parts : List (List ℕ)). length (lines_of_parts parts)) (joined_parts ls h) ∙ parts_count ls
 
-count_said : (text plain : List ℕ) → Says text (Ok plain) → length (lines plain) ≡ length (lines text)
+count_said : (text plain : List ℕ) → HasExpansion text (Ok plain) → length (lines plain) ≡ length (lines text)
 count_said text plain (_, (all, taken, says)) =
     let clean = lines_in HasNoLineFeed feeds_kept all (lines text) taken (lines_feeds text) in
     let k = lines_kept HasNoLineFeed feeds_kept (procedures_of all) 1 no_names [] all plain tt clean says in
@@ -198,7 +198,7 @@ joined_utf8 : (ls : List (List ℕ)) → AllKept IsUtf8 ls → IsUtf8 (joined ls
 joined_utf8 [] h = IsUtf8-nil
 joined_utf8 (l ∷ ls) h = IsUtf8-append l (10 ∷ joined ls) h.0 (IsUtf8-append (10 ∷ []) (joined ls) (one_ascii 10 (omega arith)) (joined_utf8 ls h.1))
 
-said_utf8 : (text plain : List ℕ) → Says text (Ok plain) → IsUtf8 text → IsUtf8 plain
+said_utf8 : (text plain : List ℕ) → HasExpansion text (Ok plain) → IsUtf8 text → IsUtf8 plain
 said_utf8 text plain (_, (all, taken, says)) u =
     let clean = lines_in IsUtf8 utf8_kept all (lines text) taken (lines_utf8 text u) in
     let k = lines_kept IsUtf8 utf8_kept (procedures_of all) 1 no_names [] all plain tt clean says in

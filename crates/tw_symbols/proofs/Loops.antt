@@ -1,6 +1,6 @@
 -- The loops over a text's lines.
 use Rattle.std.proofs.Common.{[], ◌≡◌, ◌⊎◌, ◌≤◌, ℕ, suc, ◌+◌, List, ◌∷◌, ◌++◌, length, map, drop, Ok, Err, refl, sym, ap, subst, ◌∙◌, inl, inr, arith}
-use Rattle.tw_symbols.proofs.TextNames.{AreTaken, Bor, IsMemory, IsTaken, Line, Names, Procedures, Rejection, drop_all, length-append, lines_say, map-append, no_names, procedures_of, read_says, seen_rejection, with_line}
+use Rattle.tw_symbols.proofs.TextNames.{AreTaken, Bor, IsMemory, IsTaken, Line, Names, Procedures, Rejection, drop_all, length-append, expanded_from, map-append, no_names, procedures_of, expanded_if_read, seen_rejection, with_line}
 use Rattle.tw_symbols.specs.declared.rejection.NameError.{NameError}
 use Rattle.tw_symbols.proofs.Walk.{taken_at, taken_length, taken_more, with_lines_more}
 
@@ -33,31 +33,31 @@ gather_more ls line index p q at (all, are, is) (t, taken, e) =
 
 -- holds if the result of all lines is that of the lines after the first `n`, with these names and after this text
 abbrev pub HasCome : Procedures → List (List ℕ) → ℕ → Names → List ℕ → Type 0
-HasCome p ls n names front = (all : List Line) → AreTaken all ls → lines_say p 1 no_names [] all ≡ lines_say p (n + 1) names front (drop n all)
+HasCome p ls n names front = (all : List Line) → AreTaken all ls → expanded_from p 1 no_names [] all ≡ expanded_from p (n + 1) names front (drop n all)
 
 pub come_more : (p : Procedures) (ls before others : List (List ℕ)) (line : List ℕ) (index : ℕ) (names after : Names) (front text : List ℕ) → ls ≡ before ++ line ∷ others → index ≡ length before
     → HasCome p ls (length before) names front
-    → ((t : Line) → IsTaken t line → read_says p (index + 1) names front t ≡ Ok (after, text))
+    → ((t : Line) → IsTaken t line → expanded_if_read p (index + 1) names front t ≡ Ok (after, text))
     → HasCome p ls (suc (length before)) after text
 come_more p ls before others line index names after front text parts at so_far here all are =
     let one = taken_at all before line others (subst (AreTaken all) parts are) in
-    let said : read_says p (length before + 1) names front one.0 ≡ Ok (after, text) = subst (λ (k : ℕ). read_says p (k + 1) names front one.0 ≡ Ok (after, text)) at (here one.0 one.1) in
+    let said : expanded_if_read p (length before + 1) names front one.0 ≡ Ok (after, text) = subst (λ (k : ℕ). expanded_if_read p (k + 1) names front one.0 ≡ Ok (after, text)) at (here one.0 one.1) in
     let number : suc (length before) + 1 ≡ (length before + 1) + 1 = omega arith in
-    so_far all are ∙ ap (lines_say p (length before + 1) names front) one.2 ∙ goes p (length before + 1) names front one.0 after text (drop (suc (length before)) all) said
-    ∙ ap (λ (k : ℕ). lines_say p k after text (drop (suc (length before)) all)) (sym number)
+    so_far all are ∙ ap (expanded_from p (length before + 1) names front) one.2 ∙ goes p (length before + 1) names front one.0 after text (drop (suc (length before)) all) said
+    ∙ ap (λ (k : ℕ). expanded_from p k after text (drop (suc (length before)) all)) (sym number)
   where
-    goes : (p : Procedures) (n : ℕ) (names : Names) (front : List ℕ) (t : Line) (after : Names) (text : List ℕ) (others : List Line) → read_says p n names front t ≡ Ok (after, text)
-        → lines_say p n names front (t ∷ others) ≡ lines_say p (n + 1) after text others
+    goes : (p : Procedures) (n : ℕ) (names : Names) (front : List ℕ) (t : Line) (after : Names) (text : List ℕ) (others : List Line) → expanded_if_read p n names front t ≡ Ok (after, text)
+        → expanded_from p n names front (t ∷ others) ≡ expanded_from p (n + 1) after text others
     goes p n names front t after text others e = rw e refl
 
-stops : (p : Procedures) (n : ℕ) (names : Names) (front : List ℕ) (t : Line) (rejection : Rejection) (others : List Line) → rejection.line ≡ n → read_says p n names front t ≡ Err (record { no = rejection.no; word = rejection.word })
-    → lines_say p n names front (t ∷ others) ≡ Err rejection
+stops : (p : Procedures) (n : ℕ) (names : Names) (front : List ℕ) (t : Line) (rejection : Rejection) (others : List Line) → rejection.line ≡ n → expanded_if_read p n names front t ≡ Err (record { no = rejection.no; word = rejection.word })
+    → expanded_from p n names front (t ∷ others) ≡ Err rejection
 stops p n names front t rejection others at e = rw e (ap (λ (k : ℕ). Err (record { line = k; no = rejection.no; word = rejection.word })) (sym at))
 
 pub stopped : (p : Procedures) (ls before others : List (List ℕ)) (line : List ℕ) (index : ℕ) (names : Names) (front : List ℕ) (f : NameError) → ls ≡ before ++ line ∷ others → index ≡ length before
     → HasCome p ls (length before) names front
-    → ((t : Line) → IsTaken t line → IsMemory f ⊎ ((f.line ≡ index + 1) × (read_says p (index + 1) names front t ≡ Err (record { no = f.no; word = f.word.now }))))
-    → (all : List Line) → AreTaken all ls → IsMemory f ⊎ (lines_say p 1 no_names [] all ≡ Err (seen_rejection f))
+    → ((t : Line) → IsTaken t line → IsMemory f ⊎ ((f.line ≡ index + 1) × (expanded_if_read p (index + 1) names front t ≡ Err (record { no = f.no; word = f.word.now }))))
+    → (all : List Line) → AreTaken all ls → IsMemory f ⊎ (expanded_from p 1 no_names [] all ≡ Err (seen_rejection f))
 stopped p ls before others line index names front f parts at so_far here all are = by (here one.0 one.1)
   where
     one : (t : Line) × IsTaken t line × (drop (length before) all ≡ t ∷ drop (suc (length before)) all)
@@ -66,16 +66,16 @@ stopped p ls before others line index names front f parts at so_far here all are
     same : index + 1 ≡ length before + 1
     same = ap (λ (k : ℕ). k + 1) at
 
-    by : IsMemory f ⊎ ((f.line ≡ index + 1) × (read_says p (index + 1) names front one.0 ≡ Err (record { no = f.no; word = f.word.now }))) → IsMemory f ⊎ (lines_say p 1 no_names [] all ≡ Err (seen_rejection f))
+    by : IsMemory f ⊎ ((f.line ≡ index + 1) × (expanded_if_read p (index + 1) names front one.0 ≡ Err (record { no = f.no; word = f.word.now }))) → IsMemory f ⊎ (expanded_from p 1 no_names [] all ≡ Err (seen_rejection f))
     by (inl memory) = inl memory
     by (inr (number, says)) =
-        inr (so_far all are ∙ ap (lines_say p (length before + 1) names front) one.2
-        ∙ stops p (length before + 1) names front one.0 (seen_rejection f) (drop (suc (length before)) all) (number ∙ same) (subst (λ (k : ℕ). read_says p k names front one.0 ≡ Err (record { no = f.no; word = f.word.now })) same says))
+        inr (so_far all are ∙ ap (expanded_from p (length before + 1) names front) one.2
+        ∙ stops p (length before + 1) names front one.0 (seen_rejection f) (drop (suc (length before)) all) (number ∙ same) (subst (λ (k : ℕ). expanded_if_read p k names front one.0 ≡ Err (record { no = f.no; word = f.word.now })) same says))
 
-pub come_end : (p : Procedures) (ls : List (List ℕ)) (n : ℕ) (names : Names) (front : List ℕ) → HasCome p ls n names front → n ≡ length ls → (all : List Line) → AreTaken all ls → lines_say p 1 no_names [] all ≡ Ok front
+pub come_end : (p : Procedures) (ls : List (List ℕ)) (n : ℕ) (names : Names) (front : List ℕ) → HasCome p ls n names front → n ≡ length ls → (all : List Line) → AreTaken all ls → expanded_from p 1 no_names [] all ≡ Ok front
 come_end p ls n names front come e all are =
     let short : length all ≤ n = omega (arith, e, taken_length all ls are) in
-    come all are ∙ ap (lines_say p (n + 1) names front) (drop_all n all short)
+    come all are ∙ ap (expanded_from p (n + 1) names front) (drop_all n all short)
 
 pub one_more_length : (items : Items) (item : ℕ × Bor (List ℕ)) → suc (length (lines_in items)) ≡ length (lines_in (items ++ item ∷ []))
 one_more_length items item =

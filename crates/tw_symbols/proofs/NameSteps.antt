@@ -1,6 +1,6 @@
 -- A relation between the names before and after a line, if each name that it adds keeps it.
 use Rattle.std.proofs.Common.{[], ◌≡◌, ◌<◌, ℕ, Bool, true, false, cond, List, ◌∷◌, ◌++◌, length, take, drop, Option, Some, None, Result, Ok, Err, refl, subst, codes, arith}
-use Rattle.tw_symbols.proofs.TextNames.{TokenError, Line, Names, Procedures, Said, and_then, at_head, flat_map, is_name, known, line_rest, line_words, made_say, may_name, name_register, nat_lt, parameters, pieces, procedure_name, taken_says, list_says}
+use Rattle.tw_symbols.proofs.TextNames.{TokenError, Line, Names, Procedures, Expanded, and_then, at_head, flat_map, is_name, known, line_rest, line_words, expanded_results, may_name, name_register, nat_lt, parameters, pieces, procedure_name, expanded_taken, names_after_list}
 use Rattle.std.proofs.lemmas.Bool.Decides.{nat_tests}
 use Rattle.std.specs.Prelude.{is_none, not, ◌&&◌}
 use Rattle.std.specs.Str.{bytes_eq}
@@ -9,7 +9,7 @@ use Rattle.tw_code.specs.format.Table.{forms_of, opcode_in}
 use Rattle.tw_code.specs.declared.opcode.Opcode.{Opcode}
 use Rattle.tw_code.specs.declared.version.Version.TheVariants.{Four}
 use Rattle.tw_symbols.specs.Meanings.{is_listed, with_constant, with_listed, with_register}
-use Rattle.tw_symbols.specs.LineExpansion.{asked_by, banks_of, begins, begins_first, body_says, constant_says, counted, has_colon, head_says, instruction_says, is_listed_word, is_names_line, let_says, line_says, list_name, made_one, made_word, makes, name_before, name_says, number_in, number_of, only_names, register_of, registers_say, value_after, words_say}
+use Rattle.tw_symbols.specs.LineExpansion.{expected_of, banks_of, begins, begins_first, expanded_body, names_after_constant, counted, has_colon, expanded_head, expanded_instruction, is_listed_word, is_names_line, names_after_let, expanded_line, list_name, made_one, made_word, makes, name_before, checked_name, number_in, number_of, only_names, register_of, expanded_registers, value_after, expanded_words}
 use Rattle.tw_symbols.specs.Expansion.{ended}
 use Rattle.tw_symbols.specs.declared.meaning.Bank.{Bank}
 use Rattle.tw_symbols.specs.declared.meaning.Bank.TheVariants as bank
@@ -42,7 +42,7 @@ module _ (R : Names → Names → Type 0) (step : IsStep R) where
   StepTo names r = (after : Names) → r ≡ Ok after → R names after
 
   -- holds if the names after these are related to them
-  abbrev pub StepSaid : Names → Said → Type 0
+  abbrev pub StepSaid : Names → Expanded → Type 0
   StepSaid names says = (said : Names × List ℕ) → says ≡ Ok said → R names said.0
 
   no_step : (names : Names) (flaw : TokenError) → StepTo names (Err flaw)
@@ -76,12 +76,12 @@ module _ (R : Names → Names → Type 0) (step : IsStep R) where
 
   -- ---- lines `const` and `let`
 
-  const_step : (p : Procedures) (names : Names) (first : List ℕ) (words : List (List ℕ)) → StepTo names (constant_says p names first words)
+  const_step : (p : Procedures) (names : Names) (first : List ℕ) (words : List (List ℕ)) → StepTo names (names_after_constant p names first words)
   const_step p names first [] = no_step names _
   const_step p names first (name ∷ words) =
       then_step names (may_name p names name) _ (λ _. then_step names (value_after number_of first words) _ (λ number. constant_step p names name (binding.Constant number)))
 
-  let_step : (p : Procedures) (names : Names) (first : List ℕ) (words : List (List ℕ)) → StepTo names (let_says p names first words)
+  let_step : (p : Procedures) (names : Names) (first : List ℕ) (words : List (List ℕ)) → StepTo names (names_after_let p names first words)
   let_step p names first [] = no_step names _
   let_step p names first (name ∷ words) =
       then_step names (may_name p names name) _ (λ _. then_step names (value_after register_of first words) _ (λ register. chosen_step p names name register.0 register.1))
@@ -98,26 +98,26 @@ module _ (R : Names → Names → Type 0) (step : IsStep R) where
       by_test (StepTo names) (is_name word && not (is_listed_word word)) _ _ (λ _. no_step names _) (λ _. by_test (StepTo names) (has_colon word) _ _ (λ _. no_step names _) (λ _. same_step names))
   before_step p l names values rights word words (Some name) = name_step p names values rights word name (begins_first l words)
 
-  pub list_step : (p : Procedures) (l : Listed) (names : Names) (values rights : ℕ) (words : List (List ℕ)) → StepTo names (list_says p l names values rights words)
+  pub list_step : (p : Procedures) (l : Listed) (names : Names) (values rights : ℕ) (words : List (List ℕ)) → StepTo names (names_after_list p l names values rights words)
   list_step p l names values rights [] after e = same_step names after e
   list_step p l names values rights (word ∷ words) after e =
-      let went = went_then (name_before p l names values rights word words (before_colon word)) (λ (n : Names). list_says p l n (counted bank.Value (begins l word) values) (counted bank.Right (begins l word) rights) words) after e in
+      let went = went_then (name_before p l names values rights word words (before_colon word)) (λ (n : Names). names_after_list p l n (counted bank.Value (begins l word) values) (counted bank.Right (begins l word) rights) words) after e in
       step.both names went.0 after (before_step p l names values rights word words (before_colon word) went.0 went.1)
       (list_step p l went.0 (counted bank.Value (begins l word) values) (counted bank.Right (begins l word) rights) words after went.2)
 
   -- ---- instructions
 
-  all_made_step : (p : Procedures) (names : Names) (front : List ℕ) (words : List (List ℕ)) → StepSaid names (made_say p names front words)
+  all_made_step : (p : Procedures) (names : Names) (front : List ℕ) (words : List (List ℕ)) → StepSaid names (expanded_results p names front words)
   all_made_step p names front [] said e = subst (λ (x : Names × List ℕ). R names x.0) (ok_is (names, front) said e) (step.same names)
   all_made_step p names front (word ∷ words) said e =
-      let went = went_then (made_word p names front word) (λ (s : Names × List ℕ). made_say p s.0 s.1 words) said e in
+      let went = went_then (made_word p names front word) (λ (s : Names × List ℕ). expanded_results p s.0 s.1 words) said e in
       step.both names went.0.0 said.0 (made_step p names word went.0.0 ((word_made p names front word went.0 went.1).0)) (all_made_step p went.0.0 went.0.1 words said went.2)
 
-  instruction_step : (p : Procedures) (names : Names) (o : Opcode) (front : List ℕ) (ws : List (List ℕ)) → StepSaid names (instruction_says p names o front ws)
+  instruction_step : (p : Procedures) (names : Names) (o : Opcode) (front : List ℕ) (ws : List (List ℕ)) → StepSaid names (expanded_instruction p names o front ws)
   instruction_step p names o front ws said e =
-      let expected_in = λ (n : Names). drop (makes o) (flat_map (asked_by (banks_of p n ws)) (forms_of o)) in
-      let first = went_then (made_say p names front (take (makes o) ws)) (λ (s : Names × List ℕ). and_then (words_say p s.0 (expected_in s.0) s.1 (drop (makes o) ws)) (λ (text : List ℕ). Ok (s.0, text))) said e in
-      let next = went_then (words_say p first.0.0 (expected_in first.0.0) first.0.1 (drop (makes o) ws)) (λ (text : List ℕ). Ok (first.0.0, text)) said first.2 in
+      let expected_in = λ (n : Names). drop (makes o) (flat_map (expected_of (banks_of p n ws)) (forms_of o)) in
+      let first = went_then (expanded_results p names front (take (makes o) ws)) (λ (s : Names × List ℕ). and_then (expanded_words p s.0 (expected_in s.0) s.1 (drop (makes o) ws)) (λ (text : List ℕ). Ok (s.0, text))) said e in
+      let next = went_then (expanded_words p first.0.0 (expected_in first.0.0) first.0.1 (drop (makes o) ws)) (λ (text : List ℕ). Ok (first.0.0, text)) said first.2 in
       subst (λ (x : Names × List ℕ). R names x.0) (ok_is (first.0.0, next.0) said next.2) (all_made_step p names front (take (makes o) ws) first.0 first.1)
 
   -- ---- a line
@@ -130,39 +130,39 @@ module _ (R : Names → Names → Type 0) (step : IsStep R) where
       let went = went_then r (λ (n : Names). Ok (n, front)) said e in
       subst (λ (x : Names × List ℕ). R names x.0) (ok_is (went.0, front) said went.2) (h went.0 went.1)
 
-  registers_step : (p : Procedures) (names : Names) (front : List ℕ) (ws : List (List ℕ)) → StepSaid names (registers_say p names front ws)
+  registers_step : (p : Procedures) (names : Names) (front : List ℕ) (ws : List (List ℕ)) → StepSaid names (expanded_registers p names front ws)
   registers_step p names front ws said e =
-      let went = went_then (list_says p listed.Registers names (length names.types) 0 ws) _ said e in
+      let went = went_then (names_after_list p listed.Registers names (length names.types) 0 ws) _ said e in
       subst (λ (x : Names × List ℕ). R names x.0) (ok_is (went.0, _) said went.2) (list_step p listed.Registers names (length names.types) 0 ws went.0 went.1)
 
-  body_step : (p : Procedures) (names : Names) (o : Option Opcode) (front : List ℕ) (ws : List (List ℕ)) → StepSaid names (body_says p names o front ws)
+  body_step : (p : Procedures) (names : Names) (o : Option Opcode) (front : List ℕ) (ws : List (List ℕ)) → StepSaid names (expanded_body p names o front ws)
   body_step p names None front ws = names_step names _
   body_step p names (Some o) front ws = instruction_step p names o front (flat_map pieces ws)
 
   -- the names after a head are those that it lists
-  pub head_step : (p : Procedures) (number : ℕ) (names : Names) (front : List ℕ) (ws : List (List ℕ)) (said : Names × List ℕ) → head_says p number names front ws ≡ Ok said → R (at_head names ws) said.0
+  pub head_step : (p : Procedures) (number : ℕ) (names : Names) (front : List ℕ) (ws : List (List ℕ)) (said : Names × List ℕ) → expanded_head p number names front ws ≡ Ok said → R (at_head names ws) said.0
   head_step p number names front ws said e =
-      let first = went_then (name_says p number (procedure_name ws)) _ said e in
-      let next = went_then (list_says p listed.Parameters (at_head names ws) 0 0 (parameters ws)) _ said first.2 in
+      let first = went_then (checked_name p number (procedure_name ws)) _ said e in
+      let next = went_then (names_after_list p listed.Parameters (at_head names ws) 0 0 (parameters ws)) _ said first.2 in
       subst (λ (x : Names × List ℕ). R (at_head names ws) x.0) (ok_is (next.0, _) said next.2) (list_step p listed.Parameters (at_head names ws) 0 0 (parameters ws) next.0 next.1)
 
   -- proves the step of a line from that of a head, if it is one
   pub line_step : (p : Procedures) (number : ℕ) (names : Names) (front : List ℕ) (ws : List (List ℕ))
-      → ((first : List ℕ) (others : List (List ℕ)) → ws ≡ first ∷ others → bytes_eq first (codes "proc") ≡ true → StepSaid names (head_says p number names (front ++ first) (flat_map pieces others)))
-      → StepSaid names (line_says p number names front ws)
-  unfolding line_says
+      → ((first : List ℕ) (others : List (List ℕ)) → ws ≡ first ∷ others → bytes_eq first (codes "proc") ≡ true → StepSaid names (expanded_head p number names (front ++ first) (flat_map pieces others)))
+      → StepSaid names (expanded_line p number names front ws)
+  unfolding expanded_line
   line_step p number names front [] head = names_step names front
   line_step p number names front (first ∷ ws) head =
       by_test (StepSaid names) (is_names_line first ws) _ _ (λ _. names_step names front)
-      (λ _. by_test (StepSaid names) (bytes_eq first (codes "const")) _ _ (λ _. only_step names front (constant_says p names first ws) (const_step p names first ws))
-      (λ _. by_test (StepSaid names) (bytes_eq first (codes "let")) _ _ (λ _. only_step names front (let_says p names first ws) (let_step p names first ws))
+      (λ _. by_test (StepSaid names) (bytes_eq first (codes "const")) _ _ (λ _. only_step names front (names_after_constant p names first ws) (const_step p names first ws))
+      (λ _. by_test (StepSaid names) (bytes_eq first (codes "let")) _ _ (λ _. only_step names front (names_after_let p names first ws) (let_step p names first ws))
       (λ _. by_test (StepSaid names) (bytes_eq first (codes "proc")) _ _ (λ t. head first ws refl t)
       (λ _. by_test (StepSaid names) (bytes_eq first (codes "regs")) _ _ (λ _. registers_step p names (front ++ first) (flat_map pieces ws))
       (λ _. body_step p names (opcode_in Four first) (front ++ first) ws)))))
 
   pub taken_step : (p : Procedures) (number : ℕ) (names : Names) (front : List ℕ) (t : Line)
-      → ((first : List ℕ) (others : List (List ℕ)) → line_words t ≡ first ∷ others → bytes_eq first (codes "proc") ≡ true → StepSaid names (head_says p number names (front ++ first) (flat_map pieces others)))
-      → StepSaid names (taken_says p number names front t)
+      → ((first : List ℕ) (others : List (List ℕ)) → line_words t ≡ first ∷ others → bytes_eq first (codes "proc") ≡ true → StepSaid names (expanded_head p number names (front ++ first) (flat_map pieces others)))
+      → StepSaid names (expanded_taken p number names front t)
   taken_step p number names front t head said e =
-      let went = went_then (line_says p number names front (line_words t)) (λ (s : Names × List ℕ). Ok (s.0, s.1 ++ ended (line_rest t))) said e in
+      let went = went_then (expanded_line p number names front (line_words t)) (λ (s : Names × List ℕ). Ok (s.0, s.1 ++ ended (line_rest t))) said e in
       subst (λ (x : Names × List ℕ). R names x.0) (ok_is (went.0.0, _) said went.2) (line_step p number names front (line_words t) head went.0 went.1)

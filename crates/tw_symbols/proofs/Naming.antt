@@ -1,13 +1,13 @@
 -- A name that may be defined has no meaning yet; one that is required is replaced by its meaning.
 use Rattle.std.proofs.Common.{◌≡◌, ℕ, Bool, true, false, cond, List, Option, Some, None, Ok, refl}
-use Rattle.tw_symbols.proofs.TextNames.{Names, Procedures, is_name, known, may_name, meaning, not_taken, or_else, refused}
+use Rattle.tw_symbols.proofs.TextNames.{Names, Procedures, is_name, known, may_name, meaning, not_taken, or_else, rejected_word}
 use Rattle.tw_symbols.specs.declared.meaning.Binding.{Binding}
-use Rattle.tw_symbols.specs.LineExpansion.{named, word_says}
+use Rattle.tw_symbols.specs.LineExpansion.{named, expanded_word}
 use Rattle.tw_symbols.specs.declared.meaning.Expected.{Expected}
 use Rattle.tw_symbols.specs.declared.meaning.Expected.TheVariants as asked
 use Rattle.tw_symbols.specs.declared.rejection.NameNo.TheVariants as no
 
-unknown : (name : List ℕ) (u : Unit {0}) (a : Bool) (k : Option Binding) → cond a (not_taken name k) (refused no.NoName name) ≡ Ok u → k ≡ None
+unknown : (name : List ℕ) (u : Unit {0}) (a : Bool) (k : Option Binding) → cond a (not_taken name k) (rejected_word no.NoName name) ≡ Ok u → k ≡ None
 unknown name u true None e = refl
 unknown name u true (Some x) e = absurd cc
 unknown name u false k e = absurd cc
@@ -21,6 +21,6 @@ pub free_constant : (procedures : Procedures) (names : Names) (name : List ℕ) 
 free_constant procedures names name u e =
     second_none (meaning name names.registers) (meaning name names.constants) (meaning name procedures.table) (unknown name u (is_name name) (known procedures names name) e)
 
-pub word_asked : (p : Procedures) (n : Names) (a : Expected) (front word : List ℕ) → (a ≡ asked.Nothing → ⊥) → is_name word ≡ true → word_says p n a front word ≡ named front word (known p n word) a
+pub word_asked : (p : Procedures) (n : Names) (a : Expected) (front word : List ℕ) → (a ≡ asked.Nothing → ⊥) → is_name word ≡ true → expanded_word p n a front word ≡ named front word (known p n word) a
 word_asked p n asked.Nothing front word other e = absurd (other refl)
 word_asked p n a front word other e = rw e refl

@@ -1,11 +1,11 @@
 -- A text has one result.
 use Rattle.std.proofs.Common.{◌≡◌, ℕ, List, Result, Ok, Err, inl, inr, refl, sym, ap, ◌∙◌}
-use Rattle.tw_symbols.proofs.TextNames.{Rejection, Says, lines, text_says}
+use Rattle.tw_symbols.proofs.TextNames.{Rejection, HasExpansion, lines, expansion_of}
 use Rattle.tw_symbols.specs.Theorems.{NotBoth, OneFirstRejection, ExpandsToItself, ExpandsToOne}
 use Rattle.tw_symbols.proofs.Taking.{all_once}
 
-says_once : (text : List ℕ) (x y : Result (List ℕ) Rejection) → Says text x → Says text y → x ≡ y
-says_once text x y (_, (all, taken, says)) (_, (others, again, other)) = sym says ∙ ap text_says (all_once all others (lines text) taken again) ∙ other
+says_once : (text : List ℕ) (x y : Result (List ℕ) Rejection) → HasExpansion text x → HasExpansion text y → x ≡ y
+says_once text x y (_, (all, taken, says)) (_, (others, again, other)) = sym says ∙ ap expansion_of (all_once all others (lines text) taken again) ∙ other
 
 ok_is : (a b : List ℕ) → ◌≡◌ {A = Result (List ℕ) Rejection} (Ok a) (Ok b) → a ≡ b
 ok_is a b e = cc

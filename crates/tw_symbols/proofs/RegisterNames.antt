@@ -1,6 +1,6 @@
 -- The names that are known after a line.
 use Rattle.std.proofs.Common.{[], ◌≡◌, ◌==◌, ◌≤◌, ◌⊎◌, ℕ, zero, suc, ◌+◌, ◌-◌, Bool, true, false, cond, List, ◌∷◌, ◌++◌, length, drop, take, Option, Some, None, Ok, Err, inl, inr, refl, sym, ap, subst, ◌∙◌, arith}
-use Rattle.tw_symbols.proofs.TextNames.{AreTaken, Bor, IsMemory, IsTaken, Line, Names, Procedures, Said, Table, drop-drop, drop_all, length-drop, length-map, no_names, now, option_map, option_or, seen_entry, seen_table, slice_get, take_all, taken_says}
+use Rattle.tw_symbols.proofs.TextNames.{AreTaken, Bor, IsMemory, IsTaken, Line, Names, Procedures, Expanded, Table, drop-drop, drop_all, length-drop, length-map, no_names, now, option_map, option_or, seen_entry, seen_table, slice_get, take_all, expanded_taken}
 use Rattle.std.specs.Result.{IsErr}
 use Rattle.std.proofs.lemmas.Bool.{eqb-true}
 use Rattle.std.proofs.lemmas.Bool.Decides.{nat_tests}
@@ -25,11 +25,11 @@ other_number a b other = by (a == b) refl
     by true e = absurd (other (eqb-true a b e))
     by false e = refl
 
-pub goes : (p : Procedures) (last n : ℕ) (names : Names) (front : List ℕ) (t : Line) (after : Names) (text : List ℕ) (others : List Line) → taken_says p n names front t ≡ Ok (after, text)
+pub goes : (p : Procedures) (last n : ℕ) (names : Names) (front : List ℕ) (t : Line) (after : Names) (text : List ℕ) (others : List Line) → expanded_taken p n names front t ≡ Ok (after, text)
     → names_after_line p last n names front (t ∷ others) ≡ cond (n == last) (Some after) (names_after_line p last (n + 1) after text others)
 goes p last n names front t after text others e = rw e refl
 
-pub refuses : (p : Procedures) (last n : ℕ) (names : Names) (front : List ℕ) (t : Line) (others : List Line) (says : Said) → taken_says p n names front t ≡ says → IsErr says
+pub refuses : (p : Procedures) (last n : ℕ) (names : Names) (front : List ℕ) (t : Line) (others : List Line) (says : Expanded) → expanded_taken p n names front t ≡ says → IsErr says
     → names_after_line p last n names front (t ∷ others) ≡ None
 refuses p last n names front t others (Ok said) e h = absurd cc
 refuses p last n names front t others (Err flaw) e h = rw e refl
@@ -43,28 +43,28 @@ module _ (p : Procedures) (last : ℕ) (ls before others : List (List ℕ)) (lin
       so_far all are ∙ ap (names_after_line p last (length before + 1) names front) (here all are).2
       ∙ ap (λ (k : ℕ). names_after_line p last (k + 1) names front ((here all are).0 ∷ drop (suc (length before)) all)) (sym at)
 
-  stepped : (after : Names) (text : List ℕ) → ((t : Line) → IsTaken t line → taken_says p (index + 1) names front t ≡ Ok (after, text)) → (all : List Line) → AreTaken all ls
+  stepped : (after : Names) (text : List ℕ) → ((t : Line) → IsTaken t line → expanded_taken p (index + 1) names front t ≡ Ok (after, text)) → (all : List Line) → AreTaken all ls
       → names_after_line p last 1 no_names [] all ≡ cond ((index + 1) == last) (Some after) (names_after_line p last ((index + 1) + 1) after text (drop (suc (length before)) all))
   stepped after text says all are =
       let o = here all are in
       to_here all are ∙ goes p last (index + 1) names front o.0 after text (drop (suc (length before)) all) (says o.0 o.1)
 
-  pub gone_more : (after : Names) (text : List ℕ) → ((t : Line) → IsTaken t line → taken_says p (index + 1) names front t ≡ Ok (after, text)) → (index + 1 ≡ last → ⊥) → HasGone p last ls (suc (length before)) after text
+  pub gone_more : (after : Names) (text : List ℕ) → ((t : Line) → IsTaken t line → expanded_taken p (index + 1) names front t ≡ Ok (after, text)) → (index + 1 ≡ last → ⊥) → HasGone p last ls (suc (length before)) after text
   gone_more after text says other all are =
       let number : (index + 1) + 1 ≡ suc (length before) + 1 = omega (arith, at) in
       stepped after text says all are
       ∙ ap (λ (b : Bool). cond b (Some after) (names_after_line p last ((index + 1) + 1) after text (drop (suc (length before)) all))) (other_number (index + 1) last other)
       ∙ ap (λ (k : ℕ). names_after_line p last k after text (drop (suc (length before)) all)) number
 
-  pub gone_here : (after : Names) (text : List ℕ) → ((t : Line) → IsTaken t line → taken_says p (index + 1) names front t ≡ Ok (after, text)) → index + 1 ≡ last
+  pub gone_here : (after : Names) (text : List ℕ) → ((t : Line) → IsTaken t line → expanded_taken p (index + 1) names front t ≡ Ok (after, text)) → index + 1 ≡ last
       → (all : List Line) → AreTaken all ls → names_after_line p last 1 no_names [] all ≡ Some after
   gone_here after text says this all are =
       stepped after text says all are ∙ ap (λ (b : Bool). cond b (Some after) (names_after_line p last ((index + 1) + 1) after text (drop (suc (length before)) all))) (same_number (index + 1) last this)
 
-  pub gone_refused : ((t : Line) → IsTaken t line → IsErr (taken_says p (index + 1) names front t)) → (all : List Line) → AreTaken all ls → names_after_line p last 1 no_names [] all ≡ None
+  pub gone_refused : ((t : Line) → IsTaken t line → IsErr (expanded_taken p (index + 1) names front t)) → (all : List Line) → AreTaken all ls → names_after_line p last 1 no_names [] all ≡ None
   gone_refused says all are =
       let o = here all are in
-      to_here all are ∙ refuses p last (index + 1) names front o.0 (drop (suc (length before)) all) (taken_says p (index + 1) names front o.0) refl (says o.0 o.1)
+      to_here all are ∙ refuses p last (index + 1) names front o.0 (drop (suc (length before)) all) (expanded_taken p (index + 1) names front o.0) refl (says o.0 o.1)
 
 pub gone_end : (p : Procedures) (last : ℕ) (ls : List (List ℕ)) (n : ℕ) (names : Names) (front : List ℕ) → HasGone p last ls n names front → n ≡ length ls → (all : List Line) → AreTaken all ls → names_after_line p last 1 no_names [] all ≡ None
 gone_end p last ls n names front gone e all are =
@@ -72,7 +72,7 @@ gone_end p last ls n names front gone e all are =
     gone all are ∙ ap (names_after_line p last (n + 1) names front) (drop_all n all short)
 
 -- an error that isn't out of memory is the line's
-pub says_refused : (number : ℕ) (f : NameError) (says : Said) → (f.no ≡ no.NoMemory → ⊥) → IsMemory f ⊎ ((f.line ≡ number) × (says ≡ Err (record { no = f.no; word = f.word.now }))) → IsErr says
+pub says_refused : (number : ℕ) (f : NameError) (says : Expanded) → (f.no ≡ no.NoMemory → ⊥) → IsMemory f ⊎ ((f.line ≡ number) × (says ≡ Err (record { no = f.no; word = f.word.now }))) → IsErr says
 says_refused number f says other (inl memory) = absurd (other memory.0)
 says_refused number f says other (inr (at, e)) = subst IsErr (sym e) refl
 

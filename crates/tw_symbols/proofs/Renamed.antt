@@ -2,9 +2,9 @@
 use Rattle.std.proofs.Common.{[], ◌≡◌, ℕ, Bool, true, false, cond, List, ◌∷◌, Option, Some, None, Result, Ok, drop, refl, ap, ◌∙◌}
 use Rattle.std.specs.Prelude.{slice_get, unwrap_or}
 use Rattle.std.specs.Str.{bytes_eq}
-use Rattle.tw_symbols.proofs.TextNames.{TokenError, Names, Procedures, Table, and_then, is_name, known, meaning, or_else, words_say}
+use Rattle.tw_symbols.proofs.TextNames.{TokenError, Names, Procedures, Table, and_then, is_name, known, meaning, or_else, expanded_words}
 use Rattle.tw_symbols.specs.Theorems.{IsRenaming, RenamedAlike, renamed_names, renamed_procedures, renamed_table, renamed_word, renamed_words}
-use Rattle.tw_symbols.specs.LineExpansion.{fitting, named, expands, with_word, word_says}
+use Rattle.tw_symbols.specs.LineExpansion.{fitting, named, expands, with_word, expanded_word}
 use Rattle.tw_symbols.specs.declared.meaning.Expected.{Expected}
 use Rattle.tw_symbols.specs.declared.meaning.Expected.TheVariants as asked
 use Rattle.tw_symbols.specs.declared.meaning.Binding.{Binding}
@@ -39,17 +39,17 @@ module _ (f : List ℕ → List ℕ) (is : IsRenaming f) where
       ap (λ (t : Bool). cond t (named front (f word) (known (renamed_procedures f p) (renamed_names f n) (f word)) a) (Ok (with_word front (f word)))) (is.names word ∙ e)
       ∙ ap (λ (w : List ℕ). Ok (with_word front w)) (is.others word e) ∙ h
 
-  pub word_kept : (p : Procedures) (n : Names) (a : Expected) (front word text : List ℕ) → word_says p n a front word ≡ Ok text → word_says (renamed_procedures f p) (renamed_names f n) a front (renamed_word f a word) ≡ Ok text
+  pub word_kept : (p : Procedures) (n : Names) (a : Expected) (front word text : List ℕ) → expanded_word p n a front word ≡ Ok text → expanded_word (renamed_procedures f p) (renamed_names f n) a front (renamed_word f a word) ≡ Ok text
   word_kept p n asked.Nothing front word text e = e
   word_kept p n a front word text e = either_kept p n a front word text (is_name word) refl e
 
-  pub words_kept : (p : Procedures) (n : Names) (all : List Expected) (front : List ℕ) (words : List (List ℕ)) (text : List ℕ) → words_say p n all front words ≡ Ok text
-      → words_say (renamed_procedures f p) (renamed_names f n) all front (renamed_words f all words) ≡ Ok text
+  pub words_kept : (p : Procedures) (n : Names) (all : List Expected) (front : List ℕ) (words : List (List ℕ)) (text : List ℕ) → expanded_words p n all front words ≡ Ok text
+      → expanded_words (renamed_procedures f p) (renamed_names f n) all front (renamed_words f all words) ≡ Ok text
   words_kept p n all front [] text e = e
   words_kept p n all front (word ∷ words) text e =
       let a = unwrap_or (slice_get all 0) asked.Nothing in
-      let went = went_then (word_says p n a front word) (λ (t : List ℕ). words_say p n (drop 1 all) t words) text e in
-      ap (λ (r : Result (List ℕ) TokenError). and_then r (λ (t : List ℕ). words_say (renamed_procedures f p) (renamed_names f n) (drop 1 all) t (renamed_words f (drop 1 all) words))) (word_kept p n a front word went.0 went.1)
+      let went = went_then (expanded_word p n a front word) (λ (t : List ℕ). expanded_words p n (drop 1 all) t words) text e in
+      ap (λ (r : Result (List ℕ) TokenError). and_then r (λ (t : List ℕ). expanded_words (renamed_procedures f p) (renamed_names f n) (drop 1 all) t (renamed_words f (drop 1 all) words))) (word_kept p n a front word went.0 went.1)
       ∙ words_kept p n (drop 1 all) went.0 words text went.2
 
 pub renamed_alike : RenamedAlike

@@ -4,7 +4,7 @@ use Rattle.std.specs.List.{filter_map}
 use Rattle.std.specs.Option.{is_some, option_map_or}
 use Rattle.std.specs.Prelude.{◌||◌, slice_get}
 use Rattle.tw_lexer.specs.Names.{before_colon}
-use Rattle.tw_symbols.proofs.TextNames.{TokenError, Names, Procedures, Table, and_then, is_name, meaning, option_map, refused, at_head, bank_of_mode, followed_by, head_says, is_unnamed, list_says, name_says, parameters, procedure_name, value_types}
+use Rattle.tw_symbols.proofs.TextNames.{TokenError, Names, Procedures, Table, and_then, is_name, meaning, option_map, rejected_word, at_head, bank_of_mode, followed_by, expanded_head, is_unnamed, names_after_list, checked_name, parameters, procedure_name, value_types}
 use Rattle.tw_symbols.specs.Meanings.{Head}
 use Rattle.tw_symbols.specs.LineExpansion.{begins_at}
 use Rattle.tw_symbols.specs.Expansion.{with_head, with_name}
@@ -82,9 +82,9 @@ module _ (f : List ℕ → List ℕ) (is : IsTextRenaming f) where
       ∙ ap (λ (ts : List (List ℕ)). cond (is_some (procedure_name ws)) ts []) (types_kept f is (parameters ws)))
 
   abbrev named_by : Bool → Bool → List ℕ → Result (Unit {0}) TokenError
-  named_by t s word = cond t (cond s (Ok tt) (refused no.Twice word)) (refused no.NoName word)
+  named_by t s word = cond t (cond s (Ok tt) (rejected_word no.Twice word)) (rejected_word no.NoName word)
 
-  checked_kept : (p : Procedures) (number : ℕ) (o : Option (List ℕ)) (u : Unit {0}) → name_says p number o ≡ Ok u → name_says (rp f is p) number (option_map f o) ≡ Ok u
+  checked_kept : (p : Procedures) (number : ℕ) (o : Option (List ℕ)) (u : Unit {0}) → checked_name p number o ≡ Ok u → checked_name (rp f is p) number (option_map f o) ≡ Ok u
   checked_kept p number None u e = e
   checked_kept p number (Some name) u e =
       ap (λ (t : Bool). named_by t (begins_at (rp f is p) number (meaning (f name) (rp f is p).table)) (f name)) ((r f is).names name)
@@ -97,12 +97,12 @@ module _ (f : List ℕ → List ℕ) (is : IsTextRenaming f) where
       too true false h = absurd cc
       too false s h = absurd cc
 
-  pub head_kept : (p : Procedures) (number : ℕ) (n : Names) (front : List ℕ) (ws : List (List ℕ)) (said : Names × List ℕ) → head_says p number n front ws ≡ Ok said
-      → head_says (rp f is p) number (rn f is n) front (renamed_head f ws) ≡ Ok (rn f is said.0, said.1)
+  pub head_kept : (p : Procedures) (number : ℕ) (n : Names) (front : List ℕ) (ws : List (List ℕ)) (said : Names × List ℕ) → expanded_head p number n front ws ≡ Ok said
+      → expanded_head (rp f is p) number (rn f is n) front (renamed_head f ws) ≡ Ok (rn f is said.0, said.1)
   head_kept p number n front ws said e =
       let shown = take 1 ws ++ filter is_unnamed (parameters ws) in
-      let first = went_then (name_says p number (procedure_name ws)) (λ (_ : Unit {0}). and_then (list_says p listed.Parameters (at_head n ws) 0 0 (parameters ws)) (λ (after : Names). Ok (after, followed_by front shown))) said e in
-      let next = went_then (list_says p listed.Parameters (at_head n ws) 0 0 (parameters ws)) (λ (after : Names). Ok (after, followed_by front shown)) said first.2 in
+      let first = went_then (checked_name p number (procedure_name ws)) (λ (_ : Unit {0}). and_then (names_after_list p listed.Parameters (at_head n ws) 0 0 (parameters ws)) (λ (after : Names). Ok (after, followed_by front shown))) said e in
+      let next = went_then (names_after_list p listed.Parameters (at_head n ws) 0 0 (parameters ws)) (λ (after : Names). Ok (after, followed_by front shown)) said first.2 in
       let same = ok_is (next.0, followed_by front shown) said next.2 in
       head_said (rp f is p) number (rn f is n) front (renamed_head f ws) (option_map f (procedure_name ws)) first.0 (rn f is (at_head n ws)) (rn f is next.0) (map (rl f is) (parameters ws)) (followed_by front (take 1 ws)) said.1
       (sym (procedure_kept ws)) (checked_kept p number (procedure_name ws) first.0 first.1) (sym (head_names n ws)) (sym (parameters_kept ws)) (list_kept f is p listed.Parameters (at_head n ws) 0 0 (parameters ws) next.0 next.1)

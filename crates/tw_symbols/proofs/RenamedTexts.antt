@@ -10,9 +10,9 @@ use Rattle.tw_code.specs.format.Table.{forms_of, opcode_in, opcode_of}
 use Rattle.tw_code.specs.declared.opcode.Opcode.{Opcode}
 use Rattle.tw_code.specs.declared.opcode.Opcode.TheVariants as opcode
 use Rattle.tw_code.specs.declared.version.Version.TheVariants.{Four}
-use Rattle.tw_symbols.proofs.TextNames.{TokenError, Line, Names, Procedures, Rejection, Said, and_then, asked_by, at_number, ended, flat_map, head_says, is_name, is_names_line, known, line_rest, line_words, lines_say, made_say, no_names, or_unread, pieces, procedures_of, read_says, reads_heads, taken_says, unread, with_line, with_lines, with_register, words_say}
+use Rattle.tw_symbols.proofs.TextNames.{TokenError, Line, Names, Procedures, Rejection, Expanded, and_then, expected_of, at_number, ended, flat_map, expanded_head, is_name, is_names_line, known, line_rest, line_words, expanded_from, expanded_results, no_names, or_unread, pieces, procedures_of, expanded_if_read, reads_heads, expanded_taken, unread, with_line, with_lines, with_register, expanded_words}
 use Rattle.tw_symbols.specs.Meanings.{Head}
-use Rattle.tw_symbols.specs.LineExpansion.{line_says, banks_at, banks_of, body_says, callee, constant_says, instruction_says, is_empty, let_says, made_word, makes, named, only_names, registers_say, with_word, word_says}
+use Rattle.tw_symbols.specs.LineExpansion.{expanded_line, banks_at, banks_of, expanded_body, callee, names_after_constant, expanded_instruction, is_empty, names_after_let, made_word, makes, named, only_names, expanded_registers, with_word, expanded_word}
 use Rattle.tw_symbols.specs.Expansion.{with_head, with_words}
 use Rattle.tw_symbols.specs.Renaming.{Either, AreLineWords, AreRenamed, AreRenamedLines, IfRead, IsRenamedBody, IsRenamedLine, IsRenamedRead, IsTextRenaming, TextsRenamedAlike, renamed_first, renamed_head, renamed_listed, renamed_operands}
 use Rattle.tw_symbols.specs.Unread.{begins_unknown, calls_unknown, is_call, is_open_call, is_past}
@@ -49,11 +49,11 @@ if_false A B false b e = b
 
 -- holds if the operands that are required don't depend on a procedure
 abbrev IsFree : Opcode → Type 0
-IsFree o = (a b : List Bank) → flat_map (asked_by a) (forms_of o) ≡ flat_map (asked_by b) (forms_of o)
+IsFree o = (a b : List Bank) → flat_map (expected_of a) (forms_of o) ≡ flat_map (expected_of b) (forms_of o)
 
 -- holds if the first operand is a procedure
 abbrev IsCall : Opcode → Type 0
-IsCall o = (makes o ≡ 0) × ((a : List Bank) → (rest : List Expected) × (flat_map (asked_by a) (forms_of o) ≡ asked.Procedure ∷ rest))
+IsCall o = (makes o ≡ 0) × ((a : List Bank) → (rest : List Expected) × (flat_map (expected_of a) (forms_of o) ≡ asked.Procedure ∷ rest))
 
 kind_of : (o : Opcode) → IsFree o ⊎ IsCall o
 kind_of opcode.Int = inl (λ a b. refl)
@@ -159,8 +159,8 @@ callee_known front word text (Some (binding.Constant n)) d e h = absurd cc
 callee_known front word text (Some (binding.Register b n by)) d e h = absurd cc
 
 module _ (f : List ℕ → List ℕ) (is : IsTextRenaming f) where
-  abbrev then_word : Procedures → List ℕ → List ℕ → Names → Said
-  then_word q front word after = and_then (word_says q after asked.Right front word) (λ (text : List ℕ). Ok (after, text))
+  abbrev then_word : Procedures → List ℕ → List ℕ → Names → Expanded
+  then_word q front word after = and_then (expanded_word q after asked.Right front word) (λ (text : List ℕ). Ok (after, text))
 
   made_kept : (p : Procedures) (n : Names) (front word : List ℕ) (said : Names × List ℕ) → made_word p n front word ≡ Ok said → made_word (rp f is p) (rn f is n) front (f word) ≡ Ok (rn f is said.0, said.1)
   made_kept p n front word said e =
@@ -174,17 +174,17 @@ module _ (f : List ℕ → List ℕ) (is : IsTextRenaming f) where
       by true h = register_kept f is p n word bank.Right n.rights origin.Listed said.0 h
       by false h = ap (λ (x : Names). Ok (rn f is x)) (ok_is n said.0 h)
 
-  all_made : (p : Procedures) (n : Names) (front : List ℕ) (ws : List (List ℕ)) (said : Names × List ℕ) → made_say p n front ws ≡ Ok said → made_say (rp f is p) (rn f is n) front (map f ws) ≡ Ok (rn f is said.0, said.1)
+  all_made : (p : Procedures) (n : Names) (front : List ℕ) (ws : List (List ℕ)) (said : Names × List ℕ) → expanded_results p n front ws ≡ Ok said → expanded_results (rp f is p) (rn f is n) front (map f ws) ≡ Ok (rn f is said.0, said.1)
   all_made p n front [] said e = ap (λ (x : Names × List ℕ). Ok (rn f is x.0, x.1)) (ok_is (n, front) said e)
   all_made p n front (w ∷ ws) said e =
-      let went = went_then (made_word p n front w) (λ (s : Names × List ℕ). made_say p s.0 s.1 ws) said e in
-      ap (λ (m : Said). and_then m (λ (s : Names × List ℕ). made_say (rp f is p) s.0 s.1 (map f ws))) (made_kept p n front w went.0 went.1) ∙ all_made p went.0.0 went.0.1 ws said went.2
+      let went = went_then (made_word p n front w) (λ (s : Names × List ℕ). expanded_results p s.0 s.1 ws) said e in
+      ap (λ (m : Expanded). and_then m (λ (s : Names × List ℕ). expanded_results (rp f is p) s.0 s.1 (map f ws))) (made_kept p n front w went.0 went.1) ∙ all_made p went.0.0 went.0.1 ws said went.2
 
   abbrev digits : List ℕ → Option ℕ
   digits w = result_ok (digits_in 0 255 w)
 
   -- the procedure that a first operand names
-  callee_kept : (p : Procedures) (n : Names) (front word text : List ℕ) → word_says p n asked.Procedure front word ≡ Ok text
+  callee_kept : (p : Procedures) (n : Names) (front word text : List ℕ) → expanded_word p n asked.Procedure front word ≡ Ok text
       → callee (known (rp f is p) (rn f is n) (f word)) (result_ok (digits_in 0 255 (f word))) ≡ callee (known p n word) (result_ok (digits_in 0 255 word))
   callee_kept p n front word text e = by (is_name word) refl e
     where
@@ -193,55 +193,55 @@ module _ (f : List ℕ → List ℕ) (is : IsTextRenaming f) where
       by true d h = ap (λ (k : Option Binding). callee k (digits (f word))) (known_kept f (r f is) p n word) ∙ callee_known front word text (known p n word) (digits (f word)) (digits word) h
       by false d h = ap (λ (k : Option Binding). callee k (digits (f word))) (known_kept f (r f is) p n word) ∙ ap (λ (w : List ℕ). callee (known p n word) (digits w)) ((r f is).others word d)
 
-  call_banks : (p : Procedures) (n : Names) (E rest : List Expected) (ws : List (List ℕ)) (front text : List ℕ) → E ≡ asked.Procedure ∷ rest → words_say p n E front ws ≡ Ok text
+  call_banks : (p : Procedures) (n : Names) (E rest : List Expected) (ws : List (List ℕ)) (front text : List ℕ) → E ≡ asked.Procedure ∷ rest → expanded_words p n E front ws ≡ Ok text
       → banks_of (rp f is p) (rn f is n) (renamed_words f E ws) ≡ banks_of p n ws
   call_banks p n E rest [] front text e says = refl
   call_banks p n E rest (w ∷ ws) front text e says =
-      let says_first = subst (λ (x : List Expected). words_say p n x front (w ∷ ws) ≡ Ok text) e says in
-      let went = went_then (word_says p n asked.Procedure front w) (λ (t : List ℕ). words_say p n rest t ws) text says_first in
+      let says_first = subst (λ (x : List Expected). expanded_words p n x front (w ∷ ws) ≡ Ok text) e says in
+      let went = went_then (expanded_word p n asked.Procedure front w) (λ (t : List ℕ). expanded_words p n rest t ws) text says_first in
       ap (λ (x : List Expected). banks_of (rp f is p) (rn f is n) (renamed_words f x (w ∷ ws))) e
       ∙ ap (λ (k : ℕ). take (suc k) (banks_at (rp f is p) (callee (known (rp f is p) (rn f is n) (f w)) (result_ok (digits_in 0 255 (f w)))))) (as_many f rest ws)
       ∙ ap (λ (c : Option ℕ). take (suc (length ws)) (banks_at (rp f is p) c)) (callee_kept p n front w went.0 went.1)
       ∙ ap (take (suc (length ws))) (heads_only p (rp f is p) (callee (known p n w) (result_ok (digits_in 0 255 w))) refl)
 
   -- what is required is the same
-  required_kept : (o : Opcode) (p : Procedures) (n : Names) (ws : List (List ℕ)) (front text : List ℕ) → words_say p n (drop (makes o) (flat_map (asked_by (banks_of p n ws)) (forms_of o))) front (drop (makes o) ws) ≡ Ok text
-      → flat_map (asked_by (banks_of (rp f is p) (rn f is n) (renamed_operands f p n o ws))) (forms_of o) ≡ flat_map (asked_by (banks_of p n ws)) (forms_of o)
+  required_kept : (o : Opcode) (p : Procedures) (n : Names) (ws : List (List ℕ)) (front text : List ℕ) → expanded_words p n (drop (makes o) (flat_map (expected_of (banks_of p n ws)) (forms_of o))) front (drop (makes o) ws) ≡ Ok text
+      → flat_map (expected_of (banks_of (rp f is p) (rn f is n) (renamed_operands f p n o ws))) (forms_of o) ≡ flat_map (expected_of (banks_of p n ws)) (forms_of o)
   required_kept o p n ws front text says = by (kind_of o)
     where
-      by : IsFree o ⊎ IsCall o → flat_map (asked_by (banks_of (rp f is p) (rn f is n) (renamed_operands f p n o ws))) (forms_of o) ≡ flat_map (asked_by (banks_of p n ws)) (forms_of o)
+      by : IsFree o ⊎ IsCall o → flat_map (expected_of (banks_of (rp f is p) (rn f is n) (renamed_operands f p n o ws))) (forms_of o) ≡ flat_map (expected_of (banks_of p n ws)) (forms_of o)
       by (inl free) = free (banks_of (rp f is p) (rn f is n) (renamed_operands f p n o ws)) (banks_of p n ws)
       by (inr call) =
-          let E = flat_map (asked_by (banks_of p n ws)) (forms_of o) in
+          let E = flat_map (expected_of (banks_of p n ws)) (forms_of o) in
           let first = call.1 (banks_of p n ws) in
-          ap (λ (b : List Bank). flat_map (asked_by b) (forms_of o))
+          ap (λ (b : List Bank). flat_map (expected_of b) (forms_of o))
           (ap (λ (k : ℕ). banks_of (rp f is p) (rn f is n) (map f (take k ws) ++ renamed_words f (drop k E) (drop k ws))) call.0
-          ∙ call_banks p n E first.0 ws front text first.1 (subst (λ (k : ℕ). words_say p n (drop k E) front (drop k ws) ≡ Ok text) call.0 says))
+          ∙ call_banks p n E first.0 ws front text first.1 (subst (λ (k : ℕ). expanded_words p n (drop k E) front (drop k ws) ≡ Ok text) call.0 says))
 
-  abbrev then_rest : Procedures → Opcode → List (List ℕ) → Names × List ℕ → Said
-  then_rest q o xs s = and_then (words_say q s.0 (drop (makes o) (flat_map (asked_by (banks_of q s.0 xs)) (forms_of o))) s.1 (drop (makes o) xs)) (λ (text : List ℕ). Ok (s.0, text))
+  abbrev then_rest : Procedures → Opcode → List (List ℕ) → Names × List ℕ → Expanded
+  then_rest q o xs s = and_then (expanded_words q s.0 (drop (makes o) (flat_map (expected_of (banks_of q s.0 xs)) (forms_of o))) s.1 (drop (makes o) xs)) (λ (text : List ℕ). Ok (s.0, text))
 
   instruction_kept : (p : Procedures) (n : Names) (o : Opcode) (front : List ℕ) (ws others : List (List ℕ)) (said : Names × List ℕ)
-      → ((s : Names × List ℕ) → made_say p n front (take (makes o) ws) ≡ Ok s → others ≡ renamed_operands f p s.0 o ws) → instruction_says p n o front ws ≡ Ok said
-      → instruction_says (rp f is p) (rn f is n) o front others ≡ Ok (rn f is said.0, said.1)
+      → ((s : Names × List ℕ) → expanded_results p n front (take (makes o) ws) ≡ Ok s → others ≡ renamed_operands f p s.0 o ws) → expanded_instruction p n o front ws ≡ Ok said
+      → expanded_instruction (rp f is p) (rn f is n) o front others ≡ Ok (rn f is said.0, said.1)
   instruction_kept p n o front ws others said are e =
-      let required = λ (x : Names). drop (makes o) (flat_map (asked_by (banks_of p x ws)) (forms_of o)) in
-      let first = went_then (made_say p n front (take (makes o) ws)) (λ (s : Names × List ℕ). and_then (words_say p s.0 (required s.0) s.1 (drop (makes o) ws)) (λ (text : List ℕ). Ok (s.0, text))) said e in
-      let next = went_then (words_say p first.0.0 (required first.0.0) first.0.1 (drop (makes o) ws)) (λ (text : List ℕ). Ok (first.0.0, text)) said first.2 in
+      let required = λ (x : Names). drop (makes o) (flat_map (expected_of (banks_of p x ws)) (forms_of o)) in
+      let first = went_then (expanded_results p n front (take (makes o) ws)) (λ (s : Names × List ℕ). and_then (expanded_words p s.0 (required s.0) s.1 (drop (makes o) ws)) (λ (text : List ℕ). Ok (s.0, text))) said e in
+      let next = went_then (expanded_words p first.0.0 (required first.0.0) first.0.1 (drop (makes o) ws)) (λ (text : List ℕ). Ok (first.0.0, text)) said first.2 in
       let parts = cut (makes o) f ws (required first.0.0) in
-      ap (λ (xs : List (List ℕ)). instruction_says (rp f is p) (rn f is n) o front xs) (are first.0 first.1)
-      ∙ ap (λ (xs : List (List ℕ)). and_then (made_say (rp f is p) (rn f is n) front xs) (then_rest (rp f is p) o (renamed_operands f p first.0.0 o ws))) parts.0
-      ∙ ap (λ (m : Said). and_then m (then_rest (rp f is p) o (renamed_operands f p first.0.0 o ws))) (all_made p n front (take (makes o) ws) first.0 first.1)
-      ∙ ap (λ (E : List Expected). and_then (words_say (rp f is p) (rn f is first.0.0) (drop (makes o) E) first.0.1 (drop (makes o) (renamed_operands f p first.0.0 o ws))) (λ (text : List ℕ). Ok (rn f is first.0.0, text)))
+      ap (λ (xs : List (List ℕ)). expanded_instruction (rp f is p) (rn f is n) o front xs) (are first.0 first.1)
+      ∙ ap (λ (xs : List (List ℕ)). and_then (expanded_results (rp f is p) (rn f is n) front xs) (then_rest (rp f is p) o (renamed_operands f p first.0.0 o ws))) parts.0
+      ∙ ap (λ (m : Expanded). and_then m (then_rest (rp f is p) o (renamed_operands f p first.0.0 o ws))) (all_made p n front (take (makes o) ws) first.0 first.1)
+      ∙ ap (λ (E : List Expected). and_then (expanded_words (rp f is p) (rn f is first.0.0) (drop (makes o) E) first.0.1 (drop (makes o) (renamed_operands f p first.0.0 o ws))) (λ (text : List ℕ). Ok (rn f is first.0.0, text)))
       (required_kept o p first.0.0 ws first.0.1 next.0 next.1)
-      ∙ ap (λ (xs : List (List ℕ)). and_then (words_say (rp f is p) (rn f is first.0.0) (required first.0.0) first.0.1 xs) (λ (text : List ℕ). Ok (rn f is first.0.0, text))) parts.1
+      ∙ ap (λ (xs : List (List ℕ)). and_then (expanded_words (rp f is p) (rn f is first.0.0) (required first.0.0) first.0.1 xs) (λ (text : List ℕ). Ok (rn f is first.0.0, text))) parts.1
       ∙ ap (λ (m : Result (List ℕ) TokenError). and_then m (λ (text : List ℕ). Ok (rn f is first.0.0, text))) (words_kept f (r f is) p first.0.0 (required first.0.0) first.0.1 (drop (makes o) ws) next.0 next.1)
       ∙ ap (λ (x : Names × List ℕ). Ok (rn f is x.0, x.1)) (ok_is (first.0.0, next.0) said next.2)
 
   -- ---- a line
 
   -- holds if the second result is the first with other names
-  abbrev Goes : Said → Said → Type 0
+  abbrev Goes : Expanded → Expanded → Type 0
   Goes x y = (said : Names × List ℕ) → x ≡ Ok said → y ≡ Ok (rn f is said.0, said.1)
 
   only_kept : (front : List ℕ) (x y : Result Names TokenError) → ((after : Names) → x ≡ Ok after → y ≡ Ok (rn f is after)) → Goes (only_names front x) (only_names front y)
@@ -252,8 +252,8 @@ module _ (f : List ℕ → List ℕ) (is : IsTextRenaming f) where
   nothing_kept : (n : Names) (front : List ℕ) → Goes (Ok (n, front)) (Ok (rn f is n, front))
   nothing_kept n front said e = ap (λ (s : Names × List ℕ). Ok (rn f is s.0, s.1)) (ok_is (n, front) said e)
 
-  body_kept : (p : Procedures) (n : Names) (front : List ℕ) (o : Option Opcode) (ws more : List (List ℕ)) → IsRenamedBody f p n front o ws more → Goes (body_says p n o front ws) (body_says (rp f is p) (rn f is n) o front more)
-  body_kept p n front None ws more are said e = ap (λ (xs : List (List ℕ)). body_says (rp f is p) (rn f is n) None front xs) are ∙ nothing_kept n _ said e
+  body_kept : (p : Procedures) (n : Names) (front : List ℕ) (o : Option Opcode) (ws more : List (List ℕ)) → IsRenamedBody f p n front o ws more → Goes (expanded_body p n o front ws) (expanded_body (rp f is p) (rn f is n) o front more)
+  body_kept p n front None ws more are said e = ap (λ (xs : List (List ℕ)). expanded_body (rp f is p) (rn f is n) None front xs) are ∙ nothing_kept n _ said e
   body_kept p n front (Some o) ws more are said e = instruction_kept p n o front (flat_map pieces ws) (flat_map pieces more) said are e
 
   none_so_called : opcode_in Four (codes "names") ≡ None
@@ -285,31 +285,31 @@ module _ (f : List ℕ → List ℕ) (is : IsTextRenaming f) where
   abbrev either_one : List ℕ → Bool
   either_one first = bytes_eq first (codes "const") || bytes_eq first (codes "let")
 
-  abbrev chosen : ℕ → List ℕ → List ℕ → Procedures → Names → List (List ℕ) → Said
+  abbrev chosen : ℕ → List ℕ → List ℕ → Procedures → Names → List (List ℕ) → Expanded
   chosen number front first q m xs =
-      cond (bytes_eq first (codes "const")) (only_names front (constant_says q m first xs))
-      (cond (bytes_eq first (codes "let")) (only_names front (let_says q m first xs))
-      (cond (bytes_eq first (codes "proc")) (head_says q number m (front ++ first) (flat_map pieces xs))
-      (cond (bytes_eq first (codes "regs")) (registers_say q m (front ++ first) (flat_map pieces xs))
-      (body_says q m (opcode_in Four first) (front ++ first) xs))))
+      cond (bytes_eq first (codes "const")) (only_names front (names_after_constant q m first xs))
+      (cond (bytes_eq first (codes "let")) (only_names front (names_after_let q m first xs))
+      (cond (bytes_eq first (codes "proc")) (expanded_head q number m (front ++ first) (flat_map pieces xs))
+      (cond (bytes_eq first (codes "regs")) (expanded_registers q m (front ++ first) (flat_map pieces xs))
+      (expanded_body q m (opcode_in Four first) (front ++ first) xs))))
 
-  line_kept : (p : Procedures) (number : ℕ) (n : Names) (front : List ℕ) (ws others : List (List ℕ)) → AreLineWords f p n front ws others → Goes (line_says p number n front ws) (line_says (rp f is p) number (rn f is n) front others)
-  unfolding line_says
-  line_kept p number n front [] others are = subst (λ (xs : List (List ℕ)). Goes (Ok (n, front)) (line_says (rp f is p) number (rn f is n) front xs)) (sym are) (nothing_kept n front)
+  line_kept : (p : Procedures) (number : ℕ) (n : Names) (front : List ℕ) (ws others : List (List ℕ)) → AreLineWords f p n front ws others → Goes (expanded_line p number n front ws) (expanded_line (rp f is p) number (rn f is n) front others)
+  unfolding expanded_line
+  line_kept p number n front [] others are = subst (λ (xs : List (List ℕ)). Goes (Ok (n, front)) (expanded_line (rp f is p) number (rn f is n) front xs)) (sym are) (nothing_kept n front)
   line_kept p number n front (first ∷ ws) others (more, same, are) =
-      subst (λ (xs : List (List ℕ)). Goes (line_says p number n front (first ∷ ws)) (line_says (rp f is p) number (rn f is n) front xs)) (sym same)
+      subst (λ (xs : List (List ℕ)). Goes (expanded_line p number n front (first ∷ ws)) (expanded_line (rp f is p) number (rn f is n) front xs)) (sym same)
       (subst (λ (t : Bool). Goes (cond (is_names_line first ws) (Ok (n, front)) (chosen number front first p n ws)) (cond t (Ok (rn f is n, front)) (chosen number front first (rp f is p) (rn f is n) more))) (sym (names_line p n front first ws more are))
       (share Goes (is_names_line first ws) _ _ _ _ (λ _. nothing_kept n front)
       (λ _. share Goes (bytes_eq first (codes "const")) _ _ _ _
-      (λ c. only_kept front _ _ (λ after e. ap (constant_says (rp f is p) (rn f is n) first) (if_true _ _ (either_one first) are (ap (λ (t : Bool). t || bytes_eq first (codes "let")) c)) ∙ const_kept f is p n first ws after e))
+      (λ c. only_kept front _ _ (λ after e. ap (names_after_constant (rp f is p) (rn f is n) first) (if_true _ _ (either_one first) are (ap (λ (t : Bool). t || bytes_eq first (codes "let")) c)) ∙ const_kept f is p n first ws after e))
       (λ c. share Goes (bytes_eq first (codes "let")) _ _ _ _
-      (λ l. only_kept front _ _ (λ after e. ap (let_says (rp f is p) (rn f is n) first) (if_true _ _ (either_one first) are (ap (λ (t : Bool). t || bytes_eq first (codes "let")) c ∙ l)) ∙ let_kept f is p n first ws after e))
+      (λ l. only_kept front _ _ (λ after e. ap (names_after_let (rp f is p) (rn f is n) first) (if_true _ _ (either_one first) are (ap (λ (t : Bool). t || bytes_eq first (codes "let")) c ∙ l)) ∙ let_kept f is p n first ws after e))
       (λ l. let other = if_false _ _ (either_one first) are (ap (λ (t : Bool). t || bytes_eq first (codes "let")) c ∙ l) in
       share Goes (bytes_eq first (codes "proc")) _ _ _ _
-      (λ k said e. ap (head_says (rp f is p) number (rn f is n) (front ++ first)) (if_true _ _ (bytes_eq first (codes "proc")) other k) ∙ head_kept f is p number n (front ++ first) (flat_map pieces ws) said e)
+      (λ k said e. ap (expanded_head (rp f is p) number (rn f is n) (front ++ first)) (if_true _ _ (bytes_eq first (codes "proc")) other k) ∙ head_kept f is p number n (front ++ first) (flat_map pieces ws) said e)
       (λ k. let last = if_false _ _ (bytes_eq first (codes "proc")) other k in
       share Goes (bytes_eq first (codes "regs")) _ _ _ _
-      (λ g said e. ap (registers_say (rp f is p) (rn f is n) (front ++ first)) (if_true _ _ (bytes_eq first (codes "regs")) last g) ∙ registers_kept f is p n (front ++ first) (flat_map pieces ws) said e)
+      (λ g said e. ap (expanded_registers (rp f is p) (rn f is n) (front ++ first)) (if_true _ _ (bytes_eq first (codes "regs")) last g) ∙ registers_kept f is p n (front ++ first) (flat_map pieces ws) said e)
       (λ g. body_kept p n (front ++ first) (opcode_in Four first) ws more (if_false _ _ (bytes_eq first (codes "regs")) last g))))))))
 
   -- ---- a line that isn't read
@@ -330,13 +330,13 @@ module _ (f : List ℕ → List ℕ) (is : IsTextRenaming f) where
       W = flat_map pieces ws
 
       E : List Expected
-      E = flat_map (asked_by (banks_of p n W)) (forms_of o)
+      E = flat_map (expected_of (banks_of p n W)) (forms_of o)
 
       by : (is_call (forms_of o) ≡ false) ⊎ IsCall o → (is_call (forms_of o) && begins_unknown (rp f is p) (rn f is n) (flat_map pieces more)) ≡ (is_call (forms_of o) && begins_unknown p n W)
       by (inl none) = ap (λ (t : Bool). t && begins_unknown (rp f is p) (rn f is n) (flat_map pieces more)) none ∙ sym (ap (λ (t : Bool). t && begins_unknown p n W) none)
       by (inr call) =
           let first = call.1 (banks_of p n W) in
-          let here = are (n, front) (ap (λ (k : ℕ). made_say p n front (take k W)) call.0) in
+          let here = are (n, front) (ap (λ (k : ℕ). expanded_results p n front (take k W)) call.0) in
           ap (λ (x : List (List ℕ)). is_call (forms_of o) && begins_unknown (rp f is p) (rn f is n) x)
           (here ∙ ap (λ (k : ℕ). map f (take k W) ++ renamed_words f (drop k E) (drop k W)) call.0 ∙ ap (λ (x : List Expected). renamed_words f x W) first.1)
           ∙ ap (λ (t : Bool). is_call (forms_of o) && t) (unknown_kept p n first.0 W)
@@ -377,20 +377,20 @@ module _ (f : List ℕ → List ℕ) (is : IsTextRenaming f) where
   read_too p number n front line other (rest, are) =
       ap (λ (t : Bool). cond (is_past p number) (Some []) (cond (reads_heads p) None (cond t (Some (codes "RET")) None))) (open_kept p n front (line_words line) (line_words other) are)
 
-  taken_kept : (p : Procedures) (number : ℕ) (n : Names) (front : List ℕ) (line other : Line) → IsRenamedLine f p n front line other → Goes (taken_says p number n front line) (taken_says (rp f is p) number (rn f is n) front other)
+  taken_kept : (p : Procedures) (number : ℕ) (n : Names) (front : List ℕ) (line other : Line) → IsRenamedLine f p n front line other → Goes (expanded_taken p number n front line) (expanded_taken (rp f is p) number (rn f is n) front other)
   taken_kept p number n front line other (rest, are) said e =
-      let went = went_then (line_says p number n front (line_words line)) (λ (s : Names × List ℕ). Ok (s.0, s.1 ++ ended (line_rest line))) said e in
-      ap (λ (m : Said). and_then m (λ (s : Names × List ℕ). Ok (s.0, s.1 ++ ended (line_rest other)))) (line_kept p number n front (line_words line) (line_words other) are went.0 went.1)
+      let went = went_then (expanded_line p number n front (line_words line)) (λ (s : Names × List ℕ). Ok (s.0, s.1 ++ ended (line_rest line))) said e in
+      ap (λ (m : Expanded). and_then m (λ (s : Names × List ℕ). Ok (s.0, s.1 ++ ended (line_rest other)))) (line_kept p number n front (line_words line) (line_words other) are went.0 went.1)
       ∙ ap (λ (x : List ℕ). Ok (rn f is went.0.0, went.0.1 ++ ended x)) rest ∙ ap (λ (s : Names × List ℕ). Ok (rn f is s.0, s.1)) (ok_is (went.0.0, went.0.1 ++ ended (line_rest line)) said went.2)
 
-  read_kept : (p : Procedures) (number : ℕ) (n : Names) (front : List ℕ) (line other : Line) → IsRenamedRead f p number n front line other → Goes (read_says p number n front line) (read_says (rp f is p) number (rn f is n) front other)
+  read_kept : (p : Procedures) (number : ℕ) (n : Names) (front : List ℕ) (line other : Line) → IsRenamedRead f p number n front line other → Goes (expanded_if_read p number n front line) (expanded_if_read (rp f is p) number (rn f is n) front other)
   read_kept p number n front line other = by (unread p number n (line_words line)) refl
     where
-      says : Said
-      says = taken_says p number n front line
+      says : Expanded
+      says = expanded_taken p number n front line
 
-      said_too : Said
-      said_too = taken_says (rp f is p) number (rn f is n) front other
+      said_too : Expanded
+      said_too = expanded_taken (rp f is p) number (rn f is n) front other
 
       by : (u : Option (List ℕ)) → unread p number n (line_words line) ≡ u → IfRead u (unread (rp f is p) number (rn f is n) (line_words other)) (IsRenamedLine f p n front line other)
           → Goes (or_unread u n front says) (or_unread (unread (rp f is p) number (rn f is n) (line_words other)) (rn f is n) front said_too)
@@ -399,17 +399,17 @@ module _ (f : List ℕ → List ℕ) (is : IsTextRenaming f) where
 
   -- ---- lines
 
-  at_went : (number : ℕ) (x : Said) (next : Names × List ℕ → Result (List ℕ) Rejection) (plain : List ℕ) → at_number number x next ≡ Ok plain → (said : Names × List ℕ) × (x ≡ Ok said) × (next said ≡ Ok plain)
+  at_went : (number : ℕ) (x : Expanded) (next : Names × List ℕ → Result (List ℕ) Rejection) (plain : List ℕ) → at_number number x next ≡ Ok plain → (said : Names × List ℕ) × (x ≡ Ok said) × (next said ≡ Ok plain)
   at_went number (Ok said) next plain e = (said, refl, e)
   at_went number (Err flaw) next plain e = absurd cc
 
-  lines_kept : (p : Procedures) (number : ℕ) (n : Names) (front : List ℕ) (all others : List Line) (plain : List ℕ) → AreRenamedLines f p number n front all others → lines_say p number n front all ≡ Ok plain
-      → lines_say (rp f is p) number (rn f is n) front others ≡ Ok plain
-  lines_kept p number n front [] others plain are e = ap (lines_say (rp f is p) number (rn f is n) front) are ∙ e
+  lines_kept : (p : Procedures) (number : ℕ) (n : Names) (front : List ℕ) (all others : List Line) (plain : List ℕ) → AreRenamedLines f p number n front all others → expanded_from p number n front all ≡ Ok plain
+      → expanded_from (rp f is p) number (rn f is n) front others ≡ Ok plain
+  lines_kept p number n front [] others plain are e = ap (expanded_from (rp f is p) number (rn f is n) front) are ∙ e
   lines_kept p number n front (line ∷ all) [] plain are e = absurd are
   lines_kept p number n front (line ∷ all) (other ∷ others) plain (now, later) e =
-      let went = at_went number (read_says p number n front line) (λ (s : Names × List ℕ). lines_say p (number + 1) s.0 s.1 all) plain e in
-      ap (λ (x : Said). at_number number x (λ (s : Names × List ℕ). lines_say (rp f is p) (number + 1) s.0 s.1 others)) (read_kept p number n front line other now went.0 went.1)
+      let went = at_went number (expanded_if_read p number n front line) (λ (s : Names × List ℕ). expanded_from p (number + 1) s.0 s.1 all) plain e in
+      ap (λ (x : Expanded). at_number number x (λ (s : Names × List ℕ). expanded_from (rp f is p) (number + 1) s.0 s.1 others)) (read_kept p number n front line other now went.0 went.1)
       ∙ lines_kept p (number + 1) went.0.0 went.0.1 all others plain (later went.0 went.1) went.2
 
   -- ---- the procedures
@@ -451,11 +451,11 @@ module _ (f : List ℕ → List ℕ) (is : IsTextRenaming f) where
       by (Some text) e a = unread_head (rp f is p) (rp f is q) number (rn f is n) (line_words other) text full a ∙ ap (rp f is) (sym (unread_head p q number n (line_words line) text full e))
 
   heads_kept : (p q : Procedures) (number : ℕ) (n : Names) (front : List ℕ) (all others : List Line) (plain : List ℕ) → p ≡ with_lines q number all → AreRenamedLines f p number n front all others
-      → lines_say p number n front all ≡ Ok plain → with_lines (rp f is q) number others ≡ rp f is (with_lines q number all)
+      → expanded_from p number n front all ≡ Ok plain → with_lines (rp f is q) number others ≡ rp f is (with_lines q number all)
   heads_kept p q number n front [] others plain whole are e = ap (with_lines (rp f is q) number) are
   heads_kept p q number n front (line ∷ all) [] plain whole are e = absurd are
   heads_kept p q number n front (line ∷ all) (other ∷ others) plain whole (now, later) e =
-      let went = at_went number (read_says p number n front line) (λ (s : Names × List ℕ). lines_say p (number + 1) s.0 s.1 all) plain e in
+      let went = at_went number (expanded_if_read p number n front line) (λ (s : Names × List ℕ). expanded_from p (number + 1) s.0 s.1 all) plain e in
       ap (λ (x : Procedures). with_lines x (number + 1) others) (read_head p q number n front line other (λ past. full_past q number (line ∷ all) (subst (λ (x : Procedures). is_past x number ≡ true) whole past)) now)
       ∙ heads_kept p (with_line q number line) (number + 1) went.0.0 went.0.1 all others plain whole (later went.0 went.1) went.2
 
@@ -463,4 +463,4 @@ pub texts_renamed_alike : TextsRenamedAlike
 texts_renamed_alike f is all others plain are e =
     let none : Procedures = record { table = []; heads = [] } in
     let p = procedures_of all in
-    ap (λ (q : Procedures). lines_say q 1 no_names [] others) (heads_kept f is p none 1 no_names [] all others plain refl are e) ∙ lines_kept f is p 1 no_names [] all others plain are e
+    ap (λ (q : Procedures). expanded_from q 1 no_names [] others) (heads_kept f is p none 1 no_names [] all others plain refl are e) ∙ lines_kept f is p 1 no_names [] all others plain are e

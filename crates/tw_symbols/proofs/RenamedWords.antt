@@ -8,9 +8,9 @@ use Rattle.std.proofs.lemmas.Slice.Eq.{bytes_eq-Decides}
 use Rattle.tw_lexer.specs.Names.{all_in_name, before_colon, is_in_name, is_letter}
 use Rattle.tw_lexer.specs.Names as words
 use Rattle.tw_lexer.proofs.Colons.{before, found_before}
-use Rattle.tw_symbols.proofs.TextNames.{TokenError, Names, Procedures, Table, and_then, is_name, known, map-append, may_name, name_register, nat_lt, not_taken, refused, with_constant, with_register, bank_of_mode, followed_by, is_unnamed, list_says, value_types}
+use Rattle.tw_symbols.proofs.TextNames.{TokenError, Names, Procedures, Table, and_then, is_name, known, map-append, may_name, name_register, nat_lt, not_taken, rejected_word, with_constant, with_register, bank_of_mode, followed_by, is_unnamed, names_after_list, value_types}
 use Rattle.tw_symbols.specs.Meanings.{is_listed, lists, with_listed}
-use Rattle.tw_symbols.specs.LineExpansion.{begins, begins_first, constant_says, counted, has_colon, is_listed_word, let_says, list_name, name_before, number_in, number_of, register_of, registers_say, unnamed_says, value_after}
+use Rattle.tw_symbols.specs.LineExpansion.{begins, begins_first, names_after_constant, counted, has_colon, is_listed_word, names_after_let, list_name, name_before, number_in, number_of, register_of, expanded_registers, names_if_unnamed, value_after}
 use Rattle.tw_symbols.specs.Renaming.{IsTextRenaming, renamed_before, renamed_first, renamed_listed}
 use Rattle.tw_symbols.specs.Theorems.{IsRenaming, renamed_names, renamed_procedures, renamed_table}
 use Rattle.tw_symbols.specs.declared.meaning.Bank.{Bank}
@@ -172,7 +172,7 @@ module _ (f : List ℕ → List ℕ) (is : IsTextRenaming f) where
   -- ---- one more name
 
   abbrev may_by : Bool → Option Binding → List ℕ → Result (Unit {0}) TokenError
-  may_by t k word = cond t (not_taken word k) (refused no.NoName word)
+  may_by t k word = cond t (not_taken word k) (rejected_word no.NoName word)
 
   may_too : (t : Bool) (k : Option Binding) (word other : List ℕ) (u : Unit {0}) → may_by t k word ≡ Ok u → may_by t k other ≡ Ok u
   may_too true (Some x) word other u e = absurd cc
@@ -204,11 +204,11 @@ module _ (f : List ℕ → List ℕ) (is : IsTextRenaming f) where
   pub register_kept : (p : Procedures) (n : Names) (name : List ℕ) (b : Bank) (number : ℕ) (by : Origin) (after : Names) → with_register p n name b number by ≡ Ok after
       → with_register (rp p) (rn n) (f name) b number by ≡ Ok (rn after)
   register_kept p n name b number by after e =
-      let went = went_then (may_name p n name) (λ (_ : Unit {0}). cond (nat_lt number 16) (Ok (name_register n name b number by)) (refused no.Limit name)) after e in
-      ap (λ (m : Result (Unit {0}) TokenError). and_then m (λ (_ : Unit {0}). cond (nat_lt number 16) (Ok (name_register (rn n) (f name) b number by)) (refused no.Limit (f name)))) (may_kept p n name went.0 went.1)
+      let went = went_then (may_name p n name) (λ (_ : Unit {0}). cond (nat_lt number 16) (Ok (name_register n name b number by)) (rejected_word no.Limit name)) after e in
+      ap (λ (m : Result (Unit {0}) TokenError). and_then m (λ (_ : Unit {0}). cond (nat_lt number 16) (Ok (name_register (rn n) (f name) b number by)) (rejected_word no.Limit (f name)))) (may_kept p n name went.0 went.1)
       ∙ within (nat_lt number 16) went.2
     where
-      within : (t : Bool) → cond t (Ok (name_register n name b number by)) (refused no.Limit name) ≡ Ok after → cond t (Ok (name_register (rn n) (f name) b number by)) (refused no.Limit (f name)) ≡ Ok (rn after)
+      within : (t : Bool) → cond t (Ok (name_register n name b number by)) (rejected_word no.Limit name) ≡ Ok after → cond t (Ok (name_register (rn n) (f name) b number by)) (rejected_word no.Limit (f name)) ≡ Ok (rn after)
       within true h = ap (λ (x : Names). Ok x) (named_kept n name b number by ∙ ap rn (ok_is (name_register n name b number by) after h))
       within false h = absurd cc
 
@@ -220,13 +220,13 @@ module _ (f : List ℕ → List ℕ) (is : IsTextRenaming f) where
       → (is_name name ≡ true) × (with_listed (rp p) (rn n) (f name) b number ≡ Ok (rn after))
   listed_name p n name b number after e =
       let k = by (is_listed b number n.registers) e in
-      (k.0, ap (λ (t : Bool). cond t (refused no.Listed (f name)) (with_register (rp p) (rn n) (f name) b number origin.Listed)) (listed_same b number n.registers) ∙ k.1)
+      (k.0, ap (λ (t : Bool). cond t (rejected_word no.Listed (f name)) (with_register (rp p) (rn n) (f name) b number origin.Listed)) (listed_same b number n.registers) ∙ k.1)
     where
-      by : (t : Bool) → cond t (refused no.Listed name) (with_register p n name b number origin.Listed) ≡ Ok after
-          → (is_name name ≡ true) × (cond t (refused no.Listed (f name)) (with_register (rp p) (rn n) (f name) b number origin.Listed) ≡ Ok (rn after))
+      by : (t : Bool) → cond t (rejected_word no.Listed name) (with_register p n name b number origin.Listed) ≡ Ok after
+          → (is_name name ≡ true) × (cond t (rejected_word no.Listed (f name)) (with_register (rp p) (rn n) (f name) b number origin.Listed) ≡ Ok (rn after))
       by true h = absurd cc
       by false h =
-          let went = went_then (may_name p n name) (λ (_ : Unit {0}). cond (nat_lt number 16) (Ok (name_register n name b number origin.Listed)) (refused no.Limit name)) after h in
+          let went = went_then (may_name p n name) (λ (_ : Unit {0}). cond (nat_lt number 16) (Ok (name_register n name b number origin.Listed)) (rejected_word no.Limit name)) after h in
           (may_is (is_name name) (known p n name) name went.0 went.1, register_kept p n name b number origin.Listed after h)
 
   constant_kept : (p : Procedures) (n : Names) (name : List ℕ) (x : Binding) (after : Names) → with_constant p n name x ≡ Ok after → with_constant (rp p) (rn n) (f name) x ≡ Ok (rn after)
@@ -238,7 +238,7 @@ module _ (f : List ℕ → List ℕ) (is : IsTextRenaming f) where
 
   -- ---- lines `const` and `let`
 
-  pub const_kept : (p : Procedures) (n : Names) (first : List ℕ) (ws : List (List ℕ)) (after : Names) → constant_says p n first ws ≡ Ok after → constant_says (rp p) (rn n) first (renamed_first f ws) ≡ Ok (rn after)
+  pub const_kept : (p : Procedures) (n : Names) (first : List ℕ) (ws : List (List ℕ)) (after : Names) → names_after_constant p n first ws ≡ Ok after → names_after_constant (rp p) (rn n) first (renamed_first f ws) ≡ Ok (rn after)
   const_kept p n first [] after e = absurd cc
   const_kept p n first (name ∷ ws) after e =
       let went = went_then (may_name p n name) (λ (_ : Unit {0}). and_then (value_after number_of first ws) (λ number. with_constant p n name (binding.Constant number))) after e in
@@ -247,7 +247,7 @@ module _ (f : List ℕ → List ℕ) (is : IsTextRenaming f) where
       ∙ ap (λ v. and_then v (λ number. with_constant (rp p) (rn n) (f name) (binding.Constant number))) next.1
       ∙ constant_kept p n name (binding.Constant next.0) after next.2
 
-  pub let_kept : (p : Procedures) (n : Names) (first : List ℕ) (ws : List (List ℕ)) (after : Names) → let_says p n first ws ≡ Ok after → let_says (rp p) (rn n) first (renamed_first f ws) ≡ Ok (rn after)
+  pub let_kept : (p : Procedures) (n : Names) (first : List ℕ) (ws : List (List ℕ)) (after : Names) → names_after_let p n first ws ≡ Ok after → names_after_let (rp p) (rn n) first (renamed_first f ws) ≡ Ok (rn after)
   let_kept p n first [] after e = absurd cc
   let_kept p n first (name ∷ ws) after e =
       let went = went_then (may_name p n name) (λ (_ : Unit {0}). and_then (value_after register_of first ws) (λ register. with_register p n name register.0 register.1 origin.Chosen)) after e in
@@ -270,10 +270,10 @@ module _ (f : List ℕ → List ℕ) (is : IsTextRenaming f) where
       let k = listed_name p n (c ∷ name) b (number_in b values rights) after e in
       list_one (rp p) (rn n) values rights other (f (c ∷ name)) b (r.names (c ∷ name) ∙ k.0) ∙ k.1
 
-  not_named_kept : (n : Names) (word : List ℕ) (after : Names) → unnamed_says n word ≡ Ok after → unnamed_says (rn n) word ≡ Ok (rn after)
+  not_named_kept : (n : Names) (word : List ℕ) (after : Names) → names_if_unnamed n word ≡ Ok after → names_if_unnamed (rn n) word ≡ Ok (rn after)
   not_named_kept n word after e = by (is_name word && not (is_listed_word word)) (has_colon word) e
     where
-      by : (s t : Bool) → cond s (refused no.Unlisted word) (cond t (refused no.Form word) (Ok n)) ≡ Ok after → cond s (refused no.Unlisted word) (cond t (refused no.Form word) (Ok (rn n))) ≡ Ok (rn after)
+      by : (s t : Bool) → cond s (rejected_word no.Unlisted word) (cond t (rejected_word no.Form word) (Ok n)) ≡ Ok after → cond s (rejected_word no.Unlisted word) (cond t (rejected_word no.Form word) (Ok (rn n))) ≡ Ok (rn after)
       by true t h = absurd cc
       by false true h = absurd cc
       by false false h = ap (λ (x : Names). Ok (rn x)) (ok_is n after h)
@@ -286,18 +286,18 @@ module _ (f : List ℕ → List ℕ) (is : IsTextRenaming f) where
       ∙ ap (list_name (rp p) (rn n) values rights (f name ++ 58 ∷ []) (f name)) (first_begins l ws)
       ∙ list_name_kept p n values rights word (f name ++ 58 ∷ []) name (begins_first l ws) after h
 
-  pub list_kept : (p : Procedures) (l : Listed) (n : Names) (values rights : ℕ) (ws : List (List ℕ)) (after : Names) → list_says p l n values rights ws ≡ Ok after → list_says (rp p) l (rn n) values rights (map rl ws) ≡ Ok (rn after)
+  pub list_kept : (p : Procedures) (l : Listed) (n : Names) (values rights : ℕ) (ws : List (List ℕ)) (after : Names) → names_after_list p l n values rights ws ≡ Ok after → names_after_list (rp p) l (rn n) values rights (map rl ws) ≡ Ok (rn after)
   list_kept p l n values rights [] after e = ap (λ (x : Names). Ok (rn x)) (ok_is n after e)
   list_kept p l n values rights (w ∷ ws) after e =
-      let went = went_then (name_before p l n values rights w ws (before_colon w)) (λ (x : Names). list_says p l x (counted bank.Value (begins l w) values) (counted bank.Right (begins l w) rights) ws) after e in
-      ap (λ (m : Result Names TokenError). and_then m (λ (x : Names). list_says (rp p) l x (counted bank.Value (begins l (rl w)) values) (counted bank.Right (begins l (rl w)) rights) (map rl ws)))
+      let went = went_then (name_before p l n values rights w ws (before_colon w)) (λ (x : Names). names_after_list p l x (counted bank.Value (begins l w) values) (counted bank.Right (begins l w) rights) ws) after e in
+      ap (λ (m : Result Names TokenError). and_then m (λ (x : Names). names_after_list (rp p) l x (counted bank.Value (begins l (rl w)) values) (counted bank.Right (begins l (rl w)) rights) (map rl ws)))
       (before_kept p l n values rights w ws went.0 (before_colon w) refl went.1)
-      ∙ ap (λ (b : Option Bank). list_says (rp p) l (rn went.0) (counted bank.Value b values) (counted bank.Right b rights) (map rl ws)) (begins_kept l w)
+      ∙ ap (λ (b : Option Bank). names_after_list (rp p) l (rn went.0) (counted bank.Value b values) (counted bank.Right b rights) (map rl ws)) (begins_kept l w)
       ∙ list_kept p l went.0 (counted bank.Value (begins l w) values) (counted bank.Right (begins l w) rights) ws after went.2
 
-  pub registers_kept : (p : Procedures) (n : Names) (front : List ℕ) (ws : List (List ℕ)) (said : Names × List ℕ) → registers_say p n front ws ≡ Ok said → registers_say (rp p) (rn n) front (map rl ws) ≡ Ok (rn said.0, said.1)
+  pub registers_kept : (p : Procedures) (n : Names) (front : List ℕ) (ws : List (List ℕ)) (said : Names × List ℕ) → expanded_registers p n front ws ≡ Ok said → expanded_registers (rp p) (rn n) front (map rl ws) ≡ Ok (rn said.0, said.1)
   registers_kept p n front ws said e =
-      let went = went_then (list_says p listed.Registers n (length n.types) 0 ws) (λ (after : Names). Ok (after, followed_by front (after.types ++ filter is_unnamed ws))) said e in
+      let went = went_then (names_after_list p listed.Registers n (length n.types) 0 ws) (λ (after : Names). Ok (after, followed_by front (after.types ++ filter is_unnamed ws))) said e in
       ap (λ (m : Result Names TokenError). and_then m (λ (after : Names). Ok (after, followed_by front (after.types ++ filter is_unnamed (map rl ws))))) (list_kept p listed.Registers n (length n.types) 0 ws went.0 went.1)
       ∙ ap (λ (x : List (List ℕ)). Ok (rn went.0, followed_by front (went.0.types ++ x))) (unnamed_kept ws)
       ∙ ap (λ (x : Names × List ℕ). Ok (rn x.0, x.1)) (ok_is (went.0, followed_by front (went.0.types ++ filter is_unnamed ws)) said went.2)

@@ -5,7 +5,7 @@ use Rattle.std.specs.Result.{IsErr}
 use Rattle.std.specs.Str.{bytes_eq}
 use Rattle.std.proofs.lemmas.Bool.Decides.{eqb_tells}
 use Rattle.std.proofs.lemmas.List.{get_or-set_other, get_or-set_same, length-set}
-use Rattle.tw_symbols.proofs.TextNames.{AreTaken, Bor, IsTaken, Line, Names, Procedures, Said, Table, append-nil, length-map, line_words, no_names, now, procedures_of, seen_entry, seen_names, seen_procedures, seen_table, slice_get, take_all, take_at, taken_says, texts, unwrap_or}
+use Rattle.tw_symbols.proofs.TextNames.{AreTaken, Bor, IsTaken, Line, Names, Procedures, Expanded, Table, append-nil, length-map, line_words, no_names, now, procedures_of, seen_entry, seen_names, seen_procedures, seen_table, slice_get, take_all, take_at, expanded_taken, texts, unwrap_or}
 use Rattle.tw_symbols.specs.Registers.{last_name, names_after_line}
 use Rattle.tw_symbols.specs.RightNames.{AreLast, IsReady, begins_procedure, kept_entries, last_right, noted, registers_of, right_name}
 use Rattle.tw_symbols.specs.Unchanged.{Extends, IsAdded, IsPassed}
@@ -98,7 +98,7 @@ no_head ws first others other is proc = no (sym other ∙ ap begins_procedure is
     no : false ≡ true → ⊥
     no e = cc
 
-module _ (p : Procedures) (number : ℕ) (names : Names) (front : List ℕ) (t : Line) (after : Names) (text : List ℕ) (says : taken_says p number names front t ≡ Ok (after, text)) where
+module _ (p : Procedures) (number : ℕ) (names : Names) (front : List ℕ) (t : Line) (after : Names) (text : List ℕ) (says : expanded_taken p number names front t ≡ Ok (after, text)) where
   starts : (begins : Bool) → begins_procedure (line_words t) ≡ begins → take (length (kept_entries begins names.registers)) after.registers ≡ kept_entries begins names.registers
   starts true e = refl
   starts false e =
@@ -121,12 +121,12 @@ module _ (names : ℕ → ℕ → List ℕ) (ls before others : List (List ℕ))
   names_here : (l k : ℕ) → length before < l → names l k ≡ last_right (registers_of (names_after_line p l (length before + 1) n front (here.0 ∷ drop (suc (length before)) all))) k
   names_here l k low = left l k low ∙ ap (λ (ts : List Line). last_right (registers_of (names_after_line p l (length before + 1) n front ts)) k) here.2
 
-  pub rejected : IsErr (taken_says p (length before + 1) n front here.0) → (l k : ℕ) → length before < l → names l k ≡ []
+  pub rejected : IsErr (expanded_taken p (length before + 1) n front here.0) → (l k : ℕ) → length before < l → names l k ≡ []
   rejected bad l k low =
       names_here l k low
-      ∙ ap (λ (o : Option Names). last_right (registers_of o) k) (refuses p l (length before + 1) n front here.0 (drop (suc (length before)) all) (taken_says p (length before + 1) n front here.0) refl bad)
+      ∙ ap (λ (o : Option Names). last_right (registers_of o) k) (refuses p l (length before + 1) n front here.0 (drop (suc (length before)) all) (expanded_taken p (length before + 1) n front here.0) refl bad)
 
-  module _ (after : Names) (text : List ℕ) (says : taken_says p (length before + 1) n front here.0 ≡ Ok (after, text)) where
+  module _ (after : Names) (text : List ℕ) (says : expanded_taken p (length before + 1) n front here.0 ≡ Ok (after, text)) where
     stepped : (l k : ℕ) → length before < l
         → names l k ≡ last_right (registers_of (cond ((length before + 1) == l) (Some after) (names_after_line p l ((length before + 1) + 1) after text (drop (suc (length before)) all)))) k
     stepped l k low =
@@ -164,8 +164,8 @@ module _ (names : ℕ → ℕ → List ℕ) (ls before others : List (List ℕ))
   )
 
   module _ (r : Reader) (ready : IsReady names ls (length before) (Some r)) where
-    abbrev says_at : ℕ → Line → Said
-    says_at m t = taken_says (seen_procedures r.procedures) m (seen_names r.names) r.plain.items t
+    abbrev says_at : ℕ → Line → Expanded
+    says_at m t = expanded_taken (seen_procedures r.procedures) m (seen_names r.names) r.plain.items t
 
     abbrev all : List Line
     all = ready.0.0

@@ -9,7 +9,7 @@ use Rattle.tw_lexer.specs.Names.{before_colon}
 use Rattle.tw_code.specs.format.Table.{opcode_in, forms_of}
 use Rattle.tw_code.specs.declared.opcode.Opcode.{Opcode}
 use Rattle.tw_code.specs.declared.version.Version.TheVariants.{Four}
-use Rattle.tw_symbols.specs.LineExpansion.{Said, asked_by, at_head, banks_of, begins, begins_first, followed_by, body_says, constant_says, counted, fitting, has_colon, head_says, instruction_says, is_listed_word, is_names_line, is_unnamed, let_says, line_says, number_of, list_name, list_says, made_one, made_say, made_word, makes, name_before, name_says, named, number_in, only_names, parameters, procedure_name, register_of, registers_say, expands, value_after, value_types, with_word, word_says, words_say}
+use Rattle.tw_symbols.specs.LineExpansion.{Expanded, expected_of, at_head, banks_of, begins, begins_first, followed_by, expanded_body, names_after_constant, counted, fitting, has_colon, expanded_head, expanded_instruction, is_listed_word, is_names_line, is_unnamed, names_after_let, expanded_line, number_of, list_name, names_after_list, made_one, expanded_results, made_word, makes, name_before, checked_name, named, number_in, only_names, parameters, procedure_name, register_of, expanded_registers, expands, value_after, value_types, with_word, expanded_word, expanded_words}
 use Rattle.tw_symbols.specs.declared.meaning.Expected.{Expected}
 use Rattle.tw_symbols.specs.declared.meaning.Expected.TheVariants as asked
 use Rattle.tw_symbols.specs.declared.meaning.Bank.{Bank}
@@ -62,12 +62,12 @@ listed_types p names name b number = either (SameTypes names) (is_listed b numbe
 constant_types : (p : Procedures) (names : Names) (name : List ℕ) (x : Binding) → SameTypes names (with_constant p names name x)
 constant_types p names name x = with_one names (may_name p names name) _ (λ _ after e. ap (λ (n : Names). n.types) (sym (ok_is _ after e)))
 
-const_types : (p : Procedures) (names : Names) (first : List ℕ) (words : List (List ℕ)) → SameTypes names (constant_says p names first words)
+const_types : (p : Procedures) (names : Names) (first : List ℕ) (words : List (List ℕ)) → SameTypes names (names_after_constant p names first words)
 const_types p names first [] = none_named names _
 const_types p names first (name ∷ words) =
     with_one names (may_name p names name) _ (λ _. with_one names (value_after number_of first words) _ (λ number. constant_types p names name (binding.Constant number)))
 
-let_types : (p : Procedures) (names : Names) (first : List ℕ) (words : List (List ℕ)) → SameTypes names (let_says p names first words)
+let_types : (p : Procedures) (names : Names) (first : List ℕ) (words : List (List ℕ)) → SameTypes names (names_after_let p names first words)
 let_types p names first [] = none_named names _
 let_types p names first (name ∷ words) =
     with_one names (may_name p names name) _ (λ _. with_one names (value_after register_of first words) _ (λ register. register_types p names name register.0 register.1 origin.Chosen))
@@ -83,10 +83,10 @@ before_types p l names values rights word words None =
     (either (SameTypes names) (has_colon word) _ _ (none_named names (record { no = no.Form; word = word })) (same_names names))
 before_types p l names values rights word words (Some name) = list_name_types p names values rights word name (begins_first l words)
 
-list_types : (p : Procedures) (l : Listed) (names : Names) (values rights : ℕ) (words : List (List ℕ)) → SameTypes names (list_says p l names values rights words)
+list_types : (p : Procedures) (l : Listed) (names : Names) (values rights : ℕ) (words : List (List ℕ)) → SameTypes names (names_after_list p l names values rights words)
 list_types p l names values rights [] after e = same_names names after e
 list_types p l names values rights (word ∷ words) after e =
-    let went = went_then (name_before p l names values rights word words (before_colon word)) (λ (n : Names). list_says p l n (counted bank.Value (begins l word) values) (counted bank.Right (begins l word) rights) words) after e in
+    let went = went_then (name_before p l names values rights word words (before_colon word)) (λ (n : Names). names_after_list p l n (counted bank.Value (begins l word) values) (counted bank.Right (begins l word) rights) words) after e in
     list_types p l went.0 (counted bank.Value (begins l word) values) (counted bank.Right (begins l word) rights) words after went.2
     ∙ before_types p l names values rights word words (before_colon word) went.0 went.1
 
@@ -95,17 +95,17 @@ one_types p names word = either (SameTypes names) _ _ _ (register_types p names 
 
 -- returns both steps of a word that is made
 pub word_made : (p : Procedures) (names : Names) (front word : List ℕ) (said : Names × List ℕ) → made_word p names front word ≡ Ok said
-    → (made_one p names word ≡ Ok said.0) × (word_says p said.0 asked.Right front word ≡ Ok said.1)
+    → (made_one p names word ≡ Ok said.0) × (expanded_word p said.0 asked.Right front word ≡ Ok said.1)
 word_made p names front word said e =
-    let first = went_then (made_one p names word) (λ (n : Names). and_then (word_says p n asked.Right front word) (λ (text : List ℕ). Ok (n, text))) said e in
-    let next = went_then (word_says p first.0 asked.Right front word) (λ (text : List ℕ). Ok (first.0, text)) said first.2 in
+    let first = went_then (made_one p names word) (λ (n : Names). and_then (expanded_word p n asked.Right front word) (λ (text : List ℕ). Ok (n, text))) said e in
+    let next = went_then (expanded_word p first.0 asked.Right front word) (λ (text : List ℕ). Ok (first.0, text)) said first.2 in
     let is = ok_is (first.0, next.0) said next.2 in
-    subst (λ (x : Names × List ℕ). (made_one p names word ≡ Ok x.0) × (word_says p x.0 asked.Right front word ≡ Ok x.1)) is (first.1, next.1)
+    subst (λ (x : Names × List ℕ). (made_one p names word ≡ Ok x.0) × (expanded_word p x.0 asked.Right front word ≡ Ok x.1)) is (first.1, next.1)
 
-made_types : (p : Procedures) (names : Names) (front : List ℕ) (words : List (List ℕ)) (said : Names × List ℕ) → made_say p names front words ≡ Ok said → said.0.types ≡ names.types
+made_types : (p : Procedures) (names : Names) (front : List ℕ) (words : List (List ℕ)) (said : Names × List ℕ) → expanded_results p names front words ≡ Ok said → said.0.types ≡ names.types
 made_types p names front [] said e = ap (λ (x : Names × List ℕ). x.0.types) (sym (ok_is (names, front) said e))
 made_types p names front (word ∷ words) said e =
-    let went = went_then (made_word p names front word) (λ (s : Names × List ℕ). made_say p s.0 s.1 words) said e in
+    let went = went_then (made_word p names front word) (λ (s : Names × List ℕ). expanded_results p s.0 s.1 words) said e in
     made_types p went.0.0 went.0.1 words said went.2 ∙ one_types p names word went.0.0 ((word_made p names front word went.0 went.1).0)
 
 -- ---- lists of words
@@ -136,7 +136,7 @@ all_parameters Q ws h = either (AllKept Q) (is_some (procedure_name ws)) (drop 2
 -- ---- the text of a line
 
 -- holds if the expansion is added to this text, and keeps the property
-abbrev pub SaysKept : (List ℕ → Type 0) → List ℕ → Said → Type 0
+abbrev pub SaysKept : (List ℕ → Type 0) → List ℕ → Expanded → Type 0
 SaysKept Q front says = (said : Names × List ℕ) → says ≡ Ok said → (line : List ℕ) × (said.1 ≡ front ++ line) × Q line × AllKept Q said.0.types
 
 module _ (Q : List ℕ → Type 0) (kept : IsKept Q) where
@@ -171,7 +171,7 @@ module _ (Q : List ℕ → Type 0) (kept : IsKept Q) where
       )
 
   -- an expansion after a first word keeps it
-  after_first : (front first : List ℕ) (says : Said) → Q first → SaysKept Q (front ++ first) says → SaysKept Q front says
+  after_first : (front first : List ℕ) (says : Expanded) → Q first → SaysKept Q (front ++ first) says → SaysKept Q front says
   after_first front first says h each said e =
       let more = each said e in
       (first ++ more.0, more.1 ∙ append_assoc front first more.0, kept.both first more.0 h more.2, more.3)
@@ -220,31 +220,31 @@ module _ (Q : List ℕ → Type 0) (kept : IsKept Q) where
       either (λ (r : Result (List ℕ) TokenError). r ≡ Ok text → IsMore front text) (is_name word) (named front word (known p names word) a) (Ok (with_word front word))
       (named_kept a front word text (known p names word)) (plainly front word text h)
 
-  word_kept : (p : Procedures) (names : Names) (a : Expected) (front word text : List ℕ) → Q word → word_says p names a front word ≡ Ok text → IsMore front text
+  word_kept : (p : Procedures) (names : Names) (a : Expected) (front word text : List ℕ) → Q word → expanded_word p names a front word ≡ Ok text → IsMore front text
   word_kept p names asked.Nothing front word text h e = plainly front word text h e
   word_kept p names a front word text h e = either_word p names a front word text h e
 
-  words_kept : (p : Procedures) (names : Names) (all : List Expected) (front : List ℕ) (ws : List (List ℕ)) (text : List ℕ) → AllKept Q ws → words_say p names all front ws ≡ Ok text → IsMore front text
+  words_kept : (p : Procedures) (names : Names) (all : List Expected) (front : List ℕ) (ws : List (List ℕ)) (text : List ℕ) → AllKept Q ws → expanded_words p names all front ws ≡ Ok text → IsMore front text
   words_kept p names all front [] text h e = ([], sym (ok_is front text e) ∙ sym (append-nil front), kept.none)
   words_kept p names all front (w ∷ ws) text h e =
-      let went = went_then (word_says p names (unwrap_or (slice_get all 0) asked.Nothing) front w) (λ (t : List ℕ). words_say p names (drop 1 all) t ws) text e in
+      let went = went_then (expanded_word p names (unwrap_or (slice_get all 0) asked.Nothing) front w) (λ (t : List ℕ). expanded_words p names (drop 1 all) t ws) text e in
       let one = word_kept p names (unwrap_or (slice_get all 0) asked.Nothing) front w went.0 h.0 went.1 in
       let more = words_kept p names (drop 1 all) went.0 ws text h.1 went.2 in
       (one.0 ++ more.0, more.1 ∙ ap (λ (t : List ℕ). t ++ more.0) one.1 ∙ append_assoc front one.0 more.0, kept.both one.0 more.0 one.2 more.2)
 
-  made_kept : (p : Procedures) (names : Names) (front : List ℕ) (ws : List (List ℕ)) (said : Names × List ℕ) → AllKept Q ws → made_say p names front ws ≡ Ok said → IsMore front said.1
+  made_kept : (p : Procedures) (names : Names) (front : List ℕ) (ws : List (List ℕ)) (said : Names × List ℕ) → AllKept Q ws → expanded_results p names front ws ≡ Ok said → IsMore front said.1
   made_kept p names front [] said h e = ([], ap (λ (x : Names × List ℕ). x.1) (sym (ok_is (names, front) said e)) ∙ sym (append-nil front), kept.none)
   made_kept p names front (w ∷ ws) said h e =
-      let went = went_then (made_word p names front w) (λ (s : Names × List ℕ). made_say p s.0 s.1 ws) said e in
+      let went = went_then (made_word p names front w) (λ (s : Names × List ℕ). expanded_results p s.0 s.1 ws) said e in
       let one = word_kept p went.0.0 asked.Right front w went.0.1 h.0 ((word_made p names front w went.0 went.1).1) in
       let more = made_kept p went.0.0 went.0.1 ws said h.1 went.2 in
       (one.0 ++ more.0, more.1 ∙ ap (λ (t : List ℕ). t ++ more.0) one.1 ∙ append_assoc front one.0 more.0, kept.both one.0 more.0 one.2 more.2)
 
-  instruction_kept : (p : Procedures) (names : Names) (o : Opcode) (front : List ℕ) (ws : List (List ℕ)) → AllKept Q names.types → AllKept Q ws → SaysKept Q front (instruction_says p names o front ws)
+  instruction_kept : (p : Procedures) (names : Names) (o : Opcode) (front : List ℕ) (ws : List (List ℕ)) → AllKept Q names.types → AllKept Q ws → SaysKept Q front (expanded_instruction p names o front ws)
   instruction_kept p names o front ws h k said e =
-      let expected_in = λ (n : Names). drop (makes o) (flat_map (asked_by (banks_of p n ws)) (forms_of o)) in
-      let first = went_then (made_say p names front (take (makes o) ws)) (λ (s : Names × List ℕ). and_then (words_say p s.0 (expected_in s.0) s.1 (drop (makes o) ws)) (λ (text : List ℕ). Ok (s.0, text))) said e in
-      let next = went_then (words_say p first.0.0 (expected_in first.0.0) first.0.1 (drop (makes o) ws)) (λ (text : List ℕ). Ok (first.0.0, text)) said first.2 in
+      let expected_in = λ (n : Names). drop (makes o) (flat_map (expected_of (banks_of p n ws)) (forms_of o)) in
+      let first = went_then (expanded_results p names front (take (makes o) ws)) (λ (s : Names × List ℕ). and_then (expanded_words p s.0 (expected_in s.0) s.1 (drop (makes o) ws)) (λ (text : List ℕ). Ok (s.0, text))) said e in
+      let next = went_then (expanded_words p first.0.0 (expected_in first.0.0) first.0.1 (drop (makes o) ws)) (λ (text : List ℕ). Ok (first.0.0, text)) said first.2 in
       let made = made_kept p names front (take (makes o) ws) first.0 (all_taken Q (makes o) ws k) first.1 in
       let line = words_kept p first.0.0 (expected_in first.0.0) first.0.1 (drop (makes o) ws) next.0 (all_left Q (makes o) ws k) next.1 in
       let is = ok_is (first.0.0, next.0) said next.2 in (
@@ -254,36 +254,36 @@ module _ (Q : List ℕ → Type 0) (kept : IsKept Q) where
         subst (λ (x : Names × List ℕ). AllKept Q x.0.types) is (subst (AllKept Q) (sym (made_types p names front (take (makes o) ws) first.0 first.1)) h),
       )
 
-  body_kept : (p : Procedures) (names : Names) (o : Option Opcode) (front : List ℕ) (ws : List (List ℕ)) → AllKept Q names.types → AllKept Q ws → SaysKept Q front (body_says p names o front ws)
+  body_kept : (p : Procedures) (names : Names) (o : Option Opcode) (front : List ℕ) (ws : List (List ℕ)) → AllKept Q names.types → AllKept Q ws → SaysKept Q front (expanded_body p names o front ws)
   body_kept p names None front ws h k = words_more names front ws h k
   body_kept p names (Some o) front ws h k = instruction_kept p names o front (flat_map pieces ws) h (pieces_kept ws k)
 
   -- ---- `proc` and `regs`
 
-  head_kept : (p : Procedures) (number : ℕ) (names : Names) (front : List ℕ) (ws : List (List ℕ)) → AllKept Q ws → SaysKept Q front (head_says p number names front ws)
+  head_kept : (p : Procedures) (number : ℕ) (names : Names) (front : List ℕ) (ws : List (List ℕ)) → AllKept Q ws → SaysKept Q front (expanded_head p number names front ws)
   head_kept p number names front ws k said e =
       let shown = take 1 ws ++ filter is_unnamed (parameters ws) in
-      let first = went_then (name_says p number (procedure_name ws)) (λ (_ : Unit {0}). and_then (list_says p listed.Parameters (at_head names ws) 0 0 (parameters ws)) (λ (after : Names). Ok (after, followed_by front shown))) said e in
-      let next = went_then (list_says p listed.Parameters (at_head names ws) 0 0 (parameters ws)) (λ (after : Names). Ok (after, followed_by front shown)) said first.2 in
+      let first = went_then (checked_name p number (procedure_name ws)) (λ (_ : Unit {0}). and_then (names_after_list p listed.Parameters (at_head names ws) 0 0 (parameters ws)) (λ (after : Names). Ok (after, followed_by front shown))) said e in
+      let next = went_then (names_after_list p listed.Parameters (at_head names ws) 0 0 (parameters ws)) (λ (after : Names). Ok (after, followed_by front shown)) said first.2 in
       let same : next.0.types ≡ (at_head names ws).types = list_types p listed.Parameters (at_head names ws) 0 0 (parameters ws) next.0 next.1 in
       let types : AllKept Q (at_head names ws).types = either (AllKept Q) (is_some (procedure_name ws)) (value_types (parameters ws)) [] (all_types Q (parameters ws) (all_parameters Q ws k)) tt in
       words_more next.0 front shown (subst (AllKept Q) (sym same) types) (all_kept Q (take 1 ws) (filter is_unnamed (parameters ws)) (all_taken Q 1 ws k) (all_filtered Q (parameters ws) (all_parameters Q ws k))) said next.2
 
-  registers_kept : (p : Procedures) (names : Names) (front : List ℕ) (ws : List (List ℕ)) → AllKept Q names.types → AllKept Q ws → SaysKept Q front (registers_say p names front ws)
+  registers_kept : (p : Procedures) (names : Names) (front : List ℕ) (ws : List (List ℕ)) → AllKept Q names.types → AllKept Q ws → SaysKept Q front (expanded_registers p names front ws)
   registers_kept p names front ws h k said e =
-      let went = went_then (list_says p listed.Registers names (length names.types) 0 ws) (λ (after : Names). Ok (after, followed_by front (after.types ++ filter is_unnamed ws))) said e in
+      let went = went_then (names_after_list p listed.Registers names (length names.types) 0 ws) (λ (after : Names). Ok (after, followed_by front (after.types ++ filter is_unnamed ws))) said e in
       let types : AllKept Q went.0.types = subst (AllKept Q) (sym (list_types p listed.Registers names (length names.types) 0 ws went.0 went.1)) h in
       words_more went.0 front (went.0.types ++ filter is_unnamed ws) types (all_kept Q went.0.types (filter is_unnamed ws) types (all_filtered Q ws k)) said went.2
 
   -- ---- a line
 
-  pub line_kept : (p : Procedures) (number : ℕ) (names : Names) (front : List ℕ) (ws : List (List ℕ)) → AllKept Q names.types → AllKept Q ws → SaysKept Q front (line_says p number names front ws)
-  unfolding line_says
+  pub line_kept : (p : Procedures) (number : ℕ) (names : Names) (front : List ℕ) (ws : List (List ℕ)) → AllKept Q names.types → AllKept Q ws → SaysKept Q front (expanded_line p number names front ws)
+  unfolding expanded_line
   line_kept p number names front [] h k = nothing_more names front h
   line_kept p number names front (first ∷ ws) h k =
       either (SaysKept Q front) (is_names_line first ws) _ _ (nothing_more names front h)
-      (either (SaysKept Q front) (bytes_eq first (codes "const")) _ _ (only_more names front (constant_says p names first ws) h (const_types p names first ws))
-      (either (SaysKept Q front) (bytes_eq first (codes "let")) _ _ (only_more names front (let_says p names first ws) h (let_types p names first ws))
+      (either (SaysKept Q front) (bytes_eq first (codes "const")) _ _ (only_more names front (names_after_constant p names first ws) h (const_types p names first ws))
+      (either (SaysKept Q front) (bytes_eq first (codes "let")) _ _ (only_more names front (names_after_let p names first ws) h (let_types p names first ws))
       (either (SaysKept Q front) (bytes_eq first (codes "proc")) _ _ (after_first front first _ k.0 (head_kept p number names (front ++ first) (flat_map pieces ws) (pieces_kept ws k.1)))
       (either (SaysKept Q front) (bytes_eq first (codes "regs")) _ _ (after_first front first _ k.0 (registers_kept p names (front ++ first) (flat_map pieces ws) h (pieces_kept ws k.1)))
       (after_first front first _ k.0 (body_kept p names (opcode_in Four first) (front ++ first) ws h k.1))))))

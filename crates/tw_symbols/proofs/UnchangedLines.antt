@@ -14,8 +14,8 @@ use Rattle.tw_lexer.proofs.Colons.{before, found_before}
 use Rattle.tw_lexer.specs.Names.{before_colon}
 use Rattle.tw_lexer.specs.Words.{Bare, IsBlank, IsFirstWord, IsWord, Quoted, Word}
 use Rattle.tw_lexer.specs.reading.Next.{IsAfterGap}
-use Rattle.tw_symbols.proofs.TextNames.{IsTaken, Line, Names, Procedures, Said, Worded, and_then, append-nil, ended, is_names_line, is_some, line_words, taken_says}
-use Rattle.tw_symbols.specs.LineExpansion.{body_says, line_says}
+use Rattle.tw_symbols.proofs.TextNames.{IsTaken, Line, Names, Procedures, Expanded, Worded, and_then, append-nil, ended, is_names_line, is_some, line_words, expanded_taken}
+use Rattle.tw_symbols.specs.LineExpansion.{expanded_body, expanded_line}
 use Rattle.tw_symbols.specs.RightNames.{begins_procedure}
 use Rattle.tw_symbols.specs.Unchanged.{IsAdded, Stays, is_label}
 use Rattle.tw_symbols.proofs.RenamedWords.{differs}
@@ -26,13 +26,13 @@ use Rattle.tw_symbols.proofs.Taking.{taken_once, text_here}
 blank_taken : (line : List ℕ) → IsBlank line → IsTaken (Worded [] line) line
 blank_taken line blank = (refl, blank)
 
-stays : (p : Procedures) (number : ℕ) (names : Names) (front line : List ℕ) → taken_says p number names front (Worded [] line) ≡ Ok (names, front ++ ended line)
-unfolding line_says
+stays : (p : Procedures) (number : ℕ) (names : Names) (front line : List ℕ) → expanded_taken p number names front (Worded [] line) ≡ Ok (names, front ++ ended line)
+unfolding expanded_line
 stays p number names front line = refl
 
 pub blank_stays : (line : List ℕ) → IsBlank line → Stays line line
 blank_stays line blank old t is =
-    subst (λ (x : Line). (begins_procedure (line_words x) ≡ false) × ((p : Procedures) (number : ℕ) (names : Names) → taken_says p number names old x ≡ Ok (names, old ++ ended line)))
+    subst (λ (x : Line). (begins_procedure (line_words x) ≡ false) × ((p : Procedures) (number : ℕ) (names : Names) → expanded_taken p number names old x ≡ Ok (names, old ++ ended line)))
     (taken_once (Worded [] line) t line (blank_taken line blank) is) (refl, λ p number names. stays p number names old line)
 
 -- ---- labels
@@ -61,8 +61,8 @@ no_instruction : (x : List ℕ) → opcode_in Four (x ++ 58 ∷ []) ≡ None
 unfolding opcode_of
 no_instruction x = ap (if_had Four) (none_called x OPCODES)
 
-label_says : (p : Procedures) (number : ℕ) (names : Names) (front x : List ℕ) → line_says p number names front ((x ++ 58 ∷ []) ∷ []) ≡ Ok (names, (front ++ (x ++ 58 ∷ [])) ++ [])
-unfolding line_says
+label_says : (p : Procedures) (number : ℕ) (names : Names) (front x : List ℕ) → expanded_line p number names front ((x ++ 58 ∷ []) ∷ []) ≡ Ok (names, (front ++ (x ++ 58 ∷ [])) ++ [])
+unfolding expanded_line
 label_says p number names front x =
     let w = x ++ 58 ∷ [] in
     otherwise (is_names_line w []) _ _ (ap (λ (t : Bool). t && true) (differs x (codes "names") refl))
@@ -70,7 +70,7 @@ label_says p number names front x =
     ∙ otherwise (bytes_eq w (codes "let")) _ _ (differs x (codes "let") refl)
     ∙ otherwise (bytes_eq w (codes "proc")) _ _ (differs x (codes "proc") refl)
     ∙ otherwise (bytes_eq w (codes "regs")) _ _ (differs x (codes "regs") refl)
-    ∙ ap (λ (o : Option Opcode). body_says p names o (front ++ w) []) (no_instruction x)
+    ∙ ap (λ (o : Option Opcode). expanded_body p names o (front ++ w) []) (no_instruction x)
 
 label_taken : (word : Word) (bytes rest : List ℕ) (f : IsFirstWord word bytes rest) → IsBlank rest → IsTaken (Worded (f.text ∷ []) rest) bytes
 label_taken word bytes rest f blank = ((rest, (word, f, refl), refl), blank)
@@ -88,10 +88,10 @@ parts_kept : (front w rest : List ℕ) → ((front ++ w) ++ []) ++ ended rest �
 parts_kept front w rest =
     ap (λ (x : List ℕ). x ++ ended rest) (append-nil (front ++ w)) ∙ append_assoc front w (ended rest) ∙ ap (λ (x : List ℕ). front ++ x) (sym (append_assoc w rest (codes "\n")))
 
-label_line : (p : Procedures) (number : ℕ) (names : Names) (front x text rest : List ℕ) → text ≡ x ++ 58 ∷ [] → taken_says p number names front (Worded (text ∷ []) rest) ≡ Ok (names, front ++ ended (text ++ rest))
+label_line : (p : Procedures) (number : ℕ) (names : Names) (front x text rest : List ℕ) → text ≡ x ++ 58 ∷ [] → expanded_taken p number names front (Worded (text ∷ []) rest) ≡ Ok (names, front ++ ended (text ++ rest))
 label_line p number names front x text rest e =
-    subst (λ (w : List ℕ). taken_says p number names front (Worded (w ∷ []) rest) ≡ Ok (names, front ++ ended (w ++ rest))) (sym e)
-    (ap (λ (s : Said). and_then s (λ (said : Names × List ℕ). Ok (said.0, said.1 ++ ended rest))) (label_says p number names front x) ∙ ap (λ (y : List ℕ). Ok (names, y)) (parts_kept front (x ++ 58 ∷ []) rest))
+    subst (λ (w : List ℕ). expanded_taken p number names front (Worded (w ∷ []) rest) ≡ Ok (names, front ++ ended (w ++ rest))) (sym e)
+    (ap (λ (s : Expanded). and_then s (λ (said : Names × List ℕ). Ok (said.0, said.1 ++ ended rest))) (label_says p number names front x) ∙ ap (λ (y : List ℕ). Ok (names, y)) (parts_kept front (x ++ 58 ∷ []) rest))
 
 no_head : (x text : List ℕ) → text ≡ x ++ 58 ∷ [] → begins_procedure (text ∷ []) ≡ false
 no_head x text e = ap (λ (w : List ℕ). bytes_eq w (codes "proc")) e ∙ differs x (codes "proc") refl
@@ -101,13 +101,13 @@ label_stays word bytes here rest f gap blank label old t is =
     let named = label_is word f.text f.is_word label in
     let line : Line = Worded (f.text ∷ []) rest in
     let text : f.text ++ rest ≡ here = sym (text_here word bytes here rest f gap) in
-    subst (λ (x : Line). (begins_procedure (line_words x) ≡ false) × ((p : Procedures) (number : ℕ) (names : Names) → taken_says p number names old x ≡ Ok (names, old ++ ended here)))
+    subst (λ (x : Line). (begins_procedure (line_words x) ≡ false) × ((p : Procedures) (number : ℕ) (names : Names) → expanded_taken p number names old x ≡ Ok (names, old ++ ended here)))
     (taken_once line t bytes (label_taken word bytes rest f blank) is)
     (no_head named.0 f.text named.1, λ p number names. label_line p number names old named.0 f.text rest named.1 ∙ ap (λ (y : List ℕ). Ok (names, old ++ ended y)) text)
 
 -- ---- a line that may have been added
 
-pub added_says : (p : Procedures) (number : ℕ) (names : Names) (line old new : List ℕ) (added : Bool) → IsAdded line old new added → added ≡ true → (t : Line) → IsTaken t line → taken_says p number names old t ≡ Ok (names, new)
+pub added_says : (p : Procedures) (number : ℕ) (names : Names) (line old new : List ℕ) (added : Bool) → IsAdded line old new added → added ≡ true → (t : Line) → IsTaken t line → expanded_taken p number names old t ≡ Ok (names, new)
 added_says p number names line old new true extends e t is = (extends t is).1 p number names
 added_says p number names line old new false same e t is = absurd cc
 

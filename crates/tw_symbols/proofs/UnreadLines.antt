@@ -10,11 +10,10 @@ use Rattle.tw_code.specs.declared.opcode.Opcode.{Opcode}
 use Rattle.tw_code.specs.declared.version.Version.TheVariants.{Four}
 use Rattle.tw_code.specs.format.Table.{opcode_in, opcode_of}
 use Rattle.tw_symbols.proofs.EachLine.{line_of}
-use Rattle.tw_symbols.proofs.NoHeads.{no_procedure}
-use Rattle.tw_symbols.proofs.TextNames.{AllByRecursion, IsMemory, IsTaken, Line, Names, Procedures, Said, bank_of_mode, ended, flat_map, line_words, nat_lt, or_unread, pieces, read_says, reads_heads, slice_get, taken_says, unread, with_line, with_lines}
-use Rattle.tw_symbols.specs.Expansion.{AddsNone, with_head, with_words}
+use Rattle.tw_symbols.proofs.Loops.{AreGathered, no_procedures}
+use Rattle.tw_symbols.proofs.TextNames.{AllByRecursion, AreTaken, IsMemory, IsTaken, Line, Names, Procedures, Expanded, bank_of_mode, ended, flat_map, line_words, nat_lt, or_unread, pieces, procedures_of, expanded_if_read, reads_heads, slice_get, expanded_taken, unread, with_line, with_lines}
+use Rattle.tw_symbols.specs.Expansion.{with_head, with_words}
 use Rattle.tw_symbols.specs.Meanings.{Head}
-use Rattle.tw_symbols.specs.RightNames.{HasNoHead}
 use Rattle.tw_symbols.specs.Unchanged.{IsAdded, IsApart}
 use Rattle.tw_symbols.specs.Unread.{calls_unknown, is_open_call, is_past}
 use Rattle.tw_symbols.specs.declared.rejection.NameError.{NameError}
@@ -30,11 +29,35 @@ full_words q number (first ∷ ws) full = by (bytes_eq first (codes "proc")) (re
     by true false e = refl
     by false false e = refl
 
-pub full_adds_none : (q : Procedures) (line : List ℕ) → reads_heads q ≡ false → AddsNone q line
-full_adds_none q line full = let found = line_of line in (found.0, found.1, λ number. sym (full_words q number (line_words found.0) full))
+full_lines : (q : Procedures) (number : ℕ) (all : List Line) → reads_heads q ≡ false → with_lines q number all ≡ q
+full_lines q number [] full = refl
+full_lines q number (line ∷ all) full = ap (λ (p : Procedures). with_lines p (number + 1) all) (full_words q number (line_words line) full) ∙ full_lines q (number + 1) all full
 
-pub headless_adds_none : (q : Procedures) (line : List ℕ) → HasNoHead line → AddsNone q line
-headless_adds_none q line none = (none.0, none.1, λ number. no_procedure q number none.0 none.2)
+lines_both : (q : Procedures) (number : ℕ) (all others : List Line) → with_lines q number (all ++ others) ≡ with_lines (with_lines q number all) (number + length all) others
+lines_both q number [] others = let e : number ≡ number + 0 = omega arith in ap (λ (k : ℕ). with_lines q k others) e
+lines_both q number (line ∷ all) others =
+    let e : (number + 1) + length all ≡ number + suc (length all) = omega arith in
+    lines_both (with_line q number line) (number + 1) all others ∙ ap (λ (k : ℕ). with_lines (with_lines (with_line q number line) (number + 1) all) k others) e
+
+all_taken : (ls : List (List ℕ)) → (all : List Line) × AreTaken all ls
+all_taken [] = ([], tt)
+all_taken (line ∷ ls) = let one = line_of line in let more = all_taken ls in (one.0 ∷ more.0, (one.1, more.1))
+
+both_taken : (all others : List Line) (ls more : List (List ℕ)) → AreTaken all ls → AreTaken others more → AreTaken (all ++ others) (ls ++ more)
+both_taken [] others [] more are also = also
+both_taken [] others (l ∷ ls) more are also = absurd are
+both_taken (t ∷ all) others [] more are also = absurd are
+both_taken (t ∷ all) others (l ∷ ls) more (is, are) also = (is, both_taken all others ls more are also)
+
+-- once enough heads are read, the other lines change nothing
+pub gathered_whole : (ls before others : List (List ℕ)) (p : Procedures) → AreGathered before p → reads_heads p ≡ false → ls ≡ before ++ others → AreGathered ls p
+gathered_whole ls before others p (all, are, is) full parts =
+    let rest = all_taken others in
+    subst (λ (x : List (List ℕ)). AreGathered x p) (sym parts) (
+      all ++ rest.0,
+      both_taken all rest.0 before others are rest.1,
+      is ∙ sym (full_lines (procedures_of all) (1 + length all) rest.0 (subst (λ (q : Procedures). reads_heads q ≡ false) is full)) ∙ sym (lines_both no_procedures 1 all rest.0),
+    )
 
 pub no_proc : opcode_in Four (codes "proc") ≡ None
 unfolding opcode_of
@@ -111,13 +134,13 @@ full_past q number all past = by (reads_heads q) refl
 
 pub unread_apart : (p : Procedures) (number : ℕ) (n : Names) (line old new text : List ℕ) → ((t : Line) → IsTaken t line → Some text ≡ unread p number n (line_words t)) → new ≡ old ++ ended text → IsApart p number n line old new true
 unread_apart p number n line old new text is e t taken =
-    ap (λ (u : Option (List ℕ)). or_unread u n old (taken_says p number n old t)) (sym (is t taken)) ∙ ap (λ (x : List ℕ). Ok (n, x)) (sym e)
+    ap (λ (u : Option (List ℕ)). or_unread u n old (expanded_taken p number n old t)) (sym (is t taken)) ∙ ap (λ (x : List ℕ). Ok (n, x)) (sym e)
 
 pub read_apart : (p : Procedures) (number : ℕ) (n : Names) (line old new : List ℕ) (added : Bool) → ((t : Line) → IsTaken t line → None ≡ unread p number n (line_words t)) → IsAdded line old new added → IsApart p number n line old new added
-read_apart p number n line old new true is extends = λ t taken. ap (λ (u : Option (List ℕ)). or_unread u n old (taken_says p number n old t)) (sym (is t taken)) ∙ (extends t taken).1 p number n
+read_apart p number n line old new true is extends = λ t taken. ap (λ (u : Option (List ℕ)). or_unread u n old (expanded_taken p number n old t)) (sym (is t taken)) ∙ (extends t taken).1 p number n
 read_apart p number n line old new false is same = (same, λ t taken. sym (is t taken))
 
-pub apart_says : (p : Procedures) (number : ℕ) (n : Names) (line old new : List ℕ) (added : Bool) → IsApart p number n line old new added → added ≡ true → (t : Line) → IsTaken t line → read_says p number n old t ≡ Ok (n, new)
+pub apart_says : (p : Procedures) (number : ℕ) (n : Names) (line old new : List ℕ) (added : Bool) → IsApart p number n line old new added → added ≡ true → (t : Line) → IsTaken t line → expanded_if_read p number n old t ≡ Ok (n, new)
 apart_says p number n line old new true is e = is
 apart_says p number n line old new false is e = absurd cc
 
@@ -127,11 +150,11 @@ not_apart p number n line old new false is e = is
 
 -- ---- a line that is read
 
-pub read_line : (p : Procedures) (number : ℕ) (n : Names) (front : List ℕ) (t : Line) → unread p number n (line_words t) ≡ None → read_says p number n front t ≡ taken_says p number n front t
-read_line p number n front t e = ap (λ (u : Option (List ℕ)). or_unread u n front (taken_says p number n front t)) e
+pub read_line : (p : Procedures) (number : ℕ) (n : Names) (front : List ℕ) (t : Line) → unread p number n (line_words t) ≡ None → expanded_if_read p number n front t ≡ expanded_taken p number n front t
+read_line p number n front t e = ap (λ (u : Option (List ℕ)). or_unread u n front (expanded_taken p number n front t)) e
 
 pub read_refused : (p : Procedures) (number : ℕ) (n : Names) (front : List ℕ) (t : Line) (f : NameError) → unread p number n (line_words t) ≡ None
-    → IsMemory f ⊎ ((f.line ≡ number) × (taken_says p number n front t ≡ Err (record { no = f.no; word = f.word.now })))
-    → IsMemory f ⊎ ((f.line ≡ number) × (read_says p number n front t ≡ Err (record { no = f.no; word = f.word.now })))
+    → IsMemory f ⊎ ((f.line ≡ number) × (expanded_taken p number n front t ≡ Err (record { no = f.no; word = f.word.now })))
+    → IsMemory f ⊎ ((f.line ≡ number) × (expanded_if_read p number n front t ≡ Err (record { no = f.no; word = f.word.now })))
 read_refused p number n front t f e says =
-    subst (λ (x : Said). IsMemory f ⊎ ((f.line ≡ number) × (x ≡ Err (record { no = f.no; word = f.word.now })))) (sym (read_line p number n front t e)) says
+    subst (λ (x : Expanded). IsMemory f ⊎ ((f.line ≡ number) × (x ≡ Err (record { no = f.no; word = f.word.now })))) (sym (read_line p number n front t e)) says

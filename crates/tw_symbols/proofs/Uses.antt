@@ -11,7 +11,7 @@ use Rattle.tw_lexer.specs.declared.numbers.TokenError as numbers
 use Rattle.tw_lexer.specs.Names.{before_colon}
 use Rattle.tw_lexer.proofs.Colons.{before}
 use Rattle.tw_lexer.proofs.Readings.{digits_same}
-use Rattle.tw_symbols.proofs.TextNames.{TokenError, Names, Procedures, Table, is_name, known, list_says, may_name, meaning, name_register, nat_lt, not_taken, or_else, refused}
+use Rattle.tw_symbols.proofs.TextNames.{TokenError, Names, Procedures, Table, is_name, known, names_after_list, may_name, meaning, name_register, nat_lt, not_taken, or_else, rejected_word}
 use Rattle.tw_symbols.specs.Theorems.{ListedByPlace, NamesStay, UsesAreRegisters, begun, read_in}
 use Rattle.tw_symbols.specs.Meanings.{is_bank, is_listed, with_listed, with_register}
 use Rattle.tw_symbols.specs.LineExpansion.{begins, counted, fitting, list_name, name_before, named, number_in, register_in, expands, with_word}
@@ -65,7 +65,7 @@ new_found name (k ∷ table) x e = by (bytes_eq name k.0) e (new_found name tabl
     by true h more = absurd cc
     by false h more = more h
 
-unknown : (name : List ℕ) (u : Unit {0}) (a : Bool) (k : Option Binding) → cond a (not_taken name k) (refused no.NoName name) ≡ Ok u → k ≡ None
+unknown : (name : List ℕ) (u : Unit {0}) (a : Bool) (k : Option Binding) → cond a (not_taken name k) (rejected_word no.NoName name) ≡ Ok u → k ≡ None
 unknown name u true None e = refl
 unknown name u true (Some x) e = absurd cc
 unknown name u false k e = absurd cc
@@ -86,9 +86,9 @@ refused_means name x flaw after e = absurd cc
 register_means : (p : Procedures) (names : Names) (name : List ℕ) (b : Bank) (n : ℕ) → Means name (binding.Register b n origin.Listed) (with_register p names name b n origin.Listed)
 register_means p names name b n after e =
     let x = binding.Register b n origin.Listed in
-    let went = went_then (may_name p names name) (λ (_ : Unit {0}). cond (nat_lt n 16) (Ok (name_register names name b n origin.Listed)) (refused no.Limit name)) after e in
+    let went = went_then (may_name p names name) (λ (_ : Unit {0}). cond (nat_lt n 16) (Ok (name_register names name b n origin.Listed)) (rejected_word no.Limit name)) after e in
     let new : meaning name (name_register names name b n origin.Listed).registers ≡ Some x = new_found name names.registers x (free p names name went.0 went.1) in
-    by_test (Means name x) (nat_lt n 16) (Ok (name_register names name b n origin.Listed)) (refused no.Limit name)
+    by_test (Means name x) (nat_lt n 16) (Ok (name_register names name b n origin.Listed)) (rejected_word no.Limit name)
     (λ _ more d. subst (λ (m : Names). meaning name m.registers ≡ Some x) (ok_is (name_register names name b n origin.Listed) more d) new)
     (λ _. refused_means name x _) after went.2
 
@@ -112,7 +112,7 @@ one_counted bank.Right (Some bank.Right) values rights k = omega arith
 pub listed_by_place : ListedByPlace
 listed_by_place p l names after values rights [] name word others b is says =
     let w = name ++ codes ":" in
-    let went = went_then (name_before p l names values rights w (word ∷ others) (before_colon w)) (λ (n : Names). list_says p l n (counted bank.Value (begins l w) values) (counted bank.Right (begins l w) rights) (word ∷ others)) after says in
+    let went = went_then (name_before p l names values rights w (word ∷ others) (before_colon w)) (λ (n : Names). names_after_list p l n (counted bank.Value (begins l w) values) (counted bank.Right (begins l w) rights) (word ∷ others)) after says in
     let here : list_name p names values rights w name (Some b) ≡ Ok went.0 =
     sym (ap (λ (o : Option (List ℕ)). name_before p l names values rights w (word ∷ others) o) (before name) ∙ ap (list_name p names values rights w name) is) ∙ went.1 in
     let means = name_means p names values rights w name b went.0 here in
@@ -121,7 +121,7 @@ listed_by_place p l names after values rights [] name word others b is says =
     ∙ ap (λ (n : ℕ). Some (binding.Register b n origin.Listed)) number
 listed_by_place p l names after values rights (v ∷ vs) name word others b is says =
     let rest = vs ++ (name ++ codes ":") ∷ word ∷ others in
-    let went = went_then (name_before p l names values rights v rest (before_colon v)) (λ (n : Names). list_says p l n (counted bank.Value (begins l v) values) (counted bank.Right (begins l v) rights) rest) after says in
+    let went = went_then (name_before p l names values rights v rest (before_colon v)) (λ (n : Names). names_after_list p l n (counted bank.Value (begins l v) values) (counted bank.Right (begins l v) rights) rest) after says in
     listed_by_place p l went.0 after (counted bank.Value (begins l v) values) (counted bank.Right (begins l v) rights) vs name word others b is went.2
     ∙ ap (λ (n : ℕ). Some (binding.Register b n origin.Listed)) (one_counted b (begins l v) values rights (begun l b vs) ∙ ap (λ (n : ℕ). number_in b values rights + n) (sym (sum_by-cons (λ (w : List ℕ). cond (option_map_or (is_bank b) (begins l w) false) 1 0) v vs)))
 

@@ -6,7 +6,7 @@ use Rattle.tw_symbols.specs.Meanings.{TokenError, lists}
 use Rattle.std.specs.Str.Lines.{lines}
 use Rattle.tw_lexer.specs.Words.{IsBlank, IsBroken}
 use Rattle.tw_symbols.specs.Lines.{StartsWith, pieces_after}
-use Rattle.tw_symbols.specs.LineExpansion.{Said, is_names_line}
+use Rattle.tw_symbols.specs.LineExpansion.{Expanded, is_names_line}
 use Rattle.tw_symbols.specs.Seen.{seen_names}
 use Rattle.tw_symbols.specs.Expansion.{HasNames, Rejection as SeenRejection}
 use Rattle.tw_symbols.specs.declared.operand_text.OperandText as standings
@@ -70,8 +70,8 @@ Gives view (Ok x) says = says ≡ Ok (view x)
 Gives view (Err e) says = Fails e says
 
 -- holds if these are the names now, and the text that is written
-abbrev pub SaysAfter : Result (Unit {0}) Rejection → names.Names → List ℕ → Said → Type 0
-SaysAfter result n text says = Gives (λ _. (seen_names n, text)) result says
+abbrev pub IsExpanded : Result (Unit {0}) Rejection → names.Names → List ℕ → Expanded → Type 0
+IsExpanded result n text says = Gives (λ _. (seen_names n, text)) result says
 
 -- ---- a whole text
 
@@ -87,12 +87,12 @@ IsAtLine number rejection.NoMemory f = IsMemory f
 IsAtLine number (rejection.Flawed which word) f = seen_rejection f ≡ record { line = number; no = which; word = word.now }
 
 -- holds if these are the names and the text after a line of this number, or its error, or memory ran out
-abbrev pub SaidAt : ℕ → Result (Unit {0}) NameError → names.Names → List ℕ → Said → Type 0
-SaidAt number (Ok u) n text says = says ≡ Ok (seen_names n, text)
-SaidAt number (Err f) n text says = IsMemory f ⊎ ((f.line ≡ number) × (says ≡ Err (record { no = f.no; word = f.word.now })))
+abbrev pub IsExpandedAt : ℕ → Result (Unit {0}) NameError → names.Names → List ℕ → Expanded → Type 0
+IsExpandedAt number (Ok u) n text says = says ≡ Ok (seen_names n, text)
+IsExpandedAt number (Err f) n text says = IsMemory f ⊎ ((f.line ≡ number) × (says ≡ Err (record { no = f.no; word = f.word.now })))
 
 -- holds if a line is rejected; or else these are the names and the text after it
-abbrev pub IsAccepted : Bool → names.Names → List ℕ → Said → Type 0
+abbrev pub IsAccepted : Bool → names.Names → List ℕ → Expanded → Type 0
 IsAccepted true n text says = says ≡ Ok (seen_names n, text)
 IsAccepted false n text says = IsErr says
 

@@ -3,9 +3,9 @@ use Rattle.std.specs.Prelude.{◌≡◌, ◌+◌, ◌&&◌, ℕ, List, [], ◌�
 use Rattle.std.specs.List.{filter_map, flat_map}
 use Rattle.std.specs.Str.{bytes_eq}
 use Rattle.std.specs.Str.Lines.{lines}
-use Rattle.tw_symbols.specs.Lines.{AreTaken, AreWords, IsTaken, Line, line_rest, line_words, pieces}
+use Rattle.tw_symbols.specs.Lines.{AreTaken, AreWords, Line, line_rest, line_words, pieces}
 use Rattle.tw_symbols.specs.Meanings.{Names, Procedures, Table, and_then, meaning, no_names}
-use Rattle.tw_symbols.specs.LineExpansion.{Said, bank_of_mode, line_says, procedure_name}
+use Rattle.tw_symbols.specs.LineExpansion.{Expanded, bank_of_mode, expanded_line, procedure_name}
 use Rattle.tw_symbols.specs.Unread.{reads_heads, unread}
 use Rattle.tw_symbols.specs.declared.meaning.Binding.TheVariants as binding
 use Rattle.tw_symbols.specs.declared.rejection.NameNo.{NameNo}
@@ -36,10 +36,6 @@ abbrev pub with_lines : Procedures → ℕ → List Line → Procedures
 with_lines procedures number [] = procedures
 with_lines procedures number (line ∷ others) = with_lines (with_line procedures number line) (number + 1) others
 
--- holds if a line adds no procedure
-abbrev pub AddsNone : Procedures → List ℕ → Type 0
-AddsNone procedures line = (taken : Line) × IsTaken taken line × ((number : ℕ) → procedures ≡ with_line procedures number taken)
-
 abbrev pub procedures_of : List Line → Procedures
 procedures_of all = with_lines (record { table = []; heads = [] }) 1 all
 
@@ -54,29 +50,29 @@ abbrev pub ended : List ℕ → List ℕ
 ended line = line ++ codes "\n"
 
 -- returns the expansion of a line; the rest after its last word stays as it is
-abbrev pub taken_says : Procedures → ℕ → Names → List ℕ → Line → Said
-taken_says procedures number names front line = and_then (line_says procedures number names front (line_words line)) (λ said. Ok (said.0, said.1 ++ ended (line_rest line)))
+abbrev pub expanded_taken : Procedures → ℕ → Names → List ℕ → Line → Expanded
+expanded_taken procedures number names front line = and_then (expanded_line procedures number names front (line_words line)) (λ said. Ok (said.0, said.1 ++ ended (line_rest line)))
 
-abbrev pub or_unread : Option (List ℕ) → Names → List ℕ → Said → Said
+abbrev pub or_unread : Option (List ℕ) → Names → List ℕ → Expanded → Expanded
 or_unread None names front said = said
 or_unread (Some text) names front said = Ok (names, front ++ ended text)
 
 -- returns the expansion of a line, if it is read; the names stay if it isn't
-abbrev pub read_says : Procedures → ℕ → Names → List ℕ → Line → Said
-read_says procedures number names front line = or_unread (unread procedures number names (line_words line)) names front (taken_says procedures number names front line)
+abbrev pub expanded_if_read : Procedures → ℕ → Names → List ℕ → Line → Expanded
+expanded_if_read procedures number names front line = or_unread (unread procedures number names (line_words line)) names front (expanded_taken procedures number names front line)
 
 -- returns an error with the number of its line
-abbrev pub at_number : ℕ → Said → (Names × List ℕ → Result (List ℕ) Rejection) → Result (List ℕ) Rejection
+abbrev pub at_number : ℕ → Expanded → (Names × List ℕ → Result (List ℕ) Rejection) → Result (List ℕ) Rejection
 at_number number (Ok said) next = next said
 at_number number (Err flaw) next = Err (record { line = number; no = flaw.no; word = flaw.word })
 
 -- returns a text with the expansion of lines from this number on
-abbrev pub lines_say : Procedures → ℕ → Names → List ℕ → List Line → Result (List ℕ) Rejection
-lines_say procedures number names front [] = Ok front
-lines_say procedures number names front (line ∷ others) = at_number number (read_says procedures number names front line) (λ said. lines_say procedures (number + 1) said.0 said.1 others)
+abbrev pub expanded_from : Procedures → ℕ → Names → List ℕ → List Line → Result (List ℕ) Rejection
+expanded_from procedures number names front [] = Ok front
+expanded_from procedures number names front (line ∷ others) = at_number number (expanded_if_read procedures number names front line) (λ said. expanded_from procedures (number + 1) said.0 said.1 others)
 
-abbrev pub text_says : List Line → Result (List ℕ) Rejection
-text_says all = lines_say (procedures_of all) 1 no_names [] all
+abbrev pub expansion_of : List Line → Result (List ℕ) Rejection
+expansion_of all = expanded_from (procedures_of all) 1 no_names [] all
 
 -- ---- the text
 
@@ -86,12 +82,12 @@ HasNames [] = ⊥
 HasNames (line ∷ others) = ((rest : List ℕ) × AreWords (codes "names" ∷ []) line rest) ⊎ (((rest : List ℕ) × AreWords [] line rest) × HasNames others)
 
 -- holds if the text has names, and this is its expansion or its first error
-abbrev pub Says : List ℕ → Result (List ℕ) Rejection → Type 0
-Says text says = HasNames (lines text) × ((all : List Line) × AreTaken all (lines text) × (text_says all ≡ says))
+abbrev pub HasExpansion : List ℕ → Result (List ℕ) Rejection → Type 0
+HasExpansion text says = HasNames (lines text) × ((all : List Line) × AreTaken all (lines text) × (expansion_of all ≡ says))
 
 -- holds if the second text is the expansion of the first
 abbrev pub ExpandsTo : List ℕ → List ℕ → Type 0
-ExpandsTo text plain = Says text (Ok plain) ⊎ ((HasNames (lines text) → ⊥) × (plain ≡ text))
+ExpandsTo text plain = HasExpansion text (Ok plain) ⊎ ((HasNames (lines text) → ⊥) × (plain ≡ text))
 
 abbrev pub IsFirstRejection : List ℕ → Rejection → Type 0
-IsFirstRejection text rejection = Says text (Err rejection)
+IsFirstRejection text rejection = HasExpansion text (Err rejection)

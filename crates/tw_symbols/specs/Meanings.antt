@@ -71,8 +71,8 @@ pub record TokenError : Type 0 where
   pub no : NameNo
   pub word : List ℕ
 
-abbrev pub refused : {A : Type 0} → NameNo → List ℕ → Result A TokenError
-refused which word = Err (record { no = which; word = word })
+abbrev pub rejected_word : {A : Type 0} → NameNo → List ℕ → Result A TokenError
+rejected_word which word = Err (record { no = which; word = word })
 
 -- returns the result of the next step, or the first error
 abbrev pub and_then : {A B : Type 0} → Result A TokenError → (A → Result B TokenError) → Result B TokenError
@@ -83,11 +83,11 @@ and_then (Err flaw) next = Err flaw
 
 abbrev pub not_taken : List ℕ → Option Binding → Result (Unit {0}) TokenError
 not_taken name None = Ok tt
-not_taken name (Some x) = refused (no.Taken x) name
+not_taken name (Some x) = rejected_word (no.Taken x) name
 
 -- succeeds if it is a name, and has no meaning yet
 abbrev pub may_name : Procedures → Names → List ℕ → Result (Unit {0}) TokenError
-may_name procedures names name = if is_name name then not_taken name (known procedures names name) else refused no.NoName name
+may_name procedures names name = if is_name name then not_taken name (known procedures names name) else rejected_word no.NoName name
 
 abbrev pub with_constant : Procedures → Names → List ℕ → Binding → Result Names TokenError
 with_constant procedures names name x = and_then (may_name procedures names name) (λ _. Ok (record names { constants = names.constants ++ (name, x) ∷ [] }))
@@ -103,7 +103,7 @@ name_register names name in_bank number by =
 
 abbrev pub with_register : Procedures → Names → List ℕ → Bank → ℕ → Origin → Result Names TokenError
 with_register procedures names name in_bank number by =
-    and_then (may_name procedures names name) (λ _. if nat_lt number 16 then Ok (name_register names name in_bank number by) else refused no.Limit name)
+    and_then (may_name procedures names name) (λ _. if nat_lt number 16 then Ok (name_register names name in_bank number by) else rejected_word no.Limit name)
 
 -- ---- a register that is listed has one name
 
@@ -129,4 +129,4 @@ is_listed in_bank number (entry ∷ table) = lists in_bank number entry.1 || is_
 
 abbrev pub with_listed : Procedures → Names → List ℕ → Bank → ℕ → Result Names TokenError
 with_listed procedures names name in_bank number =
-    if is_listed in_bank number names.registers then refused no.Listed name else with_register procedures names name in_bank number origin.Listed
+    if is_listed in_bank number names.registers then rejected_word no.Listed name else with_register procedures names name in_bank number origin.Listed

@@ -4,22 +4,22 @@ use Rattle.std.specs.Option.{option_map_or}
 use Rattle.std.specs.Str.Lines.{lines}
 use Rattle.tw_symbols.specs.Lines.{AreTaken, Line}
 use Rattle.tw_symbols.specs.Meanings.{Names, Procedures, Table, is_bank, no_names}
-use Rattle.tw_symbols.specs.LineExpansion.{Said, register_of}
-use Rattle.tw_symbols.specs.Expansion.{procedures_of, taken_says}
+use Rattle.tw_symbols.specs.LineExpansion.{Expanded, register_of}
+use Rattle.tw_symbols.specs.Expansion.{procedures_of, expanded_taken}
 use Rattle.tw_symbols.specs.declared.meaning.Bank.{Bank}
 use Rattle.tw_symbols.specs.declared.meaning.Binding.{Binding}
 use Rattle.tw_symbols.specs.declared.meaning.Binding.TheVariants as binding
 
 -- returns nothing if a line has an error
-abbrev pub said_then : Said → (Names × List ℕ → Option Names) → Option Names
-said_then (Ok said) next = next said
-said_then (Err flaw) next = None
+abbrev pub names_then : Expanded → (Names × List ℕ → Option Names) → Option Names
+names_then (Ok said) next = next said
+names_then (Err flaw) next = None
 
 -- returns the names after line `last`, if these lines count from `number`; nothing if there is no such line
 abbrev pub names_after_line : Procedures → ℕ → ℕ → Names → List ℕ → List Line → Option Names
 names_after_line procedures last number names front [] = None
 names_after_line procedures last number names front (line ∷ others) =
-    said_then (taken_says procedures number names front line) (λ said. if number == last then Some said.0 else names_after_line procedures last (number + 1) said.0 said.1 others)
+    names_then (expanded_taken procedures number names front line) (λ said. if number == last then Some said.0 else names_after_line procedures last (number + 1) said.0 said.1 others)
 
 abbrev pub registers_at : List Line → ℕ → Table
 registers_at all last = option_map_or (λ (names : Names). names.registers) (names_after_line (procedures_of all) last 1 no_names [] all) []

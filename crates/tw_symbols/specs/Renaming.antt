@@ -8,8 +8,8 @@ use Rattle.tw_code.specs.declared.opcode.Opcode.{Opcode}
 use Rattle.tw_code.specs.declared.version.Version.TheVariants.{Four}
 use Rattle.tw_symbols.specs.Lines.{Line, line_rest, line_words, pieces}
 use Rattle.tw_symbols.specs.Meanings.{Names, Procedures, no_names}
-use Rattle.tw_symbols.specs.LineExpansion.{asked_by, bank_of_mode, banks_of, made_say, makes}
-use Rattle.tw_symbols.specs.Expansion.{procedures_of, read_says, text_says}
+use Rattle.tw_symbols.specs.LineExpansion.{expected_of, bank_of_mode, banks_of, expanded_results, makes}
+use Rattle.tw_symbols.specs.Expansion.{procedures_of, expanded_if_read, expansion_of}
 use Rattle.tw_symbols.specs.Unread.{unread}
 use Rattle.tw_symbols.specs.Theorems.{IsRenaming, renamed_names, renamed_procedures, renamed_words}
 
@@ -45,12 +45,12 @@ renamed_first f (name ∷ words) = f name ∷ words
 -- returns the operands of an instruction, after the names that it makes are known
 abbrev pub renamed_operands : (List ℕ → List ℕ) → Procedures → Names → Opcode → List (List ℕ) → List (List ℕ)
 renamed_operands f procedures names o words =
-    map f (take (makes o) words) ++ renamed_words f (drop (makes o) (flat_map (asked_by (banks_of procedures names words)) (forms_of o))) (drop (makes o) words)
+    map f (take (makes o) words) ++ renamed_words f (drop (makes o) (flat_map (expected_of (banks_of procedures names words)) (forms_of o))) (drop (makes o) words)
 
 abbrev pub IsRenamedBody : (List ℕ → List ℕ) → Procedures → Names → List ℕ → Option Opcode → List (List ℕ) → List (List ℕ) → Type 0
 IsRenamedBody f procedures names front None words others = others ≡ words
 IsRenamedBody f procedures names front (Some o) words others =
-    (said : Names × List ℕ) → made_say procedures names front (take (makes o) (flat_map pieces words)) ≡ Ok said → flat_map pieces others ≡ renamed_operands f procedures said.0 o (flat_map pieces words)
+    (said : Names × List ℕ) → expanded_results procedures names front (take (makes o) (flat_map pieces words)) ≡ Ok said → flat_map pieces others ≡ renamed_operands f procedures said.0 o (flat_map pieces words)
 
 -- holds by the first statement if a test succeeds, and else by the second
 abbrev pub Either : Bool → Type 0 → Type 0 → Type 0
@@ -90,9 +90,9 @@ abbrev pub AreRenamedLines : (List ℕ → List ℕ) → Procedures → ℕ → 
 AreRenamedLines f procedures number names front [] others = others ≡ []
 AreRenamedLines f procedures number names front (line ∷ lines) [] = ⊥
 AreRenamedLines f procedures number names front (line ∷ lines) (other ∷ others) =
-    IsRenamedRead f procedures number names front line other × ((said : Names × List ℕ) → read_says procedures number names front line ≡ Ok said → AreRenamedLines f procedures (number + 1) said.0 said.1 lines others)
+    IsRenamedRead f procedures number names front line other × ((said : Names × List ℕ) → expanded_if_read procedures number names front line ≡ Ok said → AreRenamedLines f procedures (number + 1) said.0 said.1 lines others)
 
 -- holds if a text expands to the same after each name was replaced by another for the same thing
 abbrev pub TextsRenamedAlike : Type 0
 TextsRenamedAlike = (f : List ℕ → List ℕ) → IsTextRenaming f → (all others : List Line) (plain : List ℕ)
-    → AreRenamedLines f (procedures_of all) 1 no_names [] all others → text_says all ≡ Ok plain → text_says others ≡ Ok plain
+    → AreRenamedLines f (procedures_of all) 1 no_names [] all others → expansion_of all ≡ Ok plain → expansion_of others ≡ Ok plain

@@ -88,15 +88,15 @@ abbrev pub registers_of : Option Names → Table
 registers_of names = option_map_or (λ (n : Names). n.registers) names []
 
 -- holds if the names at later lines are those that the lines left give, after this many were read
-abbrev pub GoOn : (ℕ → ℕ → List ℕ) → List (List ℕ) → ℕ → Reader → Type 0
-GoOn names ls count reader =
+abbrev pub AreAfter : (ℕ → ℕ → List ℕ) → List (List ℕ) → ℕ → Reader → Type 0
+AreAfter names ls count reader =
     (all : List Line) × AreTaken all ls × ((line register : ℕ) → count < line
     → names line register ≡ last_right (registers_of (names_after_line (seen_procedures reader.procedures) line (count + 1) (seen_names reader.names) reader.plain.items (drop count all))) register)
 
 -- Holds if a reader of this many lines is ready for the next. Without names, and after a rejected line, no register has a name.
 abbrev pub IsReady : (ℕ → ℕ → List ℕ) → List (List ℕ) → ℕ → Option Reader → Type 0
 IsReady names ls count None = (line register : ℕ) → count < line → names line register ≡ []
-IsReady names ls count (Some reader) = GoOn names ls count reader × AreLast (texts reader.rights.items) (seen_table reader.names.registers.entries)
+IsReady names ls count (Some reader) = AreAfter names ls count reader × AreLast (texts reader.rights.items) (seen_table reader.names.registers.entries)
 
 -- holds if a reader is ready after the line of this number, and knows the names there
 abbrev pub IsAfter : (ℕ → ℕ → List ℕ) → List (List ℕ) → ℕ → Option Reader → Type 0

@@ -10,8 +10,8 @@ use Rattle.tw_lexer.specs.Digits.{digits_in}
 use Rattle.tw_symbols.specs.Lines.{AreTaken, Line, line_words}
 use Rattle.tw_symbols.specs.Meanings.{Names, Procedures, Table, is_bank, is_name, known, meaning}
 use Rattle.tw_symbols.specs.Registers.{registers_at}
-use Rattle.tw_symbols.specs.LineExpansion.{begins, list_says, number_in, register_in, register_of, with_word, word_says, words_say}
-use Rattle.tw_symbols.specs.Expansion.{HasNames, IsFirstRejection, Rejection, ExpandsTo, taken_says}
+use Rattle.tw_symbols.specs.LineExpansion.{begins, names_after_list, number_in, register_in, register_of, with_word, expanded_word, expanded_words}
+use Rattle.tw_symbols.specs.Expansion.{HasNames, IsFirstRejection, Rejection, ExpandsTo, expanded_taken}
 use Rattle.tw_symbols.specs.declared.meaning.Expected.{Expected}
 use Rattle.tw_symbols.specs.declared.meaning.Expected.TheVariants as asked
 use Rattle.tw_symbols.specs.declared.meaning.Bank.{Bank}
@@ -63,7 +63,7 @@ read_in a word = None
 abbrev pub UsesAreRegisters : Type 0
 UsesAreRegisters = (procedures : Procedures) (names : Names) (a : Expected) (front word text : List ℕ) (in_bank : Bank) (number : ℕ) (by : Origin)
     → number < 16 → is_name word ≡ true → known procedures names word ≡ Some (binding.Register in_bank number by) → (a ≡ asked.Nothing → ⊥)
-    → word_says procedures names a front word ≡ Ok text → (register : List ℕ) × (text ≡ with_word front register) × (read_in a register ≡ Some (in_bank, number))
+    → expanded_word procedures names a front word ≡ Ok text → (register : List ℕ) × (text ≡ with_word front register) × (read_in a register ≡ Some (in_bank, number))
 
 -- holds if the line begins a procedure
 abbrev pub IsHead : Line → Type 0
@@ -72,7 +72,7 @@ IsHead line = (others : List (List ℕ)) × (line_words line ≡ codes "proc" �
 -- holds if the name of a register keeps its meaning after each line that begins no procedure
 abbrev pub NamesStay : Type 0
 NamesStay = (procedures : Procedures) (number : ℕ) (names : Names) (front : List ℕ) (line : Line) (said : Names × List ℕ) (name : List ℕ) (x : Binding)
-    → taken_says procedures number names front line ≡ Ok said → (IsHead line → ⊥) → meaning name names.registers ≡ Some x → meaning name said.0.registers ≡ Some x
+    → expanded_taken procedures number names front line ≡ Ok said → (IsHead line → ⊥) → meaning name names.registers ≡ Some x → meaning name said.0.registers ≡ Some x
 
 -- returns how many registers of a bank these words begin
 abbrev pub begun : Listed → Bank → List (List ℕ) → ℕ
@@ -81,7 +81,7 @@ begun l in_bank words = count_by (λ word. option_map_or (is_bank in_bank) (begi
 -- holds if a name and `:` in a list mean the register that begins after them: that of its bank whose number is how many began before
 abbrev pub ListedByPlace : Type 0
 ListedByPlace = (procedures : Procedures) (l : Listed) (names after : Names) (values rights : ℕ) (before : List (List ℕ)) (name word : List ℕ) (others : List (List ℕ)) (in_bank : Bank)
-    → begins l word ≡ Some in_bank → list_says procedures l names values rights (before ++ (name ++ codes ":") ∷ word ∷ others) ≡ Ok after
+    → begins l word ≡ Some in_bank → names_after_list procedures l names values rights (before ++ (name ++ codes ":") ∷ word ∷ others) ≡ Ok after
     → meaning name after.registers ≡ Some (binding.Register in_bank (number_in in_bank values rights + begun l in_bank before) origin.Listed)
 
 -- ---- other names
@@ -113,4 +113,4 @@ renamed_words f all (word ∷ words) = renamed_word f (unwrap_or (slice_get all 
 -- holds if operands expand alike if each name is replaced by another for the same thing
 abbrev pub RenamedAlike : Type 0
 RenamedAlike = (f : List ℕ → List ℕ) → IsRenaming f → (procedures : Procedures) (names : Names) (all : List Expected) (front : List ℕ) (words : List (List ℕ)) (text : List ℕ)
-    → words_say procedures names all front words ≡ Ok text → words_say (renamed_procedures f procedures) (renamed_names f names) all front (renamed_words f all words) ≡ Ok text
+    → expanded_words procedures names all front words ≡ Ok text → expanded_words (renamed_procedures f procedures) (renamed_names f names) all front (renamed_words f all words) ≡ Ok text

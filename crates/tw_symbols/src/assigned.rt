@@ -2,7 +2,7 @@
 
 ghost use Rattle.std.specs.Prelude.{◌≡◌, drop};
 ghost use Rattle.tw_symbols.specs.Answers.{Gives};
-ghost use Rattle.tw_symbols.specs.LineExpansion.{assigned, bank_of_letter, constant_says, let_says, nothing_left, number_of, register_in, register_of, value_after};
+ghost use Rattle.tw_symbols.specs.LineExpansion.{assigned, bank_of_letter, names_after_constant, names_after_let, nothing_left, number_of, register_in, register_of, value_after};
 ghost use Rattle.tw_symbols.specs.Seen.{now, seen_names, seen_procedures, texts};
 
 use crate::meaning::{Bank, Origin};
@@ -28,7 +28,7 @@ fn assigned<'a>(first: &'a [u8], words: &[&'a [u8]]) -> Result<&'a [u8], Rejecti
     }
 }
 
-/// Returns an error if a word is left after `=` and the value.
+/// Returns an error if a line `const` or `let` has a word after `=` and the value.
 fn nothing_after<'a>(words: &[&'a [u8]]) -> Result<(), Rejection<'a>>
     ensures { Gives (λ u. u) result (nothing_left (drop 2 (texts words.now))) }
 {
@@ -62,6 +62,7 @@ fn register_after<'a>(first: &'a [u8], words: &[&'a [u8]]) -> Result<(Bank, usiz
     Ok(register)
 }
 
+/// Returns the bank of the letter of a register's word: `v` for values, `d` for rights.
 fn bank_of_letter(byte: u8) -> Option<Bank>
     ensures { result ≡ bank_of_letter byte }
 {
@@ -72,13 +73,14 @@ fn bank_of_letter(byte: u8) -> Option<Bank>
     }
 }
 
+/// Returns the register of a word such as `v3`, if both its bank and its number could be read.
 fn register_in(bank: Option<Bank>, number: Option<usize>) -> Option<(Bank, usize)>
     ensures { result ≡ register_in bank number }
 {
     Some((bank?, number?))
 }
 
-/// Returns the register with this letter and number, for example `v3`.
+/// Returns the register that a word such as `v3` of symbolic assembly means, without names.
 pub fn register_of(word: &[u8]) -> Option<(Bank, usize)>
     ensures { result ≡ register_of word.now }
 {
@@ -91,14 +93,14 @@ pub fn register_of(word: &[u8]) -> Option<(Bank, usize)>
     }
 }
 
-/// Adds the name of a line `const`.
+/// Adds the name that a line `const` gives to a number.
 pub fn add_const<'a>(
     procedures: &Procedures<'_>,
     names: &mut Names<'a>,
     first: &'a [u8],
     words: &[&'a [u8]],
 ) -> Result<(), Rejection<'a>>
-    ensures { Gives (λ _. seen_names names.new) result (constant_says (seen_procedures procedures.now) (seen_names names.old) first.now (texts words.now)) }
+    ensures { Gives (λ _. seen_names names.new) result (names_after_constant (seen_procedures procedures.now) (seen_names names.old) first.now (texts words.now)) }
 {
     let [name, others @ ..] = words else {
         return Err(Rejection::Flawed(NameNo::Form, first));
@@ -108,14 +110,14 @@ pub fn add_const<'a>(
     add_constant(procedures, names, name, number)
 }
 
-/// Adds the name of a line `let`.
+/// Adds the name that a line `let` gives to a register.
 pub fn add_let<'a>(
     procedures: &Procedures<'_>,
     names: &mut Names<'a>,
     first: &'a [u8],
     words: &[&'a [u8]],
 ) -> Result<(), Rejection<'a>>
-    ensures { Gives (λ _. seen_names names.new) result (let_says (seen_procedures procedures.now) (seen_names names.old) first.now (texts words.now)) }
+    ensures { Gives (λ _. seen_names names.new) result (names_after_let (seen_procedures procedures.now) (seen_names names.old) first.now (texts words.now)) }
 {
     let [name, others @ ..] = words else {
         return Err(Rejection::Flawed(NameNo::Form, first));

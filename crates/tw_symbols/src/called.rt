@@ -15,7 +15,7 @@ use std::alloc::{AllocError, Global};
 use tw_code::{Opcode, Version, opcode_in};
 use tw_lexer::line_numbered;
 
-/// Returns the number of the procedure that the first word means.
+/// Returns the number of the procedure that the first operand of a call means.
 fn first_called(procedures: &Procedures<'_>, words: &[&[u8]]) -> Option<usize>
     ensures { result ≡ first_called (seen_procedures procedures.now) (texts words.now) }
 {
@@ -25,7 +25,7 @@ fn first_called(procedures: &Procedures<'_>, words: &[&[u8]]) -> Option<usize>
     }
 }
 
-/// Returns the number of the procedure that an instruction with these operands calls.
+/// Returns the number of the procedure that an instruction of this opcode with these operands calls.
 fn called_by(
     alloc: Global,
     procedures: &Procedures<'_>,
@@ -43,6 +43,7 @@ fn called_by(
     }
 }
 
+/// Returns the number of the procedure that a line with these words calls.
 fn called_in(
     alloc: Global,
     procedures: &Procedures<'_>,
@@ -59,7 +60,7 @@ fn called_in(
     }
 }
 
-/// Returns the number of the procedure that a line calls.
+/// Returns the number of the procedure that a line of text calls, by its name or number.
 fn called_in_line(
     alloc: Global,
     procedures: &Procedures<'_>,
@@ -71,7 +72,7 @@ fn called_in_line(
     called_in(alloc, procedures, &taken.words)
 }
 
-/// Returns the line at which the procedure of this number begins.
+/// Returns the number of the line with the head of a procedure, from the symbols' list of heads.
 fn head_line(procedures: &Procedures<'_>, number: Option<usize>) -> Option<usize>
     ensures { result ≡ head_line (seen_procedures procedures.now) number }
 {

@@ -2,12 +2,12 @@
 
 ghost use Rattle.std.specs.Prelude.{◌≡◌, ◌⊎◌, ◌++◌, [], List, Ok, Err, IfOk, IsUtf8, MatchOption, MatchResult, string_bytes};
 ghost use Rattle.std.specs.Str.Lines.{lines};
-ghost use Rattle.tw_symbols.specs.Answers.{IsAtLine, IsMemory, IsNamed, SaidAt, SaysAfter, named_by, seen_rejection};
+ghost use Rattle.tw_symbols.specs.Answers.{IsAtLine, IsMemory, IsNamed, IsExpandedAt, IsExpanded, named_by, seen_rejection};
 ghost use Rattle.tw_symbols.specs.Lines.{AreTaken, IsTaken, Line, line_words};
 ghost use Rattle.tw_symbols.specs.Meanings.{and_then, no_names};
-ghost use Rattle.tw_symbols.specs.LineExpansion.{line_says};
+ghost use Rattle.tw_symbols.specs.LineExpansion.{expanded_line};
 ghost use Rattle.tw_symbols.specs.Seen.{seen_names, seen_procedures, texts};
-ghost use Rattle.tw_symbols.specs.Expansion.{HasNames, IsFirstRejection, ExpandsTo, ended, lines_say, taken_says};
+ghost use Rattle.tw_symbols.specs.Expansion.{HasNames, IsFirstRejection, ExpandsTo, ended, expanded_from, expanded_taken};
 
 use crate::line::take_line;
 use crate::line_expansion::{is_names_line, put_line};
@@ -58,7 +58,7 @@ fn put_worded<'a>(
     words: &[&'a [u8]],
     rest: &'a [u8],
 ) -> Result<(), Rejection<'a>>
-    ensures { SaysAfter result names.new out.new.items (and_then (line_says (seen_procedures procedures.now) number (seen_names names.old) out.old.items (texts words.now)) (λ said. Ok (said.0, said.1 ++ ended rest.now))) }
+    ensures { IsExpanded result names.new out.new.items (and_then (expanded_line (seen_procedures procedures.now) number (seen_names names.old) out.old.items (texts words.now)) (λ said. Ok (said.0, said.1 ++ ended rest.now))) }
 {
     match put_line(alloc, procedures, number, names, out, words) {
         Ok(()) => {
@@ -78,7 +78,7 @@ fn put_taken<'a>(
     out: &mut Vec<u8>,
     line: &'a str,
 ) -> Result<(), Rejection<'a>>
-    ensures { (taken : Line) → IsTaken taken line.entry.now → SaysAfter result names.new out.new.items (taken_says (seen_procedures procedures.now) number (seen_names names.old) out.old.items taken) }
+    ensures { (taken : Line) → IsTaken taken line.entry.now → IsExpanded result names.new out.new.items (expanded_taken (seen_procedures procedures.now) number (seen_names names.old) out.old.items taken) }
 {
     let taken = take_line(alloc, line)?;
     put_worded(
@@ -92,6 +92,7 @@ fn put_taken<'a>(
     )
 }
 
+/// Makes the error of symbolic assembly from the rejection of the line of this number.
 fn at_line(number: usize, rejection: Rejection<'_>) -> NameError<'_>
     ensures { IsAtLine number rejection.entry result }
 {
@@ -114,7 +115,7 @@ pub fn put_numbered_line<'a>(
     out: &mut Vec<u8>,
     line: &'a str,
 ) -> Result<(), NameError<'a>>
-    ensures { (taken : Line) → IsTaken taken line.entry.now → SaidAt number result names.new out.new.items (taken_says (seen_procedures procedures.now) number (seen_names names.old) out.old.items taken) }
+    ensures { (taken : Line) → IsTaken taken line.entry.now → IsExpandedAt number result names.new out.new.items (expanded_taken (seen_procedures procedures.now) number (seen_names names.old) out.old.items taken) }
 {
     match put_taken(alloc, procedures, number, names, out, line) {
         Ok(()) => Ok(()),
@@ -129,8 +130,8 @@ fn expanded_lines<'a>(
     text: &'a str,
 ) -> Result<Vec<u8>, NameError<'a>>
     ensures { (all : List Line) → AreTaken all (lines text.entry.now) → MatchResult result
-        (λ out. lines_say (seen_procedures procedures.now) 1 no_names [] all ≡ Ok out.items)
-        (λ f. IsMemory f ⊎ (lines_say (seen_procedures procedures.now) 1 no_names [] all ≡ Err (seen_rejection f))) }
+        (λ out. expanded_from (seen_procedures procedures.now) 1 no_names [] all ≡ Ok out.items)
+        (λ f. IsMemory f ⊎ (expanded_from (seen_procedures procedures.now) 1 no_names [] all ≡ Err (seen_rejection f))) }
 {
     let mut out = Vec::new(alloc);
     let mut names = Names::new(alloc, procedures.hash);
@@ -154,7 +155,7 @@ fn named_text<'a>(alloc: Global, text: &'a str) -> Result<Vec<u8>, NameError<'a>
     expanded_lines(alloc, &procedures, text)
 }
 
-/// Returns these bytes as a string.
+/// Returns the bytes of an expansion as a string, which they are.
 fn as_text(bytes: Vec<u8>) -> String
     requires { IsUtf8 bytes.items }
     ensures { string_bytes result ≡ bytes.items }

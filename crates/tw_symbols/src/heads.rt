@@ -10,7 +10,7 @@ use crate::meaning::Bank;
 use std::alloc::{AllocError, Global};
 use tw_lexer::before_colon;
 
-/// Returns the bank of a parameter of this mode.
+/// Returns the bank of a parameter whose mode is this word of a head.
 pub fn bank_of_mode(word: &[u8]) -> Option<Bank>
     ensures { result ≡ bank_of_mode word.now }
 {
@@ -26,7 +26,7 @@ pub fn bank_of_mode(word: &[u8]) -> Option<Bank>
     }
 }
 
-/// Returns the banks of the parameters.
+/// Returns the banks of the parameters whose modes are among these words of a head.
 pub fn banks_of_modes(alloc: Global, words: &[&[u8]]) -> Result<Vec<Bank>, AllocError>
     ensures { IfOk result (λ banks. banks.items ≡ filter_map bank_of_mode (texts words.now)) }
 {
@@ -77,7 +77,7 @@ fn first_unnamed<'a>(words: &[&'a [u8]]) -> Option<&'a [u8]>
     }
 }
 
-/// Returns the words after each `val`, except a name and `:`, which is no type.
+/// Returns the types of a head's `val` parameters: the word after each `val`, except a name and `:`.
 pub fn value_types<'a>(alloc: Global, words: &[&'a [u8]]) -> Result<Vec<&'a [u8]>, AllocError>
     ensures { IfOk result (λ types. texts types.items ≡ value_types (texts words.now)) }
 {

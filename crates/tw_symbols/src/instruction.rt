@@ -5,9 +5,9 @@ ghost use Rattle.std.specs.List.{flat_map};
 ghost use Rattle.std.specs.Result.{result_ok};
 ghost use Rattle.tw_lexer.specs.Digits.{digits_in};
 ghost use Rattle.tw_symbols.specs.Meanings.{known};
-ghost use Rattle.tw_symbols.specs.Answers.{Gives, SaysAfter};
+ghost use Rattle.tw_symbols.specs.Answers.{Gives, IsExpanded};
 ghost use Rattle.tw_code.specs.format.Table.{forms_of};
-ghost use Rattle.tw_symbols.specs.LineExpansion.{argument_of, asked_by, banks_at, banks_of, callee, instruction_says, made_one, made_say, made_word, makes, words_say};
+ghost use Rattle.tw_symbols.specs.LineExpansion.{argument_of, expected_of, banks_at, banks_of, callee, expanded_instruction, made_one, expanded_results, made_word, makes, expanded_words};
 ghost use Rattle.tw_symbols.specs.Seen.{seen_names, seen_procedures, texts};
 
 use crate::meaning::{Bank, Binding, Expected, Origin};
@@ -22,7 +22,7 @@ use tw_code::{Form, Opcode};
 /// The greatest number of a procedure in a line.
 const LAST_PROCEDURE: u64 = 255;
 
-/// Returns what is expected of an argument.
+/// Returns what an argument for a register of this bank has to be.
 fn argument_of(bank: Bank) -> Expected
     ensures { result ≡ argument_of bank }
 {
@@ -34,7 +34,7 @@ fn argument_of(bank: Bank) -> Expected
 
 /// Adds what an operand of a form has to be, if the procedure's parameters are of these banks.
 fn push_expected(asked: &mut Vec<Expected>, banks: &[Bank], form: Form) -> Result<(), AllocError>
-    ensures { OnOk result (asked.new.items ≡ asked.old.items ++ asked_by banks.now form) }
+    ensures { OnOk result (asked.new.items ≡ asked.old.items ++ expected_of banks.now form) }
 {
     match form {
         Form::Value => asked.push(Expected::Value)?,
@@ -53,7 +53,7 @@ fn push_expected(asked: &mut Vec<Expected>, banks: &[Bank], form: Form) -> Resul
 
 /// Returns what the operands of these forms have to be.
 fn expected_in(alloc: Global, banks: &[Bank], forms: &[Form]) -> Result<Vec<Expected>, AllocError>
-    ensures { IfOk result (λ asked. asked.items ≡ flat_map (asked_by banks.now) forms.now) }
+    ensures { IfOk result (λ asked. asked.items ≡ flat_map (expected_of banks.now) forms.now) }
 {
     let mut asked = Vec::new(alloc);
     for form in forms {
@@ -62,7 +62,7 @@ fn expected_in(alloc: Global, banks: &[Bank], forms: &[Form]) -> Result<Vec<Expe
     Ok(asked)
 }
 
-/// Returns the number of the procedure with this meaning, or else by the digits of a word.
+/// Returns the number of the called procedure: that of the name's meaning, or else the word's digits.
 pub fn callee_of(binding: Option<Binding>, word: &[u8]) -> Option<usize>
     ensures { result ≡ callee binding (result_ok (digits_in 0 255 word.now)) }
 {
@@ -92,7 +92,7 @@ fn banks_at<'p>(procedures: &'p Procedures<'_>, number: Option<usize>) -> &'p [B
     }
 }
 
-/// Returns the first `count` banks, or all.
+/// Returns the first `count` banks of a procedure's parameters, or all.
 #[tactic(auto, using(std::proofs::lemmas::List::take_all))]
 fn first_banks(banks: &[Bank], count: usize) -> &[Bank]
     ensures { result.now ≡ take count banks.now }
@@ -117,7 +117,7 @@ fn banks_of<'p>(procedures: &'p Procedures<'_>, names: &Names<'_>, words: &[&[u8
     }
 }
 
-/// Returns how many of its first operands are right registers that it fills.
+/// Returns how many right registers an instruction of this opcode fills, its first operands.
 fn makes(opcode: Opcode) -> usize
     ensures { result ≡ makes opcode }
 {
@@ -152,7 +152,7 @@ fn put_made<'a>(
     out: &mut Vec<u8>,
     word: &'a [u8],
 ) -> Result<(), Rejection<'a>>
-    ensures { SaysAfter result names.new out.new.items (made_word (seen_procedures procedures.now) (seen_names names.old) out.old.items word.now) }
+    ensures { IsExpanded result names.new out.new.items (made_word (seen_procedures procedures.now) (seen_names names.old) out.old.items word.now) }
 {
     name_made(procedures, names, word)?;
     put_word(alloc, procedures, names, out, Expected::Right, word)?;
@@ -167,7 +167,7 @@ fn put_all_made<'a>(
     out: &mut Vec<u8>,
     words: &[&'a [u8]],
 ) -> Result<(), Rejection<'a>>
-    ensures { SaysAfter result names.new out.new.items (made_say (seen_procedures procedures.now) (seen_names names.old) out.old.items (texts words.now)) }
+    ensures { IsExpanded result names.new out.new.items (expanded_results (seen_procedures procedures.now) (seen_names names.old) out.old.items (texts words.now)) }
 {
     for word in words {
         put_made(alloc, procedures, names, out, word)?;
@@ -184,8 +184,8 @@ fn put_others<'a>(
     opcode: Opcode,
     words: &[&'a [u8]],
 ) -> Result<(), Rejection<'a>>
-    ensures { Gives (λ _. out.new.items) result (words_say (seen_procedures procedures.now) (seen_names names.now)
-        (drop (makes opcode) (flat_map (asked_by (banks_of (seen_procedures procedures.now) (seen_names names.now) (texts words.now))) (forms_of opcode)))
+    ensures { Gives (λ _. out.new.items) result (expanded_words (seen_procedures procedures.now) (seen_names names.now)
+        (drop (makes opcode) (flat_map (expected_of (banks_of (seen_procedures procedures.now) (seen_names names.now) (texts words.now))) (forms_of opcode)))
         out.old.items (drop (makes opcode) (texts words.now))) }
 {
     let asked = expected_in(alloc, banks_of(procedures, names, words), opcode.forms())?;
@@ -209,7 +209,7 @@ pub fn put_instruction<'a>(
     opcode: Opcode,
     words: &[&'a [u8]],
 ) -> Result<(), Rejection<'a>>
-    ensures { SaysAfter result names.new out.new.items (instruction_says (seen_procedures procedures.now) (seen_names names.old) opcode out.old.items (texts words.now)) }
+    ensures { IsExpanded result names.new out.new.items (expanded_instruction (seen_procedures procedures.now) (seen_names names.old) opcode out.old.items (texts words.now)) }
 {
     put_all_made(
         alloc,

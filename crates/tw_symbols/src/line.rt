@@ -32,7 +32,7 @@ pub enum First<'a> {
     Text(&'a [u8], &'a [u8]),
 }
 
-/// Cuts out the first word, which `rest` follows.
+/// Cuts out the first word of a symbolic line, which `rest` follows, as it is written.
 fn cut_word<'a>(bytes: &'a [u8], _word: &Word<'_>, rest: &[u8]) -> &'a [u8]
     requires utf8 { IsUtf8 bytes.now }
     requires first { IsFirstWord (seen _word.now) bytes.now rest.now }
@@ -44,7 +44,7 @@ fn cut_word<'a>(bytes: &'a [u8], _word: &Word<'_>, rest: &[u8]) -> &'a [u8]
     word
 }
 
-/// Returns the first word, or why there is none.
+/// Returns the first word of a symbolic line as it is written, or why there is none.
 fn first_text(alloc: Global, bytes: &[u8]) -> Result<First<'_>, AllocError>
     requires { IsUtf8 bytes.now }
     ensures { IfOk result (λ first. IsFirst first bytes.now) }
@@ -56,7 +56,7 @@ fn first_text(alloc: Global, bytes: &[u8]) -> Result<First<'_>, AllocError>
     }
 }
 
-/// Returns a line that has these words, and then something that isn't a word.
+/// Returns a symbolic line that has these words, and then something that isn't a word.
 fn broken<'a>(mut words: Vec<&'a [u8]>, rest: &'a [u8]) -> Result<ParsedLine<'a>, AllocError>
     requires { IsUtf8 rest.now }
     ensures { IfOk result (λ taken. (tail : List ℕ) × IsAfterGap rest.entry.now tail × (texts taken.words.items ≡ texts words.entry.items ++ tail ∷ []) × (taken.rest.now ≡ [])) }
@@ -65,7 +65,8 @@ fn broken<'a>(mut words: Vec<&'a [u8]>, rest: &'a [u8]) -> Result<ParsedLine<'a>
     Ok(ParsedLine { words, rest: b"" })
 }
 
-/// Returns whether the first byte says that a line has no word. Most bytes of a long text may be line ends or begin comments.
+/// Returns whether the first byte says that a line of symbolic assembly has no word. Most bytes of a long text may be line ends or
+/// begin comments.
 pub fn is_plainly_blank(line: &str) -> bool
     ensures { result ≡ is_plainly_blank line.now }
 {
@@ -75,6 +76,7 @@ pub fn is_plainly_blank(line: &str) -> bool
     }
 }
 
+/// Returns whether a line begins with `p`, as the word `proc` does.
 fn begins_with_p(bytes: &[u8]) -> bool
     ensures { result ≡ begins_with_p bytes.now }
 {
@@ -84,14 +86,15 @@ fn begins_with_p(bytes: &[u8]) -> bool
     }
 }
 
-/// Returns whether a line may begin a procedure. Most lines of a long text don't, and nothing else of them has to be read then.
+/// Returns whether a symbolic line may begin with `proc`. Most lines of a long text don't, and nothing else of them has to be read
+/// then.
 pub fn may_begin_procedure(line: &str) -> bool
     ensures { result ≡ false → HasNoHead line.now }
 {
     begins_with_p(without_gap(line.as_bytes()))
 }
 
-/// Splits a line into its words.
+/// Splits a line of symbolic assembly into its words, as they are written.
 fn take_words(alloc: Global, line: &str) -> Result<ParsedLine<'_>, AllocError>
     ensures { IfOk result (λ taken. (seen : Line) × IsTaken seen line.now × (texts taken.words.items ≡ line_words seen) × (taken.rest.now ≡ line_rest seen)) }
 {
@@ -109,7 +112,7 @@ fn take_words(alloc: Global, line: &str) -> Result<ParsedLine<'_>, AllocError>
     }
 }
 
-/// Like `take_words`, but a line without words is mostly seen at once.
+/// Splits a line of symbolic assembly like `take_words`, but a line without words is mostly seen at once.
 pub fn take_line(alloc: Global, line: &str) -> Result<ParsedLine<'_>, AllocError>
     ensures { IfOk result (λ taken. (seen : Line) × IsTaken seen line.now × (texts taken.words.items ≡ line_words seen) × (taken.rest.now ≡ line_rest seen)) }
 {

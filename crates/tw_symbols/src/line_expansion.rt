@@ -3,10 +3,10 @@
 ghost use Rattle.std.specs.Prelude.{◌≡◌, ◌++◌};
 ghost use Rattle.tw_code.specs.format.Table.{opcode_in};
 ghost use Rattle.tw_code.specs.declared.version.Version.TheVariants.{Four};
-ghost use Rattle.tw_symbols.specs.Answers.{SaysAfter};
+ghost use Rattle.tw_symbols.specs.Answers.{IsExpanded};
 ghost use Rattle.std.specs.List.{flat_map};
 ghost use Rattle.tw_symbols.specs.Lines.{pieces};
-ghost use Rattle.tw_symbols.specs.LineExpansion.{body_says, head_says, is_names_line, line_says, registers_say};
+ghost use Rattle.tw_symbols.specs.LineExpansion.{expanded_body, expanded_head, is_names_line, expanded_line, expanded_registers};
 ghost use Rattle.tw_symbols.specs.Seen.{seen_names, seen_procedures, texts};
 
 use crate::assigned::{add_const, add_let};
@@ -20,7 +20,7 @@ use crate::rejection::Rejection;
 use std::alloc::{AllocError, Global};
 use tw_code::{Version, opcode_in};
 
-/// Returns whether a line has just the word `names`.
+/// Returns whether these words of a line are just `names`, which begins symbolic assembly.
 pub fn is_names_line(first: &[u8], words: &[&[u8]]) -> bool
     ensures { result ≡ is_names_line first.now (texts words.now) }
 {
@@ -36,7 +36,7 @@ fn put_body<'a>(
     first: &'a [u8],
     words: &[&'a [u8]],
 ) -> Result<(), Rejection<'a>>
-    ensures { SaysAfter result names.new out.new.items (body_says (seen_procedures procedures.now) (seen_names names.old) (opcode_in Four first.now) (out.old.items ++ first.now) (texts words.now)) }
+    ensures { IsExpanded result names.new out.new.items (expanded_body (seen_procedures procedures.now) (seen_names names.old) (opcode_in Four first.now) (out.old.items ++ first.now) (texts words.now)) }
 {
     out.extend_from_slice(first)?;
     match opcode_in(Version::Four, first) {
@@ -61,7 +61,7 @@ fn put_proc<'a>(
     first: &'a [u8],
     words: &[&'a [u8]],
 ) -> Result<(), Rejection<'a>>
-    ensures { SaysAfter result names.new out.new.items (head_says (seen_procedures procedures.now) number (seen_names names.old) (out.old.items ++ first.now) (flat_map pieces (texts words.now))) }
+    ensures { IsExpanded result names.new out.new.items (expanded_head (seen_procedures procedures.now) number (seen_names names.old) (out.old.items ++ first.now) (flat_map pieces (texts words.now))) }
 {
     out.extend_from_slice(first)?;
     let pieces = pieces_of(alloc, words)?;
@@ -77,7 +77,7 @@ fn put_regs<'a>(
     first: &'a [u8],
     words: &[&'a [u8]],
 ) -> Result<(), Rejection<'a>>
-    ensures { SaysAfter result names.new out.new.items (registers_say (seen_procedures procedures.now) (seen_names names.old) (out.old.items ++ first.now) (flat_map pieces (texts words.now))) }
+    ensures { IsExpanded result names.new out.new.items (expanded_registers (seen_procedures procedures.now) (seen_names names.old) (out.old.items ++ first.now) (flat_map pieces (texts words.now))) }
 {
     out.extend_from_slice(first)?;
     let pieces = pieces_of(alloc, words)?;
@@ -85,7 +85,7 @@ fn put_regs<'a>(
 }
 
 /// Adds the expansion of the words of the line of this number, and its names.
-#[tactic(auto, unfolding(crate::specs::LineExpansion::line_says))]
+#[tactic(auto, unfolding(crate::specs::LineExpansion::expanded_line))]
 pub fn put_line<'a>(
     alloc: Global,
     procedures: &Procedures<'_>,
@@ -94,7 +94,7 @@ pub fn put_line<'a>(
     out: &mut Vec<u8>,
     words: &[&'a [u8]],
 ) -> Result<(), Rejection<'a>>
-    ensures { SaysAfter result names.new out.new.items (line_says (seen_procedures procedures.now) number (seen_names names.old) out.old.items (texts words.now)) }
+    ensures { IsExpanded result names.new out.new.items (expanded_line (seen_procedures procedures.now) number (seen_names names.old) out.old.items (texts words.now)) }
 {
     let [first, others @ ..] = words else {
         return Ok(());

@@ -2,9 +2,9 @@
 
 ghost use Rattle.std.specs.Prelude.{◌≡◌, ◌≤◌, ◌^◌, IfOk, OnOk, filter, length};
 ghost use Rattle.std.specs.Option.{option_map};
-ghost use Rattle.tw_symbols.specs.Answers.{Gives, SaysAfter};
+ghost use Rattle.tw_symbols.specs.Answers.{Gives, IsExpanded};
 ghost use Rattle.tw_lexer.specs.Names.{before_colon};
-ghost use Rattle.tw_symbols.specs.LineExpansion.{at_head, begins, followed_by, begins_at, begins_first, has_colon, head_says, is_listed_word, is_map_word, is_unnamed, list_name, list_says, name_before, name_says, number_in, registers_say, unnamed_says};
+ghost use Rattle.tw_symbols.specs.LineExpansion.{at_head, begins, followed_by, begins_at, begins_first, has_colon, expanded_head, is_listed_word, is_map_word, is_unnamed, list_name, names_after_list, name_before, checked_name, number_in, expanded_registers, names_if_unnamed};
 ghost use Rattle.tw_symbols.specs.Meanings.{Names as Known};
 ghost use Rattle.tw_symbols.specs.Seen.{now, seen_names, seen_procedures, texts};
 
@@ -18,7 +18,7 @@ use crate::rejection::{NameNo, Rejection};
 use std::alloc::{AllocError, Global};
 use tw_lexer::before_colon;
 
-/// Returns the bank of the register that begins with this word, if one does.
+/// Returns the bank of the register that a line `proc` or `regs` lists with this word, if any.
 fn begins(listed: Listed, word: &[u8]) -> Option<Bank>
     ensures { result ≡ begins listed word.now }
 {
@@ -34,6 +34,7 @@ fn begins(listed: Listed, word: &[u8]) -> Option<Bank>
     }
 }
 
+/// Returns the bank of the register that a line `proc` or `regs` lists with its first word.
 fn begins_first(listed: Listed, words: &[&[u8]]) -> Option<Bank>
     ensures { result ≡ begins_first listed (texts words.now) }
 {
@@ -43,6 +44,7 @@ fn begins_first(listed: Listed, words: &[&[u8]]) -> Option<Bank>
     }
 }
 
+/// Returns the number of the next register of a bank, by the counts of registers listed so far.
 fn number_in(bank: Bank, values: usize, rights: usize) -> usize
     ensures { result ≡ number_in bank values rights }
 {
@@ -52,14 +54,14 @@ fn number_in(bank: Bank, values: usize, rights: usize) -> usize
     }
 }
 
-/// Returns whether a word is one of the types of maps.
+/// Returns whether a word listed in a head or a line `regs` begins a map: `map`, `tmap` or `sum`.
 fn is_map_word(word: &[u8]) -> bool
     ensures { result ≡ is_map_word word.now }
 {
     word == b"map".as_slice() || word == b"tmap".as_slice() || word == b"sum".as_slice()
 }
 
-/// Returns whether a word is a mode, or a word of a type.
+/// Returns whether a word has a meaning of its own in a list of registers: a mode, or a word of a type.
 fn is_listed_word(word: &[u8]) -> bool
     ensures { result ≡ is_listed_word word.now }
 {
@@ -71,16 +73,16 @@ fn is_listed_word(word: &[u8]) -> bool
         || is_map_word(word)
 }
 
-/// Returns whether a word that isn't quoted contains a `:`.
+/// Returns whether a listed word that isn't quoted contains a `:`.
 fn has_colon(word: &[u8]) -> bool
     ensures { result ≡ has_colon word.now }
 {
     !begins_quoted(word) && word.contains(&b':')
 }
 
-/// Checks a word that isn't a name and `:`.
+/// Checks a word of a line `proc` or `regs` that isn't a name and `:`.
 fn check_unnamed<'a>(word: &'a [u8]) -> Result<(), Rejection<'a>>
-    ensures { (known : Known) → Gives (λ _. known) result (unnamed_says known word.now) }
+    ensures { (known : Known) → Gives (λ _. known) result (names_if_unnamed known word.now) }
 {
     if is_name(word) && !is_listed_word(word) {
         Err(Rejection::Flawed(NameNo::Unlisted, word))
@@ -91,7 +93,7 @@ fn check_unnamed<'a>(word: &'a [u8]) -> Result<(), Rejection<'a>>
     }
 }
 
-/// Adds the name of a register which begins after it.
+/// Adds the listed name of the register that begins after it, in a line `proc` or `regs`.
 fn name_begun<'a>(
     procedures: &Procedures<'_>,
     names: &mut Names<'a>,
@@ -144,7 +146,7 @@ fn list<'a>(
     words: &[&'a [u8]],
 ) -> Result<(), Rejection<'a>>
     requires { first ≤ 2 ^ 63 }
-    ensures { Gives (λ _. seen_names names.new) result (list_says (seen_procedures procedures.now) listed (seen_names names.old) first 0 (texts words.now)) }
+    ensures { Gives (λ _. seen_names names.new) result (names_after_list (seen_procedures procedures.now) listed (seen_names names.old) first 0 (texts words.now)) }
 {
     let mut values = first;
     let mut rights = 0;
@@ -161,7 +163,7 @@ fn list<'a>(
     Ok(())
 }
 
-/// Adds all words except each name with `:`.
+/// Adds the words of a line `proc` or `regs` to the expansion, except each name with `:`.
 fn put_unnamed(out: &mut Vec<u8>, words: &[&[u8]]) -> Result<(), AllocError>
     ensures { OnOk result (out.new.items ≡ followed_by out.old.items (filter is_unnamed (texts words.now))) }
 {
@@ -173,7 +175,7 @@ fn put_unnamed(out: &mut Vec<u8>, words: &[&[u8]]) -> Result<(), AllocError>
     Ok(())
 }
 
-/// Returns whether the procedure that a name means begins at this line.
+/// Returns whether the procedure that a name means has its head at this line.
 fn begins_at(procedures: &Procedures<'_>, number: usize, binding: Option<Binding>) -> bool
     ensures { result ≡ begins_at (seen_procedures procedures.now) number binding }
 {
@@ -186,12 +188,13 @@ fn begins_at(procedures: &Procedures<'_>, number: usize, binding: Option<Binding
     }
 }
 
+/// Checks the name in a head: it may be one, and means the procedure of this line.
 fn check_name<'a>(
     procedures: &Procedures<'_>,
     number: usize,
     name: Option<&'a [u8]>,
 ) -> Result<(), Rejection<'a>>
-    ensures { Gives (λ u. u) result (name_says (seen_procedures procedures.now) number (option_map now name.entry)) }
+    ensures { Gives (λ u. u) result (checked_name (seen_procedures procedures.now) number (option_map now name.entry)) }
 {
     let Some(name) = name else {
         return Ok(());
@@ -223,7 +226,7 @@ fn begin_head<'a>(
     Ok(())
 }
 
-/// Adds the expansion of the words after `proc`, and its names.
+/// Adds the expansion of the words after `proc`, and the names of the parameters.
 pub fn put_head<'a>(
     alloc: Global,
     procedures: &Procedures<'_>,
@@ -232,7 +235,7 @@ pub fn put_head<'a>(
     out: &mut Vec<u8>,
     words: &[&'a [u8]],
 ) -> Result<(), Rejection<'a>>
-    ensures { SaysAfter result names.new out.new.items (head_says (seen_procedures procedures.now) number (seen_names names.old) out.old.items (texts words.now)) }
+    ensures { IsExpanded result names.new out.new.items (expanded_head (seen_procedures procedures.now) number (seen_names names.old) out.old.items (texts words.now)) }
 {
     check_name(procedures, number, procedure_name(words))?;
     begin_head(alloc, names, words)?;
@@ -243,14 +246,14 @@ pub fn put_head<'a>(
     Ok(())
 }
 
-/// Adds the expansion of the words after `regs`, and its names.
+/// Adds the expansion of the words after `regs`, and the names of the registers.
 pub fn put_registers<'a>(
     procedures: &Procedures<'_>,
     names: &mut Names<'a>,
     out: &mut Vec<u8>,
     words: &[&'a [u8]],
 ) -> Result<(), Rejection<'a>>
-    ensures { SaysAfter result names.new out.new.items (registers_say (seen_procedures procedures.now) (seen_names names.old) out.old.items (texts words.now)) }
+    ensures { IsExpanded result names.new out.new.items (expanded_registers (seen_procedures procedures.now) (seen_names names.old) out.old.items (texts words.now)) }
 {
     let first = count(&names.types);
     list(procedures, Listed::Registers, names, first, words)?;

@@ -10,7 +10,7 @@ pub enum Bank {
     Right,
 }
 
-/// Returns whether two banks are the same.
+/// Returns whether two banks of named registers are the same.
 pub fn is_bank(bank: Bank, other: Bank) -> bool
     ensures { result ≡ is_bank bank other }
 {

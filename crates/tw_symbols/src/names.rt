@@ -37,7 +37,7 @@ pub struct Names<'a> {
 }
 
 impl<'a> Names<'a> {
-    /// Makes empty tables of names with this hash function.
+    /// Makes tables of names without any, with the hash function of a text's names.
     pub fn new(alloc: Global, hash: TextHash) -> Names<'a>
         ensures { seen_names result ≡ no_names }
     {
@@ -50,6 +50,7 @@ impl<'a> Names<'a> {
     }
 }
 
+/// Returns whether a byte of a word is a decimal digit.
 fn is_digit(byte: u8) -> bool
     ensures { result ≡ nat_lt (digit_value byte) 10 }
 {
@@ -59,6 +60,7 @@ fn is_digit(byte: u8) -> bool
     }
 }
 
+/// Returns whether all bytes of a word are decimal digits; an empty one passes.
 fn all_digits(text: &[u8]) -> bool
     ensures { result ≡ all_digits text.now }
 {
@@ -70,6 +72,7 @@ fn all_digits(text: &[u8]) -> bool
     true
 }
 
+/// Returns whether the text after a register's letter is one or more decimal digits.
 fn are_digits(text: &[u8]) -> bool
     ensures { result ≡ are_digits text.now }
 {
@@ -79,6 +82,7 @@ fn are_digits(text: &[u8]) -> bool
     }
 }
 
+/// Returns whether a byte is `v` or `d`, the letters of a register's word.
 fn is_bank_letter(byte: u8) -> bool
     ensures { result ≡ (byte == 118) || (byte == 100) }
 {
@@ -110,7 +114,7 @@ pub fn is_name(word: &[u8]) -> bool
     }
 }
 
-/// Returns the meaning of a name in a table.
+/// Returns the meaning of a name in a table of names.
 pub fn meaning(table: &Table<'_>, name: &[u8]) -> Option<Binding>
     ensures { result ≡ meaning name.now (seen_table table.now.entries) }
 {
@@ -120,7 +124,7 @@ pub fn meaning(table: &Table<'_>, name: &[u8]) -> Option<Binding>
     }
 }
 
-/// Returns the meaning of a name at a line: of a register, a constant or a procedure.
+/// Returns the meaning that a name has at a line: a register, a constant or a procedure.
 pub fn known(procedures: &Procedures<'_>, names: &Names<'_>, name: &[u8]) -> Option<Binding>
     ensures { result ≡ known (seen_procedures procedures.now) (seen_names names.now) name.now }
 {
@@ -133,7 +137,7 @@ pub fn known(procedures: &Procedures<'_>, names: &Names<'_>, name: &[u8]) -> Opt
     }
 }
 
-/// Checks that a word may get a meaning: it is a name, and has none yet.
+/// Checks that a word may get a meaning as a name: it has its form, and no meaning yet.
 pub fn may_name<'a>(
     procedures: &Procedures<'_>,
     names: &Names<'_>,
@@ -150,7 +154,7 @@ pub fn may_name<'a>(
     }
 }
 
-/// Adds a name that isn't in the table.
+/// Adds a name and its meaning to a table of names that doesn't have it.
 pub fn put_name<'a>(
     table: &mut Table<'a>,
     name: &'a [u8],
@@ -163,7 +167,7 @@ pub fn put_name<'a>(
     Ok(())
 }
 
-/// Adds a constant.
+/// Adds the name of a constant to the names that are known at a line.
 pub fn add_constant<'a>(
     procedures: &Procedures<'_>,
     names: &mut Names<'a>,
@@ -177,7 +181,7 @@ pub fn add_constant<'a>(
     Ok(())
 }
 
-/// Returns the count of right registers after this register got a name: at least one more than its number.
+/// Returns the number of named right registers after this one got a name: at least one more than its number.
 fn above(bank: Bank, number: usize, rights: usize) -> usize
     requires { number < 16 }
     ensures { result ≡ above bank number rights }
@@ -188,7 +192,7 @@ fn above(bank: Bank, number: usize, rights: usize) -> usize
     }
 }
 
-/// Adds the name of a register.
+/// Adds the name of a register to the names of its procedure.
 pub fn add_register<'a>(
     procedures: &Procedures<'_>,
     names: &mut Names<'a>,
@@ -212,7 +216,7 @@ pub fn add_register<'a>(
     Ok(())
 }
 
-/// Returns whether a name with this meaning is that by which the register was listed or made.
+/// Returns whether a name's meaning is this register, listed or made by that name.
 fn lists(bank: Bank, number: usize, binding: Binding) -> bool
     ensures { result ≡ lists bank number binding }
 {

@@ -4,7 +4,7 @@ ghost use Rattle.std.specs.Prelude.{◌≡◌, ◌++◌, OnOk, drop, length, sli
 ghost use Rattle.tw_symbols.specs.declared.meaning.Expected.TheVariants.{Nothing};
 ghost use Rattle.std.specs.Option.{option_map};
 ghost use Rattle.tw_symbols.specs.Answers.{Gives, text_of_operand};
-ghost use Rattle.tw_symbols.specs.LineExpansion.{followed_by, named, expands, with_word, word_says, words_say};
+ghost use Rattle.tw_symbols.specs.LineExpansion.{followed_by, named, expands, with_word, expanded_word, expanded_words};
 ghost use Rattle.tw_symbols.specs.Expansion.{ended};
 ghost use Rattle.tw_symbols.specs.Seen.{seen_names, seen_procedures, texts};
 
@@ -50,6 +50,7 @@ fn operand_text_of(asked: Expected, binding: Binding) -> Option<OperandText>
     }
 }
 
+/// Adds the replacement of a name to the expansion: a letter and a number, or a constant's value.
 fn put_operand_text(
     alloc: Global,
     out: &mut Vec<u8>,
@@ -63,7 +64,7 @@ fn put_operand_text(
     }
 }
 
-/// Adds a space and a word as it is.
+/// Adds a space and a word to the expansion, as it is.
 pub fn put_plain(out: &mut Vec<u8>, word: &[u8]) -> Result<(), AllocError>
     ensures { OnOk result (out.new.items ≡ with_word out.old.items word.now) }
 {
@@ -71,14 +72,14 @@ pub fn put_plain(out: &mut Vec<u8>, word: &[u8]) -> Result<(), AllocError>
     out.extend_from_slice(word)
 }
 
-/// Returns how many words there are.
+/// Returns the number of words in a part of a line of symbolic assembly.
 pub fn count(words: &[&[u8]]) -> usize
     ensures { result ≡ length (texts words.now) }
 {
     words.len()
 }
 
-/// Returns the first `count` words, or all.
+/// Returns the first `count` of a line's words, or all.
 #[tactic(auto, using(crate::proofs::Cutting::first_taken, crate::proofs::Cutting::all_taken))]
 pub fn first_words<'b, 'a>(words: &'b [&'a [u8]], count: usize) -> &'b [&'a [u8]]
     ensures { texts result.now ≡ take count (texts words.now) }
@@ -90,7 +91,7 @@ pub fn first_words<'b, 'a>(words: &'b [&'a [u8]], count: usize) -> &'b [&'a [u8]
     }
 }
 
-/// Returns the words after the first `count`.
+/// Returns the words of a line after the first `count`.
 #[tactic(auto, using(crate::proofs::Cutting::left_after, crate::proofs::Cutting::none_after))]
 pub fn words_after<'b, 'a>(words: &'b [&'a [u8]], count: usize) -> &'b [&'a [u8]]
     ensures { texts result.now ≡ drop count (texts words.now) }
@@ -102,7 +103,7 @@ pub fn words_after<'b, 'a>(words: &'b [&'a [u8]], count: usize) -> &'b [&'a [u8]
     }
 }
 
-/// Returns what is required after the first `count` places.
+/// Returns what the operands after the first `count` have to be.
 #[tactic(auto, using(std::proofs::lemmas::List::drop_all))]
 pub fn expected_after(asked: &[Expected], count: usize) -> &[Expected]
     ensures { result.now ≡ drop count asked.now }
@@ -114,7 +115,7 @@ pub fn expected_after(asked: &[Expected], count: usize) -> &[Expected]
     }
 }
 
-/// Adds the end of a line, and a line feed.
+/// Adds the end of a line to the expansion, and a line feed.
 pub fn put_ended(out: &mut Vec<u8>, line: &[u8]) -> Result<(), AllocError>
     ensures { OnOk result (out.new.items ≡ out.old.items ++ ended line.now) }
 {
@@ -122,7 +123,7 @@ pub fn put_ended(out: &mut Vec<u8>, line: &[u8]) -> Result<(), AllocError>
     out.extend_from_slice(b"\n")
 }
 
-/// Adds words as they are.
+/// Adds words to the expansion as they are, a space before each.
 pub fn put_all(out: &mut Vec<u8>, words: &[&[u8]]) -> Result<(), AllocError>
     ensures { OnOk result (out.new.items ≡ followed_by out.old.items (texts words.now)) }
 {
@@ -132,7 +133,7 @@ pub fn put_all(out: &mut Vec<u8>, words: &[&[u8]]) -> Result<(), AllocError>
     Ok(())
 }
 
-/// Adds a space and the replacement of a name.
+/// Adds a space and the replacement of a name by what it means.
 fn put_named<'a>(
     alloc: Global,
     out: &mut Vec<u8>,
@@ -153,7 +154,7 @@ fn put_named<'a>(
     Ok(())
 }
 
-/// Adds a space and the expansion of a word.
+/// Adds a space and the expansion of an operand: a name's replacement, or the word itself.
 pub fn put_word<'a>(
     alloc: Global,
     procedures: &Procedures<'_>,
@@ -162,7 +163,7 @@ pub fn put_word<'a>(
     asked: Expected,
     word: &'a [u8],
 ) -> Result<(), Rejection<'a>>
-    ensures { Gives (λ _. out.new.items) result (word_says (seen_procedures procedures.now) (seen_names names.now) asked out.old.items word.now) }
+    ensures { Gives (λ _. out.new.items) result (expanded_word (seen_procedures procedures.now) (seen_names names.now) asked out.old.items word.now) }
 {
     if matches!(asked, Expected::Nothing) || !is_name(word) {
         put_plain(out, word)?;
@@ -171,7 +172,7 @@ pub fn put_word<'a>(
     put_named(alloc, out, asked, word, known(procedures, names, word))
 }
 
-/// Returns what is required in the first place.
+/// Returns what the first of these operands has to be.
 fn first_expected(asked: &[Expected]) -> Expected
     ensures { result ≡ unwrap_or (slice_get asked.now 0) Nothing }
 {
@@ -181,7 +182,7 @@ fn first_expected(asked: &[Expected]) -> Expected
     }
 }
 
-/// Returns what is required in the places after the first.
+/// Returns what the operands after the first have to be.
 fn after_first(asked: &[Expected]) -> &[Expected]
     ensures { result.now ≡ drop 1 asked.now }
 {
@@ -191,7 +192,7 @@ fn after_first(asked: &[Expected]) -> &[Expected]
     }
 }
 
-/// Adds the expansion of words. Each word after the last required one is added as it is.
+/// Adds the expansion of operands. Each word after the last expected one is added as it is.
 pub fn put_words<'a>(
     alloc: Global,
     procedures: &Procedures<'_>,
@@ -200,7 +201,7 @@ pub fn put_words<'a>(
     asked: &[Expected],
     words: &[&'a [u8]],
 ) -> Result<(), Rejection<'a>>
-    ensures { Gives (λ _. out.new.items) result (words_say (seen_procedures procedures.now) (seen_names names.now) asked.now out.old.items (texts words.now)) }
+    ensures { Gives (λ _. out.new.items) result (expanded_words (seen_procedures procedures.now) (seen_names names.now) asked.now out.old.items (texts words.now)) }
 {
     let mut left = asked;
     for word in words {

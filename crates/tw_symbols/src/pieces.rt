@@ -8,13 +8,14 @@ ghost use Rattle.tw_symbols.specs.Seen.{texts};
 
 use std::alloc::{AllocError, Global};
 
+/// Returns whether a byte is `(`, `)` or `,`, which separate pieces in lines that list registers.
 fn is_sign(byte: u8) -> bool
     ensures { result ≡ is_sign byte }
 {
     byte == b'(' || byte == b')' || byte == b','
 }
 
-/// Adds a piece unless it is empty.
+/// Adds a piece of a word to a list of pieces, unless it is empty.
 fn push_some<'a>(out: &mut Vec<&'a [u8]>, piece: &'a [u8]) -> Result<(), AllocError>
     ensures { OnOk result (texts out.new.items ≡ texts out.old.items ++ some_piece piece.now) }
 {
@@ -45,7 +46,7 @@ fn push_ended<'a>(
     }
 }
 
-/// Adds the pieces of a word without a quote.
+/// Adds the pieces of a word without a quote, as its signs separate them.
 #[tactic(auto, using(crate::proofs::Cutting::left_first))]
 fn push_parted<'a>(out: &mut Vec<&'a [u8]>, word: &'a [u8]) -> Result<(), AllocError>
     ensures { OnOk result (texts out.new.items ≡ texts out.old.items ++ pieces_after [] word.entry.now) }
@@ -75,7 +76,7 @@ fn has_quote(word: &[u8]) -> bool
     word.contains(&b'"')
 }
 
-/// Adds the pieces of a word.
+/// Adds the pieces of a word: the word itself if it has a quote.
 fn push_pieces<'a>(out: &mut Vec<&'a [u8]>, word: &'a [u8]) -> Result<(), AllocError>
     ensures { OnOk result (texts out.new.items ≡ texts out.old.items ++ pieces word.entry.now) }
 {
@@ -86,7 +87,7 @@ fn push_pieces<'a>(out: &mut Vec<&'a [u8]>, word: &'a [u8]) -> Result<(), AllocE
     }
 }
 
-/// Returns the pieces of words, in their order.
+/// Returns the pieces of words, which signs such as `,` separate too, in their order.
 pub fn pieces_of<'a>(alloc: Global, words: &[&'a [u8]]) -> Result<Vec<&'a [u8]>, AllocError>
     ensures { IfOk result (λ all. texts all.items ≡ flat_map pieces (texts words.now)) }
 {

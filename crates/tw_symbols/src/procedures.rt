@@ -1,11 +1,11 @@
 //! The procedures of a text.
 
-ghost use Rattle.std.specs.Prelude.{◌≡◌, List, IfOk, OnOk, false};
+ghost use Rattle.std.specs.Prelude.{◌≡◌, List, IfOk, OnOk};
 ghost use Rattle.std.specs.Option.{option_map};
 ghost use Rattle.std.specs.Str.Lines.{lines};
 ghost use Rattle.tw_symbols.specs.Lines.{AreTaken, IsTaken, Line};
 ghost use Rattle.tw_symbols.specs.Seen.{now, seen_procedures, seen_table, texts};
-ghost use Rattle.tw_symbols.specs.Expansion.{AddsNone, procedures_of, with_head, with_line, with_name, with_words};
+ghost use Rattle.tw_symbols.specs.Expansion.{procedures_of, with_head, with_line, with_name, with_words};
 ghost use Rattle.tw_symbols.specs.Unread.{reads_heads};
 
 use crate::heads::{banks_of_modes, procedure_name};
@@ -36,14 +36,14 @@ pub struct Procedures<'a> {
     pub heads: Vec<Head>,
 }
 
-/// Returns whether one more head is read.
+/// Returns whether one more head of a procedure is read: those up to the first one past the limit are.
 pub fn reads_heads(procedures: &Procedures<'_>) -> bool
     ensures { result ≡ reads_heads (seen_procedures procedures.now) }
 {
     procedures.heads.len() <= usize::from(Program::MAX_PROCEDURES)
 }
 
-/// Adds the name of a procedure, unless an earlier one has it.
+/// Adds the name of a procedure to the table of names, unless an earlier one has it.
 fn name_procedure<'a>(
     table: &mut Table<'a>,
     name: Option<&'a [u8]>,
@@ -59,7 +59,7 @@ fn name_procedure<'a>(
     Ok(())
 }
 
-/// Adds a procedure.
+/// Adds a procedure with its line and the banks of its parameters to those of a text.
 fn add_head<'a>(
     alloc: Global,
     procedures: &mut Procedures<'a>,
@@ -78,7 +78,7 @@ fn add_head<'a>(
     Ok(())
 }
 
-/// Adds the procedure that begins with these words of a line, if one does and is read.
+/// Adds the procedure whose head these words of a line are, if they begin with `proc` and heads are still read.
 fn add_words<'a>(
     alloc: Global,
     procedures: &mut Procedures<'a>,
@@ -96,7 +96,7 @@ fn add_words<'a>(
     }
 }
 
-/// Adds the procedure of the line of this number, if one begins there.
+/// Adds the procedure whose head the line of this number is, if it is one.
 fn add_line<'a>(
     alloc: Global,
     procedures: &mut Procedures<'a>,
@@ -109,14 +109,7 @@ fn add_line<'a>(
     add_words(alloc, procedures, number, &taken.words)
 }
 
-/// Returns whether a line may add a procedure.
-fn may_add(procedures: &Procedures<'_>, line: &str) -> bool
-    ensures { result ≡ false → AddsNone (seen_procedures procedures.now) line.now }
-{
-    reads_heads(procedures) && may_begin_procedure(line)
-}
-
-/// Returns the procedures of a text, up to the first one past the limit.
+/// Returns the procedures of a text by their heads, up to the first one past the limit.
 pub fn procedures_of(alloc: Global, text: &str) -> Result<Procedures<'_>, AllocError>
     ensures { IfOk result (λ procedures. (all : List Line) × AreTaken all (lines text.now) × (seen_procedures procedures ≡ procedures_of all)) }
 {
@@ -127,7 +120,10 @@ pub fn procedures_of(alloc: Global, text: &str) -> Result<Procedures<'_>, AllocE
         heads: Vec::new(alloc),
     };
     for (index, line) in text.lines().enumerate() {
-        if may_add(&procedures, line) {
+        if !reads_heads(&procedures) {
+            return Ok(procedures);
+        }
+        if may_begin_procedure(line) {
             add_line(alloc, &mut procedures, index + 1, line)?;
         }
     }

@@ -8,7 +8,7 @@ ghost use Rattle.tw_symbols.specs.Meanings.{no_names};
 ghost use Rattle.tw_symbols.specs.Registers.{IsWithName, entry_name, first_part, is_register, last_name, name_of, name_text, names_after_line, registers_at};
 ghost use Rattle.tw_symbols.specs.LineExpansion.{register_of};
 ghost use Rattle.tw_symbols.specs.Seen.{now, seen_names, seen_procedures, seen_table};
-ghost use Rattle.tw_symbols.specs.Expansion.{taken_says};
+ghost use Rattle.tw_symbols.specs.Expansion.{expanded_taken};
 
 use crate::assigned::register_of;
 use crate::expansion::put_numbered_line;
@@ -18,7 +18,7 @@ use crate::procedures::{Procedures, procedures_of};
 use crate::rejection::NameNo;
 use std::alloc::{AllocError, Global};
 
-/// Adds the names of a line. Returns whether it has no error.
+/// Adds the names of a line to those that messages print. Returns whether it has no error.
 pub fn add_names<'a>(
     alloc: Global,
     procedures: &Procedures<'_>,
@@ -28,7 +28,7 @@ pub fn add_names<'a>(
     line: &'a str,
 ) -> Result<bool, AllocError>
     ensures { (taken : Line) → IsTaken taken line.entry.now → IfOk result (λ accepted.
-        IsAccepted accepted names.new out.new.items (taken_says (seen_procedures procedures.now) number (seen_names names.old) out.old.items taken)) }
+        IsAccepted accepted names.new out.new.items (expanded_taken (seen_procedures procedures.now) number (seen_names names.old) out.old.items taken)) }
 {
     match put_numbered_line(alloc, procedures, number, names, out, line) {
         Ok(()) => Ok(true),
@@ -39,7 +39,8 @@ pub fn add_names<'a>(
     }
 }
 
-/// Returns the names after the line of this number; `None` if it or an earlier one has an error, or there is no such line.
+/// Returns the names of registers after the line of this number; `None` if it or an earlier one has an error, or there is no such
+/// line.
 fn names_after_line<'a>(
     alloc: Global,
     procedures: &Procedures<'_>,
@@ -62,6 +63,7 @@ fn names_after_line<'a>(
     Ok(None)
 }
 
+/// Returns whether a name's meaning is the register with this number in this bank.
 fn is_register(bank: Bank, number: usize, binding: Binding) -> bool
     ensures { result ≡ is_register bank number binding }
 {
@@ -71,7 +73,7 @@ fn is_register(bank: Bank, number: usize, binding: Binding) -> bool
     }
 }
 
-/// Returns the name at an index, if it is that of this register.
+/// Returns the name at an index of a table of names, if it means this register.
 fn named_at<'a>(table: &Table<'a>, index: usize, bank: Bank, number: usize) -> Option<&'a [u8]>
     ensures { option_map now result ≡ entry_name bank number (slice_get (seen_table table.now.entries) index) }
 {
@@ -81,7 +83,7 @@ fn named_at<'a>(table: &Table<'a>, index: usize, bank: Bank, number: usize) -> O
     }
 }
 
-/// Returns the name that a register was given last.
+/// Returns the name that was given last to a register which a message prints.
 fn last_name<'a>(table: &Table<'a>, bank: Bank, number: usize) -> Option<&'a [u8]>
     ensures { option_map now result ≡ last_name (seen_table table.now.entries) bank number None }
 {
@@ -92,7 +94,7 @@ fn last_name<'a>(table: &Table<'a>, bank: Bank, number: usize) -> Option<&'a [u8
     found
 }
 
-/// Returns whether the text is empty or begins with a space.
+/// Returns whether the rest of a message is empty or begins with a space.
 fn ends_part(text: &[u8]) -> bool
     ensures { result ≡ (length (first_part text.now) == 0) }
 {
@@ -102,7 +104,7 @@ fn ends_part(text: &[u8]) -> bool
     }
 }
 
-/// Splits a text at its first space.
+/// Splits a message at its first space, after the register with which it begins.
 pub fn cut(text: &[u8]) -> (&[u8], &[u8])
     ensures first { result.0.now ≡ first_part text.entry.now }
     ensures rest { result.1.now ≡ drop (length (first_part text.entry.now)) text.entry.now }
@@ -114,6 +116,7 @@ pub fn cut(text: &[u8]) -> (&[u8], &[u8])
     text.split_at(count)
 }
 
+/// Adds a register's name in parentheses to a message, with a space before it, if it has one.
 fn put_name(out: &mut Vec<u8>, name: Option<&[u8]>) -> Result<(), AllocError>
     ensures { OnOk result (out.new.items ≡ out.old.items ++ name_text (option_map now name.entry)) }
 {
@@ -127,7 +130,7 @@ fn put_name(out: &mut Vec<u8>, name: Option<&[u8]>) -> Result<(), AllocError>
     }
 }
 
-/// Returns the name that a word's register has after the line of this number.
+/// Returns the name that the register of a message's word has after the line of this number.
 fn name_after_line<'a>(
     alloc: Global,
     text: &'a str,

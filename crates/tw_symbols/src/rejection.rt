@@ -34,7 +34,7 @@ pub enum NameNo {
 }
 
 impl NameNo {
-    /// Returns the number after the letter N.
+    /// Returns the code of an error of symbolic names, without the letter N.
     pub fn number(self) -> u8
         ensures { result ≡ name_number self }
     {
@@ -61,6 +61,7 @@ pub enum Rejection<'a> {
 impl From<AllocError> for Rejection<'_> {
     ghost from_gives = { λ _ rejection. rejection ≡ NoMemory };
 
+    /// Returns the rejection of a line of symbolic assembly for which an allocation failed.
     fn from(_refused: AllocError) -> Self {
         Rejection::NoMemory
     }
@@ -69,6 +70,7 @@ impl From<AllocError> for Rejection<'_> {
 impl<T: Drop> From<AllocFailed<T>> for Rejection<'_> {
     ghost from_gives = { λ _ rejection. rejection ≡ NoMemory };
 
+    /// Drops what wasn't added, and returns the rejection of a symbolic line for a failed allocation.
     fn from(_refused: AllocFailed<T>) -> Self {
         Rejection::NoMemory
     }
@@ -85,6 +87,7 @@ pub struct NameError<'a> {
 }
 
 impl<'a> NameError<'a> {
+    /// Makes the error of symbolic names for a failed allocation, without a line or a word.
     pub(crate) fn memory() -> NameError<'a>
         ensures no { result.no ≡ no.NoMemory }
         ensures line { result.line ≡ 0 }
@@ -101,6 +104,7 @@ impl<'a> NameError<'a> {
 impl From<AllocError> for NameError<'_> {
     ghost from_gives = { λ _ f. (f.no ≡ no.NoMemory) × (f.line ≡ 0) × (f.word.now ≡ []) };
 
+    /// Returns the error of symbolic names for a failed allocation.
     fn from(_refused: AllocError) -> Self {
         NameError::memory()
     }

@@ -37,7 +37,7 @@ pub struct RightNames<'a> {
     reader: Option<Reader<'a>>,
 }
 
-/// Returns whether the words of a line begin a procedure.
+/// Returns whether the words of a line begin a procedure, so that names of right registers are forgotten.
 fn begins_with_proc(words: &[&[u8]]) -> bool
     ensures { result ≡ begins_procedure (texts words.now) }
 {
@@ -47,7 +47,7 @@ fn begins_with_proc(words: &[&[u8]]) -> bool
     }
 }
 
-/// Returns whether a line begins a procedure.
+/// Returns whether a line begins a procedure, so that names of right registers are forgotten.
 fn begins_procedure(alloc: Global, line: &str) -> Result<bool, AllocError>
     ensures { (taken : Line) → IsTaken taken line.now → IfOk result (λ begins. begins ≡ begins_procedure (line_words taken)) }
 {
@@ -62,7 +62,7 @@ fn no_names<'a>(alloc: Global) -> Result<Vec<&'a [u8]>, AllocError>
     vec![in alloc; b"".as_slice(); RIGHTS]
 }
 
-/// Returns the right register that a name means, if it means one.
+/// Returns the right register that a name's meaning is, if it is one.
 fn right_number(binding: Binding) -> Option<usize>
     ensures { result ≡ right_number binding }
 {
@@ -109,7 +109,7 @@ fn note_from<'a>(rights: &mut Vec<&'a [u8]>, table: &Table<'a>, first: usize)
     }
 }
 
-/// Returns the name of a register, or nothing if it has none.
+/// Returns the last name of a right register among kept ones, or nothing if it has none.
 fn name_at<'a>(rights: &[&'a [u8]], register: usize) -> &'a [u8]
     ensures { result.now ≡ get_or (texts rights.now) register [] }
 {
@@ -191,14 +191,14 @@ fn pass_line(alloc: Global, reader: &mut Reader<'_>, line: &str) -> Result<bool,
 }
 
 impl<'a> RightNames<'a> {
-    /// Returns a reader without names, for a program that wasn't read from a text.
+    /// Returns a reader of right registers' names without names, for a program that wasn't read from a text.
     pub fn none() -> RightNames<'a>
         ensures { known_names result ≡ unnamed }
     {
         RightNames { reader: None }
     }
 
-    /// Returns a reader before the first line of a text.
+    /// Returns a reader of right registers' names before the first line of a text.
     pub fn of(alloc: Global, text: &'a str) -> Result<RightNames<'a>, AllocError>
         ensures { IfOk result (λ r. (names : ℕ → ℕ → List ℕ) × AreRightNames text.entry.now names × HasRead names (lines text.entry.now) 0 r) }
     {
@@ -218,7 +218,7 @@ impl<'a> RightNames<'a> {
         })
     }
 
-    /// Reads the line of this number, the next one.
+    /// Reads the names of the line of this number, the next one after those read.
     pub fn read(&mut self, alloc: Global, number: usize, line: &'a str) -> Result<(), AllocError>
         ensures { (names : ℕ → ℕ → List ℕ) (ls before others : List (List ℕ)) → HasRead names ls (length before) self.old → ls ≡ before ++ line.entry.now ∷ others → number ≡ length before + 1
             → OnOk result (HasRead names ls number self.new × Knows (names number) self.new) }
@@ -252,7 +252,7 @@ impl<'a> RightNames<'a> {
     }
 }
 
-/// Adds a text with a name in brackets after its first word, if there is a name.
+/// Adds a message with the name of its right register in brackets after the first word, if there is a name.
 pub fn put_named(out: &mut Vec<u8>, text: &[u8], name: &[u8]) -> Result<(), AllocError>
     ensures { OnOk result (out.new.items ≡ out.old.items ++ named_text name.now text.now) }
 {

@@ -27,7 +27,7 @@ impl Model for Symbols {
     ghost view = { λ s. s.procedures.items };
 }
 
-/// Returns the name in a head's words.
+/// Returns the procedure's name in a head's words, or an empty one.
 fn head_name<'a>(words: &[&'a [u8]]) -> &'a [u8]
     ensures { result.now ≡ unwrap_or (procedure_name (texts words.now)) [] }
 {
@@ -37,7 +37,7 @@ fn head_name<'a>(words: &[&'a [u8]]) -> &'a [u8]
     }
 }
 
-/// Adds a copy of a name.
+/// Adds a copy of a procedure's name to the list of names.
 fn push_name(alloc: Global, names: &mut Vec<Items<u8>>, name: &[u8]) -> Result<(), AllocError>
     ensures { OnOk result (names.new.items ≡ names.old.items ++ name.now ∷ []) }
 {
@@ -67,7 +67,7 @@ fn push_line(alloc: Global, names: &mut Vec<Items<u8>>, line: &str) -> Result<()
     push_words(alloc, names, &taken.words)
 }
 
-/// Adds a name in brackets, if it isn't empty.
+/// Adds a procedure's name in brackets to a text, if it isn't empty.
 pub fn put_bracketed(out: &mut Vec<u8>, name: &[u8]) -> Result<(), AllocError>
     ensures { OnOk result (out.new.items ≡ out.old.items ++ bracketed name.now) }
 {
@@ -80,7 +80,7 @@ pub fn put_bracketed(out: &mut Vec<u8>, name: &[u8]) -> Result<(), AllocError>
 }
 
 impl Symbols {
-    /// Returns the table of a program without names.
+    /// Returns the table of procedures' names of a program without names.
     pub fn none(alloc: Global) -> Symbols
         ensures { result ≡ [] }
     {
@@ -89,7 +89,7 @@ impl Symbols {
         }
     }
 
-    /// Reads the names in one pass over a text.
+    /// Reads the names of all procedures in one pass over a text.
     pub fn of(alloc: Global, text: &str) -> Result<Symbols, AllocError>
         ensures { IfOk result (λ symbols. AreNames text.now symbols) }
     {
@@ -102,7 +102,7 @@ impl Symbols {
         Ok(Symbols { procedures })
     }
 
-    /// Returns the names of all procedures.
+    /// Returns the names of all procedures of a program, by their numbers.
     pub fn names(&self) -> &[Items<u8>]
         ensures { result.now ≡ self.entry.now }
     {
@@ -119,7 +119,7 @@ impl Symbols {
         }
     }
 
-    /// Adds the name of the procedure of this number in brackets, if it has one.
+    /// Adds the name of the procedure of this number in brackets to a text, if it has one.
     pub fn put(&self, out: &mut Vec<u8>, number: usize) -> Result<(), AllocError>
         ensures { OnOk result (out.new.items ≡ out.old.items ++ bracketed (name_at self.now number)) }
     {

@@ -10,6 +10,7 @@ use crate::operand_text::put_ended;
 use std::alloc::{AllocError, Global};
 use tw_lexer::{Next, Word, before_colon, next_word, without_gap};
 
+/// Returns whether a word of symbolic assembly is a label: no quoted text, and a `:` at its end.
 fn is_label(word: &Word<'_>) -> bool
     ensures { result ≡ is_label (seen word.now) }
 {
@@ -19,7 +20,7 @@ fn is_label(word: &Word<'_>) -> bool
     }
 }
 
-/// Returns whether there is no word.
+/// Returns whether a line of symbolic assembly has no word.
 fn is_blank(alloc: Global, bytes: &[u8]) -> Result<bool, AllocError>
     requires { IsUtf8 bytes.now }
     ensures { IfOk result (λ blank. blank ≡ true → IsBlank bytes.now) }

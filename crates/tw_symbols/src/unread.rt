@@ -16,7 +16,7 @@ use crate::unchanged::put_unchanged;
 use std::alloc::{AllocError, Global};
 use tw_code::{Form, Opcode, Program, Version, opcode_in};
 
-/// Returns whether the line of this number is after the first head past the limit.
+/// Returns whether the line of this number isn't read, since it is after the first head past the limit.
 fn is_past(procedures: &Procedures<'_>, number: usize) -> bool
     ensures { result ≡ is_past (seen_procedures procedures.now) number }
 {
@@ -26,7 +26,7 @@ fn is_past(procedures: &Procedures<'_>, number: usize) -> bool
     }
 }
 
-/// Returns whether the first word is a name without a meaning.
+/// Returns whether the first operand of a call is a name without a meaning.
 fn begins_unknown(procedures: &Procedures<'_>, names: &Names<'_>, words: &[&[u8]]) -> bool
     ensures { result ≡ begins_unknown (seen_procedures procedures.now) (seen_names names.now) (texts words.now) }
 {
@@ -36,7 +36,7 @@ fn begins_unknown(procedures: &Procedures<'_>, names: &Names<'_>, words: &[&[u8]
     }
 }
 
-/// Returns whether the first operand is a procedure.
+/// Returns whether operands of these forms are those of a call: the first is a procedure.
 pub fn is_call(forms: &[Form]) -> bool
     ensures { result ≡ is_call forms.now }
 {
@@ -65,7 +65,7 @@ fn calls_unknown(
     }
 }
 
-/// Returns whether a line's words are such a call.
+/// Returns whether a line's words call a procedure whose name has no meaning.
 fn is_open_call(
     alloc: Global,
     procedures: &Procedures<'_>,
@@ -83,7 +83,7 @@ fn is_open_call(
     }
 }
 
-/// Returns whether a line is such a call.
+/// Returns whether a line calls a procedure whose name has no meaning.
 fn is_open_line(
     alloc: Global,
     procedures: &Procedures<'_>,
@@ -96,7 +96,7 @@ fn is_open_line(
     is_open_call(alloc, procedures, names, &taken.words)
 }
 
-/// Returns the expansion of the line of this number, if the line isn't read.
+/// Returns the expansion of the line of this number if the line isn't read: nothing, or RET.
 fn unread(
     alloc: Global,
     procedures: &Procedures<'_>,

@@ -1,6 +1,6 @@
 use Rattle.std.proofs.Common.{◌≡◌, ◌++◌, drop}
-use Rattle.tw_symbols.proofs.TextNames.{asked_by, flat_map}
+use Rattle.tw_symbols.proofs.TextNames.{expected_of, flat_map}
 use Rattle.tw_symbols.proofs.instruction.expected_in.Given as goal
 
 abbrev pub invariant-loop-form : goal.invariant-loop-form
-invariant-loop-form l = l.asked.items ++ flat_map (asked_by l.banks) (drop l.form-index l.forms) ≡ flat_map (asked_by l.banks) l.forms
+invariant-loop-form l = l.asked.items ++ flat_map (expected_of l.banks) (drop l.form-index l.forms) ≡ flat_map (expected_of l.banks) l.forms

@@ -1,6 +1,6 @@
 use Rattle.std.proofs.Common.{◌≡◌, drop}
-use Rattle.tw_symbols.proofs.TextNames.{seen_names, seen_procedures, texts, words_say}
+use Rattle.tw_symbols.proofs.TextNames.{seen_names, seen_procedures, texts, expanded_words}
 use Rattle.tw_symbols.proofs.operand_text.put_words.Given as goal
 
 abbrev pub invariant-loop-word : goal.invariant-loop-word
-invariant-loop-word l = words_say (seen_procedures l.procedures) (seen_names l.names) l.left l.out.items (texts (drop l.word-index l.words)) ≡ words_say (seen_procedures l.procedures) (seen_names l.names) l.asked l.fn.out.items (texts l.words)
+invariant-loop-word l = expanded_words (seen_procedures l.procedures) (seen_names l.names) l.left l.out.items (texts (drop l.word-index l.words)) ≡ expanded_words (seen_procedures l.procedures) (seen_names l.names) l.asked l.fn.out.items (texts l.words)

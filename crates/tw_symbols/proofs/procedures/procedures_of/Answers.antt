@@ -1,10 +1,12 @@
-use Rattle.std.proofs.Common.{◌≡◌, ◌+◌, List, ℕ, rules, subst, sym}
+use Rattle.std.proofs.Common.{◌≡◌, ◌+◌, ◌∙◌, ◌∷◌, List, ℕ, rules, subst, sym}
 use Rattle.tw_symbols.proofs.TextNames.{lines, seen_procedures}
 use Rattle.std.proofs.lemmas.Iterator.Consumers.{YieldsList-at, YieldsList-end, YieldsList-from_enumerate, YieldsList-so_far, YieldsList-turn}
 use Rattle.std.proofs.lemmas.Iterator.Splits.{YieldsList-from_lines}
 use Rattle.tw_lexer.proofs.LineLoops.{all_lines, line_turn}
 use Rattle.tw_symbols.proofs.Loops.{AreGathered, gather_more, lines_in, one_line_in}
-use Rattle.tw_symbols.specs.Expansion.{AddsNone}
+use Rattle.tw_symbols.proofs.NoHeads.{no_procedure}
+use Rattle.tw_symbols.proofs.UnreadLines.{gathered_whole}
+use Rattle.tw_symbols.specs.RightNames.{HasNoHead}
 use Rattle.tw_symbols.proofs.procedures.procedures_of.Goals as goal
 
 pub loop-index-preserved-in-Continue-1 : goal.loop-index-preserved-in-Continue-1
@@ -24,13 +26,13 @@ loop-index-preserved c =
     let road = YieldsList-at c.into_iter-index-iterator.ensures.into_iter_gives (YieldsList-from_enumerate (YieldsList-at c.enumerate-index-items.ensures.source (YieldsList-from_lines c.args.text.now c.lines.ensures.rest)) c.enumerate-index-items.ensures.count) in
     let t = YieldsList-turn road c.loop-index.yielded _ c.loop-index.yielded_by _ _ (c.in-Some.index, c.in-Some.line) c.in-Some.is c.next.ensures.steps in
     let at = line_turn (lines c.args.text.now) c.loop-index.yielded c.in-Some.index c.in-Some.line.now (YieldsList-so_far road c.loop-index.yielded _ c.loop-index.yielded_by) t.0 t.1 in
-    let none : AddsNone (seen_procedures c.loop-index.procedures) c.in-Some.line.now = c.may_add.ensures c.if-may_add.false in
+    let none : HasNoHead c.in-Some.line.now = c.may_begin_procedure.ensures c.if-may_begin_procedure.false in
     record {
       next = search rules;
       finite = search rules;
       gathered = subst (λ (ls : List (List ℕ)). AreGathered ls (seen_procedures c.loop-index.procedures)) (sym (one_line_in c.loop-index.yielded (c.in-Some.index, c.in-Some.line)))
           (gather_more (lines_in c.loop-index.yielded) c.in-Some.line.now c.in-Some.index (seen_procedures c.loop-index.procedures) (seen_procedures c.loop-index.procedures) at.index_is c.loop-index.invariant.gathered
-          (none.0, none.1, none.2 (c.in-Some.index + 1)));
+          (none.0, none.1, no_procedure (seen_procedures c.loop-index.procedures) (c.in-Some.index + 1) none.0 none.2));
     }
 
 pub returns : goal.returns
@@ -39,3 +41,10 @@ returns c =
     let t = YieldsList-end road c.loop-index.yielded _ c.loop-index.yielded_by _ _ c.in-None.is c.next.ensures.steps in
     let all : lines_in c.loop-index.yielded ≡ lines c.args.text.now = all_lines (lines c.args.text.now) c.loop-index.yielded t.0 in
     subst (λ (ls : List (List ℕ)). AreGathered ls (seen_procedures c.loop-index.procedures)) all c.loop-index.invariant.gathered
+
+pub returns-then-not-reads_heads : goal.returns-then-not-reads_heads
+returns-then-not-reads_heads c =
+    let road = YieldsList-at c.into_iter-index-iterator.ensures.into_iter_gives (YieldsList-from_enumerate (YieldsList-at c.enumerate-index-items.ensures.source (YieldsList-from_lines c.args.text.now c.lines.ensures.rest)) c.enumerate-index-items.ensures.count) in
+    let t = YieldsList-turn road c.loop-index.yielded _ c.loop-index.yielded_by _ _ (c.in-Some.index, c.in-Some.line) c.in-Some.is c.next.ensures.steps in
+    let at = line_turn (lines c.args.text.now) c.loop-index.yielded c.in-Some.index c.in-Some.line.now (YieldsList-so_far road c.loop-index.yielded _ c.loop-index.yielded_by) t.0 t.1 in
+    gathered_whole (lines c.args.text.now) (lines_in c.loop-index.yielded) (c.in-Some.line.now ∷ at.others) (seen_procedures c.loop-index.procedures) c.loop-index.invariant.gathered (sym c.reads_heads.ensures ∙ c.if-not-reads_heads.true) at.parts
