@@ -8,12 +8,12 @@ use Rattle.std.proofs.lemmas.Int.{to_z-of_z}
 use Rattle.std.proofs.lemmas.Str.Parse.{digit_from_value}
 use Rattle.tw_lexer.specs.declared.numbers.TokenError.{TokenError}
 use Rattle.tw_lexer.specs.declared.numbers.TokenError.TheVariants.{Form, Limit}
-use Rattle.tw_lexer.specs.Number.{IsIn64, IsRead, SpellsNumber}
-use Rattle.tw_lexer.specs.Quoted.{BeginsQuoted, SpellsQuoted}
+use Rattle.tw_lexer.specs.Number.{IsIn64, IsRead, EncodesNumber}
+use Rattle.tw_lexer.specs.Quoted.{BeginsQuoted, EncodesQuoted}
 use Rattle.tw_lexer.proofs.Insides.{one_text}
 use Rattle.tw_lexer.proofs.Numerals.{one_number}
 use Rattle.tw_lexer.proofs.Utf8.{cut_rest}
-use Rattle.tw_inputs.specs.InputWords.{SpellsInt, SpellsMember}
+use Rattle.tw_inputs.specs.InputWords.{EncodesInt, EncodesMember}
 use Rattle.tw_inputs.specs.Lists.{HasNoFirst, IsCut, IsFirst, IsMark, IsStop}
 use Rattle.tw_inputs.proofs.Members.{one_cut}
 
@@ -23,11 +23,11 @@ use Rattle.tw_inputs.proofs.Members.{one_cut}
 pub same_int : (n : ℤ) → IsIn64 n → to_z w64 (of_z w64 n) ≡ n
 same_int n h = grind (arith, to_z-of_z)
 
-pub no_int : (text : List ℕ) (flaw : TokenError) → IsRead (λ n. SpellsNumber n text) IsIn64 (Err flaw) → (n : ℤ) → SpellsInt n text → ⊥
+pub no_int : (text : List ℕ) (flaw : TokenError) → IsRead (λ n. EncodesNumber n text) IsIn64 (Err flaw) → (n : ℤ) → EncodesInt n text → ⊥
 no_int text Form none = λ n h. none n h.0
 no_int text Limit (m, spells, out) = λ n h. out (subst IsIn64 (one_number n m text h.0 spells) h.1)
 
-pub one_int : (n m : ℤ) (text : List ℕ) → SpellsInt n text → SpellsInt m text → n ≡ m
+pub one_int : (n m : ℤ) (text : List ℕ) → EncodesInt n text → EncodesInt m text → n ≡ m
 one_int n m text h k = one_number n m text h.0 k.0
 
 -- ---- a number before a marker
@@ -45,32 +45,32 @@ plain_minus mark (inl m) = λ e. absurd (omega (arith, e, m))
 plain_minus mark (inr m) = λ e. absurd (omega (arith, e, m))
 
 -- it has no marker inside
-plain_number : (mark : ℕ) (n : ℤ) (text : List ℕ) → IsMark mark → SpellsNumber n text → AllByRecursion (λ b. b ≢ mark) text
+plain_number : (mark : ℕ) (n : ℤ) (text : List ℕ) → IsMark mark → EncodesNumber n text → AllByRecursion (λ b. b ≢ mark) text
 plain_number mark n text m (inl (size, h, e)) = plain_digits mark text m h.digits.1
 plain_number mark n text m (inr (size, digits, is, h, e)) = subst (AllByRecursion (λ b. b ≢ mark)) (sym is) (plain_minus mark m, plain_digits mark digits m h.digits.1)
 
 -- the cut is at the end of another number
-cut_number : (mark : ℕ) (bytes digits rest : List ℕ) (m : ℤ) (other after : List ℕ) → IsMark mark → IsCut mark bytes digits rest → SpellsInt m other → IsStop mark after → bytes ≡ other ++ after → (digits ≡ other) × (rest ≡ after)
+cut_number : (mark : ℕ) (bytes digits rest : List ℕ) (m : ℤ) (other after : List ℕ) → IsMark mark → IsCut mark bytes digits rest → EncodesInt m other → IsStop mark after → bytes ≡ other ++ after → (digits ≡ other) × (rest ≡ after)
 cut_number mark bytes digits rest m other after is cut spells stop parts =
     one_cut mark digits other rest after cut.clean (plain_number mark m other is spells.0) cut.stop stop (sym cut.parts ∙ parts)
 
-pub int_found : (mark : ℕ) (bytes digits rest : List ℕ) (n : ℤ) → IsMark mark → IsCut mark bytes digits rest → SpellsInt n digits → IsFirst mark SpellsInt bytes n rest
+pub int_found : (mark : ℕ) (bytes digits rest : List ℕ) (n : ℤ) → IsMark mark → IsCut mark bytes digits rest → EncodesInt n digits → IsFirst mark EncodesInt bytes n rest
 int_found mark bytes digits rest n is cut found = record {
   first = digits;
   spells = found;
   parts = cut.parts;
   alone = λ m other after spells stop parts.
       let same = cut_number mark bytes digits rest m other after is cut spells stop parts in
-      (one_int n m digits found (subst (SpellsInt m) (sym same.0) spells), same.1);
+      (one_int n m digits found (subst (EncodesInt m) (sym same.0) spells), same.1);
 }
 
-pub no_int_found : (mark : ℕ) (bytes digits rest : List ℕ) → IsMark mark → IsCut mark bytes digits rest → ((n : ℤ) → SpellsInt n digits → ⊥) → HasNoFirst mark SpellsInt bytes
+pub no_int_found : (mark : ℕ) (bytes digits rest : List ℕ) → IsMark mark → IsCut mark bytes digits rest → ((n : ℤ) → EncodesInt n digits → ⊥) → HasNoFirst mark EncodesInt bytes
 no_int_found mark bytes digits rest is cut none m other after spells stop parts =
-    none m (subst (SpellsInt m) (sym (cut_number mark bytes digits rest m other after is cut spells stop parts).0) spells)
+    none m (subst (EncodesInt m) (sym (cut_number mark bytes digits rest m other after is cut spells stop parts).0) spells)
 
 -- ---- a text between quotes
 
-pub text_found : (mark : ℕ) (bytes rest text : List ℕ) → BeginsQuoted text bytes rest → IsFirst mark SpellsQuoted bytes text rest
+pub text_found : (mark : ℕ) (bytes rest text : List ℕ) → BeginsQuoted text bytes rest → IsFirst mark EncodesQuoted bytes text rest
 text_found mark bytes rest text (word, spelled, is) = record {
   first = word;
   spells = spelled;
@@ -78,7 +78,7 @@ text_found mark bytes rest text (word, spelled, is) = record {
   alone = λ y other after spells stop parts. one_text text y bytes rest after (word, spelled, is) (other, spells, parts);
 }
 
-pub no_text_found : (mark : ℕ) (bytes : List ℕ) → ((text rest : List ℕ) → BeginsQuoted text bytes rest → ⊥) → HasNoFirst mark SpellsQuoted bytes
+pub no_text_found : (mark : ℕ) (bytes : List ℕ) → ((text rest : List ℕ) → BeginsQuoted text bytes rest → ⊥) → HasNoFirst mark EncodesQuoted bytes
 no_text_found mark bytes none y other after spells stop parts = none y after (other, spells, parts)
 
 -- ---- a member
@@ -94,21 +94,21 @@ module _ {S A : Type 0} (SpellsSubscript : S → List ℕ → Type 0) (Spells : 
   member_parts : (bytes subscript value other after : List ℕ) → other ≡ subscript ++ 61 ∷ value → bytes ≡ other ++ after → bytes ≡ subscript ++ 61 ∷ (value ++ after)
   member_parts bytes subscript value other after e parts = parts ∙ ap (λ (t : List ℕ). t ++ after) e ∙ append_assoc subscript (61 ∷ value) after
 
-  pub no_subscript : (bytes : List ℕ) → HasNoFirst 61 SpellsSubscript bytes → HasNoFirst 44 (SpellsMember SpellsSubscript Spells) bytes
+  pub no_subscript : (bytes : List ℕ) → HasNoFirst 61 SpellsSubscript bytes → HasNoFirst 44 (EncodesMember SpellsSubscript Spells) bytes
   no_subscript bytes none y other after (subscript, value, h, k, e) stop parts =
       none y.0 subscript (61 ∷ (value ++ after)) h refl (member_parts bytes subscript value other after e parts)
 
-  pub no_equals : (bytes rest : List ℕ) (s : S) → IsFirst 61 SpellsSubscript bytes s rest → ((following : List ℕ) → rest ≢ 61 ∷ following) → HasNoFirst 44 (SpellsMember SpellsSubscript Spells) bytes
+  pub no_equals : (bytes rest : List ℕ) (s : S) → IsFirst 61 SpellsSubscript bytes s rest → ((following : List ℕ) → rest ≢ 61 ∷ following) → HasNoFirst 44 (EncodesMember SpellsSubscript Spells) bytes
   no_equals bytes rest s found none y other after (subscript, value, h, k, e) stop parts =
       none (value ++ after) (found.alone y.0 subscript (61 ∷ (value ++ after)) h refl (member_parts bytes subscript value other after e parts)).1
 
-  pub no_value : (bytes rest following : List ℕ) (s : S) → IsFirst 61 SpellsSubscript bytes s rest → rest ≡ 61 ∷ following → HasNoFirst 44 Spells following → HasNoFirst 44 (SpellsMember SpellsSubscript Spells) bytes
+  pub no_value : (bytes rest following : List ℕ) (s : S) → IsFirst 61 SpellsSubscript bytes s rest → rest ≡ 61 ∷ following → HasNoFirst 44 Spells following → HasNoFirst 44 (EncodesMember SpellsSubscript Spells) bytes
   no_value bytes rest following s found equals none y other after (subscript, value, h, k, e) stop parts =
       let same = found.alone y.0 subscript (61 ∷ (value ++ after)) h refl (member_parts bytes subscript value other after e parts) in
       none y.1 value after k stop (after_equals following (value ++ after) (sym equals ∙ same.1))
 
   pub member_found : (bytes rest following last : List ℕ) (s : S) (x : A) → IsFirst 61 SpellsSubscript bytes s rest → rest ≡ 61 ∷ following → IsFirst 44 Spells following x last
-      → IsFirst 44 (SpellsMember SpellsSubscript Spells) bytes (s, x) last
+      → IsFirst 44 (EncodesMember SpellsSubscript Spells) bytes (s, x) last
   member_found bytes rest following last s x found equals value = record {
     first = found.first ++ 61 ∷ value.first;
     spells = (found.first, value.first, found.spells, value.spells, refl);
@@ -139,15 +139,15 @@ head_utf8 head bytes rest u e = cut_rest head 58 rest (omega arith) (subst IsUtf
 abbrev pub IsOne : {A : Type 0} → ℕ → (A → List ℕ → Type 0) → Type 0
 IsOne {A} mark Spells = (x y : A) (first other rest after : List ℕ) → Spells x first → Spells y other → IsStop mark rest → IsStop mark after → first ++ rest ≡ other ++ after → (x ≡ y) × (rest ≡ after)
 
-pub one_int_first : (mark : ℕ) → IsMark mark → IsOne mark SpellsInt
+pub one_int_first : (mark : ℕ) → IsMark mark → IsOne mark EncodesInt
 one_int_first mark is x y first other rest after h k stop also e =
     let same = one_cut mark first other rest after (plain_number mark x first is h.0) (plain_number mark y other is k.0) stop also e in
-    (one_int x y other (subst (SpellsInt x) same.0 h) k, same.1)
+    (one_int x y other (subst (EncodesInt x) same.0 h) k, same.1)
 
-pub one_text_first : (mark : ℕ) → IsOne mark SpellsQuoted
+pub one_text_first : (mark : ℕ) → IsOne mark EncodesQuoted
 one_text_first mark x y first other rest after h k stop also e = one_text x y (first ++ rest) rest after (first, h, refl) (other, k, e)
 
-pub one_member : {S A : Type 0} (SpellsSubscript : S → List ℕ → Type 0) (Spells : A → List ℕ → Type 0) → IsOne 61 SpellsSubscript → IsOne 44 Spells → IsOne 44 (SpellsMember SpellsSubscript Spells)
+pub one_member : {S A : Type 0} (SpellsSubscript : S → List ℕ → Type 0) (Spells : A → List ℕ → Type 0) → IsOne 61 SpellsSubscript → IsOne 44 Spells → IsOne 44 (EncodesMember SpellsSubscript Spells)
 one_member SpellsSubscript Spells one only x y first other rest after (s, v, h, k, e) (t, w, i, l, f) stop also parts =
     let same = one x.0 y.0 s t (61 ∷ (v ++ rest)) (61 ∷ (w ++ after)) h i refl refl
     (sym (append_assoc s (61 ∷ v) rest) ∙ ap (λ (u : List ℕ). u ++ rest) (sym e) ∙ parts ∙ ap (λ (u : List ℕ). u ++ after) f ∙ append_assoc t (61 ∷ w) after) in

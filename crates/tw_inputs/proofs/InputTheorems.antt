@@ -4,8 +4,8 @@ use Rattle.std.proofs.lemmas.List.{append_cancel_left, length-map, length-take, 
 use Rattle.std.proofs.lemmas.Bool.{eqb-false}
 use Rattle.tw_types.specs.declared.input.Input.{Input}
 use Rattle.tw_types.specs.declared.input.Input.TheVariants as input
-use Rattle.tw_lexer.specs.Quoted.{SpellsQuoted}
-use Rattle.tw_inputs.specs.InputWords.{AreSeparated, AreJoined, AreSpelled, IsRefusedWord, OneInput, OneRefusedWord, RefusedWord, refused_word, SpellsInput, SpellsInt, SpellsMember, SpellsMembers, SpellsRest, head_of}
+use Rattle.tw_lexer.specs.Quoted.{EncodesQuoted}
+use Rattle.tw_inputs.specs.InputWords.{AreSeparated, AreJoined, AreEncoded, IsRejectedWord, OneInput, OneRejectedWord, RejectedWord, refused_word, EncodesInput, EncodesInt, EncodesMember, EncodesMembers, EncodesRest, head_of}
 use Rattle.tw_inputs.specs.InputReasons.{diagnostic_line}
 use Rattle.tw_inputs.specs.WordErrors.{IsInputReason, IsRejection}
 use Rattle.tw_inputs.specs.declared.words.WordError.{WordError}
@@ -47,7 +47,7 @@ module _ {A : Type 0} (Spells : A → List ℕ → Type 0) (one : IsOne 44 Spell
       ap (λ (z : A). z ∷ xs) same.0 ∙ ap (λ (zs : List A). y ∷ zs) (one_separated xs ys k.1 (subst (AreSeparated Spells xs) same.1 h.3) k.3)
 
 -- a member has its `=`
-some_member : {S A : Type 0} (SpellsSubscript : S → List ℕ → Type 0) (Spells : A → List ℕ → Type 0) (x : S × A) (text : List ℕ) → SpellsMember SpellsSubscript Spells x text → text ≡ [] → ⊥
+some_member : {S A : Type 0} (SpellsSubscript : S → List ℕ → Type 0) (Spells : A → List ℕ → Type 0) (x : S × A) (text : List ℕ) → EncodesMember SpellsSubscript Spells x text → text ≡ [] → ⊥
 some_member SpellsSubscript Spells x text (subscript, value, h, k, e) none = never subscript (sym e ∙ none)
   where
     never : (xs : List ℕ) → xs ++ 61 ∷ value ≡ [] → ⊥
@@ -55,9 +55,9 @@ some_member SpellsSubscript Spells x text (subscript, value, h, k, e) none = nev
     never (b ∷ xs) f = cc
 
 one_members : {S A : Type 0} (SpellsSubscript : S → List ℕ → Type 0) (Spells : A → List ℕ → Type 0) → IsOne 61 SpellsSubscript → IsOne 44 Spells → (xs ys : List (S × A)) (list other : List ℕ) → list ≡ other
-    → SpellsMembers SpellsSubscript Spells xs list → SpellsMembers SpellsSubscript Spells ys other → xs ≡ ys
+    → EncodesMembers SpellsSubscript Spells xs list → EncodesMembers SpellsSubscript Spells ys other → xs ≡ ys
 one_members SpellsSubscript Spells one only xs ys list other e h k =
-    one_list (SpellsMember SpellsSubscript Spells) (one_member SpellsSubscript Spells one only) (some_member SpellsSubscript Spells) xs ys other (subst (SpellsMembers SpellsSubscript Spells xs) e h) k
+    one_list (EncodesMember SpellsSubscript Spells) (one_member SpellsSubscript Spells one only) (some_member SpellsSubscript Spells) xs ys other (subst (EncodesMembers SpellsSubscript Spells xs) e h) k
 
 -- ---- a word
 
@@ -66,8 +66,8 @@ apart : {xs ys : List ℕ} {Z : Type 0} (k : ℕ) → eqb (get_or xs k 0) (get_o
 apart {xs} {ys} k differ e = absurd (eqb-false (get_or xs k 0) (get_or ys k 0) differ (ap (λ (t : List ℕ). get_or t k 0) e))
 
 -- the rests after two heads of one word
-one_rest : (given other : Input) (x y : List ℕ) → head_of given ++ x ≡ head_of other ++ y → SpellsRest given x → SpellsRest other y → given ≡ other
-one_rest (input.Int n) (input.Int m) x y e h k = ap input.Int (one_int n m y (subst (SpellsInt n) (append_cancel_left (codes "int:") x y e) h) k)
+one_rest : (given other : Input) (x y : List ℕ) → head_of given ++ x ≡ head_of other ++ y → EncodesRest given x → EncodesRest other y → given ≡ other
+one_rest (input.Int n) (input.Int m) x y e h k = ap input.Int (one_int n m y (subst (EncodesInt n) (append_cancel_left (codes "int:") x y e) h) k)
 one_rest (input.Int n) (input.Text text) x y e h k = apart 0 refl e
 one_rest (input.Int n) (input.Ints ms) x y e h k = apart 3 refl e
 one_rest (input.Int n) (input.Texts ms) x y e h k = apart 0 refl e
@@ -81,28 +81,28 @@ one_rest (input.Text text) (input.IntsByText ms) x y e h k = apart 1 refl e
 one_rest (input.Text text) (input.TextsByText ms) x y e h k = apart 1 refl e
 one_rest (input.Ints ms) (input.Int n) x y e h k = apart 3 refl e
 one_rest (input.Ints ms) (input.Text text) x y e h k = apart 0 refl e
-one_rest (input.Ints ms) (input.Ints ns) x y e h k = ap input.Ints (one_members SpellsInt SpellsInt (one_int_first 61 (inl refl)) (one_int_first 44 (inr refl)) ms ns x y (append_cancel_left (codes "ints:") x y e) h k)
+one_rest (input.Ints ms) (input.Ints ns) x y e h k = ap input.Ints (one_members EncodesInt EncodesInt (one_int_first 61 (inl refl)) (one_int_first 44 (inr refl)) ms ns x y (append_cancel_left (codes "ints:") x y e) h k)
 one_rest (input.Ints ms) (input.Texts ns) x y e h k = apart 0 refl e
 one_rest (input.Ints ms) (input.IntsByText ns) x y e h k = apart 0 refl e
 one_rest (input.Ints ms) (input.TextsByText ns) x y e h k = apart 0 refl e
 one_rest (input.Texts ms) (input.Int n) x y e h k = apart 0 refl e
 one_rest (input.Texts ms) (input.Text text) x y e h k = apart 4 refl e
 one_rest (input.Texts ms) (input.Ints ns) x y e h k = apart 0 refl e
-one_rest (input.Texts ms) (input.Texts ns) x y e h k = ap input.Texts (one_members SpellsInt SpellsQuoted (one_int_first 61 (inl refl)) (one_text_first 44) ms ns x y (append_cancel_left (codes "texts:") x y e) h k)
+one_rest (input.Texts ms) (input.Texts ns) x y e h k = ap input.Texts (one_members EncodesInt EncodesQuoted (one_int_first 61 (inl refl)) (one_text_first 44) ms ns x y (append_cancel_left (codes "texts:") x y e) h k)
 one_rest (input.Texts ms) (input.IntsByText ns) x y e h k = apart 1 refl e
 one_rest (input.Texts ms) (input.TextsByText ns) x y e h k = apart 1 refl e
 one_rest (input.IntsByText ms) (input.Int n) x y e h k = apart 0 refl e
 one_rest (input.IntsByText ms) (input.Text text) x y e h k = apart 1 refl e
 one_rest (input.IntsByText ms) (input.Ints ns) x y e h k = apart 0 refl e
 one_rest (input.IntsByText ms) (input.Texts ns) x y e h k = apart 1 refl e
-one_rest (input.IntsByText ms) (input.IntsByText ns) x y e h k = ap input.IntsByText (one_members SpellsQuoted SpellsInt (one_text_first 61) (one_int_first 44 (inr refl)) ms ns x y (append_cancel_left (codes "tints:") x y e) h k)
+one_rest (input.IntsByText ms) (input.IntsByText ns) x y e h k = ap input.IntsByText (one_members EncodesQuoted EncodesInt (one_text_first 61) (one_int_first 44 (inr refl)) ms ns x y (append_cancel_left (codes "tints:") x y e) h k)
 one_rest (input.IntsByText ms) (input.TextsByText ns) x y e h k = apart 1 refl e
 one_rest (input.TextsByText ms) (input.Int n) x y e h k = apart 0 refl e
 one_rest (input.TextsByText ms) (input.Text text) x y e h k = apart 1 refl e
 one_rest (input.TextsByText ms) (input.Ints ns) x y e h k = apart 0 refl e
 one_rest (input.TextsByText ms) (input.Texts ns) x y e h k = apart 1 refl e
 one_rest (input.TextsByText ms) (input.IntsByText ns) x y e h k = apart 1 refl e
-one_rest (input.TextsByText ms) (input.TextsByText ns) x y e h k = ap input.TextsByText (one_members SpellsQuoted SpellsQuoted (one_text_first 61) (one_text_first 44) ms ns x y (append_cancel_left (codes "ttexts:") x y e) h k)
+one_rest (input.TextsByText ms) (input.TextsByText ns) x y e h k = ap input.TextsByText (one_members EncodesQuoted EncodesQuoted (one_text_first 61) (one_text_first 44) ms ns x y (append_cancel_left (codes "ttexts:") x y e) h k)
 
 pub one_input : OneInput
 one_input word given other (x, e, h) (y, f, k) = one_rest given other x y (sym e ∙ f) h k
@@ -114,12 +114,12 @@ heads w v ws vs e = (cc, cc)
 
 -- two words that encode nothing have equally many words before them, if each of those encodes an input
 as_many : (before others : List (List ℕ)) (word other : List ℕ) (later after : List (List ℕ)) (inputs given : List Input) → before ++ word ∷ later ≡ others ++ other ∷ after
-    → AreSpelled inputs before → AreSpelled given others → ((x : Input) → SpellsInput x word → ⊥) → ((x : Input) → SpellsInput x other → ⊥) → length before ≡ length others
+    → AreEncoded inputs before → AreEncoded given others → ((x : Input) → EncodesInput x word → ⊥) → ((x : Input) → EncodesInput x other → ⊥) → length before ≡ length others
 as_many [] [] word other later after inputs given e h k none nothing = refl
 as_many [] (w ∷ others) word other later after inputs [] e h k none nothing = absurd k
-as_many [] (w ∷ others) word other later after inputs (x ∷ given) e h k none nothing = absurd (none x (subst (SpellsInput x) (sym (heads word w later (others ++ other ∷ after) e).0) k.0))
+as_many [] (w ∷ others) word other later after inputs (x ∷ given) e h k none nothing = absurd (none x (subst (EncodesInput x) (sym (heads word w later (others ++ other ∷ after) e).0) k.0))
 as_many (w ∷ before) [] word other later after [] given e h k none nothing = absurd h
-as_many (w ∷ before) [] word other later after (x ∷ inputs) given e h k none nothing = absurd (nothing x (subst (SpellsInput x) (heads w other (before ++ word ∷ later) after e).0 h.0))
+as_many (w ∷ before) [] word other later after (x ∷ inputs) given e h k none nothing = absurd (nothing x (subst (EncodesInput x) (heads w other (before ++ word ∷ later) after e).0 h.0))
 as_many (w ∷ before) (v ∷ others) word other later after [] given e h k none nothing = absurd h
 as_many (w ∷ before) (v ∷ others) word other later after (x ∷ inputs) [] e h k none nothing = absurd k
 as_many (w ∷ before) (v ∷ others) word other later after (x ∷ inputs) (y ∷ given) e h k none nothing =
@@ -132,17 +132,17 @@ same_word [] (w ∷ others) word other later after e l = absurd (omega (arith, l
 same_word (w ∷ before) [] word other later after e l = absurd (omega (arith, l))
 same_word (w ∷ before) (v ∷ others) word other later after e l = same_word before others word other later after (heads w v (before ++ word ∷ later) (others ++ other ∷ after) e).1 (omega (arith, l))
 
-pub one_refused_word : OneRefusedWord
+pub one_refused_word : OneRejectedWord
 one_refused_word words refused other (before, inputs, word, later, e, h, none, is) (others, given, second, after, f, k, nothing, also) =
     let many = as_many before others word second later after inputs given (sym e ∙ f) h k none nothing in
     let same = same_word before others word second later after (sym e ∙ f) many in
     is ∙ ap (λ (n : ℕ). refused_word (suc n) (diagnostic_line (suc n) word)) many ∙ ap (λ (w : List ℕ). refused_word (suc (length others)) (diagnostic_line (suc (length others)) w)) same ∙ sym also
 
 -- if each word encodes an input, none is rejected
-pub none_refused : (words : List (List ℕ)) (inputs : List Input) (number : RefusedWord) → AreSpelled inputs words → IsRefusedWord words number → ⊥
-none_refused words inputs number all (before, given, word, later, e, h, none, is) = by before inputs (subst (AreSpelled inputs) e all)
+pub none_refused : (words : List (List ℕ)) (inputs : List Input) (number : RejectedWord) → AreEncoded inputs words → IsRejectedWord words number → ⊥
+none_refused words inputs number all (before, given, word, later, e, h, none, is) = by before inputs (subst (AreEncoded inputs) e all)
   where
-    by : (before : List (List ℕ)) (inputs : List Input) → AreSpelled inputs (before ++ word ∷ later) → ⊥
+    by : (before : List (List ℕ)) (inputs : List Input) → AreEncoded inputs (before ++ word ∷ later) → ⊥
     by [] [] k = k
     by [] (x ∷ inputs) k = none x k.0
     by (w ∷ before) [] k = k
@@ -151,11 +151,11 @@ none_refused words inputs number all (before, given, word, later, e, h, none, is
 -- ---- in the order of reading
 
 -- one word more
-pub spelled_more : (inputs : List Input) (words : List (List ℕ)) (x : Input) (word : List ℕ) → AreSpelled inputs words → SpellsInput x word → AreSpelled (inputs ++ x ∷ []) (words ++ word ∷ [])
-spelled_more [] [] x word h k = (k, tt)
-spelled_more [] (w ∷ words) x word h k = absurd h
-spelled_more (y ∷ inputs) [] x word h k = absurd h
-spelled_more (y ∷ inputs) (w ∷ words) x word h k = (h.0, spelled_more inputs words x word h.1 k)
+pub encoded_more : (inputs : List Input) (words : List (List ℕ)) (x : Input) (word : List ℕ) → AreEncoded inputs words → EncodesInput x word → AreEncoded (inputs ++ x ∷ []) (words ++ word ∷ [])
+encoded_more [] [] x word h k = (k, tt)
+encoded_more [] (w ∷ words) x word h k = absurd h
+encoded_more (y ∷ inputs) [] x word h k = absurd h
+encoded_more (y ∷ inputs) (w ∷ words) x word h k = (h.0, encoded_more inputs words x word h.1 k)
 
 -- the words that were read, and the next one
 word_at : (words : List (Bor (List ℕ))) (i : ℕ) (d : Bor (List ℕ)) → i < length words → take (i + 1) (map (λ w. w.now) words) ≡ take i (map (λ w. w.now) words) ++ (get_or words i d).now ∷ []
@@ -165,15 +165,15 @@ word_at words i d lt =
     ∙ map-append (λ w. w.now) (take i words) (get_or words i d ∷ [])
     ∙ ap (λ (t : List (List ℕ)). t ++ (get_or words i d).now ∷ []) (sym (take-map (λ w. w.now) i words))
 
-pub one_word_more : (inputs new : List Input) (words : List (Bor (List ℕ))) (i : ℕ) (d : Bor (List ℕ)) (x : Input) → i < length words → AreSpelled inputs (take i (map (λ w. w.now) words))
-    → SpellsInput x (get_or words i d).now → new ≡ inputs ++ x ∷ [] → AreSpelled new (take (i + 1) (map (λ w. w.now) words))
+pub one_word_more : (inputs new : List Input) (words : List (Bor (List ℕ))) (i : ℕ) (d : Bor (List ℕ)) (x : Input) → i < length words → AreEncoded inputs (take i (map (λ w. w.now) words))
+    → EncodesInput x (get_or words i d).now → new ≡ inputs ++ x ∷ [] → AreEncoded new (take (i + 1) (map (λ w. w.now) words))
 one_word_more inputs new words i d x lt h k is =
-    subst (λ (xs : List Input). AreSpelled xs (take (i + 1) (map (λ w. w.now) words))) (sym is)
-    (subst (AreSpelled (inputs ++ x ∷ [])) (sym (word_at words i d lt)) (spelled_more inputs (take i (map (λ w. w.now) words)) x (get_or words i d).now h k))
+    subst (λ (xs : List Input). AreEncoded xs (take (i + 1) (map (λ w. w.now) words))) (sym is)
+    (subst (AreEncoded (inputs ++ x ∷ [])) (sym (word_at words i d lt)) (encoded_more inputs (take i (map (λ w. w.now) words)) x (get_or words i d).now h k))
 
 -- the first word that encodes no input
-pub refused_at : (inputs : List Input) (words : List (Bor (List ℕ))) (i : ℕ) (d : Bor (List ℕ)) → i < length words → AreSpelled inputs (take i (map (λ w. w.now) words))
-    → ((given : Input) → SpellsInput given (get_or words i d).now → ⊥) → (why : WordError) → IsRejection (i + 1) (get_or words i d).now why → IsInputReason (map (λ w. w.now) words) why
+pub refused_at : (inputs : List Input) (words : List (Bor (List ℕ))) (i : ℕ) (d : Bor (List ℕ)) → i < length words → AreEncoded inputs (take i (map (λ w. w.now) words))
+    → ((given : Input) → EncodesInput given (get_or words i d).now → ⊥) → (why : WordError) → IsRejection (i + 1) (get_or words i d).now why → IsInputReason (map (λ w. w.now) words) why
 refused_at inputs words i d lt h none why rejection =
     let texts = map (λ (w : Bor (List ℕ)). w.now) words in
     let all : length texts ≡ length words = length-map words (λ (w : Bor (List ℕ)). w.now) in
@@ -191,7 +191,7 @@ refused_at inputs words i d lt h none why rejection =
       ap (λ (n : ℕ). refused_word n reason) (is ∙ count) ∙ ap (refused_word (suc (length (take i texts)))) (line ∙ ap (λ (n : ℕ). diagnostic_line n (get_or words i d).now) count),
     )) rejection
   where
-    by : (r : WordError) → ((at : ℕ) (reason : List ℕ) → at ≡ i + 1 → reason ≡ diagnostic_line (i + 1) (get_or words i d).now → IsRefusedWord (map (λ (w : Bor (List ℕ)). w.now) words) (refused_word at reason)) → IsRejection (i + 1) (get_or words i d).now r
+    by : (r : WordError) → ((at : ℕ) (reason : List ℕ) → at ≡ i + 1 → reason ≡ diagnostic_line (i + 1) (get_or words i d).now → IsRejectedWord (map (λ (w : Bor (List ℕ)). w.now) words) (refused_word at reason)) → IsRejection (i + 1) (get_or words i d).now r
         → IsInputReason (map (λ (w : Bor (List ℕ)). w.now) words) r
     by (Refused at reason) all h = all at reason.items h.0 h.1
     by NoMemory all h = tt

@@ -2,6 +2,8 @@
 use Rattle.std.proofs.Common.{◌≡◌, ◌≢◌, ◌==◌, true, false, ℕ, List, [], ◌∷◌, ◌++◌, refl, sym, ap, subst, ◌∙◌, append_assoc}
 use Rattle.std.specs.Prelude.{length}
 use Rattle.std.specs.List.{AllByRecursion}
+use Rattle.std.proofs.lemmas.Bool.{eqb-true}
+use Rattle.tw_types.proofs.Elements.{no_items}
 use Rattle.tw_inputs.specs.InputWords.{AreSeparated, AreJoined}
 use Rattle.tw_inputs.specs.Lists.{HasNoFirst, IsFirst, IsStop}
 
@@ -43,6 +45,10 @@ not_true e = cc
 -- the test for an empty list was false
 pub some_bytes : (xs : List ℕ) → false ≡ (length xs == 0) → xs ≢ []
 some_bytes xs h e = not_true (h ∙ ap (λ (ys : List ℕ). length ys == 0) e)
+
+-- the test for an empty list was true
+pub no_bytes : (xs : List ℕ) → true ≡ (length xs == 0) → xs ≡ []
+no_bytes xs h = no_items xs (eqb-true (length xs) 0 (sym h))
 
 module _ {A : Type 0} (Spells : A → List ℕ → Type 0) where
   -- one or more members
@@ -105,6 +111,10 @@ module _ {A : Type 0} (Spells : A → List ℕ → Type 0) where
       rest_of : (xs : List A) → AreSeparated Spells xs (44 ∷ others) → AreSome xs others
       rest_of [] b = never_comma others b
       rest_of (y ∷ ys) b = (b.0, b.1, b.2, b.3, comma_is others (b.0 ++ b.1) b.4)
+
+  -- one member more, at the end
+  pub last_read : (list rest after : List ℕ) (members : List A) (x : A) → AreRead list members rest → IsFirst 44 Spells rest x after → after ≡ [] → AreJoined Spells (members ++ x ∷ []) list
+  last_read list rest after members x h found end = h.sound (x ∷ []) (found.first, after, found.spells, end, found.parts)
 
   -- no member is there
   pub missing : (list rest : List ℕ) (members : List A) → AreRead list members rest → HasNoFirst 44 Spells rest → (ys : List A) → AreJoined Spells ys list → ⊥

@@ -2,8 +2,8 @@
 use Rattle.std.specs.Prelude.{◌≡◌, ℕ, ℤ, List, [], ◌∷◌, ◌++◌, codes, length, suc}
 use Rattle.tw_types.specs.declared.input.Input.{Input}
 use Rattle.tw_types.specs.declared.input.Input.TheVariants as input
-use Rattle.tw_lexer.specs.Number.{IsIn64, SpellsNumber}
-use Rattle.tw_lexer.specs.Quoted.{SpellsQuoted}
+use Rattle.tw_lexer.specs.Number.{IsIn64, EncodesNumber}
+use Rattle.tw_lexer.specs.Quoted.{EncodesQuoted}
 use Rattle.tw_inputs.specs.InputReasons.{diagnostic_line}
 
 -- ---- lists
@@ -21,16 +21,16 @@ AreJoined Spells (x ∷ xs) text = (first : List ℕ) × (rest : List ℕ) × Sp
 -- ---- one input
 
 -- holds if the text encodes this number of 64 bits; no word encodes a larger one
-abbrev pub SpellsInt : ℤ → List ℕ → Type 0
-SpellsInt n text = SpellsNumber n text × IsIn64 n
+abbrev pub EncodesInt : ℤ → List ℕ → Type 0
+EncodesInt n text = EncodesNumber n text × IsIn64 n
 
 -- holds if the text is a subscript, `=` and a value
-abbrev pub SpellsMember : {S A : Type 0} → (S → List ℕ → Type 0) → (A → List ℕ → Type 0) → S × A → List ℕ → Type 0
-SpellsMember SpellsSubscript Spells member text = (subscript : List ℕ) × (value : List ℕ) × SpellsSubscript member.0 subscript × Spells member.1 value × (text ≡ subscript ++ 61 ∷ value)
+abbrev pub EncodesMember : {S A : Type 0} → (S → List ℕ → Type 0) → (A → List ℕ → Type 0) → S × A → List ℕ → Type 0
+EncodesMember SpellsSubscript Spells member text = (subscript : List ℕ) × (value : List ℕ) × SpellsSubscript member.0 subscript × Spells member.1 value × (text ≡ subscript ++ 61 ∷ value)
 
 -- holds if the text encodes the members of a container
-abbrev pub SpellsMembers : {S A : Type 0} → (S → List ℕ → Type 0) → (A → List ℕ → Type 0) → List (S × A) → List ℕ → Type 0
-SpellsMembers SpellsSubscript Spells = AreJoined (SpellsMember SpellsSubscript Spells)
+abbrev pub EncodesMembers : {S A : Type 0} → (S → List ℕ → Type 0) → (A → List ℕ → Type 0) → List (S × A) → List ℕ → Type 0
+EncodesMembers SpellsSubscript Spells = AreJoined (EncodesMember SpellsSubscript Spells)
 
 -- returns the head of the word
 abbrev pub head_of : Input → List ℕ
@@ -43,45 +43,45 @@ head_of (input.TextsByText members) = codes "ttexts:"
 
 -- holds if this follows the head: a number; a text as it is; or members, in which a text is between quotes. Whether subscripts rise, and how many
 -- members or bytes there are, is checked when the program is opened.
-abbrev pub SpellsRest : Input → List ℕ → Type 0
-SpellsRest (input.Int n) rest = SpellsInt n rest
-SpellsRest (input.Text text) rest = rest ≡ text
-SpellsRest (input.Ints members) rest = SpellsMembers SpellsInt SpellsInt members rest
-SpellsRest (input.Texts members) rest = SpellsMembers SpellsInt SpellsQuoted members rest
-SpellsRest (input.IntsByText members) rest = SpellsMembers SpellsQuoted SpellsInt members rest
-SpellsRest (input.TextsByText members) rest = SpellsMembers SpellsQuoted SpellsQuoted members rest
+abbrev pub EncodesRest : Input → List ℕ → Type 0
+EncodesRest (input.Int n) rest = EncodesInt n rest
+EncodesRest (input.Text text) rest = rest ≡ text
+EncodesRest (input.Ints members) rest = EncodesMembers EncodesInt EncodesInt members rest
+EncodesRest (input.Texts members) rest = EncodesMembers EncodesInt EncodesQuoted members rest
+EncodesRest (input.IntsByText members) rest = EncodesMembers EncodesQuoted EncodesInt members rest
+EncodesRest (input.TextsByText members) rest = EncodesMembers EncodesQuoted EncodesQuoted members rest
 
-abbrev pub SpellsInput : Input → List ℕ → Type 0
-SpellsInput given word = (rest : List ℕ) × (word ≡ head_of given ++ rest) × SpellsRest given rest
+abbrev pub EncodesInput : Input → List ℕ → Type 0
+EncodesInput given word = (rest : List ℕ) × (word ≡ head_of given ++ rest) × EncodesRest given rest
 
 -- ---- all words
 
 -- holds if each word encodes its input
-abbrev pub AreSpelled : List Input → List (List ℕ) → Type 0
-AreSpelled [] [] = Unit {0}
-AreSpelled [] (word ∷ words) = ⊥
-AreSpelled (given ∷ inputs) [] = ⊥
-AreSpelled (given ∷ inputs) (word ∷ words) = SpellsInput given word × AreSpelled inputs words
+abbrev pub AreEncoded : List Input → List (List ℕ) → Type 0
+AreEncoded [] [] = Unit {0}
+AreEncoded [] (word ∷ words) = ⊥
+AreEncoded (given ∷ inputs) [] = ⊥
+AreEncoded (given ∷ inputs) (word ∷ words) = EncodesInput given word × AreEncoded inputs words
 
 -- a word that encodes no input: its number, counted from 1, and the line that says why
-pub record RefusedWord : Type 0 where
+pub record RejectedWord : Type 0 where
   pub number : ℕ
   pub reason : List ℕ
 
-abbrev pub refused_word : ℕ → List ℕ → RefusedWord
+abbrev pub refused_word : ℕ → List ℕ → RejectedWord
 refused_word number reason = record { number = number; reason = reason }
 
 -- holds if the word is the first that encodes no input, and the line is that of this word
-abbrev pub IsRefusedWord : List (List ℕ) → RefusedWord → Type 0
-IsRefusedWord words refused =
+abbrev pub IsRejectedWord : List (List ℕ) → RejectedWord → Type 0
+IsRejectedWord words refused =
     (before : List (List ℕ)) × (inputs : List Input) × (word : List ℕ) × (later : List (List ℕ))
-    × (words ≡ before ++ word ∷ later) × AreSpelled inputs before × ((given : Input) → SpellsInput given word → ⊥)
+    × (words ≡ before ++ word ∷ later) × AreEncoded inputs before × ((given : Input) → EncodesInput given word → ⊥)
     × (refused ≡ refused_word (suc (length before)) (diagnostic_line (suc (length before)) word))
 
 -- ---- theorems
 
 abbrev pub OneInput : Type 0
-OneInput = (word : List ℕ) (given other : Input) → SpellsInput given word → SpellsInput other word → given ≡ other
+OneInput = (word : List ℕ) (given other : Input) → EncodesInput given word → EncodesInput other word → given ≡ other
 
-abbrev pub OneRefusedWord : Type 0
-OneRefusedWord = (words : List (List ℕ)) (refused other : RefusedWord) → IsRefusedWord words refused → IsRefusedWord words other → refused ≡ other
+abbrev pub OneRejectedWord : Type 0
+OneRejectedWord = (words : List (List ℕ)) (refused other : RejectedWord) → IsRejectedWord words refused → IsRejectedWord words other → refused ≡ other

@@ -1,14 +1,14 @@
 -- Why words encode no inputs.
 use Rattle.std.specs.Prelude.{◌≡◌, ℕ, List, ⊤}
 use Rattle.tw_inputs.specs.InputReasons.{diagnostic_line}
-use Rattle.tw_inputs.specs.InputWords.{IsRefusedWord, refused_word}
+use Rattle.tw_inputs.specs.InputWords.{IsRejectedWord, refused_word}
 use Rattle.tw_inputs.specs.declared.words.WordError.{WordError}
 use Rattle.tw_inputs.specs.declared.words.WordError.TheVariants.{NoMemory, Refused}
 
 -- holds if this reason comes from these words
 abbrev pub IsInputReason : List (List ℕ) → WordError → Type 0
 IsInputReason words NoMemory = ⊤
-IsInputReason words (Refused number reason) = IsRefusedWord words (refused_word number reason.items)
+IsInputReason words (Refused number reason) = IsRejectedWord words (refused_word number reason.items)
 
 -- holds if the word is rejected, with the line that says why
 abbrev pub IsRejection : ℕ → List ℕ → WordError → Type 0

@@ -1,7 +1,6 @@
 //! Reads the inputs of a program from a JSON array.
 
-ghost use Rattle.std.specs.Prelude.{◌≡◌, ℕ, Err, None, Some, suc, IfOk, IfErr, slice_get, map};
-ghost use Rattle.tw_code.specs.machine.Inputs.{input_params};
+ghost use Rattle.std.specs.Prelude.{◌≡◌, ℕ, Err, None, Some, suc, IfOk, IfErr, map};
 ghost use Rattle.json.specs.Value.{value_view};
 ghost use Rattle.tw_inputs.specs.JsonInputs.{AreInputsFrom, AreInputsIn, HasFault, IsBadItem, json_in, type_at};
 ghost use Rattle.json.specs.declared.error.Error.TheVariants.{Invalid as invalid};
@@ -11,6 +10,7 @@ use crate::json_faults::MOST_DEPTH;
 use crate::json_item::input_of;
 use json::{Error, Reader, Scratch, Value as Json};
 use std::alloc::{AllocError, AllocFailed, Global};
+use tw_code::input_param;
 use tw_types::{DataType, Input, Param};
 
 /// The part of a text that is at fault.
@@ -46,22 +46,6 @@ impl<T: Drop> From<AllocFailed<T>> for NoInputs {
     fn from(_failed: AllocFailed<T>) -> NoInputs {
         NoInputs::NoMemory
     }
-}
-
-/// Returns the parameter of the input after `index` others.
-fn input_param(params: &[Param], index: usize) -> Option<Param>
-    ensures { result ≡ slice_get (input_params params.now) index }
-{
-    let mut left = index;
-    for param in params {
-        if !param.mode.is_write() {
-            if left == 0 {
-                return Some(*param);
-            }
-            left -= 1;
-        }
-    }
-    None
 }
 
 /// Returns the type of the parameter of the input after so many. Beyond the parameters it is `int`: opening a program rejects too many inputs.

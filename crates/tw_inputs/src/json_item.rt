@@ -11,7 +11,7 @@ ghost use Rattle.tw_inputs.specs.JsonInputs.{IsContainer, IsInput, int_in};
 
 use crate::json_list::listed;
 use crate::json_members::members;
-use crate::json_parts::{int_in, text_of};
+use crate::parts::{int_of, text_of};
 use json::Value as Json;
 use std::alloc::{AllocError, Global};
 use tw_types::{DataType, Input, Items, Scalar};
@@ -48,13 +48,10 @@ fn container_of(
 }
 
 /// Returns the input that a number is, if it is an integer of 64 bits.
-fn int_of(digits: &str) -> Option<Input>
+fn input_of_number(digits: &str) -> Option<Input>
     ensures { result ≡ option_map Int (int_in digits.now) }
 {
-    match int_in(digits) {
-        Some(number) => Some(Input::Int(number)),
-        None => None,
-    }
+    int_of(digits.as_bytes()).map(|number| Input::Int(number))
 }
 
 /// Returns the input that a JSON value is for a parameter of this type, if it is one. An integer and a text needn't be of the type: opening
@@ -65,7 +62,7 @@ pub fn input_of(alloc: Global, ty: DataType, value: &Json<'_>) -> Result<Option<
         (IsInput ty (value_view value.now))) }
 {
     match value {
-        Json::Number(digits) => Ok(int_of(digits)),
+        Json::Number(digits) => Ok(input_of_number(digits)),
         Json::String(text) => Ok(Some(Input::Text(text_of(alloc, text)?))),
         Json::Object(object) => {
             container_of(

@@ -50,6 +50,7 @@ fn id_in(alloc: Global, line: &Json<'_>) -> Result<Option<Vec<u8>>, AllocError>
     }
 }
 
+/// Returns whether a line is an object of two members.
 fn has_two_members(line: &Json<'_>) -> bool
     ensures { result ≡ has_two_members (value_view line.now) }
 {

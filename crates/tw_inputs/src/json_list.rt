@@ -6,7 +6,7 @@ ghost use Rattle.json.specs.Value.{value_view};
 ghost use Rattle.tw_types.specs.declared.input.Input.{Input as GivenInput};
 ghost use Rattle.tw_inputs.specs.JsonInputs.{IsListed, numbered};
 
-use crate::json_parts::Part;
+use crate::parts::Part;
 use json::Value as Json;
 use std::alloc::{AllocError, Global};
 use tw_types::{Input, Items, Scalar};

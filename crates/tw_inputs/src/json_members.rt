@@ -6,7 +6,7 @@ ghost use Rattle.std.specs.List.Sorted.{IsPermutation, IsSortedByKey};
 ghost use Rattle.json.specs.Value.{members_view, value_view};
 ghost use Rattle.tw_inputs.specs.JsonInputs.{AreMembers, NoMembers, entry_of, member_in};
 
-use crate::json_parts::Part;
+use crate::parts::Part;
 use json::Value as Json;
 use std::alloc::{AllocError, Global};
 

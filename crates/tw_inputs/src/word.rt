@@ -2,9 +2,10 @@
 
 ghost use Rattle.std.specs.Prelude.{◌≡◌, ◌≢◌, ◌++◌, ℕ, List, IfOk, IsUtf8, MatchOption, codes};
 ghost use Rattle.tw_types.specs.declared.input.Input.{Input as GivenInput};
-ghost use Rattle.tw_inputs.specs.InputWords.{SpellsInput};
+ghost use Rattle.tw_inputs.specs.InputWords.{EncodesInput};
 
-use crate::lists::{int_of, members};
+use crate::lists::members;
+use crate::parts::int_of;
 use std::alloc::{AllocError, Global};
 use tw_lexer::after;
 use tw_types::{Input, InputText, Items};
@@ -26,8 +27,8 @@ fn container_of(alloc: Global, word: &[u8]) -> Result<Option<Input>, AllocError>
     requires text { (rest : List ℕ) → word.now ≢ codes "text:" ++ rest }
     requires utf8 { IsUtf8 word.now }
     ensures { IfOk result (λ read. MatchOption read
-        ((given : GivenInput) → SpellsInput given word.now → ⊥)
-        (λ given. SpellsInput given word.now)) }
+        ((given : GivenInput) → EncodesInput given word.now → ⊥)
+        (λ given. EncodesInput given word.now)) }
 {
     if let Some(list) = after(b"ints:", word) {
         return match members(alloc, list)? {
@@ -62,8 +63,8 @@ fn container_of(alloc: Global, word: &[u8]) -> Result<Option<Input>, AllocError>
 /// rise, nor how long a text or container is. They are checked when the program is opened.
 pub fn input_of(alloc: Global, word: &str) -> Result<Option<Input>, AllocError>
     ensures { IfOk result (λ read. MatchOption read
-        ((given : GivenInput) → SpellsInput given word.now → ⊥)
-        (λ given. SpellsInput given word.now)) }
+        ((given : GivenInput) → EncodesInput given word.now → ⊥)
+        (λ given. EncodesInput given word.now)) }
 {
     let bytes = word.as_bytes();
     if let Some(digits) = after(b"int:", bytes) {

@@ -9,6 +9,7 @@ use crate::words::WordError;
 use std::alloc::{AllocError, Global};
 use tw_lexer::{TokenError, number, put, put_both, put_numbered, put_shortened_quoted};
 
+/// Says what is wrong with a number after `int:`, by what was read of it.
 fn int_diagnostic(read: Result<i64, TokenError>) -> &'static str
     ensures { result.now ≡ int_diagnostic read }
 {
@@ -26,6 +27,7 @@ fn number_diagnostic(text: &[u8]) -> &'static str
     int_diagnostic(number(text))
 }
 
+/// Returns whether a text has this byte.
 fn has(byte: u8, text: &[u8]) -> bool
     ensures { result ≡ has byte text.now }
 {
@@ -119,6 +121,7 @@ fn put_input(alloc: Global, out: &mut Vec<u8>, number: usize, word: &[u8]) -> Re
     put(out, ": ")
 }
 
+/// Returns the line on a word that encodes no input.
 fn diagnostic_line(alloc: Global, number: usize, word: &[u8]) -> Result<Vec<u8>, AllocError>
     ensures { IfOk result (λ line. line.items ≡ diagnostic_line number word.now) }
 {

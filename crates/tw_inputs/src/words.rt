@@ -1,7 +1,7 @@
 //! Reads the words that encode a program's inputs, one word each.
 
 ghost use Rattle.std.specs.Prelude.{◌≡◌, map, IfErr, IfOk};
-ghost use Rattle.tw_inputs.specs.InputWords.{AreSpelled};
+ghost use Rattle.tw_inputs.specs.InputWords.{AreEncoded};
 ghost use Rattle.tw_inputs.specs.WordErrors.{IsInputReason};
 ghost use Rattle.tw_inputs.specs.declared.words.WordError.TheVariants.{NoMemory};
 
@@ -37,7 +37,7 @@ impl<T: Drop> From<AllocFailed<T>> for WordError {
 
 /// Returns the inputs that words encode, one each. The first word that encodes none is refused.
 pub fn inputs_of(alloc: Global, words: &[&str]) -> Result<Items<Input>, WordError>
-    ensures spelled { IfOk result (λ inputs. AreSpelled inputs (map (λ word. word.now) words.now)) }
+    ensures spelled { IfOk result (λ inputs. AreEncoded inputs (map (λ word. word.now) words.now)) }
     ensures refused { IfErr result (IsInputReason (map (λ word. word.now) words.now)) }
 {
     let mut inputs = Vec::new(alloc);

@@ -19,7 +19,7 @@ Reads Is read = MatchOption read ((given : Input) → Is given → ⊥) Is
 pub returns-in-Number : goal.returns-in-Number
 returns-in-Number c =
     let is : value_view c.args.value.now ≡ number c.in-Number.digits.now = ap value_view c.in-Number.is ∙ view_number _ c.in-Number.digits in
-    subst (λ (j : Json). Reads (IsInput c.args.ty j) c.int_of.result) (sym is) (number_read c.args.ty c.in-Number.digits.now c.int_of.result c.int_of.ensures)
+    subst (λ (j : Json). Reads (IsInput c.args.ty j) c.input_of_number.result) (sym is) (number_read c.args.ty c.in-Number.digits.now c.input_of_number.result c.input_of_number.ensures)
 
 pub returns-in-Object : goal.returns-in-Object
 returns-in-Object c =
