@@ -5,7 +5,7 @@ use Rattle.tw_code.specs.declared.flow.Flow.{Flow}
 use Rattle.tw_code.specs.declared.instr.Action.{Action}
 use Rattle.tw_code.specs.declared.instr.Instr.TheVariants as instr
 use Rattle.tw_code.specs.declared.procedure.Procedure.{Procedure}
-use Rattle.tw_code.specs.accepting.Typing.{asks_action, asks_priority}
+use Rattle.tw_code.specs.accepting.Typing.{requires_action, requires_priority}
 use Rattle.tw_code.specs.accepting.Walk.{IsBudget}
 use Rattle.tw_code.specs.format.Program.{IsProgram}
 use Rattle.tw_code.specs.machine.Holders.{Typings, typing_at}
@@ -20,9 +20,9 @@ use Rattle.tw_bounds.specs.Solving.{IsBoundable}
 pub is_boundable : (program : List Procedure) (typings : Typings) → IsProgram program → AreRight program typings → IsBoundable program
 is_boundable program typings is are = record { structured = λ k p here. (are.accepted.each k p here).structured; inside = inside }
   where
-    called_inside : (waits : Bool) (k : ℕ) (p : Procedure) (action : Action) (place : ℕ) → AllYes (asks_action waits program p action (typing_at typings k place)) → action.procedure < length program
+    called_inside : (waits : Bool) (k : ℕ) (p : Procedure) (action : Action) (place : ℕ) → AllYes (requires_action waits program p action (typing_at typings k place)) → action.procedure < length program
     called_inside waits k p action place met =
-        let callee = callee_met waits p.registers (slice_get program action.procedure) action.args (typing_at typings k place) (yes_after (asks_priority p.registers action.priority) _ met.1) in
+        let callee = callee_met waits p.registers (slice_get program action.procedure) action.args (typing_at typings k place) (yes_after (requires_priority p.registers action.priority) _ met.1) in
         slice_get_within program action.procedure callee.procedure callee.is
 
     inside : (k q : ℕ) → Calls program k q → q < length program

@@ -41,7 +41,7 @@ use Rattle.tw_code.specs.machine.Data.{data_instr}
 use Rattle.tw_code.specs.machine.Holders.{Typings}
 use Rattle.tw_code.specs.machine.Machine.{RunningInstr, call_by, call_event, end_event, is_ret, local_event, run, running_instr_of, step}
 use Rattle.tw_code.specs.machine.Opening.{opening}
-use Rattle.tw_code.specs.machine.State.{Frame, State, context_of, gone_after, new_rule}
+use Rattle.tw_code.specs.machine.State.{Frame, State, context_of, frame_after_call, new_rule}
 use Rattle.tw_code.proofs.Leaving.{IsRunningAt, is_running_at, ask_leaves, deliver_leaves, end_leaves, local_leaves, release_leaves, take_leaves}
 use Rattle.tw_budget.proofs.FrameTheorems.{below_budget}
 use Rattle.tw_soundness.specs.Invariant.{IsHeld}
@@ -192,7 +192,7 @@ module _ (program : List Procedure) (s : State) (fits : HasTypes program s) wher
         if_ok (called program at.procedure.kind (context_of s at.frame) action) (λ call went.
         let one = some_one (has_instr makes_rule program) (has_at makes_rule program at.frame.procedure at.procedure at.frame.position.place (instr.Rule action) here.procedure (here.instr ∙ ap Some e) refl) in
         let rule : Rule = new_rule (number_in_kind a) call.params call.task in
-        let frames = same_frame a at.frame (gone_after at.frame call.rights) here.frame refl in
+        let frames = same_frame a at.frame (frame_after_call at.frame call.rights) here.frame refl in
         let rules = total-insert nat_cmp nat_cmp_total rule_texts s.rules s.next_rule rule in
         record {
           is = λ after.
@@ -201,7 +201,7 @@ module _ (program : List Procedure) (s : State) (fits : HasTypes program s) wher
         })
     by_instr at here (instr.Put action) e =
         if_ok (put_called program at.procedure.kind (context_of s at.frame) action) (λ call went.
-        let frames = same_frame a at.frame (gone_after at.frame call.rights) here.frame refl in
+        let frames = same_frame a at.frame (frame_after_call at.frame call.rights) here.frame refl in
         let tasks = total-insert nat_cmp nat_cmp_total task_texts s.tasks s.next_task call.task in
         record {
           is = λ after.

@@ -46,7 +46,7 @@ use Rattle.tw_code.specs.machine.Data.{data_instr}
 use Rattle.tw_code.specs.machine.Holders.{Typings}
 use Rattle.tw_code.specs.machine.Machine.{RunningInstr, ask_event, call_by, deliver_event, release_event, call_event, end_event, is_ret, local_event, local_step, local_steps, running_instr_of, step, take_event}
 use Rattle.tw_code.specs.machine.Position.{Loop, Position}
-use Rattle.tw_code.specs.machine.State.{Frame, State, context_of, filled, frame_of, gone_after, new_rule, values_in, with_stage}
+use Rattle.tw_code.specs.machine.State.{Frame, State, context_of, filled, frame_of, frame_after_call, new_rule, values_in, with_stage}
 use Rattle.tw_code.proofs.Leaving.{IsRunningAt, is_running_at, ask_leaves, deliver_leaves, release_leaves}
 use Rattle.tw_code.proofs.Placed.{IsCalled, called_is, put_called_is}
 use Rattle.tw_budget.specs.Frames.{LoopsFit}
@@ -332,7 +332,7 @@ module _ (program : List Procedure) (typings : Typings) (is : IsProgram program)
         by at here (instr.Rule action) e =
             if_ok (called program at.procedure.kind (context_of s at.frame) action) (λ call went.
             let m = ok_of (called program at.procedure.kind (context_of s at.frame) action) (IsCalled program at.procedure.kind action) call (called_is program at.procedure.kind (context_of s at.frame) action) went in
-            let g : Frame = gone_after at.frame call.rights in
+            let g : Frame = frame_after_call at.frame call.rights in
             let h = one_paid program at.procedure (sound_at at.frame.procedure at.procedure here.procedure) weights bounds at.frame.position g.position (instr.Rule action) (fits_there a at.frame at.procedure here.frame here.procedure) (here.instr ∙ ap Some e) (record { way = Completed; goes = refl }) in
             let r = replaced a at.frame g here.frame in
             let x = owes_is at.frame at.procedure here.procedure in
@@ -350,7 +350,7 @@ module _ (program : List Procedure) (typings : Typings) (is : IsProgram program)
         by at here (instr.Put action) e =
             if_ok (put_called program at.procedure.kind (context_of s at.frame) action) (λ call went.
             let m = ok_of (put_called program at.procedure.kind (context_of s at.frame) action) (IsCalled program at.procedure.kind action) call (put_called_is program at.procedure.kind (context_of s at.frame) action) went in
-            let g : Frame = gone_after at.frame call.rights in
+            let g : Frame = frame_after_call at.frame call.rights in
             let h = one_paid program at.procedure (sound_at at.frame.procedure at.procedure here.procedure) weights bounds at.frame.position g.position (instr.Put action) (fits_there a at.frame at.procedure here.frame here.procedure) (here.instr ∙ ap Some e) (record { way = Completed; goes = refl }) in
             let r = replaced a at.frame g here.frame in
             let x = owes_is at.frame at.procedure here.procedure in

@@ -16,7 +16,7 @@ pub enum Bound {
 }
 
 impl Bound {
-    /// Makes a bound from a number that was capped over the greatest one.
+    /// Makes a reported bound from a number that was capped over the greatest one.
     pub(crate) fn from_capped(number: Option<u64>) -> Bound
         ensures { result ≡ reported number }
     {

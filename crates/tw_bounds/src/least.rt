@@ -9,6 +9,7 @@ use crate::whole_runs::run_bounds;
 use std::alloc::{AllocError, Global};
 use tw_verify::Verified;
 
+/// Returns the smaller of two numbers, for the bounds of runs.
 fn smaller(a: u64, b: u64) -> u64
     ensures { result ≡ min a b }
 {
@@ -54,7 +55,7 @@ fn main_of(bounds: &RunBounds) -> LimitedBounds
     }
 }
 
-/// Returns the smaller bounds.
+/// Returns, of two lists of bounds for each kind of thing, the smaller ones.
 fn least(a: LimitedBounds, b: LimitedBounds) -> LimitedBounds
     ensures { result ≡ least a b }
 {

@@ -116,7 +116,7 @@ fn has_insert(procedure: &Procedure) -> bool
         .any(|instr| adds_member(instr))
 }
 
-/// Returns whether a procedure has an instruction that adds at least so many texts.
+/// Returns whether a procedure has an instruction that adds at least so many texts to the data.
 fn has_texts(least: u64, procedure: &Procedure) -> bool
     ensures { result ≡ adds_texts least procedure.now }
 {
@@ -142,7 +142,7 @@ fn adds_texts(least: u64, program: &[Procedure]) -> bool
     program.iter().any(|procedure| has_texts(least, procedure))
 }
 
-/// Returns the bound if each event makes one thing, or none does.
+/// Returns the bound of a run with a limit if each event makes one thing, or none does.
 fn one_each(makes: bool, limit: u32) -> Bound
     ensures { result ≡ reported (Some (if makes then limit else 0)) }
 {
@@ -150,7 +150,7 @@ fn one_each(makes: bool, limit: u32) -> Bound
     Bound::from_capped(Some(number))
 }
 
-/// Returns the bound of bytes if each event adds so many texts.
+/// Returns the bound of a run's bytes with a limit, if each event adds so many texts.
 fn bytes_each(texts: u64, limit: u32) -> Bound
     requires { texts ≤ 16 }
     ensures { result ≡ reported (Some (4096 * (limit * texts))) }
@@ -158,7 +158,7 @@ fn bytes_each(texts: u64, limit: u32) -> Bound
     Bound::from_capped(Some(4096 * (u64::from(limit) * texts)))
 }
 
-/// Returns the larger of two numbers.
+/// Returns the larger of two numbers, for the bounds of limited runs.
 fn larger(a: u64, b: u64) -> u64
     ensures { result ≡ max a b }
 {
@@ -188,7 +188,7 @@ fn most_texts(program: &[Procedure]) -> u64
     larger(added, most_text_registers(program))
 }
 
-/// Returns the largest budget of a procedure.
+/// Returns the largest budget of a verified program's procedures.
 pub fn largest_budget(verified: &Verified) -> u64
     ensures is { IsLargestBudget verified.now.program result }
     ensures small { result ≤ greatest_budget }

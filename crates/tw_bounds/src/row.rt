@@ -19,13 +19,14 @@ pub struct Row {
     pub end: Option<usize>,
 }
 
-/// Caps a number at one more than the greatest bound.
+/// Caps the cost of a walk at one more than the greatest bound.
 pub(crate) fn capped(cost: u64) -> u64
     ensures { result ≡ min cost cap }
 {
     cost.min(GREATEST_BOUND + 1)
 }
 
+/// Returns the cost of the instruction at a place, for the most expensive walk.
 fn cost_at(costs: &[u64], place: usize) -> u64
     requires within { place < length costs.now }
     requires small { AreSmall costs.now }
@@ -35,7 +36,7 @@ fn cost_at(costs: &[u64], place: usize) -> u64
     costs[place]
 }
 
-/// Returns the row of a place, of which those of the places from `from` on are known.
+/// Returns the row of a place in the table of costs, where those from `from` on are known.
 pub fn row_of(code: &[Instr], costs: &[u64], rows: &[Row], from: usize, place: usize) -> Row
     requires ahead { from ≤ place }
     requires within { place < length code.now }
@@ -46,7 +47,7 @@ pub fn row_of(code: &[Instr], costs: &[u64], rows: &[Row], from: usize, place: u
     rows[place]
 }
 
-/// Returns the row of a place, computed from the rows after it.
+/// Returns the row of a place: the most expensive walk from there, computed from the rows after it.
 pub fn row_at(code: &[Instr], costs: &[u64], rows: &[Row], place: usize) -> Row
     requires within { place < length code.now }
     requires weighted { length costs.now ≡ length code.now }
@@ -92,7 +93,7 @@ pub fn row_at(code: &[Instr], costs: &[u64], rows: &[Row], place: usize) -> Row
     }
 }
 
-/// Returns the row of a REPEAT: its iterations, and the rest after the loop.
+/// Returns the row of a REPEAT in the table of costs: its iterations, and the rest after the loop.
 fn loop_row(code: &[Instr], costs: &[u64], rows: &[Row], place: usize, iterations: u16) -> Row
     requires within { place < length code.now }
     requires weighted { length costs.now ≡ length code.now }

@@ -15,7 +15,7 @@ use crate::weights::Weights;
 use std::alloc::{AllocError, Global};
 use tw_code::Procedure;
 
-/// Returns the weight of a task and of its registers.
+/// Returns how much a bound counts for a task and its registers.
 fn task_weight(weights: &Weights, procedure: &Procedure) -> u64
     requires { IsProcedure procedure.now }
     ensures is { result ≡ weights.now.task + weights.now.text * text_registers procedure.now.registers }
@@ -75,7 +75,7 @@ fn next_bound(
     Ok(None)
 }
 
-/// Makes a list without known bounds.
+/// Makes the list of the procedures' bounds in which none is known yet.
 fn none_known(alloc: Global, count: usize) -> Result<Vec<Option<u64>>, AllocError>
     ensures { IfOk result (λ known. known.items ≡ replicate count None) }
 {

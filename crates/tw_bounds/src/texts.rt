@@ -8,7 +8,7 @@ ghost use Rattle.tw_bounds.specs.Contents.{is_text, is_text_scalar};
 use tw_code::DataInstr;
 use tw_types::{DataType, Scalar};
 
-/// Returns whether values of this type are texts.
+/// Returns whether registers of this type hold texts, which bounds count.
 pub fn is_text(scalar: Scalar) -> bool
     ensures { result ≡ is_text scalar }
 {
@@ -22,7 +22,7 @@ pub fn is_text_scalar(ty: DataType) -> bool
     ty.is_scalar() && is_text(ty.scalar())
 }
 
-/// Returns 1 or 0.
+/// Returns 1 if a thing is counted in a bound, else 0.
 pub fn one_if(is_one: bool) -> u64
     ensures is { result ≡ (if is_one then 1 else 0) }
     ensures few { result ≤ 1 }

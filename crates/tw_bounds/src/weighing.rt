@@ -14,14 +14,14 @@ use std::alloc::{AllocError, Global};
 use tw_code::{DataInstr, Instr, Procedure};
 use tw_types::{Mode, Param, Scalar};
 
-/// Returns the bound of a procedure, if it is known.
+/// Returns the bound of the tasks of a procedure, if it is known already.
 fn bound_of(known: &[Option<u64>], number: u8) -> Option<u64>
     ensures { result ≡ bound_at known.now number }
 {
     known.get(usize::from(number)).copied().flatten()
 }
 
-/// Counts the `closed` parameters.
+/// Counts the `closed` parameters of a procedure that a RULE calls.
 fn closed_in(params: &[Param]) -> usize
     ensures is { result ≡ length (filter (λ p. is_closed_mode p.mode) params.now) }
     ensures few { result ≤ length params.now }

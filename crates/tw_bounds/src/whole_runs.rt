@@ -32,7 +32,7 @@ const BYTES: Weights = Weights { task: 0, instr: 0, datum: 0, rule: 0, rule_even
 #[rattlefmt::skip]
 const EVENTS: Weights = Weights { task: 1, instr: 1, datum: 0, rule: 0, rule_event: 1, member: 0, text: 0 };
 
-/// Makes the reported bounds from capped numbers.
+/// Makes the list of reported bounds of procedures from capped numbers.
 fn reports(alloc: Global, numbers: &[Option<u64>]) -> Result<Vec<Bound>, AllocError>
     ensures { IfOk result (λ bounds. bounds.items ≡ map reported numbers.now) }
 {
@@ -43,7 +43,7 @@ fn reports(alloc: Global, numbers: &[Option<u64>]) -> Result<Vec<Bound>, AllocEr
     Ok(bounds)
 }
 
-/// Returns the bounds of one kind, one for each procedure.
+/// Returns the bounds of runs that count things by these weights, one for each procedure.
 fn bounds_by(
     alloc: Global,
     verified: &Verified,

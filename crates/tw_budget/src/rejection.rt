@@ -17,7 +17,7 @@ pub enum BudgetError {
 }
 
 impl BudgetError {
-    /// Returns its code without the letter B.
+    /// Returns the code of an error of budgets, without the letter B.
     pub fn number(self) -> u8
         ensures { result ≡ budget_error_code self }
     {

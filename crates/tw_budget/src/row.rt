@@ -15,14 +15,15 @@ pub struct Row {
     pub end: Option<usize>,
 }
 
-/// Caps a length at one more than the greatest budget.
+/// Caps the length of a walk at one more than the greatest budget.
 fn capped(length: u64) -> u64
     ensures { result ≡ min length greatest_length }
 {
     length.min(Procedure::MAX_BUDGET + 1)
 }
 
-/// Returns the row of a place whose row is known. `from` is for the contract alone: rows from there on are known.
+/// Returns the row of a place in the budget's table, where it is known. `from` is for the contract alone: rows from there on are
+/// known.
 pub fn row_of(code: &[Instr], rows: &[Row], from: usize, place: usize) -> Row
     requires ahead { from ≤ place }
     requires within { place < length code.now }
@@ -33,7 +34,7 @@ pub fn row_of(code: &[Instr], rows: &[Row], from: usize, place: usize) -> Row
     rows[place]
 }
 
-/// Returns the row of a place, computed from the rows after it.
+/// Returns the budget's row of a place: the longest walk from there, computed from the rows after it.
 pub fn row_at(code: &[Instr], rows: &[Row], place: usize) -> Row
     requires within { place < length code.now }
     requires sound { IsSound (flows code.now) }
@@ -76,7 +77,7 @@ pub fn row_at(code: &[Instr], rows: &[Row], place: usize) -> Row
     }
 }
 
-/// Returns the row of a REPEAT: its iterations, and the rest after the loop.
+/// Returns the budget's row of a REPEAT: its iterations, and the rest after the loop.
 fn loop_row(code: &[Instr], rows: &[Row], place: usize, iterations: u16) -> Row
     requires within { place < length code.now }
     requires begins { slice_get (flows code.now) place ≡ Some (Flow.Begin iterations) }

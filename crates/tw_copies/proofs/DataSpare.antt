@@ -25,7 +25,7 @@ use Rattle.tw_code.specs.declared.flow.Way.TheVariants.{Completed, Skipped}
 use Rattle.tw_code.specs.declared.instr.DataInstr.{DataInstr}
 use Rattle.tw_code.specs.declared.instr.DataInstr.TheVariants as on_data
 use Rattle.tw_code.specs.accepting.Flow.{data_flow, onward}
-use Rattle.tw_code.specs.accepting.Typing.{a_member_read, a_read, a_write, after_data, asks_data, reads, writes}
+use Rattle.tw_code.specs.accepting.Typing.{a_member_read, a_read, a_write, after_data, requires_data, reads, writes}
 use Rattle.tw_code.specs.machine.Holders.{write_by}
 use Rattle.tw_code.specs.machine.Data.{Context, after_insert, after_look, after_put, data_instr, datum_at, datum_of, if_absent, suits, suits_entry, suits_subscript}
 use Rattle.tw_code.specs.machine.Position.{int_at, must_have_type, of_type_at, with_result}
@@ -134,7 +134,7 @@ module _ (registers : List Scalar) (typing : Typing) (c : Context) where
       let may = ok_after (may_drop_write (datum_of c h.0)) _ k h.2 in
       subst (λ (z : Context). DataSpare typing (on_data.DropWrite register) c z) (same_ok _ k may.1) (record { way = Completed; goes_on = refl; less = λ d m n covers. set_read d m n register None None refl covers; fresh = λ d less. refl })
 
-  copy_read : (to from : ℕ) (k : Context) → AllYes (asks_data registers (on_data.CopyRead to from) typing) → data_instr (on_data.CopyRead to from) c ≡ Ok k → DataSpare typing (on_data.CopyRead to from) c k
+  copy_read : (to from : ℕ) (k : Context) → AllYes (requires_data registers (on_data.CopyRead to from) typing) → data_instr (on_data.CopyRead to from) c ≡ Ok k → DataSpare typing (on_data.CopyRead to from) c k
   copy_read to from k asked e =
       let free = ok_after (must_be_empty c.rights to) _ k e in
       let h = there_then (right_at c.rights from) EmptyRegister _ k free.1 in
@@ -160,7 +160,7 @@ module _ (registers : List Scalar) (typing : Typing) (c : Context) where
         fresh = λ d less. refl;
       })
 
-  pub copy_spare : (to from : ℕ) (k : Context) → AllYes (asks_data registers (on_data.CopyWrite to from) typing) → data_instr (on_data.CopyWrite to from) c ≡ Ok k → CopySpare typing to from c k
+  pub copy_spare : (to from : ℕ) (k : Context) → AllYes (requires_data registers (on_data.CopyWrite to from) typing) → data_instr (on_data.CopyWrite to from) c ≡ Ok k → CopySpare typing to from c k
   copy_spare to from k asked e =
       let free = ok_after (must_be_empty c.rights to) _ k e in
       let h = there_then (right_at c.rights from) EmptyRegister _ k free.1 in
@@ -295,7 +295,7 @@ module _ (registers : List Scalar) (typing : Typing) (c : Context) where
         fresh = λ d less. hits_other d c.store.next (λ same. omega (arith, same, less));
       })
 
-  pub data_spare : (i : DataInstr) (k : Context) → AllYes (asks_data registers i typing) → data_instr i c ≡ Ok k → DataSpare typing i c k
+  pub data_spare : (i : DataInstr) (k : Context) → AllYes (requires_data registers i typing) → data_instr i c ≡ Ok k → DataSpare typing i c k
   data_spare (on_data.New write read ty) k asked e = new write read ty k e
   data_spare (on_data.Store datum from) k asked e = set datum from k e
   data_spare (on_data.Get to datum) k asked e = get to datum k e

@@ -19,14 +19,14 @@ use Rattle.tw_code.specs.declared.instr.Action.{Action}
 use Rattle.tw_code.specs.declared.instr.DataInstr.{DataInstr}
 use Rattle.tw_code.specs.declared.instr.Instr.TheVariants as instr
 use Rattle.tw_code.specs.declared.procedure.Procedure.{Procedure}
-use Rattle.tw_code.specs.accepting.Typing.{asks_args, asks_callee, asks_priority, start_typing, without_args}
+use Rattle.tw_code.specs.accepting.Typing.{requires_args, requires_callee, requires_priority, start_typing, without_args}
 use Rattle.tw_code.specs.format.Program.{IsProgram}
 use Rattle.tw_code.specs.machine.Arguments.{Called, called, params_in, params_of, put_called}
 use Rattle.tw_code.specs.machine.Data.{Context, data_instr}
 use Rattle.tw_code.specs.machine.Holders.{Typings, typing_at, typing_of}
 use Rattle.tw_code.specs.machine.Machine.{ask_event, deliver_event, end_event, local_event, local_steps, release_event, take_event}
 use Rattle.tw_code.specs.machine.Rights.{Typing, first_rights}
-use Rattle.tw_code.specs.machine.State.{Frame, State, after_context, context_of, filled, gone_after, ids_in, new_rule, values_in, with_frame, with_rule, with_task}
+use Rattle.tw_code.specs.machine.State.{Frame, State, after_context, context_of, filled, frame_after_call, ids_in, new_rule, values_in, with_frame, with_rule, with_task}
 use Rattle.tw_code.proofs.Leaving.{ask_leaves, deliver_leaves, end_leaves, release_leaves, take_leaves}
 use Rattle.tw_soundness.specs.Invariant.{IsHeld}
 use Rattle.tw_soundness.specs.NoTrap.{AreRight}
@@ -125,46 +125,46 @@ module _ (program : List Procedure) (typings : Typings) (proper : IsProgram prog
         omega (arith, less, same, put)
 
     module _ (action : Action) (waits : Bool) (call : Called) (so : IsCall program f action call)
-        (met : AllYes (asks_callee waits p.registers (slice_get program action.procedure) action.args (typing_of typings f)))
+        (met : AllYes (requires_callee waits p.registers (slice_get program action.procedure) action.args (typing_of typings f)))
         (hands : AreHanded now (marks action.procedure 0) (params_of program action.procedure) action.args)
         (later : (r : ℕ) → now r ≡ true → marks f.procedure (f.position.place + 1) r ≡ true)
         (typing_is : typing_at typings f.procedure (f.position.place + 1) ≡ without_args (params_of program action.procedure) action.args (typing_of typings f)) where
-      given_less : (d : ℕ) → frame_spare program typings marks d (gone_after f call.rights) + spare_args d (marks call.task.procedure 0) (params_of program call.task.procedure) call.task.args ≤ frame_spare program typings marks d f
+      given_less : (d : ℕ) → frame_spare program typings marks d (frame_after_call f call.rights) + spare_args d (marks call.task.procedure 0) (params_of program call.task.procedure) call.task.args ≤ frame_spare program typings marks d f
       given_less d =
           let c = callee_met waits p.registers (slice_get program action.procedure) action.args (typing_of typings f) met in
           let same : c.procedure ≡ so.callee = same_Some c.procedure so.callee (sym c.is ∙ so.is) in
           let params : params_of program action.procedure ≡ so.callee.params = ap params_in so.is in
           let less = handed_spare waits p.registers f.position.values d now so.callee.params action.args (typing_of typings f) f.rights (marks action.procedure 0) so.given
-          (subst (λ (q : Procedure). AllYes (asks_args waits p.registers q.params action.args (typing_of typings f))) same c.met)
+          (subst (λ (q : Procedure). AllYes (requires_args waits p.registers q.params action.args (typing_of typings f))) same c.met)
           (subst (λ ps. AreHanded now (marks action.procedure 0) ps action.args) params hands) so.gives in
           let child : spare_args d (marks call.task.procedure 0) (params_of program call.task.procedure) call.task.args ≡ spare_args d (marks action.procedure 0) so.callee.params so.given.args =
           ap (λ k. spare_args d (marks k 0) (params_of program k) call.task.args) so.procedure ∙ ap (spare_args d (marks action.procedure 0) (params_of program action.procedure)) so.args ∙ ap (λ ps. spare_args d (marks action.procedure 0) ps so.given.args) params in
-          let rest : frame_spare program typings marks d (gone_after f call.rights) ≡ spare d (marks f.procedure (f.position.place + 1)) (without_args so.callee.params action.args (typing_of typings f)) so.given.rights =
+          let rest : frame_spare program typings marks d (frame_after_call f call.rights) ≡ spare d (marks f.procedure (f.position.place + 1)) (without_args so.callee.params action.args (typing_of typings f)) so.given.rights =
           ap (λ (z : Typing). spare d (marks f.procedure (f.position.place + 1)) z call.rights) (typing_is ∙ ap (λ ps. without_args ps action.args (typing_of typings f)) params)
           ∙ ap (spare d (marks f.procedure (f.position.place + 1)) (without_args so.callee.params action.args (typing_of typings f))) so.rights in
           let on = spare_less d now (marks f.procedure (f.position.place + 1)) (without_args so.callee.params action.args (typing_of typings f)) so.given.rights later in
           omega (arith, less, child, rest, on)
 
     pub rule_less : (action : Action) (kind : Kind) (engine : ℕ) (call : Called) → slice_get p.code f.position.place ≡ Some (instr.Rule action) → called program kind (context_of s f) action ≡ Ok call
-        → HasLess (with_frame (with_rule s (new_rule engine call.params call.task)) a (gone_after f call.rights))
+        → HasLess (with_frame (with_rule s (new_rule engine call.params call.task)) a (frame_after_call f call.rights))
     rule_less action kind engine call at e d =
         let given = given_less action true call (is_call program s f kind action call e)
-        (yes_after (asks_priority p.registers action.priority) _ (asked_at program typings proper are f.procedure p here f.position.place (instr.Rule action) at).1)
+        (yes_after (requires_priority p.registers action.priority) _ (asked_at program typings proper are f.procedure p here f.position.place (instr.Rule action) at).1)
         (carried.rules f.procedure f.position.place p action here at)
         (λ r. carried.later f.procedure f.position.place (f.position.place + 1) r p (instr.Rule action) Completed here at refl refl)
         (typed_after program typings proper are f.procedure p here f.position.place (f.position.place + 1) (instr.Rule action) Completed at refl).1 d in
-        let put = replaced_less actor_cmp actor_cmp_total actor_cmp-IsAntisymmetric (frame_spare program typings marks d) s.frames a f (gone_after f call.rights) runs in
+        let put = replaced_less actor_cmp actor_cmp_total actor_cmp-IsAntisymmetric (frame_spare program typings marks d) s.frames a f (frame_after_call f call.rights) runs in
         let more = put_less nat_cmp nat_cmp_total nat_cmp-IsAntisymmetric (rule_spare program typings marks d) s.rules s.next_rule (new_rule engine call.params call.task) in
         omega (arith, given, put, more)
 
     pub put_less_by : (action : Action) (kind : Kind) (call : Called) → slice_get p.code f.position.place ≡ Some (instr.Put action) → put_called program kind (context_of s f) action ≡ Ok call
-        → HasLess (with_frame (with_task s call.task) a (gone_after f call.rights))
+        → HasLess (with_frame (with_task s call.task) a (frame_after_call f call.rights))
     put_less_by action kind call at e d =
         let given = given_less action false call (is_call program s f kind action call (put_call program s f kind action call e))
-        (yes_after (asks_priority p.registers action.priority) _ (asked_at program typings proper are f.procedure p here f.position.place (instr.Put action) at).1)
+        (yes_after (requires_priority p.registers action.priority) _ (asked_at program typings proper are f.procedure p here f.position.place (instr.Put action) at).1)
         (carried.puts f.procedure f.position.place p action here at)
         (λ r. carried.later f.procedure f.position.place (f.position.place + 1) r p (instr.Put action) Completed here at refl refl)
         (typed_after program typings proper are f.procedure p here f.position.place (f.position.place + 1) (instr.Put action) Completed at refl).1 d in
-        let put = replaced_less actor_cmp actor_cmp_total actor_cmp-IsAntisymmetric (frame_spare program typings marks d) s.frames a f (gone_after f call.rights) runs in
+        let put = replaced_less actor_cmp actor_cmp_total actor_cmp-IsAntisymmetric (frame_spare program typings marks d) s.frames a f (frame_after_call f call.rights) runs in
         let more = put_less nat_cmp nat_cmp_total nat_cmp-IsAntisymmetric (task_spare program typings marks d) s.tasks s.next_task call.task in
         omega (arith, given, put, more)

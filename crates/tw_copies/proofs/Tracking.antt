@@ -29,7 +29,7 @@ use Rattle.tw_code.specs.declared.instr.DataInstr.TheVariants as on_data
 use Rattle.tw_code.specs.declared.instr.Instr.{Instr}
 use Rattle.tw_code.specs.declared.instr.Instr.TheVariants as instr
 use Rattle.tw_code.specs.declared.procedure.Procedure.{Procedure}
-use Rattle.tw_code.specs.accepting.Typing.{asks_data, writes, writes_container_by, writes_map}
+use Rattle.tw_code.specs.accepting.Typing.{requires_data, writes, writes_container_by, writes_map}
 use Rattle.tw_code.specs.format.Program.{IsProgram}
 use Rattle.tw_code.specs.machine.Arguments.{called, params_of, put_called}
 use Rattle.tw_code.specs.machine.Data.{Context, data_instr}
@@ -349,7 +349,7 @@ module _ (program : List Procedure) (typings : Typings) (proper : IsProgram prog
     -- ---- nothing is contested
 
     insert_calm : (a : Actor) (f : Frame) → get s.frames a ≡ Some f → (i : DataInstr) (register : ℕ) → instr_here program f ≡ Some (instr.Data i) → InsertsInto (instr.Data i) register
-        → ((p : Procedure) → AllYes (asks_data p.registers i (typing_of typings f)) → (q : RightType) × (right_at (typing_of typings f) register ≡ Some q) × (is_write q.mode ≡ true)) → is_copied copied (right_at f.rights register) ≡ false
+        → ((p : Procedure) → AllYes (requires_data p.registers i (typing_of typings f)) → (q : RightType) × (right_at (typing_of typings f) register ≡ Some q) × (is_write q.mode ≡ true)) → is_copied copied (right_at f.rights register) ≡ false
     insert_calm a f runs i container is into write_right = having (right_at f.rights container) refl
       where
         at : (p : Procedure) × (slice_get program f.procedure ≡ Some p) × (slice_get p.code f.position.place ≡ Some (instr.Data i))

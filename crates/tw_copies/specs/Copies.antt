@@ -23,16 +23,16 @@ Passes next (p ∷ params) (arg ∷ args) from into =
     ((is_val p.mode ≡ false) × (arg ≡ from) × (next ≡ into)) ⊎ Passes (if is_val p.mode then next else next + 1) params args from into
 
 -- holds if the task that an action names gets the right in register `from` in its register `into`
-abbrev pub Hands : List Procedure → Action → ℕ → ℕ → Type 0
-Hands program action from into = Passes 0 (params_of program action.procedure) action.args from into
+abbrev pub PassesRight : List Procedure → Action → ℕ → ℕ → Type 0
+PassesRight program action from into = Passes 0 (params_of program action.procedure) action.args from into
 
 -- Holds if a right in the register of the procedure may be a copy, or have been copied: a DUPW names the register, or a RULE or PUT
 -- passes a right that may be a copy.
 pub data MayBeCopy (program : List Procedure) : ℕ → ℕ → Type 0 where
   copied_to : {number place to from : ℕ} → IsAt program number place (instr.Data (on_data.CopyWrite to from)) → MayBeCopy program number to
   copied_from : {number place to from : ℕ} → IsAt program number place (instr.Data (on_data.CopyWrite to from)) → MayBeCopy program number from
-  by_rule : {number place from into : ℕ} (action : Action) → IsAt program number place (instr.Rule action) → Hands program action from into → MayBeCopy program number from → MayBeCopy program action.procedure into
-  by_put : {number place from into : ℕ} (action : Action) → IsAt program number place (instr.Put action) → Hands program action from into → MayBeCopy program number from → MayBeCopy program action.procedure into
+  by_rule : {number place from into : ℕ} (action : Action) → IsAt program number place (instr.Rule action) → PassesRight program action from into → MayBeCopy program number from → MayBeCopy program action.procedure into
+  by_put : {number place from into : ℕ} (action : Action) → IsAt program number place (instr.Put action) → PassesRight program action from into → MayBeCopy program number from → MayBeCopy program action.procedure into
 
 -- ---- insertions
 

@@ -9,7 +9,7 @@ use crate::check::CopyInsertion;
 use crate::marks::is_marked;
 use tw_code::{DataInstr, Instr, Procedure};
 
-/// Returns the register of the container or map, if the instruction inserts.
+/// Returns the right register of the container or map, if the instruction inserts into one.
 fn container_of(instr: &Instr) -> Option<u8>
     ensures { MatchOption result ((register : ℕ) → InsertsInto instr.now register → ⊥) (InsertsInto instr.now) }
 {
@@ -43,7 +43,7 @@ fn insertion_in(marks: &[bool], number: usize, code: &[Instr]) -> Option<usize>
     None
 }
 
-/// Returns the first such place of the program.
+/// Returns the first place of a program that inserts by a register marked as holding copies.
 pub(crate) fn first_insertion(program: &[Procedure], marks: &[bool]) -> Option<CopyInsertion>
     requires { IsProgram program.now }
     ensures { MatchOption result (Nowhere (IsMarkedInsertion program.now marks.now))

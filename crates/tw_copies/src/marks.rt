@@ -10,7 +10,7 @@ use std::alloc::{AllocError, Global};
 use tw_code::{Action, DataInstr, Instr, Procedure};
 use tw_types::Param;
 
-/// Returns the place of a procedure's right register in a list of marks.
+/// Returns the place of a procedure's right register in the list of marks for copied rights.
 fn slot(number: usize, register: u8) -> usize
     requires { number < 2 ^ 16 }
     ensures { result ≡ slot number register }
@@ -18,7 +18,7 @@ fn slot(number: usize, register: u8) -> usize
     number * Procedure::RIGHT_REGISTERS + usize::from(register)
 }
 
-/// Returns whether a procedure's right register is marked.
+/// Returns whether a procedure's right register is marked as one that may hold a copied right.
 pub(crate) fn is_marked(marks: &[bool], number: usize, register: u8) -> bool
     requires { number < 2 ^ 16 }
     ensures { result ≡ is_marked marks.now number register }
@@ -29,7 +29,7 @@ pub(crate) fn is_marked(marks: &[bool], number: usize, register: u8) -> bool
     }
 }
 
-/// Returns the register's slot, unless the register is marked.
+/// Returns the slot of a right register that isn't marked as one that may hold a copy.
 fn unmarked(marks: &[bool], number: usize, register: u8) -> Option<usize>
     requires { number < 2 ^ 16 }
     ensures { MatchOption result (IsMarked marks.now number register) (λ k. (k ≡ slot number register) × (IsMarked marks.now number register → ⊥)) }
@@ -105,6 +105,7 @@ fn unmet_args(
     None
 }
 
+/// Returns the slot of a callee's parameter that isn't marked, though an argument of this RULE or PUT is.
 fn unmet_action(
     program: &[Procedure],
     marks: &[bool],
@@ -130,7 +131,7 @@ fn unmet_action(
     )
 }
 
-/// Returns the slot of a register that isn't marked, though the instruction requires it.
+/// Returns the slot of a register that isn't marked, though this instruction requires it.
 fn unmet_instr(program: &[Procedure], marks: &[bool], number: usize, instr: &Instr) -> Option<usize>
     requires limits { IsProgram program.now }
     requires number { number < 2 ^ 16 }
@@ -144,6 +145,7 @@ fn unmet_instr(program: &[Procedure], marks: &[bool], number: usize, instr: &Ins
     }
 }
 
+/// Returns the slot of a register that isn't marked, though an instruction of this code requires it.
 fn unmet_code(program: &[Procedure], marks: &[bool], number: usize, code: &[Instr]) -> Option<usize>
     requires limits { IsProgram program.now }
     requires number { number < 2 ^ 16 }
@@ -157,7 +159,7 @@ fn unmet_code(program: &[Procedure], marks: &[bool], number: usize, code: &[Inst
     None
 }
 
-/// Returns the slot of a register that isn't marked, though an instruction of the program requires it.
+/// Returns the slot of a register that isn't marked, though an instruction of any procedure requires it.
 fn unmet(program: &[Procedure], marks: &[bool]) -> Option<usize>
     requires { IsProgram program.now }
     ensures { MatchOption result (AllMet program.now marks.now) (SomeUnmet program.now marks.now) }

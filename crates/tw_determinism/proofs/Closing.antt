@@ -11,7 +11,7 @@ use Rattle.tw_types.specs.Mapped.{mapped}
 use Rattle.tw_soundness.proofs.Live.{IsLive, register_is_live, rule_is_live, task_is_live}
 use Rattle.tw_soundness.proofs.Over.{over_params}
 use Rattle.tw_determinism.proofs.Names.{Name}
-use Rattle.tw_determinism.proofs.CoreEffects.{Set, Contains, Maps, Sums, Thread, Threads, Waits, Runs, Net, HasWrite, HoldsWrite, IsWritable, IsShut, IsClosed, map_cell}
+use Rattle.tw_determinism.proofs.CoreEffects.{Set, Contains, Maps, Sums, Thread, Threads, Waits, Runs, Net, HasWrite, HoldsWrite, IsWritable, IsClosedPool, IsClosed, map_cell}
 use Rattle.tw_determinism.proofs.CoreMachine.{IsAlone}
 use Rattle.tw_determinism.proofs.Options.{some_mapped}
 use Rattle.tw_determinism.proofs.Showing.{Holder, OfFrame, OfTask, OfRule, Naming, Shows, cell_of, named, named_at, named_one, rights_in, running, thread_in, waiting}
@@ -108,17 +108,17 @@ no_map_writes x values is closed = eqb-true x.writes 0 (by x.content is closed)
     by (store.Maps other) is closed = closed
 
 -- a map is closed, of sums or not, if nobody may write it
-map_shut : (threads : Threads) (d : Name) (ty : NestedScalar) (values : Values) → IsWritable threads d → IsShut threads d (map_cell ty values)
+map_shut : (threads : Threads) (d : Name) (ty : NestedScalar) (values : Values) → IsWritable threads d → IsClosedPool threads d (map_cell ty values)
 map_shut threads d ty values nobody = by (is_sums ty)
   where
-    by : (b : Bool) → IsShut threads d (if b then Sums values else Maps values)
+    by : (b : Bool) → IsClosedPool threads d (if b then Sums values else Maps values)
     by true = nobody
     by false = nobody
 
-pub map_unwritten : (threads : Threads) (d : Name) (ty : NestedScalar) (values : Values) → IsShut threads d (map_cell ty values) → IsWritable threads d
+pub map_unwritten : (threads : Threads) (d : Name) (ty : NestedScalar) (values : Values) → IsClosedPool threads d (map_cell ty values) → IsWritable threads d
 map_unwritten threads d ty values shut = by (is_sums ty) shut
   where
-    by : (b : Bool) → IsShut threads d (if b then Sums values else Maps values) → IsWritable threads d
+    by : (b : Bool) → IsClosedPool threads d (if b then Sums values else Maps values) → IsWritable threads d
     by true h = h
     by false h = h
 

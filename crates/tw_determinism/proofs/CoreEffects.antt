@@ -102,17 +102,17 @@ abbrev pub IsWritable : Threads → Name → Type 0
 IsWritable threads d = (t : Name) (th : Thread) → fin.get threads t ≡ Some th → HoldsWrite d th → ⊥
 
 -- a scalar is set, or nobody may write the container or map
-abbrev pub IsShut : Threads → Name → Cell → Type 0
-IsShut threads d Unset = ⊥
-IsShut threads d (Set x) = Unit {0}
-IsShut threads d (Contains members) = IsWritable threads d
-IsShut threads d (Maps values) = IsWritable threads d
-IsShut threads d (Sums values) = IsWritable threads d
+abbrev pub IsClosedPool : Threads → Name → Cell → Type 0
+IsClosedPool threads d Unset = ⊥
+IsClosedPool threads d (Set x) = Unit {0}
+IsClosedPool threads d (Contains members) = IsWritable threads d
+IsClosedPool threads d (Maps values) = IsWritable threads d
+IsClosedPool threads d (Sums values) = IsWritable threads d
 
 pub record IsClosed (m : Net) (d : Name) : Type 0 where
   pub cell : Cell
   pub there : fin.get m.cells d ≡ Some cell
-  pub shut : IsShut m.threads d cell
+  pub shut : IsClosedPool m.threads d cell
 
 -- ---- what a step does to data and tasks
 

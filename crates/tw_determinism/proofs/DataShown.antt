@@ -22,7 +22,7 @@ use Rattle.tw_soundness.proofs.Running.{asked_at, register_holds}
 use Rattle.tw_soundness.proofs.TaskEvents.{fits_of, other_reads, other_writes}
 use Rattle.tw_soundness.proofs.Values.{AllYes, passed}
 use Rattle.tw_soundness.proofs.Live.{register_is_live}
-use Rattle.tw_determinism.proofs.MachineNames.{Actor, AlreadySet, AreRight, Cause, IsOfType, Result, WrongType, is_of, same_scalar, scalar_of, Completed, Content, Context, DataInstr, Datum, EmptyRegister, Frame, IsHeld, IsProgram, Members, NestedScalar, Ok, Procedure, RightType, Scalar, Skipped, State, Store, Subscript, Typing, Typings, UnsetDatum, Value, WrongRegister, a_member_read, a_read, a_write, after_data, after_insert, after_look, after_put, and_parts, asks_data, at_goal, at_next_place, changed, context_of, data_flow, data_instr, datum_at, datum_of, element_of, entry_at, has_subscripts_by, if_absent, int_at, inserted, is_closed, is_closed_mode, is_container_by, is_map, is_plain_map, is_scalar, is_sums, is_unset, is_write, may_add, may_put, may_read_entry, may_be_read, may_copy_write, may_drop_read, may_drop_write, may_insert, may_look, may_read_members, may_read_subscripts_by, may_retrieve, may_store, member_at, must_be_empty, must_have_type, must_then, of_type_at, ok_after, ok_first, ok_or, one_read_more, one_write_less, one_write_more, onward, option_and_then, option_map, passes, read_dropped, reads, reads_closed_by, reads_closed_container, reads_closed_container_by, reads_closed_map, reads_closed_scalar, reads_member_of, right_at, same_Some, set_to, settled, store_after, subscribers_cleared, size_at, subscript_after, subscripts_at, suits, suits_entry, suits_subscript, sum_with, there_then, typing_of, value_at, value_put, with_entry, with_member, with_result, with_value, writes, writes_container_by, writes_map, writes_scalar, writes_sums}
+use Rattle.tw_determinism.proofs.MachineNames.{Actor, AlreadySet, AreRight, Cause, IsOfType, Result, WrongType, is_of, same_scalar, scalar_of, Completed, Content, Context, DataInstr, Datum, EmptyRegister, Frame, IsHeld, IsProgram, Members, NestedScalar, Ok, Procedure, RightType, Scalar, Skipped, State, Store, Subscript, Typing, Typings, UnsetDatum, Value, WrongRegister, a_member_read, a_read, a_write, after_data, after_insert, after_look, after_put, and_parts, requires_data, at_goal, at_next_place, changed, context_of, data_flow, data_instr, datum_at, datum_of, element_of, entry_at, has_subscripts_by, if_absent, int_at, inserted, is_closed, is_closed_mode, is_container_by, is_map, is_plain_map, is_scalar, is_sums, is_unset, is_write, may_add, may_put, may_read_entry, may_be_read, may_copy_write, may_drop_read, may_drop_write, may_insert, may_look, may_read_members, may_read_subscripts_by, may_retrieve, may_store, member_at, must_be_empty, must_have_type, must_then, of_type_at, ok_after, ok_first, ok_or, one_read_more, one_write_less, one_write_more, onward, option_and_then, option_map, passes, read_dropped, reads, reads_closed_by, reads_closed_container, reads_closed_container_by, reads_closed_map, reads_closed_scalar, reads_member_of, right_at, same_Some, set_to, settled, store_after, subscribers_cleared, size_at, subscript_after, subscripts_at, suits, suits_entry, suits_subscript, sum_with, there_then, typing_of, value_at, value_put, with_entry, with_member, with_result, with_value, writes, writes_container_by, writes_map, writes_scalar, writes_sums}
 use Rattle.tw_determinism.specs.Contested.{copy_of, is_contest, is_copied, with_copy}
 use Rattle.tw_determinism.specs.Refused.{is_taken, is_value_taken}
 use Rattle.tw_determinism.proofs.Names.{Name, name_cmp_total, name_cmp-same}
@@ -223,12 +223,12 @@ module _ (program : List Procedure) (typings : Typings) (proper : IsProgram prog
         (shared_kept n.datum n.copied n.start s.store m.cells m.shared shows.shared k.store (fewer _ _ kept) same));
   }
 
-  met : (i : DataInstr) → slice_get p.code fr.position.place ≡ Some (instr.Data i) → AllYes (asks_data p.registers i typing)
+  met : (i : DataInstr) → slice_get p.code fr.position.place ≡ Some (instr.Data i) → AllYes (requires_data p.registers i typing)
   met i at = asked_at program typings proper are fr.procedure p here fr.position.place (instr.Data i) at
 
   -- ---- DROPR
 
-  drop_read_shows : (register : ℕ) (k : Context) → AllYes (asks_data p.registers (on_data.DropRead register) typing) → data_instr (on_data.DropRead register) c ≡ Ok k → DataShows (on_data.DropRead register) k
+  drop_read_shows : (register : ℕ) (k : Context) → AllYes (requires_data p.registers (on_data.DropRead register) typing) → data_instr (on_data.DropRead register) c ≡ Ok k → DataShows (on_data.DropRead register) k
   drop_read_shows register k asked e =
       let h = there_then (right_at fr.rights register) EmptyRegister _ k e in
       let may = ok_after (may_drop_read (datum_of c h.0)) _ k h.2 in
@@ -249,7 +249,7 @@ module _ (program : List Procedure) (typings : Typings) (proper : IsProgram prog
     refl,
   )
 
-  drop_write_shows : (register : ℕ) (k : Context) → AllYes (asks_data p.registers (on_data.DropWrite register) typing) → data_instr (on_data.DropWrite register) c ≡ Ok k → DataShows (on_data.DropWrite register) k
+  drop_write_shows : (register : ℕ) (k : Context) → AllYes (requires_data p.registers (on_data.DropWrite register) typing) → data_instr (on_data.DropWrite register) c ≡ Ok k → DataShows (on_data.DropWrite register) k
   drop_write_shows register k asked e =
       let h = there_then (right_at fr.rights register) EmptyRegister _ k e in
       let may = ok_after (may_drop_write (datum_of c h.0)) _ k h.2 in
@@ -271,7 +271,7 @@ module _ (program : List Procedure) (typings : Typings) (proper : IsProgram prog
       → slice_set r.rights to (Some (record { write = is_write q.mode; of = n.datum id })) ≡ named n.datum (slice_set typing to (right_at typing from)) (slice_set fr.rights to (Some id))
   copied_rights to from q id typed = ap (λ o. slice_set r.rights to (named_one n.datum o (Some id))) (sym typed) ∙ named_set n.datum typing fr.rights to (right_at typing from) (Some id)
 
-  copy_read_shows : (to from : ℕ) (k : Context) → AllYes (asks_data p.registers (on_data.CopyRead to from) typing) → data_instr (on_data.CopyRead to from) c ≡ Ok k → DataShows (on_data.CopyRead to from) k
+  copy_read_shows : (to from : ℕ) (k : Context) → AllYes (requires_data p.registers (on_data.CopyRead to from) typing) → data_instr (on_data.CopyRead to from) c ≡ Ok k → DataShows (on_data.CopyRead to from) k
   copy_read_shows to from k asked e =
       let free = ok_after (must_be_empty fr.rights to) _ k e in
       let h = there_then (right_at fr.rights from) EmptyRegister _ k free.1 in
@@ -285,7 +285,7 @@ module _ (program : List Procedure) (typings : Typings) (proper : IsProgram prog
             (plain (on_data.CopyRead to from) refl refl _ Completed x refl refl refl (copied_rights to from q.0 h.0 q.1) kept.0 kept.1)),
       )
 
-  copy_write_shows : (to from : ℕ) (k : Context) → AllYes (asks_data p.registers (on_data.CopyWrite to from) typing) → data_instr (on_data.CopyWrite to from) c ≡ Ok k → DataShows (on_data.CopyWrite to from) k
+  copy_write_shows : (to from : ℕ) (k : Context) → AllYes (requires_data p.registers (on_data.CopyWrite to from) typing) → data_instr (on_data.CopyWrite to from) c ≡ Ok k → DataShows (on_data.CopyWrite to from) k
   copy_write_shows to from k asked e =
       let free = ok_after (must_be_empty fr.rights to) _ k e in
       let h = there_then (right_at fr.rights from) EmptyRegister _ k free.1 in
@@ -343,7 +343,7 @@ module _ (program : List Procedure) (typings : Typings) (proper : IsProgram prog
         alone = λ d is not. let no : Reads (n.datum id) ≡ Into d = sym name_is ∙ is in cc;
       }
 
-  get_shows : (to datum : ℕ) (k : Context) → AllYes (asks_data p.registers (on_data.Get to datum) typing) → data_instr (on_data.Get to datum) c ≡ Ok k → DataShows (on_data.Get to datum) k
+  get_shows : (to datum : ℕ) (k : Context) → AllYes (requires_data p.registers (on_data.Get to datum) typing) → data_instr (on_data.Get to datum) c ≡ Ok k → DataShows (on_data.Get to datum) k
   get_shows to datum k asked e =
       let v = there_then (slice_get fr.position.values to) WrongRegister _ k e in
       let fits = must_then (suits v.0 (datum_at c datum)) WrongRegister _ k v.2 in
@@ -368,7 +368,7 @@ module _ (program : List Procedure) (typings : Typings) (proper : IsProgram prog
         inl (subst (λ (z : Context). DataGoes (on_data.Get to datum) z x) (same_ok _ k y.2) (plain (on_data.Get to datum) refl refl _ Completed x refl refl refl refl (kept_itself s.store.live) refl)),
       )
 
-  size_shows : (to container : ℕ) (k : Context) → AllYes (asks_data p.registers (on_data.Size to container) typing) → data_instr (on_data.Size to container) c ≡ Ok k → DataShows (on_data.Size to container) k
+  size_shows : (to container : ℕ) (k : Context) → AllYes (requires_data p.registers (on_data.Size to container) typing) → data_instr (on_data.Size to container) c ≡ Ok k → DataShows (on_data.Size to container) k
   size_shows to container k asked e =
       let v = ok_after (must_have_type fr.position to scalar.Int) _ k e in
       let h = there_then (right_at fr.rights container) EmptyRegister _ k v.1 in
@@ -392,7 +392,7 @@ module _ (program : List Procedure) (typings : Typings) (proper : IsProgram prog
         inl (subst (λ (z : Context). DataGoes (on_data.Size to container) z x) (same_ok _ k may.1) (plain (on_data.Size to container) refl refl _ Completed x refl refl refl refl (kept_itself s.store.live) refl)),
       )
 
-  subscript_shows : (by : Scalar) (to container index skip : ℕ) (k : Context) → AllYes (asks_data p.registers (on_data.SubscriptAt by to container index skip) typing)
+  subscript_shows : (by : Scalar) (to container index skip : ℕ) (k : Context) → AllYes (requires_data p.registers (on_data.SubscriptAt by to container index skip) typing)
       → data_instr (on_data.SubscriptAt by to container index skip) c ≡ Ok k → DataShows (on_data.SubscriptAt by to container index skip) k
   subscript_shows by to container index skip k asked e =
       let v = ok_after (must_have_type fr.position to by) _ k e in
@@ -436,7 +436,7 @@ module _ (program : List Procedure) (typings : Typings) (proper : IsProgram prog
       by (store.Contains members) e = cc
       by (store.Maps values) e = cc
 
-  store_shows : (datum from : ℕ) (k : Context) → AllYes (asks_data p.registers (on_data.Store datum from) typing) → data_instr (on_data.Store datum from) c ≡ Ok k → DataShows (on_data.Store datum from) k
+  store_shows : (datum from : ℕ) (k : Context) → AllYes (requires_data p.registers (on_data.Store datum from) typing) → data_instr (on_data.Store datum from) c ≡ Ok k → DataShows (on_data.Store datum from) k
   store_shows datum from k asked e =
       let v = there_then (slice_get fr.position.values from) WrongRegister _ k e in
       let fits = must_then (suits v.0 (datum_at c datum)) WrongRegister _ k v.2 in
@@ -643,7 +643,7 @@ module _ (program : List Procedure) (typings : Typings) (proper : IsProgram prog
     insert_by false was None is_so k e = (wills_put (sees false was ∙ ap (option_map n.datum) is_so), inl (subst (λ z. DataGoes i z puts) e (free_goes is_so)))
     insert_by false was (Some other) is_so k e = (wills_skip (n.datum other) (sees false was ∙ ap (option_map n.datum) is_so), inl (subst (λ z. DataGoes i z skips) e (skip_goes other was)))
 
-  insert_shows : (by : Scalar) (container subscript member skip : ℕ) (k : Context) → AllYes (asks_data p.registers (on_data.Insert by container subscript member skip) typing)
+  insert_shows : (by : Scalar) (container subscript member skip : ℕ) (k : Context) → AllYes (requires_data p.registers (on_data.Insert by container subscript member skip) typing)
       → data_instr (on_data.Insert by container subscript member skip) c ≡ Ok k → DataShows (on_data.Insert by container subscript member skip) k
   insert_shows by container subscript member skip k asked e =
       let v = ok_first (of_type_at fr.position subscript by) _ k e in
@@ -693,7 +693,7 @@ module _ (program : List Procedure) (typings : Typings) (proper : IsProgram prog
 
   -- ---- LOOK and TLOOK
 
-  look_shows : (by : Scalar) (member container subscript skip : ℕ) (k : Context) → AllYes (asks_data p.registers (on_data.Look by member container subscript skip) typing)
+  look_shows : (by : Scalar) (member container subscript skip : ℕ) (k : Context) → AllYes (requires_data p.registers (on_data.Look by member container subscript skip) typing)
       → data_instr (on_data.Look by member container subscript skip) c ≡ Ok k → DataShows (on_data.Look by member container subscript skip) k
   look_shows by member container subscript skip k asked e =
       let v = ok_first (of_type_at fr.position subscript by) _ k e in
@@ -892,7 +892,7 @@ module _ (program : List Procedure) (typings : Typings) (proper : IsProgram prog
     value_by_case false was None is_so k e = (wills_put_value (sees_value false was ∙ is_so), inl (subst (λ z. DataGoes j z puts_value) e (free_value_goes is_so)))
     value_by_case false was (Some other) is_so k e = (wills_skip_value other (sees_value false was ∙ is_so), inl (subst (λ z. DataGoes j z skips_value) e (value_skip_goes was)))
 
-  insert_value_shows : (map subscript from skip : ℕ) (k : Context) → AllYes (asks_data p.registers (on_data.InsertValue map subscript from skip) typing)
+  insert_value_shows : (map subscript from skip : ℕ) (k : Context) → AllYes (requires_data p.registers (on_data.InsertValue map subscript from skip) typing)
       → data_instr (on_data.InsertValue map subscript from skip) c ≡ Ok k → DataShows (on_data.InsertValue map subscript from skip) k
   insert_value_shows map subscript from skip k asked e =
       let at = there_then (slice_get fr.position.values subscript) WrongRegister _ k e in
@@ -922,7 +922,7 @@ module _ (program : List Procedure) (typings : Typings) (proper : IsProgram prog
       plain_no_sums true false e = refl
       plain_no_sums false false e = refl
 
-  add_value_shows : (map subscript from : ℕ) (k : Context) → AllYes (asks_data p.registers (on_data.AddValue map subscript from) typing)
+  add_value_shows : (map subscript from : ℕ) (k : Context) → AllYes (requires_data p.registers (on_data.AddValue map subscript from) typing)
       → data_instr (on_data.AddValue map subscript from) c ≡ Ok k → DataShows (on_data.AddValue map subscript from) k
   add_value_shows map subscript from k asked e =
       let at = there_then (slice_get fr.position.values subscript) WrongRegister _ k e in
@@ -969,7 +969,7 @@ module _ (program : List Procedure) (typings : Typings) (proper : IsProgram prog
         })),
       )
 
-  get_value_shows : (to map subscript skip : ℕ) (k : Context) → AllYes (asks_data p.registers (on_data.GetValue to map subscript skip) typing)
+  get_value_shows : (to map subscript skip : ℕ) (k : Context) → AllYes (requires_data p.registers (on_data.GetValue to map subscript skip) typing)
       → data_instr (on_data.GetValue to map subscript skip) c ≡ Ok k → DataShows (on_data.GetValue to map subscript skip) k
   get_value_shows to map subscript skip k asked e =
       let v = there_then (slice_get fr.position.values to) WrongRegister _ k e in

@@ -10,7 +10,7 @@ use Rattle.tw_types.proofs.Parts.{put_or_before}
 use Rattle.tw_types.proofs.Totals.{insert_other, insert_same}
 use Rattle.tw_code.specs.declared.procedure.Procedure.{Procedure}
 use Rattle.tw_determinism.proofs.Names.{Name, name_cmp, name_cmp_total, name_cmp-same}
-use Rattle.tw_determinism.proofs.CoreEffects.{Cell, Unset, Set, Contains, Maps, Sums, Threads, Thread, Waits, Runs, Ended, Waiting, Writing, SetTo, Put, PutValue, Add, Act, Nothing, Bears, Makes, Writes, Shares, Subject, Blind, Reads, Into, Effect, written, Net, HoldsWrite, IsWritable, IsShut, IsClosed, effect_of, cell_at, subject_of, next_name, spent_of}
+use Rattle.tw_determinism.proofs.CoreEffects.{Cell, Unset, Set, Contains, Maps, Sums, Threads, Thread, Waits, Runs, Ended, Waiting, Writing, SetTo, Put, PutValue, Add, Act, Nothing, Bears, Makes, Writes, Shares, Subject, Blind, Reads, Into, Effect, written, Net, HoldsWrite, IsWritable, IsClosedPool, IsClosed, effect_of, cell_at, subject_of, next_name, spent_of}
 use Rattle.tw_determinism.proofs.CoreMachine.{Edit, Leaves, Adds, Changes, edit_of, child_of, share_of, with_share, edited, with_child, threads_after, IsAlone, IsThere, IsMade, IsPast, WasMade, Steps, Wills}
 use Rattle.tw_determinism.proofs.Keeping.{Keeps, effect_keeps}
 use Rattle.tw_determinism.proofs.Options.{some_of, some_first, some_mapped}
@@ -115,11 +115,11 @@ module _ (program : List Procedure) (m n : Net) (is_made : IsMade m) (t : Name) 
       ]
 
   -- the content of a datum after the step
-  cell_kept : (d : Name) (cell : Cell) → get m.cells d ≡ Some cell → IsShut m.threads d cell → get n.cells d ≡ Some cell
+  cell_kept : (d : Name) (cell : Cell) → get m.cells d ≡ Some cell → IsClosedPool m.threads d cell → get n.cells d ≡ Some cell
   unfolding next
   cell_kept d cell there shut = by step.wills.effect.act refl step.cells
     where
-      touched : (w : Writing) (c : Cell) → HoldsWrite d step.wills.thread → (cell : Cell) → IsShut m.threads d cell → written w cell ≡ Some c → ⊥
+      touched : (w : Writing) (c : Cell) → HoldsWrite d step.wills.thread → (cell : Cell) → IsClosedPool m.threads d cell → written w cell ≡ Some c → ⊥
       touched w c held Unset shut e = shut
       touched w c held (Set x) shut e = set_stays w x c e
       touched w c held (Contains members) shut e = shut t step.wills.thread step.wills.there held
@@ -141,10 +141,10 @@ module _ (program : List Procedure) (m n : Net) (is_made : IsMade m) (t : Name) 
           let found : c.0 ≡ cell = same_Some c.0 cell (sym c.1 ∙ subst (λ z. get m.cells z ≡ Some cell) same there) in
           touched w a.0 held cell shut (subst (λ z. written w z ≡ Some a.0) found c.2)) ∙ there)
 
-  pub closed_kept : (d : Name) → (c : IsClosed m d) → (get n.cells d ≡ Some c.cell) × IsShut n.threads d c.cell
+  pub closed_kept : (d : Name) → (c : IsClosed m d) → (get n.cells d ≡ Some c.cell) × IsClosedPool n.threads d c.cell
   closed_kept d c = (cell_kept d c.cell c.there c.shut, by c.cell c.there c.shut)
     where
-      by : (cell : Cell) → get m.cells d ≡ Some cell → IsShut m.threads d cell → IsShut n.threads d cell
+      by : (cell : Cell) → get m.cells d ≡ Some cell → IsClosedPool m.threads d cell → IsClosedPool n.threads d cell
       by Unset there shut = shut
       by (Set x) there shut = tt
       by (Contains members) there shut = writable_before d (Contains members) there shut

@@ -14,7 +14,7 @@ use Rattle.tw_soundness.proofs.Over.{over_params}
 use Rattle.tw_types.specs.Totals.{sum_of, total}
 use Rattle.tw_determinism.proofs.MachineNames.{entries, len-entries, Arg, Content, Mode, Val, Closed, Ref, Write, Free, Unasked, Waiting, Ready, RuleArgsFit, Datum, IsHeld, Param, Procedure, RightArg, Rule, Stage, State, Store, Typings, ValueArg, actor_cmp, and_parts, balanced_some, cases_eq, eq-eqb, eqb-true, frame_writes, hits, is_closed, is_asked_for, is_closed_mode, is_write, nat_cmp_total, params_in, params_of, right_of, reads_of, rule_writes, same_Some, task_writes, write_by, writes_of}
 use Rattle.tw_determinism.proofs.Names.{Name}
-use Rattle.tw_determinism.proofs.CoreEffects.{Thread, Waits, Ended, Net, HasWrite, IsWritable, IsShut, IsClosed, awaits_of, cell_at, effect_of, next_name, subject_of}
+use Rattle.tw_determinism.proofs.CoreEffects.{Thread, Waits, Ended, Net, HasWrite, IsWritable, IsClosedPool, IsClosed, awaits_of, cell_at, effect_of, next_name, subject_of}
 use Rattle.tw_determinism.proofs.CoreMachine.{IsOver}
 use Rattle.tw_determinism.proofs.Options.{some_mapped}
 use Rattle.tw_determinism.proofs.Closing.{map_unwritten}
@@ -122,15 +122,15 @@ module _ (program : List Procedure) (typings : Typings) (s : State) (held : IsHe
       cell_is = same_Some c.cell (cell_of n.datum x.ty x.content) (sym c.there ∙ shows.cells.live id x live)
 
       by : (content : Content) → x.content ≡ content → is_closed (record x { content = content }) ≡ true
-      by store.Unset is = absurd (subst (IsShut m.threads (n.datum id)) (cell_is ∙ ap (cell_of n.datum x.ty) is) c.shut)
+      by store.Unset is = absurd (subst (IsClosedPool m.threads (n.datum id)) (cell_is ∙ ap (cell_of n.datum x.ty) is) c.shut)
       by (store.Set v) is = refl
       by (store.Contains members) is = elim (cases_eq x.writes 0) [
         | inl none ↦ eq-eqb x.writes 0 none
-        | inr some ↦ absurd (rule_has id x live some (subst (IsShut m.threads (n.datum id)) (cell_is ∙ ap (cell_of n.datum x.ty) is) c.shut))
+        | inr some ↦ absurd (rule_has id x live some (subst (IsClosedPool m.threads (n.datum id)) (cell_is ∙ ap (cell_of n.datum x.ty) is) c.shut))
       ]
       by (store.Maps values) is = elim (cases_eq x.writes 0) [
         | inl none ↦ eq-eqb x.writes 0 none
-        | inr some ↦ absurd (rule_has id x live some (map_unwritten m.threads (n.datum id) x.ty values (subst (IsShut m.threads (n.datum id)) (cell_is ∙ ap (cell_of n.datum x.ty) is) c.shut)))
+        | inr some ↦ absurd (rule_has id x live some (map_unwritten m.threads (n.datum id) x.ty values (subst (IsClosedPool m.threads (n.datum id)) (cell_is ∙ ap (cell_of n.datum x.ty) is) c.shut)))
       ]
 
   -- a rule's task waits

@@ -11,7 +11,7 @@ use Rattle.tw_soundness.proofs.Called.{callee_met}
 use Rattle.tw_soundness.proofs.Running.{asked_at, typed_after}
 use Rattle.tw_soundness.proofs.TaskEvents.{fresh_rule, fresh_task}
 use Rattle.tw_soundness.proofs.Values.{AllYes, passed, yes_after}
-use Rattle.tw_determinism.proofs.MachineNames.{Actor, AreRight, ArgumentNotClosed, Closed, Mode, Ref, Val, Write, is_read, ok_or, Called, Cause, Completed, EmptyRegister, Frame, FreedDatum, HandedOver, IsHeld, IsProgram, Ok, Param, Result, RightArg, RightType, Rights, Rule, Scalar, State, Task, Typing, Typings, ValueArg, Value, WrongCall, WrongRegister, WrongType, actor_cmp, actor_cmp-IsAntisymmetric, actor_cmp_total, all_pass, and_parts, asks_args, asks_callee, asks_priority, asks_value, at_next_place, called, context_of, gone_after, handed_over, held, is_closed_if_asked, is_closed_mode, is_control, is_live, is_of_type, is_val, is_write, must_then, nat_cmp-IsAntisymmetric, nat_cmp_total, new_rule, ok_first, option_and_then, option_map, params_in, params_of, part, passes, priority_at, put_called, right_at, right_fits_param, same_Some, same_type, suits_mode, there_then, total, total-insert, typing_at, typing_of, values_in, values_suit, with_arg, with_frame, with_rule, with_task, without_args}
+use Rattle.tw_determinism.proofs.MachineNames.{Actor, AreRight, ArgumentNotClosed, Closed, Mode, Ref, Val, Write, is_read, ok_or, Called, Cause, Completed, EmptyRegister, Frame, FreedDatum, MovedArgs, IsHeld, IsProgram, Ok, Param, Result, RightArg, RightType, Rights, Rule, Scalar, State, Task, Typing, Typings, ValueArg, Value, WrongCall, WrongRegister, WrongType, actor_cmp, actor_cmp-IsAntisymmetric, actor_cmp_total, all_pass, and_parts, requires_args, requires_callee, requires_priority, requires_value, at_next_place, called, context_of, frame_after_call, moved_args, held, is_closed_if_required, is_closed_mode, is_control, is_live, is_of_type, is_val, is_write, must_then, nat_cmp-IsAntisymmetric, nat_cmp_total, new_rule, ok_first, option_and_then, option_map, params_in, params_of, part, passes, priority_at, put_called, right_at, right_fits_param, same_Some, same_type, suits_mode, there_then, total, total-insert, typing_at, typing_of, values_in, values_suit, with_arg, with_frame, with_rule, with_task, without_args}
 use Rattle.tw_determinism.proofs.Names.{Name, name_cmp, name_cmp_total, name_cmp-same}
 use Rattle.tw_determinism.proofs.CoreEffects.{Blind, Handed, Makes, Net, Running, Runs, Thread, Threads, Waiting, Waits, by_instr, cell_at, handed, made, next_name, subject_of, subject_of_instr, with_given, with_moved}
 use Rattle.tw_determinism.proofs.CoreMachine.{Steps, Wills}
@@ -26,10 +26,10 @@ use Rattle.tw_determinism.proofs.Showing.{Holder, OfFrame, OfTask, OfRule, Namin
 -- ---- the arguments
 
 -- what is handed over, by names
-abbrev handed_as : (ℕ → Name) → List Param → List ℕ → Typing → HandedOver → Handed
+abbrev handed_as : (ℕ → Name) → List Param → List ℕ → Typing → MovedArgs → Handed
 handed_as f params registers typing h = record { values = values_in h.args; rights = rights_in f params h.args; awaits = awaits_in f params h.args; left = named f (without_args params registers typing) h.rights }
 
-pub same_handed : (y z : HandedOver) → ◌≡◌ {A = Result HandedOver Cause} (Ok y) (Ok z) → y ≡ z
+pub same_handed : (y z : MovedArgs) → ◌≡◌ {A = Result MovedArgs Cause} (Ok y) (Ok z) → y ≡ z
 same_handed y z e = cc
 
 -- a right that suits a mode is to write if the mode is
@@ -60,10 +60,10 @@ suits_write waits mode right e = by mode right.mode e
 
 module _ (f : ℕ → Name) (waits : Bool) (declared : List Scalar) (values : List Value) where
   abbrev Same : List Param → List ℕ → Typing → Rights → Type 0
-  Same params registers typing ids = (h : HandedOver) → AllYes (asks_args waits declared params registers typing) → handed_over values ids params registers ≡ Ok h
+  Same params registers typing ids = (h : MovedArgs) → AllYes (requires_args waits declared params registers typing) → moved_args values ids params registers ≡ Ok h
       → handed values (named f typing ids) params registers ≡ Some (handed_as f params registers typing h)
 
-  abbrev as_if : Bool → Param → List Param → ℕ → List ℕ → Typing → HandedOver → Handed
+  abbrev as_if : Bool → Param → List Param → ℕ → List ℕ → Typing → MovedArgs → Handed
   as_if b p params register registers typing h = record {
     values = values_in h.args;
     rights = rights_in f (p ∷ params) h.args;
@@ -71,17 +71,17 @@ module _ (f : ℕ → Name) (waits : Bool) (declared : List Scalar) (values : Li
     left = named f (without_args params registers (if b then typing else slice_set typing register None)) h.rights;
   }
 
-  one_more : (p : Param) (params : List Param) (register : ℕ) (registers : List ℕ) (typing : Typing) (ids : Rights) (h : HandedOver) (b : Bool)
+  one_more : (p : Param) (params : List Param) (register : ℕ) (registers : List ℕ) (typing : Typing) (ids : Rights) (h : MovedArgs) (b : Bool)
       → Same params registers typing ids → Same params registers (slice_set typing register None) (slice_set ids register None)
-      → AllYes (if b then asks_value declared register p.ty.scalar ++ asks_args waits declared params registers typing else (4, passes (right_fits_param waits p) (right_at typing register)) ∷ asks_args waits declared params registers (slice_set typing register None))
+      → AllYes (if b then requires_value declared register p.ty.scalar ++ requires_args waits declared params registers typing else (4, passes (right_fits_param waits p) (right_at typing register)) ∷ requires_args waits declared params registers (slice_set typing register None))
       → (if b
       then (do
         x ← ok_or (slice_get values register) WrongRegister
-        others ← handed_over values ids params registers
+        others ← moved_args values ids params registers
         Ok (with_arg (ValueArg x) others))
       else (do
         id ← held ids register
-        others ← handed_over values (slice_set ids register None) params registers
+        others ← moved_args values (slice_set ids register None) params registers
         Ok (with_arg (RightArg id) others))) ≡ Ok h
       → (if b
       then option_and_then (λ x. option_map (with_given x) (handed values (named f typing ids) params registers)) (slice_get values register)
@@ -89,13 +89,13 @@ module _ (f : ℕ → Name) (waits : Bool) (declared : List Scalar) (values : Li
       ≡ Some (as_if b p params register registers typing h)
   one_more p params register registers typing ids h true same less met e =
       let x = there_then (slice_get values register) WrongRegister _ h e in
-      let others = ok_first (handed_over values ids params registers) _ h x.2 in
+      let others = ok_first (moved_args values ids params registers) _ h x.2 in
       let rest = same others.0 met.1.1 others.1 in
       ap (option_and_then (λ x. option_map (with_given x) (handed values (named f typing ids) params registers))) x.1
       ∙ ap (option_map (with_given x.0)) rest ∙ ap (λ z. Some (as_if true p params register registers typing z)) (same_handed (with_arg (ValueArg x.0) others.0) h others.2)
   one_more p params register registers typing ids h false same less met e =
       let id = there_then (right_at ids register) EmptyRegister _ h e in
-      let others = ok_first (handed_over values (slice_set ids register None) params registers) _ h id.2 in
+      let others = ok_first (moved_args values (slice_set ids register None) params registers) _ h id.2 in
       let rest = less others.0 met.1 others.1 in
       let q = passed (right_fits_param waits p) (right_at typing register) met.0 in
       let kind = suits_write waits p.mode q.0 (and_parts (suits_mode waits p.mode q.0) (same_type q.0.ty p.ty) q.2).0 in
@@ -107,8 +107,8 @@ module _ (f : ℕ → Name) (waits : Bool) (declared : List Scalar) (values : Li
       ∙ ap (λ z. Some (as_if false p params register registers typing z)) (same_handed (with_arg (RightArg id.0) others.0) h others.2)
 
   handed_named : (params : List Param) (registers : List ℕ) (typing : Typing) (ids : Rights) → Same params registers typing ids
-  handed_named [] registers typing ids h met e = ap (λ (z : HandedOver). Some (handed_as f [] registers typing z)) (same_handed (record { args = []; rights = ids }) h e)
-  handed_named (p ∷ params) [] typing ids h met e = ap (λ (z : HandedOver). Some (handed_as f (p ∷ params) [] typing z)) (same_handed (record { args = []; rights = ids }) h e)
+  handed_named [] registers typing ids h met e = ap (λ (z : MovedArgs). Some (handed_as f [] registers typing z)) (same_handed (record { args = []; rights = ids }) h e)
+  handed_named (p ∷ params) [] typing ids h met e = ap (λ (z : MovedArgs). Some (handed_as f (p ∷ params) [] typing z)) (same_handed (record { args = []; rights = ids }) h e)
   handed_named (p ∷ params) (register ∷ registers) typing ids h met e =
       one_more p params register registers typing ids h (is_val p.mode) (handed_named params registers typing ids) (handed_named params registers (slice_set typing register None) (slice_set ids register None)) met e
 
@@ -118,8 +118,8 @@ module _ (f : ℕ → Name) (waits : Bool) (declared : List Scalar) (values : Li
 pub record IsCall (program : List Procedure) (fr : Frame) (action : Action) (call : Called) : Type 0 where
   pub callee : Procedure
   pub is : slice_get program action.procedure ≡ Some callee
-  pub given : HandedOver
-  pub gives : handed_over fr.position.values fr.rights callee.params action.args ≡ Ok given
+  pub given : MovedArgs
+  pub gives : moved_args fr.position.values fr.rights callee.params action.args ≡ Ok given
   pub procedure : call.task.procedure ≡ action.procedure
   pub args : call.task.args ≡ given.args
   pub rights : call.rights ≡ given.rights
@@ -134,7 +134,7 @@ is_call program s fr kind action call e =
     let control = must_then (is_control kind) WrongCall _ call long.1 in
     let suit = must_then (values_suit fr.position.values q.0.params action.args) WrongRegister _ call control.1 in
     let priority = ok_first (priority_at fr.position action.priority) _ call suit.1 in
-    let given = ok_first (handed_over fr.position.values fr.rights q.0.params action.args) _ call priority.2 in
+    let given = ok_first (moved_args fr.position.values fr.rights q.0.params action.args) _ call priority.2 in
     let lives = must_then (all_pass is_live s.store.live q.0.params given.0.args) FreedDatum _ call given.2 in
     let typed = must_then (all_pass is_of_type s.store.live q.0.params given.0.args) WrongType _ call lives.1 in
     let same = same_call _ call typed.1 in
@@ -151,7 +151,7 @@ is_call program s fr kind action call e =
 pub put_call : (program : List Procedure) (s : State) (fr : Frame) (kind : Kind) (action : Action) (call : Called) → put_called program kind (context_of s fr) action ≡ Ok call → called program kind (context_of s fr) action ≡ Ok call
 put_call program s fr kind action call e =
     let first = ok_first (called program kind (context_of s fr) action) _ call e in
-    let shut = must_then (all_pass is_closed_if_asked s.store.live first.0.params first.0.task.args) ArgumentNotClosed _ call first.2 in
+    let shut = must_then (all_pass is_closed_if_required s.store.live first.0.params first.0.task.args) ArgumentNotClosed _ call first.2 in
     first.1 ∙ shut.1
 
 -- ---- the step
@@ -165,7 +165,7 @@ module _ (program : List Procedure) (typings : Typings) (proper : IsProgram prog
   name = n.holder (OfFrame a)
 
   abbrev after_call : Called → Frame
-  after_call call = gone_after fr call.rights
+  after_call call = frame_after_call fr call.rights
 
   -- the state after it: the frame is one instruction further, and one holder is new
   record IsMade1 (call : Called) (g : Holder) (next : State) : Type 0 where
@@ -178,7 +178,7 @@ module _ (program : List Procedure) (typings : Typings) (proper : IsProgram prog
     count : total one next.frames + (total one next.tasks + total one next.rules) ≡ total one s.frames + (total one s.tasks + total one s.rules) + 1
 
   module _ (i : Instr) (at : slice_get p.code fr.position.place ≡ Some i) (action : Action) (waits : Bool) (call : Called) (so : IsCall program fr action call)
-      (met : AllYes (asks_callee waits p.registers (slice_get program action.procedure) action.args (typing_of typings fr)))
+      (met : AllYes (requires_callee waits p.registers (slice_get program action.procedure) action.args (typing_of typings fr)))
       (by_is : (cell : _) → by_instr program (next_name name (Runs own)) cell own i ≡ by_instr program (next_name name (Runs own)) cell own (instr.Put action))
       (none : subject_of_instr own (Some i) ≡ Blind)
       (typing_is : typing_at typings fr.procedure (fr.position.place + 1) ≡ without_args (params_of program action.procedure) action.args (typing_of typings fr)) where
@@ -191,7 +191,7 @@ module _ (program : List Procedure) (typings : Typings) (proper : IsProgram prog
         let c = callee_met waits p.registers (slice_get program action.procedure) action.args (typing_of typings fr) met in
         let same : c.procedure ≡ so.callee = same_Some c.procedure so.callee (sym c.is ∙ so.is) in
         handed_named n.datum waits p.registers fr.position.values so.callee.params action.args (typing_of typings fr) fr.rights so.given
-        (subst (λ (q : Procedure). AllYes (asks_args waits p.registers q.params action.args (typing_of typings fr))) same c.met) so.gives
+        (subst (λ (q : Procedure). AllYes (requires_args waits p.registers q.params action.args (typing_of typings fr))) same c.met) so.gives
 
     abbrev thread : Thread
     thread = Runs (record own { position = at_next_place fr.position; rights = h.left; spent = fr.spent + 1 })
@@ -330,17 +330,17 @@ module _ (program : List Procedure) (typings : Typings) (proper : IsProgram prog
       others (OfRule k) apart new = refl
 
   pub rule_follows : (action : Action) (kind : Kind) (engine : ℕ) (call : Called) → slice_get p.code fr.position.place ≡ Some (instr.Rule action) → called program kind (context_of s fr) action ≡ Ok call
-      → Goes program typings n s m (with_frame (with_rule s (new_rule engine call.params call.task)) a (gone_after fr call.rights))
+      → Goes program typings n s m (with_frame (with_rule s (new_rule engine call.params call.task)) a (frame_after_call fr call.rights))
   rule_follows action kind engine call at e =
       makes_follows (instr.Rule action) at action true call (is_call program s fr kind action call e)
-      (yes_after (asks_priority p.registers action.priority) _ (asked_at program typings proper are fr.procedure p here fr.position.place (instr.Rule action) at).1)
+      (yes_after (requires_priority p.registers action.priority) _ (asked_at program typings proper are fr.procedure p here fr.position.place (instr.Rule action) at).1)
       (λ cell. refl) refl (typed_after program typings proper are fr.procedure p here fr.position.place (fr.position.place + 1) (instr.Rule action) Completed at refl).1
       (OfRule s.next_rule) _ (ruled engine call)
 
   pub put_follows : (action : Action) (kind : Kind) (call : Called) → slice_get p.code fr.position.place ≡ Some (instr.Put action) → put_called program kind (context_of s fr) action ≡ Ok call
-      → Goes program typings n s m (with_frame (with_task s call.task) a (gone_after fr call.rights))
+      → Goes program typings n s m (with_frame (with_task s call.task) a (frame_after_call fr call.rights))
   put_follows action kind call at e =
       makes_follows (instr.Put action) at action false call (is_call program s fr kind action call (put_call program s fr kind action call e))
-      (yes_after (asks_priority p.registers action.priority) _ (asked_at program typings proper are fr.procedure p here fr.position.place (instr.Put action) at).1)
+      (yes_after (requires_priority p.registers action.priority) _ (asked_at program typings proper are fr.procedure p here fr.position.place (instr.Put action) at).1)
       (λ cell. refl) refl (typed_after program typings proper are fr.procedure p here fr.position.place (fr.position.place + 1) (instr.Put action) Completed at refl).1
       (OfTask s.next_task) _ (tasked call)

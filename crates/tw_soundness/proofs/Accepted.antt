@@ -1,6 +1,6 @@
 -- Consequences of acceptance for a running task: its instruction is executed, and the task continues.
 use Rattle.std.proofs.Common.{◌≡◌, ℕ, zero, suc, ◌<◌, ◌≤◌, true, List, [], ◌∷◌, ◌++◌, length, slice_get, get_or, Option, Some, None, refl, sym, ap, subst, ◌∙◌, arith}
-use Rattle.tw_soundness.proofs.MachineNames.{Accepts, Actor, AllByRecursion, Completed, DataInstr, Frame, Instr, IsDataInstr, IsHeld, IsInstr, Param, Procedure, RightType, IsAtPosition, State, Typing, Typings, asks, asks_at, asks_data, at_next_place, context_of, data_instr, flow_of, flows, get, is_none, is_ret, leb-true, length-map, list_all, local_steps, option_to_list, right_of, rights_given, same_Some, slice_get-get_or, slice_get_within, typing_of, value_types, values_fit}
+use Rattle.tw_soundness.proofs.MachineNames.{Accepts, Actor, AllByRecursion, Completed, DataInstr, Frame, Instr, IsDataInstr, IsHeld, IsInstr, Param, Procedure, RightType, IsAtPosition, State, Typing, Typings, requires_by_instr, requires_at, requires_data, at_next_place, context_of, data_instr, flow_of, flows, get, is_none, is_ret, leb-true, length-map, list_all, local_steps, option_to_list, right_of, rights_given, same_Some, slice_get-get_or, slice_get_within, typing_of, value_types, values_fit}
 use Rattle.tw_code.specs.declared.flow.Flow.TheVariants.{Straight}
 use Rattle.tw_code.specs.declared.instr.Action.{Action}
 use Rattle.tw_code.specs.declared.instr.Instr.TheVariants as instr
@@ -37,7 +37,7 @@ module _ (program : List Procedure) (typings : Typings) (accepts : (k : ℕ) (p 
       let acc = accepts k p here in
       let i = first_of p.code (omega (arith, acc.sound.long, length-map p.code flow_of)) in
       let typing = slice_get-get_or (typings k) 0 [] (omega (arith, slice_get_within p.code 0 i.0 i.1, acc.typed.long)) in
-      let met = all_yes (asks_at program p 0 i.0 (get_or (typings k) 0 [])) (acc.typed.asks 0 i.0 (get_or (typings k) 0 []) i.1 typing) in
+      let met = all_yes (requires_at program p 0 i.0 (get_or (typings k) 0 [])) (acc.typed.asks 0 i.0 (get_or (typings k) 0 []) i.1 typing) in
       (leb-true (length (value_types p.params)) (length p.registers) met.0, met.1.0)
     where
       first_of : (code : List Instr) → 0 < length code → (i : Instr) × (slice_get code 0 ≡ Some i)
@@ -97,7 +97,7 @@ module _ (program : List Procedure) (typings : Typings) (accepts : (k : ℕ) (p 
       by_data d e =
           let own : slice_get p.code f.position.place ≡ Some (instr.Data d) = at ∙ ap Some e in
           let operands : IsDataInstr d = all_found IsInstr p.code f.position.place (instr.Data d) acc.limits.code.1 own in
-          let met : AllYes (asks_data p.registers d (typing_of typings f)) = asked program (typings f.procedure) p acc f.position.place (instr.Data d) own in
+          let met : AllYes (requires_data p.registers d (typing_of typings f)) = asked program (typings f.procedure) p acc f.position.place (instr.Data d) own in
           goes_mapped (data_instr d (context_of s f)) _ _
           (data_leaves p (typing_of typings f) (context_of s f) (other_reads program typings s a) (other_writes program typings s a) (fits_of program typings s held a f is) fits_place.values long d operands met)
           (λ c left. record {
@@ -106,7 +106,7 @@ module _ (program : List Procedure) (typings : Typings) (accepts : (k : ℕ) (p 
                 (sym (typing_on program (typings f.procedure) p acc f.spent f.position c.position (instr.Data d) fits_place own left.moves)) left.settles;
           })
 
-      met : AllYes (asks program p i (typing_of typings f))
+      met : AllYes (requires_by_instr program p i (typing_of typings f))
       met = asked program (typings f.procedure) p acc f.position.place i at
 
       known_at : Known program typings s held a f is
@@ -121,7 +121,7 @@ module _ (program : List Procedure) (typings : Typings) (accepts : (k : ℕ) (p 
             (λ to left. (left.fits_place, left.typing_there));
       }
         where
-          stops : (i : Instr) → is_ret i ≡ true → AllYes (asks program p i (typing_of typings f)) → list_all is_none (typing_of typings f) ≡ true
+          stops : (i : Instr) → is_ret i ≡ true → AllYes (requires_by_instr program p i (typing_of typings f)) → list_all is_none (typing_of typings f) ≡ true
           stops (instr.Local j) e met = cc
           stops (instr.Data d) e met = cc
           stops (instr.Rule action) e met = cc

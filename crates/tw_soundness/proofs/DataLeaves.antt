@@ -1,6 +1,6 @@
 -- Each instruction on data, with one line for each.
 use Rattle.std.proofs.Common.{◌≡◌, ℕ, length, arith}
-use Rattle.tw_soundness.proofs.MachineNames.{Context, DataInstr, IsDataInstr, Procedure, Typing, ValuesFit, asks_data, data_instr}
+use Rattle.tw_soundness.proofs.MachineNames.{Context, DataInstr, IsDataInstr, Procedure, Typing, ValuesFit, requires_data, data_instr}
 use Rattle.tw_code.specs.declared.instr.DataInstr.TheVariants as on_data
 use Rattle.tw_soundness.proofs.DataLeft.{Leaves, drop_read_leaves, drop_write_leaves, store_leaves}
 use Rattle.tw_soundness.proofs.DataMade.{copy_read_leaves, copy_write_leaves}
@@ -12,7 +12,7 @@ use Rattle.tw_soundness.proofs.Steps.{Goes}
 use Rattle.tw_soundness.proofs.Values.{AllYes}
 
 module _ (p : Procedure) (typing : Typing) (c : Context) (r w : ℕ → ℕ) (fits : Fits typing c r w) (values : ValuesFit p.registers c.position.values) (long : length typing ≡ 16) where
-  pub data_leaves : (i : DataInstr) → IsDataInstr i → AllYes (asks_data p.registers i typing) → Goes (data_instr i c) (Leaves p.registers i typing c r w)
+  pub data_leaves : (i : DataInstr) → IsDataInstr i → AllYes (requires_data p.registers i typing) → Goes (data_instr i c) (Leaves p.registers i typing c r w)
   data_leaves (on_data.New write read ty) is met = new_leaves p typing c r w fits values long write read ty (omega (arith, is.1.0.1)) (omega (arith, is.1.1.0.1)) is.1.1.1.0.0 met
   data_leaves (on_data.Store datum from) is met = store_leaves p typing c r w fits values datum from met
   data_leaves (on_data.Get to datum) is met = get_leaves p typing c r w fits values to datum met

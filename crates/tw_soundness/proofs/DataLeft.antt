@@ -1,6 +1,6 @@
 -- STORE, DROPR and DROPW succeed if their checks hold, and their results fit the typing after them.
 use Rattle.std.proofs.Common.{◌≡◌, ℕ, ◌+◌, ◌-◌, ◌<◌, ◌==◌, Bool, true, false, not, ◌&&◌, ◌||◌, List, slice_get, slice_set, Option, Some, None, refl, sym, ap, ◌∙◌, arith}
-use Rattle.tw_soundness.proofs.MachineNames.{Closed, Completed, Contains, Maps, container_only, map_only, Content, Context, DataInstr, Datum, EmptyRegister, HasWriters, IsOfType, Mode, NestedScalar, Procedure, Ref, RightType, Scalar, Set, Typing, Unset, Val, Value, ValuesFit, Write, WrongRegister, after_data, and_parts, asks_data, data_flow, data_instr, datum_at, datum_of, eq-eqb, eqb-true, get, held, hits, hits_other, hits_same, is_closed, is_read, is_scalar, is_unset, is_write, may_drop_read, may_drop_write, may_store, members_of, ne_eqb, not-true, ok_or, one_write_less, option_and_then, option_flatten, over, passes, read_by, read_dropped, reads, right_at, same_scalar, scalar_itself, scalar_of, set_to, settled, store_after, subscribers_cleared, suits, write_by, writes, writes_scalar}
+use Rattle.tw_soundness.proofs.MachineNames.{Closed, Completed, Contains, Maps, container_only, map_only, Content, Context, DataInstr, Datum, EmptyRegister, HasWriters, IsOfType, Mode, NestedScalar, Procedure, Ref, RightType, Scalar, Set, Typing, Unset, Val, Value, ValuesFit, Write, WrongRegister, after_data, and_parts, requires_data, data_flow, data_instr, datum_at, datum_of, eq-eqb, eqb-true, get, held, hits, hits_other, hits_same, is_closed, is_read, is_scalar, is_unset, is_write, may_drop_read, may_drop_write, may_store, members_of, ne_eqb, not-true, ok_or, one_write_less, option_and_then, option_flatten, over, passes, read_by, read_dropped, reads, right_at, same_scalar, scalar_itself, scalar_of, set_to, settled, store_after, subscribers_cleared, suits, write_by, writes, writes_scalar}
 use Rattle.tw_code.specs.declared.instr.DataInstr.TheVariants as on_data
 use Rattle.tw_soundness.proofs.Aging.{Aged}
 use Rattle.tw_soundness.proofs.Values.{AllYes, passed, Moves, declared_as, value_found}
@@ -42,7 +42,7 @@ module _ (p : Procedure) (typing : Typing) (c : Context) (r w : ℕ → ℕ) (fi
             (omega (arith, h.reads)) (omega (arith, h.writes)) live refl (rights_set c.store typing c.rights d None None fits.rights tt);
       }))
 
-  pub drop_read_leaves : (d : ℕ) → AllYes (asks_data p.registers (on_data.DropRead d) typing) → Goes (data_instr (on_data.DropRead d) c) (Leaves p.registers (on_data.DropRead d) typing c r w)
+  pub drop_read_leaves : (d : ℕ) → AllYes (requires_data p.registers (on_data.DropRead d) typing) → Goes (data_instr (on_data.DropRead d) c) (Leaves p.registers (on_data.DropRead d) typing c r w)
   drop_read_leaves d met =
       let q = passed reads (right_at typing d) met.0 in
       drop_read_at d q.0 (read_no_write q.0.mode q.2) (at_right d typing c r w q.0 fits q.1)
@@ -96,7 +96,7 @@ module _ (p : Procedure) (typing : Typing) (c : Context) (r w : ℕ → ℕ) (fi
             (omega (arith, h.reads, t.0)) (omega (arith, h.writes, t.1)) live next (rights_set c.store typing c.rights d None None fits.rights tt);
       }))
 
-  pub drop_write_leaves : (d : ℕ) → AllYes (asks_data p.registers (on_data.DropWrite d) typing) → Goes (data_instr (on_data.DropWrite d) c) (Leaves p.registers (on_data.DropWrite d) typing c r w)
+  pub drop_write_leaves : (d : ℕ) → AllYes (requires_data p.registers (on_data.DropWrite d) typing) → Goes (data_instr (on_data.DropWrite d) c) (Leaves p.registers (on_data.DropWrite d) typing c r w)
   drop_write_leaves d met =
       let q = passed writes (right_at typing d) met.0 in
       drop_write_at d q.0 q.2 (container q.0 q.2 (right_at typing d) q.1 met.1.0) (at_right d typing c r w q.0 fits q.1)
@@ -144,7 +144,7 @@ module _ (p : Procedure) (typing : Typing) (c : Context) (r w : ℕ → ℕ) (fi
             (omega (arith, h.reads, t.0)) (omega (arith, h.writes, t.1)) live next (rights_set c.store typing c.rights d None None fits.rights tt);
       }))))
 
-  pub store_leaves : (d from : ℕ) → AllYes (asks_data p.registers (on_data.Store d from) typing) → Goes (data_instr (on_data.Store d from) c) (Leaves p.registers (on_data.Store d from) typing c r w)
+  pub store_leaves : (d from : ℕ) → AllYes (requires_data p.registers (on_data.Store d from) typing) → Goes (data_instr (on_data.Store d from) c) (Leaves p.registers (on_data.Store d from) typing c r w)
   store_leaves d from met = by (right_at typing d) refl met.0 met.1.1.0
     where
       typed : (right : RightType) → writes_scalar right ≡ true → (not (writes_scalar right) || passes (λ declared. same_scalar declared right.ty.scalar) (slice_get p.registers from)) ≡ true → slice_get p.registers from ≡ Some right.ty.scalar

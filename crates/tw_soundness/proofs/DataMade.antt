@@ -1,6 +1,6 @@
 -- DUPR and DUPW succeed if their checks hold, and their results fit the typing after them.
 use Rattle.std.proofs.Common.{◌≡◌, ℕ, ◌+◌, ◌<◌, true, false, not, ◌&&◌, length, is_none, slice_get, slice_set, Option, Some, None, refl, sym, ap, subst, ◌∙◌, arith}
-use Rattle.tw_soundness.proofs.MachineNames.{Completed, Contains, Maps, Content, Context, Datum, EmptyRegister, Holds, IsOfType, Ok, Procedure, RightType, RightsFit, Set, Store, Typing, Unset, ValuesFit, WrongRegister, asks_data, changed, count_of, data_instr, datum_of, eqb-true, get, held, hits, hits_other, hits_same, insert, inside, is_closed, is_free, is_scalar, is_write, may_be_read, may_copy_write, must, must_be_empty, not-true, ok_or, one_read_more, one_write_more, option_flatten, over, passes, put_balanced, read_by, reads, right_at, same_Some, subscripts_in, write_by, writes, writes_scalar}
+use Rattle.tw_soundness.proofs.MachineNames.{Completed, Contains, Maps, Content, Context, Datum, EmptyRegister, Holds, IsOfType, Ok, Procedure, RightType, RightsFit, Set, Store, Typing, Unset, ValuesFit, WrongRegister, requires_data, changed, count_of, data_instr, datum_of, eqb-true, get, held, hits, hits_other, hits_same, insert, inside, is_closed, is_free, is_scalar, is_write, may_be_read, may_copy_write, must, must_be_empty, not-true, ok_or, one_read_more, one_write_more, option_flatten, over, passes, put_balanced, read_by, reads, right_at, same_Some, subscripts_in, write_by, writes, writes_scalar}
 use Rattle.tw_code.specs.declared.instr.DataInstr.TheVariants as on_data
 use Rattle.tw_soundness.proofs.DataLeft.{Leaves, read_no_write}
 use Rattle.tw_soundness.proofs.Aging.{Aged, later_put}
@@ -67,7 +67,7 @@ module _ (p : Procedure) (typing : Typing) (c : Context) (r w : ℕ → ℕ) (fi
             (rights_set c.store typing c.rights to (Some q) (Some h.id) fits.rights (at_holds typing c r w from q fits h)));
       })))
 
-  pub copy_read_leaves : (to from : ℕ) → to < 16 → AllYes (asks_data p.registers (on_data.CopyRead to from) typing) → Goes (data_instr (on_data.CopyRead to from) c) (Leaves p.registers (on_data.CopyRead to from) typing c r w)
+  pub copy_read_leaves : (to from : ℕ) → to < 16 → AllYes (requires_data p.registers (on_data.CopyRead to from) typing) → Goes (data_instr (on_data.CopyRead to from) c) (Leaves p.registers (on_data.CopyRead to from) typing c r w)
   copy_read_leaves to from l met =
       let q = passed reads (right_at typing from) met.1.0 in
       let e = empty_register to l met.0 in
@@ -107,7 +107,7 @@ module _ (p : Procedure) (typing : Typing) (c : Context) (r w : ℕ → ℕ) (fi
             (rights_set c.store typing c.rights to (Some q) (Some h.id) fits.rights (at_holds typing c r w from q fits h)));
       })))
 
-  pub copy_write_leaves : (to from : ℕ) → to < 16 → AllYes (asks_data p.registers (on_data.CopyWrite to from) typing) → Goes (data_instr (on_data.CopyWrite to from) c) (Leaves p.registers (on_data.CopyWrite to from) typing c r w)
+  pub copy_write_leaves : (to from : ℕ) → to < 16 → AllYes (requires_data p.registers (on_data.CopyWrite to from) typing) → Goes (data_instr (on_data.CopyWrite to from) c) (Leaves p.registers (on_data.CopyWrite to from) typing c r w)
   copy_write_leaves to from l met =
       let q = passed writes (right_at typing from) met.1.0 in
       let e = empty_register to l met.0 in

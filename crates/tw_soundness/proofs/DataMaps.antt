@@ -1,6 +1,6 @@
 -- Instructions on maps succeed if their checks hold, and their results fit.
 use Rattle.std.proofs.Common.{◌≡◌, ℕ, ℤ, ◌+ℤ◌, ◌<◌, pos, Bool, true, false, not, ◌&&◌, ◌||◌, slice_get, Option, Some, None, refl, sym, ap, ◌∙◌, arith}
-use Rattle.tw_soundness.proofs.MachineNames.{Completed, Contains, Set, Unset, asks_entry_of, container_only, Content, Context, IsOfType, Maps, NestedScalar, Ok, Procedure, RightType, Scalar, Skipped, Typing, Value, ValuesFit, WrongRegister, after_put, and_parts, asks_data, data_instr, datum_at, datum_of, entries_in, entry_at, get, held, gone_on, if_absent, insert, int_at, is_closed_mode, is_map, is_map_by, is_map_of, is_plain_map, is_sums, is_write, map_by, map_only, may_add, may_put, may_read_entry, option_and_then, option_flatten, passes, reads_closed_map, right_at, same_scalar, scalar_itself, scalar_of, suits_entry, suits_subscript, sum_with, value_at, value_put, with_entry, with_result, with_store, writes_map, writes_sums}
+use Rattle.tw_soundness.proofs.MachineNames.{Completed, Contains, Set, Unset, requires_entry_of, container_only, Content, Context, IsOfType, Maps, NestedScalar, Ok, Procedure, RightType, Scalar, Skipped, Typing, Value, ValuesFit, WrongRegister, after_put, and_parts, requires_data, data_instr, datum_at, datum_of, entries_in, entry_at, get, held, at_next_instr, if_absent, insert, int_at, is_closed_mode, is_map, is_map_by, is_map_of, is_plain_map, is_sums, is_write, map_by, map_only, may_add, may_put, may_read_entry, option_and_then, option_flatten, passes, reads_closed_map, right_at, same_scalar, scalar_itself, scalar_of, suits_entry, suits_subscript, sum_with, value_at, value_put, with_entry, with_result, with_store, writes_map, writes_sums}
 use Rattle.std.specs.Option.{option_map_or}
 use Rattle.tw_code.specs.accepting.Typing.{suits_subscripts}
 use Rattle.tw_types.specs.ValueOrder.{int_of}
@@ -69,12 +69,12 @@ module _ (p : Procedure) (typing : Typing) (c : Context) (r w : ℕ → ℕ) (fi
         by (Contains members) o = let z : true ≡ false = sym mapped_x ∙ (container_only h.x.ty o.0).1 in cc
         by (Maps entries) o = record { ty = refl; members = refl; closed = λ t. t; content = λ u. (u.0, one_more_entry h.x.ty entries at x u.1 e); writers = λ t. t }
 
-    put_settles : (at x : Value) → is_write q.mode ≡ true → is_map_of (scalar_of at) (scalar_of x) h.x.ty ≡ true → Settles typing c r w (gone_on (with_store c (value_put c.store h.id at x)))
+    put_settles : (at x : Value) → is_write q.mode ≡ true → is_map_of (scalar_of at) (scalar_of x) h.x.ty ≡ true → Settles typing c r w (at_next_instr (with_store c (value_put c.store h.id at x)))
     put_settles at x mode e =
         let some = h.has_write mode in
         let more : 0 < h.x.writes = (let f = h.writes in omega arith) in
         let store_is : value_put c.store h.id at x ≡ record c.store { live = insert c.store.live h.id (with_entry at x h.x) } = rw h.live refl in
-        put_context typing typing c (gone_on (with_store c (value_put c.store h.id at x))) r w h.id h.x (with_entry at x h.x) fits h.live (put_aged at x e) (λ f ne. (refl, refl)) (omega (arith, h.reads)) (omega (arith, h.writes)) (omega arith) store_is fits.rights
+        put_context typing typing c (at_next_instr (with_store c (value_put c.store h.id at x))) r w h.id h.x (with_entry at x h.x) fits h.live (put_aged at x e) (λ f ne. (refl, refl)) (omega (arith, h.reads)) (omega (arith, h.writes)) (omega arith) store_is fits.rights
 
     may_put_it : (at x : Value) → is_write q.mode ≡ true → is_plain_map q.ty ≡ true → is_map_of (scalar_of at) (scalar_of x) h.x.ty ≡ true → may_put at x (datum_of c h.id) ≡ Ok tt
     may_put_it at x mode plain e =
@@ -93,7 +93,7 @@ module _ (p : Procedure) (typing : Typing) (c : Context) (r w : ℕ → ℕ) (fi
         rw (h.live, sums_x, e, opened) refl
 
   -- the types of an accepted instruction's value registers
-  entry_types : (subscript register : ℕ) (test : RightType → Bool) (q : RightType) → test q ≡ true → AllYes (asks_entry_of p.registers subscript register test (Some q))
+  entry_types : (subscript register : ℕ) (test : RightType → Bool) (q : RightType) → test q ≡ true → AllYes (requires_entry_of p.registers subscript register test (Some q))
       → (by : Scalar) × (map_by q.ty ≡ Some by) × (slice_get p.registers subscript ≡ Some by) × (slice_get p.registers register ≡ Some q.ty.scalar)
   entry_types subscript register test q passing met =
       let first : passes (λ declared. suits_subscripts declared q.ty) (slice_get p.registers subscript) ≡ true =
@@ -122,11 +122,11 @@ module _ (p : Procedure) (typing : Typing) (c : Context) (r w : ℕ → ℕ) (fi
       left at x e None = record { moves = record { way = Completed; goes_on = refl; values = values }; settles = put_settles d q h mapped at x mode e }
       left at x e (Some old) = record { moves = record { way = Skipped; goes_on = refl; values = values }; settles = same_settles typing c (after_put c h.id at skip None) r w fits refl refl }
 
-  pub insert_value_leaves : (d subscript from skip : ℕ) → AllYes (asks_data p.registers (on_data.InsertValue d subscript from skip) typing)
+  pub insert_value_leaves : (d subscript from skip : ℕ) → AllYes (requires_data p.registers (on_data.InsertValue d subscript from skip) typing)
       → Goes (data_instr (on_data.InsertValue d subscript from skip) c) (Leaves p.registers (on_data.InsertValue d subscript from skip) typing c r w)
   insert_value_leaves d subscript from skip met = by (right_at typing d) refl met
     where
-      by : (o : Option RightType) → right_at typing d ≡ o → AllYes (asks_entry_of p.registers subscript from writes_map o) → Goes (data_instr (on_data.InsertValue d subscript from skip) c) (Leaves p.registers (on_data.InsertValue d subscript from skip) typing c r w)
+      by : (o : Option RightType) → right_at typing d ≡ o → AllYes (requires_entry_of p.registers subscript from writes_map o) → Goes (data_instr (on_data.InsertValue d subscript from skip) c) (Leaves p.registers (on_data.InsertValue d subscript from skip) typing c r w)
       by None e m = let z : false ≡ true = m.0 in cc
       by (Some q) e m =
           let both = and_parts (is_write q.mode) (is_plain_map q.ty) m.0 in
@@ -149,18 +149,18 @@ module _ (p : Procedure) (typing : Typing) (c : Context) (r w : ℕ → ℕ) (fi
       (goes_then (may_add at.0 (datum_of c h.id)) _ _ (may_add_it d q h mapped at.0 mode sums e)
       (left at.0 n.0 e (entry_at c.store h.id at.0))))))
     where
-      added : (at : Value) (n : ℤ) → is_map_of (scalar_of at) scalar.Int h.x.ty ≡ true → Leaves p.registers (on_data.AddValue d subscript from) typing c r w (gone_on (with_store c (value_put c.store h.id at (value.Int n))))
+      added : (at : Value) (n : ℤ) → is_map_of (scalar_of at) scalar.Int h.x.ty ≡ true → Leaves p.registers (on_data.AddValue d subscript from) typing c r w (at_next_instr (with_store c (value_put c.store h.id at (value.Int n))))
       added at n e = record { moves = record { way = Completed; goes_on = refl; values = values }; settles = put_settles d q h mapped at (value.Int n) mode e }
 
-      left : (at : Value) (n : ℤ) → is_map_of (scalar_of at) scalar.Int h.x.ty ≡ true → (o : Option Value) → Leaves p.registers (on_data.AddValue d subscript from) typing c r w (gone_on (with_store c (value_put c.store h.id at (sum_with o n))))
+      left : (at : Value) (n : ℤ) → is_map_of (scalar_of at) scalar.Int h.x.ty ≡ true → (o : Option Value) → Leaves p.registers (on_data.AddValue d subscript from) typing c r w (at_next_instr (with_store c (value_put c.store h.id at (sum_with o n))))
       left at n e None = added at n e
       left at n e (Some old) = added at (int_wrap w64 (int_of old +ℤ n)) e
 
-  pub add_value_leaves : (d subscript from : ℕ) → AllYes (asks_data p.registers (on_data.AddValue d subscript from) typing)
+  pub add_value_leaves : (d subscript from : ℕ) → AllYes (requires_data p.registers (on_data.AddValue d subscript from) typing)
       → Goes (data_instr (on_data.AddValue d subscript from) c) (Leaves p.registers (on_data.AddValue d subscript from) typing c r w)
   add_value_leaves d subscript from met = by (right_at typing d) refl met
     where
-      by : (o : Option RightType) → right_at typing d ≡ o → AllYes (asks_entry_of p.registers subscript from writes_sums o) → Goes (data_instr (on_data.AddValue d subscript from) c) (Leaves p.registers (on_data.AddValue d subscript from) typing c r w)
+      by : (o : Option RightType) → right_at typing d ≡ o → AllYes (requires_entry_of p.registers subscript from writes_sums o) → Goes (data_instr (on_data.AddValue d subscript from) c) (Leaves p.registers (on_data.AddValue d subscript from) typing c r w)
       by None e m = let z : false ≡ true = m.0 in cc
       by (Some q) e m =
           let both = and_parts (is_write q.mode) (is_sums q.ty && same_scalar scalar.Int q.ty.scalar) m.0 in
@@ -192,11 +192,11 @@ module _ (p : Procedure) (typing : Typing) (c : Context) (r w : ℕ → ℕ) (fi
         settles = same_settles typing c (record c { position = with_result c.position to skip (entry_at c.store h.id at.0) }) r w fits refl refl;
       })))))
 
-  pub get_value_leaves : (to d subscript skip : ℕ) → AllYes (asks_data p.registers (on_data.GetValue to d subscript skip) typing)
+  pub get_value_leaves : (to d subscript skip : ℕ) → AllYes (requires_data p.registers (on_data.GetValue to d subscript skip) typing)
       → Goes (data_instr (on_data.GetValue to d subscript skip) c) (Leaves p.registers (on_data.GetValue to d subscript skip) typing c r w)
   get_value_leaves to d subscript skip met = by (right_at typing d) refl met
     where
-      by : (o : Option RightType) → right_at typing d ≡ o → AllYes (asks_entry_of p.registers subscript to reads_closed_map o) → Goes (data_instr (on_data.GetValue to d subscript skip) c) (Leaves p.registers (on_data.GetValue to d subscript skip) typing c r w)
+      by : (o : Option RightType) → right_at typing d ≡ o → AllYes (requires_entry_of p.registers subscript to reads_closed_map o) → Goes (data_instr (on_data.GetValue to d subscript skip) c) (Leaves p.registers (on_data.GetValue to d subscript skip) typing c r w)
       by None e m = let z : false ≡ true = m.0 in cc
       by (Some q) e m =
           let both = and_parts (is_closed_mode q.mode) (is_map q.ty) m.0 in

@@ -1,6 +1,6 @@
 -- After an instruction on data exactly the waiting parameters are named.
 use Rattle.std.proofs.Common.{◌≡◌, ℕ, ◌+◌, ◌<◌, ◌==◌, true, false, not, ◌&&◌, [], Option, Some, None, refl, sym, ap, subst, ◌∙◌, arith, inl, inr}
-use Rattle.tw_soundness.proofs.MachineNames.{AlreadySet, Cause, Contains, Maps, Values, after_put, entry_at, if_absent, is_map, is_map_of, is_plain_map, is_sums, map_only, may_add, may_put, suits_subscript, sum_with, value_put, gone_on, with_store, may_read_entry, may_read_subscripts_by, scalar_of, suits_entry, with_entry, Content, Context, Data, DataInstr, Datum, EmptyRegister, FreedDatum, IsOfType, IsTypedStore, Members, NoWriteCount, Ok, Rules, Scalar, Set, Store, Subscript, Unset, UnsetDatum, Value, WhereOk, WrongRegister, WrongType, after_insert, after_look, and_parts, by_deep, cases_eq, changed, data_insert_other, data_insert_same, data_instr, datum_at, datum_of, get, held, insert, int_at, is_closed, is_container_by, is_element_of, is_of, is_scalar, is_unset, may_be_read, may_copy_write, may_drop_read, may_drop_write, may_insert, may_look, may_read_members, may_retrieve, may_store, member_at, must, must_be_empty, must_have_type, must_ok, must_then, ne_eqb, new_datum, not-true, notices_after, notices_of, of_type_at, ok_both, ok_or, ok_then, ok_there, one_read_more, one_write_less, one_write_more, read_dropped, right_at, same_Some, set_to, settled, store_after, subscribers_cleared, suits, there_then, value_at, with_member, with_notices}
+use Rattle.tw_soundness.proofs.MachineNames.{AlreadySet, Cause, Contains, Maps, Values, after_put, entry_at, if_absent, is_map, is_map_of, is_plain_map, is_sums, map_only, may_add, may_put, suits_subscript, sum_with, value_put, at_next_instr, with_store, may_read_entry, may_read_subscripts_by, scalar_of, suits_entry, with_entry, Content, Context, Data, DataInstr, Datum, EmptyRegister, FreedDatum, IsOfType, IsTypedStore, Members, NoWriteCount, Ok, Rules, Scalar, Set, Store, Subscript, Unset, UnsetDatum, Value, WhereOk, WrongRegister, WrongType, after_insert, after_look, and_parts, by_deep, cases_eq, changed, data_insert_other, data_insert_same, data_instr, datum_at, datum_of, get, held, insert, int_at, is_closed, is_container_by, is_element_of, is_of, is_scalar, is_unset, may_be_read, may_copy_write, may_drop_read, may_drop_write, may_insert, may_look, may_read_members, may_retrieve, may_store, member_at, must, must_be_empty, must_have_type, must_ok, must_then, ne_eqb, new_datum, not-true, notices_after, notices_of, of_type_at, ok_both, ok_or, ok_then, ok_there, one_read_more, one_write_less, one_write_more, read_dropped, right_at, same_Some, set_to, settled, store_after, subscribers_cleared, suits, there_then, value_at, with_member, with_notices}
 use Rattle.tw_types.specs.StoreCalls as store
 use Rattle.tw_types.specs.declared.data_type.Scalar.TheVariants as scalar
 use Rattle.tw_code.specs.declared.instr.DataInstr.TheVariants as on_data
@@ -161,11 +161,11 @@ module _ (rules : Rules) where
     went_put : (id : ℕ) (at : Subscript) (skip : ℕ) (y : Value) (o : Option Value) → may_put at y (datum_of c id) ≡ Ok tt → WhereOk {E = Cause} (Ok (after_put c id at skip o)) StaysNamed
     went_put id at skip y o m = record { is = put_stays id at skip y o m }
 
-    went_added : (id : ℕ) (at : Subscript) (x : Value) → may_add at (datum_of c id) ≡ Ok tt → WhereOk {E = Cause} (Ok (gone_on (with_store c (value_put c.store id at x)))) StaysNamed
+    went_added : (id : ℕ) (at : Subscript) (x : Value) → may_add at (datum_of c id) ≡ Ok tt → WhereOk {E = Cause} (Ok (at_next_instr (with_store c (value_put c.store id at x)))) StaysNamed
     went_added id at x m =
         let d = there_then (datum_of c id) FreedDatum _ tt m in
         record {
-          is = stays_from (gone_on (with_store c (value_put c.store id at x))) refl (changed_from id (with_entry at x) (λ z is.
+          is = stays_from (at_next_instr (with_store c (value_put c.store id at x))) refl (changed_from id (with_entry at x) (λ z is.
               let z_is : d.0 ≡ z = same_Some d.0 z (sym d.1 ∙ is) in
               (refl, subst (λ (v : Datum). is_closed (with_entry at x v) ≡ is_closed v) z_is (sum_alike at x d.0 (typed.contents id d.0 d.1) d.2))));
         }

@@ -1,6 +1,6 @@
 -- NEW succeeds if its checks hold: a new datum, with one write and one read.
 use Rattle.std.proofs.Common.{◌≡◌, ◌≢◌, ℕ, ◌+◌, ◌<◌, ◌≤◌, ◌==◌, Bool, true, false, not, if◌then◌else◌, [], map, length, is_none, slice_get, slice_set, Option, Some, None, refl, sym, ap, subst, ◌∙◌, arith, inl, inr, nat_cmp}
-use Rattle.tw_soundness.proofs.MachineNames.{Completed, Contains, Maps, is_map, else_container, Context, Datum, HasWriters, Holds, IsDataType, IsOfType, IsTypedStore, NestedScalar, Procedure, Ref, RightType, Store, Typing, Unset, ValuesFit, Write, WrongRegister, a_read, a_write, asks_data, balanced_none, count_of, created, data_insert_other, data_insert_same, data_instr, empty_content, entries, eqb-false, get, hits, hits_other, hits_same, inside, is_closed_mode, is_scalar, len-empty, len-entries, members_of, must, must_be_empty, nat_cmp-IsAntisymmetric, nat_cmp_total, new_balanced, new_datum, not-true, option_flatten, over, part, part-le-total, put_or_before, read_by, same_Some, subscripts_in, value_cmp, write_by}
+use Rattle.tw_soundness.proofs.MachineNames.{Completed, Contains, Maps, is_map, else_container, Context, Datum, HasWriters, Holds, IsDataType, IsOfType, IsTypedStore, NestedScalar, Procedure, Ref, RightType, Store, Typing, Unset, ValuesFit, Write, WrongRegister, a_read, a_write, requires_data, balanced_none, count_of, created, data_insert_other, data_insert_same, data_instr, empty_content, entries, eqb-false, get, hits, hits_other, hits_same, inside, is_closed_mode, is_scalar, len-empty, len-entries, members_of, must, must_be_empty, nat_cmp-IsAntisymmetric, nat_cmp_total, new_balanced, new_datum, not-true, option_flatten, over, part, part-le-total, put_or_before, read_by, same_Some, subscripts_in, value_cmp, write_by}
 use Rattle.std.specs.FinMap as fin
 use Rattle.tw_types.proofs.Subscripts.{no_entries, no_kinds}
 use Rattle.tw_code.specs.declared.instr.DataInstr.TheVariants as on_data
@@ -82,7 +82,7 @@ module _ (s : Store) (ty : NestedScalar) (typed : IsTypedStore s) (shallow : IsD
   }
 
 module _ (p : Procedure) (typing : Typing) (c : Context) (r w : ℕ → ℕ) (fits : Fits typing c r w) (values : ValuesFit p.registers c.position.values) (long : length typing ≡ 16) where
-  pub new_leaves : (write read : ℕ) (ty : NestedScalar) → write < 16 → read < 16 → IsDataType ty → AllYes (asks_data p.registers (on_data.New write read ty) typing) → Goes (data_instr (on_data.New write read ty) c) (Leaves p.registers (on_data.New write read ty) typing c r w)
+  pub new_leaves : (write read : ℕ) (ty : NestedScalar) → write < 16 → read < 16 → IsDataType ty → AllYes (requires_data p.registers (on_data.New write read ty) typing) → Goes (data_instr (on_data.New write read ty) c) (Leaves p.registers (on_data.New write read ty) typing c r w)
   new_leaves write read ty l m shallow met =
       let id = c.store.next in
       let none = balanced_none c.store.live (λ d. over (read_by d) typing c.rights + r d) (λ d. over (write_by d) typing c.rights + w d) id fits.balanced (fresh_none c.store fits.store) in

@@ -1,6 +1,6 @@
 -- Instructions that read data, or insert a member, succeed if their checks hold, and their results fit.
 use Rattle.std.proofs.Common.{◌≡◌, ℕ, ◌+◌, ◌<◌, pos, true, false, not, ◌||◌, length, is_none, slice_get, slice_set, Option, Some, None, refl, sym, ap, subst, ◌∙◌, arith}
-use Rattle.tw_soundness.proofs.MachineNames.{Completed, Contains, Maps, container_only, map_only, has_subscripts_by, may_read_subscripts_by, reads_closed_by, subscripts_at, subscripts_of, Content, Context, Datum, EmptyRegister, FreedDatum, Holds, IsOfType, NestedScalar, Ok, Procedure, Ref, RightType, Scalar, Set, Skipped, Store, Subscript, Typing, Unset, UnsetDatum, Value, ValuesFit, WrongRegister, a_member_read, a_read, after_insert, after_look, and_parts, asks_data, balanced_some, by_deep, changed, data_instr, datum_at, datum_of, element_of, get, given, held, hits, hits_other, hits_same, insert, inserted, int_at, is_closed, is_closed_mode, is_container_by, is_element_of, is_kept, is_read, is_scalar, is_write, may_insert, may_look, may_read_members, may_read_members_by, may_retrieve, member_at, members_in, must, must_be_empty, must_have_type, ne_eqb, not-true, of_type_at, ok_or, one_read_more, option_and_then, option_flatten, over, passes, read_by, reads_closed_container, reads_closed_container_by, reads_closed_scalar, reads_member_of, right_at, same_Some, same_scalar, scalar_itself, scalar_of, subscript_after, suits, value_at, value_in, with_member, with_result, write_by, writes_container_by}
+use Rattle.tw_soundness.proofs.MachineNames.{Completed, Contains, Maps, container_only, map_only, has_subscripts_by, may_read_subscripts_by, reads_closed_by, subscripts_at, subscripts_of, Content, Context, Datum, EmptyRegister, FreedDatum, Holds, IsOfType, NestedScalar, Ok, Procedure, Ref, RightType, Scalar, Set, Skipped, Store, Subscript, Typing, Unset, UnsetDatum, Value, ValuesFit, WrongRegister, a_member_read, a_read, after_insert, after_look, and_parts, requires_data, balanced_some, by_deep, changed, data_instr, datum_at, datum_of, element_of, get, given, held, hits, hits_other, hits_same, insert, inserted, int_at, is_closed, is_closed_mode, is_container_by, is_element_of, is_kept, is_read, is_scalar, is_write, may_insert, may_look, may_read_members, may_read_members_by, may_retrieve, member_at, members_in, must, must_be_empty, must_have_type, ne_eqb, not-true, of_type_at, ok_or, one_read_more, option_and_then, option_flatten, over, passes, read_by, reads_closed_container, reads_closed_container_by, reads_closed_scalar, reads_member_of, right_at, same_Some, same_scalar, scalar_itself, scalar_of, subscript_after, suits, value_at, value_in, with_member, with_result, write_by, writes_container_by}
 use Rattle.tw_types.specs.declared.data_type.Scalar.TheVariants as scalar
 use Rattle.tw_types.specs.declared.value.Value.TheVariants as value
 use Rattle.tw_types.specs.StoreCalls as store
@@ -77,7 +77,7 @@ module _ (p : Procedure) (typing : Typing) (c : Context) (r w : ℕ → ℕ) (fi
       (goes (ok_or (store.value_at c.store h.id) UnsetDatum) _ _ v.0 (at_some (store.value_at c.store h.id) UnsetDatum v.0 there)
       (record { moves = record { way = Completed; goes_on = refl; values = left.1 }; settles = left.0 })))))
 
-  pub get_leaves : (to d : ℕ) → AllYes (asks_data p.registers (on_data.Get to d) typing) → Goes (data_instr (on_data.Get to d) c) (Leaves p.registers (on_data.Get to d) typing c r w)
+  pub get_leaves : (to d : ℕ) → AllYes (requires_data p.registers (on_data.Get to d) typing) → Goes (data_instr (on_data.Get to d) c) (Leaves p.registers (on_data.Get to d) typing c r w)
   get_leaves to d met = by (right_at typing d) refl met.0 met.1.1.0
     where
       by : (o : Option RightType) → right_at typing d ≡ o → passes reads_closed_scalar o ≡ true
@@ -101,7 +101,7 @@ module _ (p : Procedure) (typing : Typing) (c : Context) (r w : ℕ → ℕ) (fi
       (goes_then (may_read_members (datum_of c h.id)) _ _ (members_read d q mode deep h)
       (record { moves = record { way = Completed; goes_on = refl; values = left.1 }; settles = left.0 })))
 
-  pub size_leaves : (to d : ℕ) → AllYes (asks_data p.registers (on_data.Size to d) typing) → Goes (data_instr (on_data.Size to d) c) (Leaves p.registers (on_data.Size to d) typing c r w)
+  pub size_leaves : (to d : ℕ) → AllYes (requires_data p.registers (on_data.Size to d) typing) → Goes (data_instr (on_data.Size to d) c) (Leaves p.registers (on_data.Size to d) typing c r w)
   size_leaves to d met =
       let q = passed reads_closed_container (right_at typing d) met.0 in
       let both = and_parts (is_closed_mode q.0.mode) (not (is_scalar q.0.ty)) q.2 in
@@ -124,7 +124,7 @@ module _ (p : Procedure) (typing : Typing) (c : Context) (r w : ℕ → ℕ) (fi
         settles = same_settles typing c (record c { position = with_result c.position to skip found }) r w fits refl refl;
       }))))
 
-  pub subscript_leaves : (by : Scalar) (to d index skip : ℕ) → AllYes (asks_data p.registers (on_data.SubscriptAt by to d index skip) typing)
+  pub subscript_leaves : (by : Scalar) (to d index skip : ℕ) → AllYes (requires_data p.registers (on_data.SubscriptAt by to d index skip) typing)
       → Goes (data_instr (on_data.SubscriptAt by to d index skip) c) (Leaves p.registers (on_data.SubscriptAt by to d index skip) typing c r w)
   subscript_leaves by to d index skip met =
       let q = passed (reads_closed_by by) (right_at typing d) met.0 in
@@ -176,7 +176,7 @@ module _ (p : Procedure) (typing : Typing) (c : Context) (r w : ℕ → ℕ) (fi
             };
           }
 
-  pub insert_leaves : (by : Scalar) (container subscript member skip : ℕ) → AllYes (asks_data p.registers (on_data.Insert by container subscript member skip) typing)
+  pub insert_leaves : (by : Scalar) (container subscript member skip : ℕ) → AllYes (requires_data p.registers (on_data.Insert by container subscript member skip) typing)
       → Goes (data_instr (on_data.Insert by container subscript member skip) c) (Leaves p.registers (on_data.Insert by container subscript member skip) typing c r w)
   insert_leaves by container subscript member skip met =
       let q = passed (writes_container_by by) (right_at typing container) met.0 in
@@ -244,7 +244,7 @@ module _ (p : Procedure) (typing : Typing) (c : Context) (r w : ℕ → ℕ) (fi
               settles = subst (λ o. Settles (slice_set typing member o) c r w (after_look c member skip (Some m))) (sym read) (look_settles member d skip m y.0 y.1 a b);
             }
 
-    pub look_leaves : (by : Scalar) (member d subscript skip : ℕ) → member < 16 → AllYes (asks_data p.registers (on_data.Look by member d subscript skip) typing)
+    pub look_leaves : (by : Scalar) (member d subscript skip : ℕ) → member < 16 → AllYes (requires_data p.registers (on_data.Look by member d subscript skip) typing)
         → Goes (data_instr (on_data.Look by member d subscript skip) c) (Leaves p.registers (on_data.Look by member d subscript skip) typing c r w)
     look_leaves by member d subscript skip l met =
         let q = passed (reads_closed_container_by by) (right_at typing d) met.1.0 in

@@ -1,6 +1,6 @@
 -- RULE and PUT move rights out of their registers, and make them arguments of the parameters, if their checks hold.
 use Rattle.std.proofs.Common.{◌≡◌, ℕ, ◌+◌, ◌<◌, Bool, true, false, not, ◌||◌, if◌then◌else◌, List, [], ◌∷◌, ◌++◌, map, length, slice_get, slice_set, Option, Some, None, is_some, refl, sym, ap, subst, ◌∙◌, arith, inl, inr}
-use Rattle.tw_soundness.proofs.MachineNames.{Arg, ArgFits, ArgsFit, Cause, Closed, Datum, EmptyRegister, Free, HandedOver, Holds, Mode, NestedScalar, Ok, Param, Ref, Result, RightArg, RightType, Rights, RightsFit, RuleArgsFit, Scalar, Store, Typing, Unasked, Val, Value, ValueArg, ValuesFit, Write, WrongRegister, all_pass, and_from, and_parts, asks_args, asks_value, cases_Bool, first_stage, get, handed_over, has_type, held, hits, hits_same, is_asked_for, is_closed, is_closed_if_asked, is_closed_mode, is_live, is_of_type, is_read, is_val, is_write, right_fits_param, ok_or, option_flatten, or_left, or_right, over, passes, read_by, right_at, right_of, right_until, same_scalar, same_type, same_types, scalar_itself, scalar_of, suits_mode, type_itself, values_suit, with_arg, without_args, write_by}
+use Rattle.tw_soundness.proofs.MachineNames.{Arg, ArgFits, ArgsFit, Cause, Closed, Datum, EmptyRegister, Free, MovedArgs, Holds, Mode, NestedScalar, Ok, Param, Ref, Result, RightArg, RightType, Rights, RightsFit, RuleArgsFit, Scalar, Store, Typing, Unasked, Val, Value, ValueArg, ValuesFit, Write, WrongRegister, all_pass, and_from, and_parts, requires_args, requires_value, cases_Bool, first_stage, get, moved_args, has_type, held, hits, hits_same, is_asked_for, is_closed, is_closed_if_required, is_closed_mode, is_live, is_of_type, is_read, is_val, is_write, right_fits_param, ok_or, option_flatten, or_left, or_right, over, passes, read_by, right_at, right_of, right_until, same_scalar, same_type, same_types, scalar_itself, scalar_of, suits_mode, type_itself, values_suit, with_arg, without_args, write_by}
 use Rattle.tw_types.specs.Result.{◌>>=◌}
 use Rattle.tw_soundness.proofs.Over.{over_params}
 use Rattle.tw_soundness.proofs.Registers.{Found, found, emptied, rights_set}
@@ -29,7 +29,7 @@ ArgsMatch waits s (p ∷ params) [] = ⊥
 ArgsMatch waits s (p ∷ params) (arg ∷ args) = ArgMatches waits s p (is_val p.mode) arg × ArgsMatch waits s params args
 
 -- the arguments into which the registers' rights were moved
-pub record GivenSo (waits : Bool) (s : Store) (params : List Param) (typing : Typing) (rights : Rights) (left : Typing) (given : HandedOver) : Type 0 where
+pub record GivenSo (waits : Bool) (s : Store) (params : List Param) (typing : Typing) (rights : Rights) (left : Typing) (given : MovedArgs) : Type 0 where
   pub args : ArgsMatch waits s params given.args
   pub rights_left : RightsFit s left given.rights
   pub reads : (d : ℕ) → over (read_by d) typing rights ≡ over (read_by d) left given.rights + over_params (read_by d) params given.args
@@ -62,21 +62,21 @@ suits_write waits mode right e = by mode right.mode e
 
 -- ---- the arguments, one after the other
 
-abbrev value_then : List Value → Rights → List Param → List ℕ → ℕ → Result HandedOver Cause
-value_then values rights params registers r = ok_or (slice_get values r) WrongRegister >>= λ x. (handed_over values rights params registers >>= λ others. Ok (with_arg (ValueArg x) others))
+abbrev value_then : List Value → Rights → List Param → List ℕ → ℕ → Result MovedArgs Cause
+value_then values rights params registers r = ok_or (slice_get values r) WrongRegister >>= λ x. (moved_args values rights params registers >>= λ others. Ok (with_arg (ValueArg x) others))
 
-abbrev right_then : List Value → Rights → List Param → List ℕ → ℕ → Result HandedOver Cause
-right_then values rights params registers r = held rights r >>= λ id. (handed_over values (slice_set rights r None) params registers >>= λ others. Ok (with_arg (RightArg id) others))
+abbrev right_then : List Value → Rights → List Param → List ℕ → ℕ → Result MovedArgs Cause
+right_then values rights params registers r = held rights r >>= λ id. (moved_args values (slice_set rights r None) params registers >>= λ others. Ok (with_arg (RightArg id) others))
 
 module _ (waits : Bool) (s : Store) (declared : List Scalar) (values : List Value) (fit : ValuesFit declared values) where
-  value_goes : (p : Param) (params : List Param) (r : ℕ) (registers : List ℕ) (typing : Typing) (rights : Rights) → is_val p.mode ≡ true → AllYes (asks_value declared r p.ty.scalar ++ asks_args waits declared params registers typing)
-      → Goes (handed_over values rights params registers) (GivenSo waits s params typing rights (without_args params registers typing))
+  value_goes : (p : Param) (params : List Param) (r : ℕ) (registers : List ℕ) (typing : Typing) (rights : Rights) → is_val p.mode ≡ true → AllYes (requires_value declared r p.ty.scalar ++ requires_args waits declared params registers typing)
+      → Goes (moved_args values rights params registers) (GivenSo waits s params typing rights (without_args params registers typing))
       → Goes (value_then values rights params registers r) (GivenSo waits s (p ∷ params) typing rights (without_args params registers typing))
   value_goes p params r registers typing rights e met rest =
       let x = value_found declared values r p.ty.scalar fit (declared_as (slice_get declared r) p.ty.scalar met.1.0) in
       let none : right_of p ≡ None = ap (λ b. if b then None else Some (record { mode = p.mode; ty = p.ty })) e in
       goes (ok_or (slice_get values r) WrongRegister) _ _ x.0 (ap (λ o. ok_or o WrongRegister) x.1)
-      (goes_more (handed_over values rights params registers) _ _ _ rest (λ others so. record {
+      (goes_more (moved_args values rights params registers) _ _ _ rest (λ others so. record {
         args = (subst (λ b. ArgMatches waits s p b (ValueArg x.0)) (sym e) x.2, so.args);
         rights_left = so.rights_left;
         reads = λ d. let z : read_by d (right_of p) None ≡ 0 = ap (λ o. read_by d o None) none in let h = so.reads d in omega arith;
@@ -84,14 +84,14 @@ module _ (waits : Bool) (s : Store) (declared : List Scalar) (values : List Valu
       }))
 
   right_goes : (p : Param) (params : List Param) (r : ℕ) (registers : List ℕ) (typing : Typing) (rights : Rights) (q : RightType) → is_val p.mode ≡ false → right_fits_param waits p q ≡ true → (f : Found s rights typing r q)
-      → Goes (handed_over values (slice_set rights r None) params registers) (GivenSo waits s params (slice_set typing r None) (slice_set rights r None) (without_args params registers (slice_set typing r None)))
+      → Goes (moved_args values (slice_set rights r None) params registers) (GivenSo waits s params (slice_set typing r None) (slice_set rights r None) (without_args params registers (slice_set typing r None)))
       → Goes (right_then values rights params registers r) (GivenSo waits s (p ∷ params) typing rights (without_args params registers (slice_set typing r None)))
   right_goes p params r registers typing rights q e fits_place f rest =
       let both = and_parts (suits_mode waits p.mode q) (same_type q.ty p.ty) fits_place in
       let some : right_of p ≡ Some (record { mode = p.mode; ty = p.ty }) = ap (λ b. if b then None else Some (record { mode = p.mode; ty = p.ty })) e in
       let kind : is_write q.mode ≡ is_write p.mode = suits_write waits p.mode q both.0 in
       goes (held rights r) _ _ f.id (ap (λ o. ok_or (option_flatten o) EmptyRegister) f.register)
-      (goes_more (handed_over values (slice_set rights r None) params registers) _ _ _ rest (λ others so. record {
+      (goes_more (moved_args values (slice_set rights r None) params registers) _ _ _ rest (λ others so. record {
         args = (subst (λ b. ArgMatches waits s p b (RightArg f.id)) (sym e) (record { right = q; suits = both.0; ty = same_types q.ty p.ty both.1; holds = f.holds }), so.args);
         rights_left = so.rights_left;
         reads = λ d.
@@ -106,43 +106,43 @@ module _ (waits : Bool) (s : Store) (declared : List Scalar) (values : List Valu
             omega arith;
       }))
 
-  pub moved_goes : (params : List Param) (registers : List ℕ) (typing : Typing) (rights : Rights) → RightsFit s typing rights → AllYes (asks_args waits declared params registers typing) → length registers ≡ length params
-      → Goes (handed_over values rights params registers) (GivenSo waits s params typing rights (without_args params registers typing))
+  pub moved_goes : (params : List Param) (registers : List ℕ) (typing : Typing) (rights : Rights) → RightsFit s typing rights → AllYes (requires_args waits declared params registers typing) → length registers ≡ length params
+      → Goes (moved_args values rights params registers) (GivenSo waits s params typing rights (without_args params registers typing))
   moved_goes [] [] typing rights f met long = record { args = tt; rights_left = f; reads = λ d. omega arith; writes = λ d. omega arith }
   moved_goes [] (r ∷ registers) typing rights f met long = absurd (omega arith)
   moved_goes (p ∷ params) [] typing rights f met long = absurd (omega arith)
   moved_goes (p ∷ params) (r ∷ registers) typing rights f met long = elim (cases_Bool (is_val p.mode)) [
     | inl e ↦
-        let asked : AllYes (asks_value declared r p.ty.scalar ++ asks_args waits declared params registers typing) =
-        subst (λ b. AllYes (if b then asks_value declared r p.ty.scalar ++ asks_args waits declared params registers typing else (4, passes (right_fits_param waits p) (right_at typing r)) ∷ asks_args waits declared params registers (slice_set typing r None))) e met in
+        let asked : AllYes (requires_value declared r p.ty.scalar ++ requires_args waits declared params registers typing) =
+        subst (λ b. AllYes (if b then requires_value declared r p.ty.scalar ++ requires_args waits declared params registers typing else (4, passes (right_fits_param waits p) (right_at typing r)) ∷ requires_args waits declared params registers (slice_set typing r None))) e met in
         let rest = moved_goes params registers typing rights f asked.1.1 (omega arith) in
         let done = value_goes p params r registers typing rights e asked rest in
         let one = subst (λ b. Goes (if b then value_then values rights params registers r else right_then values rights params registers r) (GivenSo waits s (p ∷ params) typing rights (without_args params registers typing))) (sym e) done in
-        subst (λ b. Goes (handed_over values rights (p ∷ params) (r ∷ registers)) (GivenSo waits s (p ∷ params) typing rights (without_args params registers (if b then typing else slice_set typing r None)))) (sym e) one
+        subst (λ b. Goes (moved_args values rights (p ∷ params) (r ∷ registers)) (GivenSo waits s (p ∷ params) typing rights (without_args params registers (if b then typing else slice_set typing r None)))) (sym e) one
     | inr e ↦
-        let asked : AllYes ((4, passes (right_fits_param waits p) (right_at typing r)) ∷ asks_args waits declared params registers (slice_set typing r None)) =
-        subst (λ b. AllYes (if b then asks_value declared r p.ty.scalar ++ asks_args waits declared params registers typing else (4, passes (right_fits_param waits p) (right_at typing r)) ∷ asks_args waits declared params registers (slice_set typing r None))) e met in
+        let asked : AllYes ((4, passes (right_fits_param waits p) (right_at typing r)) ∷ requires_args waits declared params registers (slice_set typing r None)) =
+        subst (λ b. AllYes (if b then requires_value declared r p.ty.scalar ++ requires_args waits declared params registers typing else (4, passes (right_fits_param waits p) (right_at typing r)) ∷ requires_args waits declared params registers (slice_set typing r None))) e met in
         let q = passed (right_fits_param waits p) (right_at typing r) asked.0 in
         let rest = moved_goes params registers (slice_set typing r None) (slice_set rights r None) (rights_set s typing rights r None None f tt) asked.1 (omega arith) in
         let done = right_goes p params r registers typing rights q.0 e q.2 (found s rights typing r q.0 f q.1) rest in
         let one = subst (λ b. Goes (if b then value_then values rights params registers r else right_then values rights params registers r) (GivenSo waits s (p ∷ params) typing rights (without_args params registers (slice_set typing r None)))) (sym e) done in
-        subst (λ b. Goes (handed_over values rights (p ∷ params) (r ∷ registers)) (GivenSo waits s (p ∷ params) typing rights (without_args params registers (if b then typing else slice_set typing r None)))) (sym e) one
+        subst (λ b. Goes (moved_args values rights (p ∷ params) (r ∷ registers)) (GivenSo waits s (p ∷ params) typing rights (without_args params registers (if b then typing else slice_set typing r None)))) (sym e) one
   ]
 
   -- C13 isn't met
-  pub values_met : (params : List Param) (registers : List ℕ) (typing : Typing) → AllYes (asks_args waits declared params registers typing) → values_suit values params registers ≡ true
+  pub values_met : (params : List Param) (registers : List ℕ) (typing : Typing) → AllYes (requires_args waits declared params registers typing) → values_suit values params registers ≡ true
   values_met [] registers typing met = refl
   values_met (p ∷ params) [] typing met = refl
   values_met (p ∷ params) (r ∷ registers) typing met = elim (cases_Bool (is_val p.mode)) [
     | inl e ↦
-        let asked : AllYes (asks_value declared r p.ty.scalar ++ asks_args waits declared params registers typing) =
-        subst (λ b. AllYes (if b then asks_value declared r p.ty.scalar ++ asks_args waits declared params registers typing else (4, passes (right_fits_param waits p) (right_at typing r)) ∷ asks_args waits declared params registers (slice_set typing r None))) e met in
+        let asked : AllYes (requires_value declared r p.ty.scalar ++ requires_args waits declared params registers typing) =
+        subst (λ b. AllYes (if b then requires_value declared r p.ty.scalar ++ requires_args waits declared params registers typing else (4, passes (right_fits_param waits p) (right_at typing r)) ∷ requires_args waits declared params registers (slice_set typing r None))) e met in
         let x = value_found declared values r p.ty.scalar fit (declared_as (slice_get declared r) p.ty.scalar asked.1.0) in
         let has : has_type (slice_get values r) p ≡ true = ap (λ o. has_type o p) x.1 ∙ ap (λ (u : Scalar). same_scalar u p.ty.scalar) x.2 ∙ scalar_itself p.ty.scalar in
         and_from (not (is_val p.mode) || has_type (slice_get values r) p) (values_suit values params registers) (or_right (not (is_val p.mode)) (has_type (slice_get values r) p) has) (values_met params registers typing asked.1.1)
     | inr e ↦
-        let asked : AllYes ((4, passes (right_fits_param waits p) (right_at typing r)) ∷ asks_args waits declared params registers (slice_set typing r None)) =
-        subst (λ b. AllYes (if b then asks_value declared r p.ty.scalar ++ asks_args waits declared params registers typing else (4, passes (right_fits_param waits p) (right_at typing r)) ∷ asks_args waits declared params registers (slice_set typing r None))) e met in
+        let asked : AllYes ((4, passes (right_fits_param waits p) (right_at typing r)) ∷ requires_args waits declared params registers (slice_set typing r None)) =
+        subst (λ b. AllYes (if b then requires_value declared r p.ty.scalar ++ requires_args waits declared params registers typing else (4, passes (right_fits_param waits p) (right_at typing r)) ∷ requires_args waits declared params registers (slice_set typing r None))) e met in
         and_from (not (is_val p.mode) || has_type (slice_get values r) p) (values_suit values params registers) (or_left (not (is_val p.mode)) (has_type (slice_get values r) p) (ap not e)) (values_met params registers (slice_set typing r None) asked.1)
   ]
 
@@ -183,16 +183,16 @@ all_typed waits s (p ∷ params) (RightArg id ∷ args) h = elim (cases_Bool (is
     one f (Some x) at = ap (λ (u : NestedScalar). same_type u p.ty) (f.holds.ty x at ∙ f.ty) ∙ type_itself p.ty
 
 -- C10: what PUT gives for a `closed` parameter is closed
-pub all_closed : (s : Store) (params : List Param) (args : List Arg) → ArgsMatch false s params args → all_pass is_closed_if_asked s.live params args ≡ true
+pub all_closed : (s : Store) (params : List Param) (args : List Arg) → ArgsMatch false s params args → all_pass is_closed_if_required s.live params args ≡ true
 all_closed s [] args h = refl
 all_closed s (p ∷ params) [] h = refl
 all_closed s (p ∷ params) (ValueArg x ∷ args) h = all_closed s params args h.1
 all_closed s (p ∷ params) (RightArg id ∷ args) h = elim (cases_Bool (is_val p.mode)) [
   | inl e ↦ absurd (subst (λ b. ArgMatches false s p b (RightArg id)) e h.0)
-  | inr e ↦ and_from (is_closed_if_asked p (get s.live id)) (all_pass is_closed_if_asked s.live params args) (one (subst (λ b. ArgMatches false s p b (RightArg id)) e h.0) (get s.live id) refl) (all_closed s params args h.1)
+  | inr e ↦ and_from (is_closed_if_required p (get s.live id)) (all_pass is_closed_if_required s.live params args) (one (subst (λ b. ArgMatches false s p b (RightArg id)) e h.0) (get s.live id) refl) (all_closed s params args h.1)
 ]
   where
-    one : FitsParam false s p id → (o : Option Datum) → get s.live id ≡ o → is_closed_if_asked p o ≡ true
+    one : FitsParam false s p id → (o : Option Datum) → get s.live id ≡ o → is_closed_if_required p o ≡ true
     one f None at = refl
     one f (Some x) at = by p.mode f.suits
       where

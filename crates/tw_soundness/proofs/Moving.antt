@@ -1,6 +1,6 @@
 -- Where a task continues: in the loops that it has begun, within its budget, and with the typing of the place.
 use Rattle.std.proofs.Common.{◌≡◌, ℕ, zero, suc, ◌+◌, ◌<◌, ◌==◌, ◌⊎◌, inl, inr, List, [], ◌∷◌, length, slice_get, get_or, Some, None, refl, sym, ap, subst, ◌∙◌, arith, if◌then◌else◌}
-use Rattle.tw_soundness.proofs.MachineNames.{Accepts, AreBegun, Completed, Cursor, DataInstr, Instr, Loop, NotEnabled, Outcome, Position, Procedure, Skipped, IsAtPosition, Typing, after, asks, asks_at, asks_params, data_flow, flow_of, flows, length-map, local_flow, local_of, local_step, local_steps, moved, onward, option_and_then, option_map, outcome_of, same_Some, slice_get-get_or, slice_get-map, slice_get_within, turned}
+use Rattle.tw_soundness.proofs.MachineNames.{Accepts, AreBegun, Completed, Cursor, DataInstr, Instr, Loop, NotEnabled, Outcome, Position, Procedure, Skipped, IsAtPosition, Typing, after, requires_by_instr, requires_at, requires_params, data_flow, flow_of, flows, length-map, local_flow, local_of, local_step, local_steps, moved, onward, option_and_then, option_map, outcome_of, same_Some, slice_get-get_or, slice_get-map, slice_get_within, turned}
 use Rattle.tw_code.specs.declared.flow.Flow.{Flow}
 use Rattle.tw_code.specs.declared.flow.Flow.TheVariants.{Straight, Branch, Jump, Begin, Close, Stop}
 use Rattle.tw_code.specs.declared.flow.Way.{Way}
@@ -111,10 +111,10 @@ module _ (program : List Procedure) (typings : List Typing) (p : Procedure) (acc
   instr_there (i ∷ code) (suc place) h = instr_there code place (omega arith)
 
   -- the checks of its instruction hold
-  pub asked : (place : ℕ) (i : Instr) → slice_get p.code place ≡ Some i → AllYes (asks program p i (get_or typings place []))
+  pub asked : (place : ℕ) (i : Instr) → slice_get p.code place ≡ Some i → AllYes (requires_by_instr program p i (get_or typings place []))
   asked place i here =
-      yes_after (if place == 0 then asks_params p else []) (asks program p i (get_or typings place []))
-      (all_yes (asks_at program p place i (get_or typings place [])) (accepts.typed.asks place i (get_or typings place []) here (typing_there place (slice_get_within p.code place i here))))
+      yes_after (if place == 0 then requires_params p else []) (requires_by_instr program p i (get_or typings place []))
+      (all_yes (requires_at program p place i (get_or typings place [])) (accepts.typed.asks place i (get_or typings place []) here (typing_there place (slice_get_within p.code place i here))))
 
   -- an END has a loop
   pub has_loop : (spent : ℕ) (at : Position) (i : Instr) → IsAtPosition p spent at → slice_get p.code at.place ≡ Some i → flow_of i ≡ Close → HasLoop at

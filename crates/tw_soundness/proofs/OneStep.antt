@@ -1,6 +1,6 @@
 -- Each running task has exactly one next step, which succeeds, and is below its budget.
 use Rattle.std.proofs.Common.{◌≡◌, ℕ, ◌+◌, inl, inr, true, false, List, slice_get, Some, None, is_none, refl, sym, ap, subst, ◌∙◌}
-use Rattle.tw_soundness.proofs.MachineNames.{◌>>=◌, ◌>>◌, Accepts, Actor, ActorCounts, Cause, Err, ExactlyOne, Frame, GivesState, HasOneStep, Instr, IsBelowBudget, IsHeld, NotEnabled, Ok, Outcome, Position, Procedure, Result, RightLeft, State, Trap, Typings, Went, after_context, asks, called, context_of, data_instr, flows, get, gone_after, list_all, must, new_rule, number_in_kind, only_if, outcome_of, put_called, remove, typing_of, with_frame, with_rule, with_task}
+use Rattle.tw_soundness.proofs.MachineNames.{◌>>=◌, ◌>>◌, Accepts, Actor, ActorCounts, Cause, Err, ExactlyOne, Frame, GivesState, HasOneStep, Instr, IsBelowBudget, IsHeld, NotEnabled, Ok, Outcome, Position, Procedure, Result, RightLeft, State, Trap, Typings, Went, after_context, requires_by_instr, called, context_of, data_instr, flows, get, frame_after_call, list_all, must, new_rule, number_in_kind, only_if, outcome_of, put_called, remove, typing_of, with_frame, with_rule, with_task}
 use Rattle.tw_code.specs.declared.instr.Instr.TheVariants as instr
 use Rattle.tw_code.specs.declared.instr.LocalInstr.{LocalInstr}
 use Rattle.tw_code.specs.machine.Machine.{RunningInstr, call_by, call_event, end_event, is_ret, local_event, local_of, local_step, local_steps, running_instr_of, step}
@@ -79,13 +79,13 @@ module _ (program : List Procedure) (typings : Typings) (accepts : (k : ℕ) (p 
         by (instr.Data d) e = by_call (instr.Data d) e refl refl
             (goes_gives (data_instr d (context_of s f)) (after_context s a f) _ (k.turn.by_data d e))
         by (instr.Rule action) e = by_call (instr.Rule action) e refl refl
-            (goes_gives (called program k.procedure.kind (context_of s f) action) (λ call. with_frame (with_rule s (new_rule (number_in_kind a) call.params call.task)) a (gone_after f call.rights)) _
+            (goes_gives (called program k.procedure.kind (context_of s f) action) (λ call. with_frame (with_rule s (new_rule (number_in_kind a) call.params call.task)) a (frame_after_call f call.rights)) _
             (called_goes program k.procedure (context_of s f) (typing_of typings f) (other_reads program typings s a) (other_writes program typings s a) action (fits_of program typings s held a f is) (held.types.values a f k.procedure is k.here) true
-            (subst (λ i. AllYes (asks program k.procedure i (typing_of typings f))) e k.turn.met)))
+            (subst (λ i. AllYes (requires_by_instr program k.procedure i (typing_of typings f))) e k.turn.met)))
         by (instr.Put action) e = by_call (instr.Put action) e refl refl
-            (goes_gives (put_called program k.procedure.kind (context_of s f) action) (λ call. with_frame (with_task s call.task) a (gone_after f call.rights)) _
+            (goes_gives (put_called program k.procedure.kind (context_of s f) action) (λ call. with_frame (with_task s call.task) a (frame_after_call f call.rights)) _
             (put_goes program k.procedure (context_of s f) (typing_of typings f) (other_reads program typings s a) (other_writes program typings s a) action (fits_of program typings s held a f is) (held.types.values a f k.procedure is k.here)
-            (subst (λ i. AllYes (asks program k.procedure i (typing_of typings f))) e k.turn.met)))
+            (subst (λ i. AllYes (requires_by_instr program k.procedure i (typing_of typings f))) e k.turn.met)))
         by instr.Ret e =
             let empty = all_empty s.store (typing_of typings f) f.rights (held.types.rights a f is) (k.stops (ap is_ret e)) in
             let gone : end_event program a s ≡ Went (record s { frames = remove s.frames a }) = end_is ∙ ap ended e ∙ rw empty refl in

@@ -1,6 +1,6 @@
 -- Consequences of typings of rights for the code and for a running task: checks, results, and the content of its registers.
 use Rattle.std.proofs.Common.{[], ◌≡◌, ℕ, ◌+◌, ◌<◌, true, List, length, slice_get, Option, Some, None, refl, sym, ap, subst, ◌∙◌, arith}
-use Rattle.tw_soundness.proofs.MachineNames.{Accepts, Actor, AreRight, Completed, Datum, Frame, Instr, IsHeld, IsProgram, Position, Procedure, RightType, Rights, RightsFit, Skipped, IsAtPosition, State, Typing, Typings, Went, after, asks, context_of, flow_of, flows, get, goal_of, is_closed, is_closed_mode, length-map, local_steps, onward, option_flatten, option_map, right_at, same_Some, slice_get-get_or, slice_get-map, slice_get_within, start_typing, typing_at, typing_of}
+use Rattle.tw_soundness.proofs.MachineNames.{Accepts, Actor, AreRight, Completed, Datum, Frame, Instr, IsHeld, IsProgram, Position, Procedure, RightType, Rights, RightsFit, Skipped, IsAtPosition, State, Typing, Typings, Went, after, requires_by_instr, context_of, flow_of, flows, get, goal_of, is_closed, is_closed_mode, length-map, local_steps, onward, option_flatten, option_map, right_at, same_Some, slice_get-get_or, slice_get-map, slice_get_within, start_typing, typing_at, typing_of}
 use Rattle.tw_code.specs.declared.flow.Flow.{Flow}
 use Rattle.tw_code.specs.declared.flow.Flow.TheVariants.{Straight, Branch, Jump, Begin, Close, Stop}
 use Rattle.tw_code.specs.declared.flow.Way.{Way}
@@ -62,7 +62,7 @@ module _ (program : List Procedure) (typings : Typings) (is : IsProgram program)
     typed_at_start = acc.typed.begins (typing_at typings number 0) (there 0 acc.sound.long)
 
     -- each check of an instruction is met by the typing of its place
-    pub asked_at : (place : ℕ) (i : Instr) → slice_get p.code place ≡ Some i → AllYes (asks program p i (typing_at typings number place))
+    pub asked_at : (place : ℕ) (i : Instr) → slice_get p.code place ≡ Some i → AllYes (requires_by_instr program p i (typing_at typings number place))
     asked_at place i at = asked program (typings number) p acc place i at
 
     -- a later successor, of either outcome, is in the code and has the typing that the instruction leaves

@@ -1,6 +1,6 @@
 -- RULE, PUT and Take keep the invariant, and never trap.
 use Rattle.std.proofs.Common.{◌≡◌, ℕ, ◌+◌, ◌≤◌, Bool, true, false, ◌&&◌, List, [], map, length, slice_get, is_none, Option, Some, None, refl, sym, ap, subst, ◌∙◌, arith}
-use Rattle.tw_soundness.proofs.MachineNames.{◌>>=◌, Actor, ActorCounts, Called, Frame, IsBudget, IsHeld, Ok, Procedure, RightsFit, Rule, RuleArgsFit, RunningInstr, IsAtPosition, State, Task, Typing, Typings, Went, actor_cmp, actor_cmp-IsAntisymmetric, actor_cmp_total, and_parts, asks_action, at_next_place, balanced_same, best, called, context_of, count_of, first_rights, first_stage, flows, frame_of, frame_reads, frame_writes, get, gone_after, ids_in, is_in, new_rule, number_in_kind, outcome_of, over, params_in, params_of, put_called, put_event, read_by, remove, rule_event, rule_reads, rule_writes, start_typing, take_event, task_reads, task_writes, total, typing_at, typing_of, value_types, values_fit, values_in, with_frame, with_rule, with_task, without_args, write_by}
+use Rattle.tw_soundness.proofs.MachineNames.{◌>>=◌, Actor, ActorCounts, Called, Frame, IsBudget, IsHeld, Ok, Procedure, RightsFit, Rule, RuleArgsFit, RunningInstr, IsAtPosition, State, Task, Typing, Typings, Went, actor_cmp, actor_cmp-IsAntisymmetric, actor_cmp_total, and_parts, requires_action, at_next_place, balanced_same, best, called, context_of, count_of, first_rights, first_stage, flows, frame_of, frame_reads, frame_writes, get, frame_after_call, ids_in, is_in, new_rule, number_in_kind, outcome_of, over, params_in, params_of, put_called, put_event, read_by, remove, rule_event, rule_reads, rule_writes, start_typing, take_event, task_reads, task_writes, total, typing_at, typing_of, value_types, values_fit, values_in, with_frame, with_rule, with_task, without_args, write_by}
 use Rattle.tw_code.specs.declared.instr.Action.{Action}
 use Rattle.tw_budget.specs.Frames.{IsWithinBudget}
 use Rattle.tw_soundness.proofs.Over.{over_params}
@@ -59,7 +59,7 @@ module _ (program : List Procedure) (typings : Typings) where
           (next : typing_at typings f.procedure (f.position.place + 1) ≡ without_args (params_of program action.procedure) action.args (typing_of typings f)) where
         module _ (waits : Bool) (call : Called) (so : CalledSo program p (context_of s f) (typing_of typings f) (other_reads s a) (other_writes s a) action (fits_of) (held.types.values a f p is here) waits call) where
           abbrev rest_of : Frame
-          rest_of = gone_after f call.rights
+          rest_of = frame_after_call f call.rights
 
           left_is : typing_of typings rest_of ≡ without_args so.callee.params action.args (typing_of typings f)
           left_is = next ∙ ap (λ o. without_args (params_in o) action.args (typing_of typings f)) so.is
@@ -86,19 +86,19 @@ module _ (program : List Procedure) (typings : Typings) where
 
         -- PUT
         put_held : (call : Called) → CalledSo program p (context_of s f) (typing_of typings f) (other_reads s a) (other_writes s a) action (fits_of) (held.types.values a f p is here) false call
-            → IsHeld program typings (with_frame (with_task s call.task) a (gone_after f call.rights))
+            → IsHeld program typings (with_frame (with_task s call.task) a (frame_after_call f call.rights))
         put_held call so =
             let numbers = numbers_tasked program typings s call.task held.numbers in
             record {
               numbers = record { tasks = numbers.tasks; rules = numbers.rules };
-              types = types_framed program typings (with_task s call.task) a (gone_after f call.rights) p here fits_place (fit_after false call so)
+              types = types_framed program typings (with_task s call.task) a (frame_after_call f call.rights) p here fits_place (fit_after false call so)
                   (types_tasked program typings s call.task so.callee (of_callee false call so) (put_fit s.store so.callee.params call.task.args so.so.args) held.types);
-              counts = counts_put program typings s a f (gone_after f call.rights) is call.task fresh_task (λ d. (given_reads false call so d, given_writes false call so d)) held.counts;
+              counts = counts_put program typings s a f (frame_after_call f call.rights) is call.task fresh_task (λ d. (given_reads false call so d, given_writes false call so d)) held.counts;
               notices = held.notices;
-              budgets = budgets_framed program typings (with_task s call.task) a (gone_after f call.rights) p here fits_place (record { begun = held.budgets.begun; within = held.budgets.within });
+              budgets = budgets_framed program typings (with_task s call.task) a (frame_after_call f call.rights) p here fits_place (record { begun = held.budgets.begun; within = held.budgets.within });
             }
 
-        pub put_goes_on : (at : RunningInstr) → at.frame ≡ f → at.procedure ≡ p → AllYes (asks_action false program p action (typing_of typings f)) → Keeps (put_event program s a at action) (IsHeld program typings)
+        pub put_goes_on : (at : RunningInstr) → at.frame ≡ f → at.procedure ≡ p → AllYes (requires_action false program p action (typing_of typings f)) → Keeps (put_event program s a at action) (IsHeld program typings)
         put_goes_on at of_f of_p met =
             rw (of_f, of_p) (goes_keeps (put_called program p.kind (context_of s f) action) _ _ _
             (put_goes program p (context_of s f) (typing_of typings f) (other_reads s a) (other_writes s a) action fits_of (held.types.values a f p is here) met)
@@ -106,21 +106,21 @@ module _ (program : List Procedure) (typings : Typings) where
 
         -- RULE
         rule_held : (call : Called) → CalledSo program p (context_of s f) (typing_of typings f) (other_reads s a) (other_writes s a) action (fits_of) (held.types.values a f p is here) true call
-            → IsHeld program typings (with_frame (with_rule s (new_rule (number_in_kind a) call.params call.task)) a (gone_after f call.rights))
+            → IsHeld program typings (with_frame (with_rule s (new_rule (number_in_kind a) call.params call.task)) a (frame_after_call f call.rights))
         rule_held call so =
             let rule : Rule = new_rule (number_in_kind a) call.params call.task in
             let numbers = numbers_ruled program typings s rule held.numbers in
             record {
               numbers = record { tasks = numbers.tasks; rules = numbers.rules };
-              types = types_framed program typings (with_rule s rule) a (gone_after f call.rights) p here fits_place (fit_after true call so)
+              types = types_framed program typings (with_rule s rule) a (frame_after_call f call.rights) p here fits_place (fit_after true call so)
                   (types_ruled program typings s rule so.callee (of_callee true call so)
                   (subst (λ ps. RuleArgsFit s.store so.callee.params (map (λ q. first_stage q.mode) ps) call.task.args) (sym so.params) (rule_fit s.store so.callee.params call.task.args so.so.args)) held.types);
-              counts = counts_rule program typings s a f (gone_after f call.rights) is rule fresh_rule (λ d. (given_reads true call so d, given_writes true call so d)) held.counts;
+              counts = counts_rule program typings s a f (frame_after_call f call.rights) is rule fresh_rule (λ d. (given_reads true call so d, given_writes true call so d)) held.counts;
               notices = named_new s.store.live s.notices s.rules held.notices s.next_rule rule fresh_rule (first_waits call.params);
-              budgets = budgets_framed program typings (with_rule s rule) a (gone_after f call.rights) p here fits_place (record { begun = held.budgets.begun; within = held.budgets.within });
+              budgets = budgets_framed program typings (with_rule s rule) a (frame_after_call f call.rights) p here fits_place (record { begun = held.budgets.begun; within = held.budgets.within });
             }
 
-        pub rule_goes_on : (at : RunningInstr) → at.frame ≡ f → at.procedure ≡ p → AllYes (asks_action true program p action (typing_of typings f)) → Keeps (rule_event program s a at action) (IsHeld program typings)
+        pub rule_goes_on : (at : RunningInstr) → at.frame ≡ f → at.procedure ≡ p → AllYes (requires_action true program p action (typing_of typings f)) → Keeps (rule_event program s a at action) (IsHeld program typings)
         rule_goes_on at of_f of_p met =
             rw (of_f, of_p) (goes_keeps (called program p.kind (context_of s f) action) _ _ _
             (called_goes program p (context_of s f) (typing_of typings f) (other_reads s a) (other_writes s a) action fits_of (held.types.values a f p is here) true met)

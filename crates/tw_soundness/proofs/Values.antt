@@ -1,6 +1,6 @@
 -- The local instructions succeed if their checks hold, and keep the types of the values.
 use Rattle.std.proofs.Common.{◌≡◌, ℕ, zero, suc, Bool, true, false, List, [], ◌∷◌, ◌++◌, length, ℤ, pos, slice_get, slice_set, Option, Some, None, refl, sym, ap, ◌∙◌, if◌then◌else◌, bytes_eq}
-use Rattle.tw_soundness.proofs.MachineNames.{Completed, Cursor, NoLoop, Ok, Position, Question, Scalar, Skipped, Value, ValuesFit, WrongRegister, after_end, asks_alike, asks_local, asks_value, asks_values, at_goal, at_next_place, int_at, int_in, int_lt, local_flow, moved, must_have_type, of_type_at, ok_or, option_map, passes, rejection_in, same_scalar, same_scalars, scalar_itself, scalar_of, text_at, text_in, value_at, with_result, with_value}
+use Rattle.tw_soundness.proofs.MachineNames.{Completed, Cursor, NoLoop, Ok, Position, Question, Scalar, Skipped, Value, ValuesFit, WrongRegister, after_end, requires_alike, requires_local, requires_value, requires_values, at_goal, at_next_place, int_at, int_in, int_lt, local_flow, moved, must_have_type, of_type_at, ok_or, option_map, passes, rejection_in, same_scalar, same_scalars, scalar_itself, scalar_of, text_at, text_in, value_at, with_result, with_value}
 use Rattle.std.specs.Fmt.{signed_decimal}
 use Rattle.std.specs.Ordering.{int_eq}
 use Rattle.tw_types.specs.declared.data_type.Scalar.TheVariants as scalar
@@ -132,17 +132,17 @@ HasLoop at = (cursor : Cursor) × (after_end at.place at.loops ≡ Some cursor)
 -- ---- a lemma a local instruction
 
 module _ (registers : List Scalar) (at : Position) (fits : ValuesFit registers at.values) where
-  int_moves : (to : ℕ) (n : ℤ) → AllYes (asks_value registers to scalar.Int) → Goes (local_instr (local.Int to n) at) (Moves registers Straight at)
+  int_moves : (to : ℕ) (n : ℤ) → AllYes (requires_value registers to scalar.Int) → Goes (local_instr (local.Int to n) at) (Moves registers Straight at)
   int_moves to n met =
       let declared = declared_as (slice_get registers to) scalar.Int met.1.0 in
       goes_then (must_have_type at to scalar.Int) _ _ (has_type registers at fits to scalar.Int declared) (set_moves registers at fits to scalar.Int (value.Int n) declared refl)
 
-  text_moves : (to : ℕ) (text : List ℕ) → AllYes (asks_value registers to scalar.Text) → Goes (local_instr (local.Text to text) at) (Moves registers Straight at)
+  text_moves : (to : ℕ) (text : List ℕ) → AllYes (requires_value registers to scalar.Text) → Goes (local_instr (local.Text to text) at) (Moves registers Straight at)
   text_moves to text met =
       let declared = declared_as (slice_get registers to) scalar.Text met.1.0 in
       goes_then (must_have_type at to scalar.Text) _ _ (has_type registers at fits to scalar.Text declared) (set_moves registers at fits to scalar.Text (value.Text text) declared refl)
 
-  copy_moves : (to from : ℕ) → AllYes (asks_alike registers to from) → Goes (local_instr (local.Copy to from) at) (Moves registers Straight at)
+  copy_moves : (to from : ℕ) → AllYes (requires_alike registers to from) → Goes (local_instr (local.Copy to from) at) (Moves registers Straight at)
   copy_moves to from met =
       let both = declared_alike (slice_get registers to) (slice_get registers from) met.1.1.0 in
       let found = value_found registers at.values from both.0 fits both.2 in
@@ -150,7 +150,7 @@ module _ (registers : List Scalar) (at : Position) (fits : ValuesFit registers a
       goes (value_at at from) _ _ found.0 (at_some (slice_get at.values from) WrongRegister found.0 found.1)
       (goes_then (must_have_type at to (scalar_of found.0)) _ _ (has_type registers at fits to (scalar_of found.0) declared) (set_moves registers at fits to (scalar_of found.0) found.0 declared refl))
 
-  compute_moves : (operation : Arithmetic) (to left right skip : ℕ) → AllYes (asks_values registers to left right scalar.Int) → Goes (local_instr (local.Compute operation to left right skip) at) (Moves registers (Branch skip) at)
+  compute_moves : (operation : Arithmetic) (to left right skip : ℕ) → AllYes (requires_values registers to left right scalar.Int) → Goes (local_instr (local.Compute operation to left right skip) at) (Moves registers (Branch skip) at)
   compute_moves operation to left right skip met =
       let declared = declared_as (slice_get registers to) scalar.Int met.1.0 in
       let a = int_there registers at fits left (declared_as (slice_get registers left) scalar.Int met.1.1.1.0) in
@@ -160,7 +160,7 @@ module _ (registers : List Scalar) (at : Position) (fits : ValuesFit registers a
       (goes (int_at at right) _ _ b.0 b.1
       (result_moves registers at fits value.Int (result_of operation a.0 b.0) to skip scalar.Int declared (λ n. refl))))
 
-  concatenate_moves : (to left right skip : ℕ) → AllYes (asks_values registers to left right scalar.Text) → Goes (local_instr (local.Concatenate to left right skip) at) (Moves registers (Branch skip) at)
+  concatenate_moves : (to left right skip : ℕ) → AllYes (requires_values registers to left right scalar.Text) → Goes (local_instr (local.Concatenate to left right skip) at) (Moves registers (Branch skip) at)
   concatenate_moves to left right skip met =
       let declared = declared_as (slice_get registers to) scalar.Text met.1.0 in
       let a = text_there registers at fits left (declared_as (slice_get registers left) scalar.Text met.1.1.1.0) in
@@ -170,7 +170,7 @@ module _ (registers : List Scalar) (at : Position) (fits : ValuesFit registers a
       (goes (text_at at right) _ _ b.0 b.1
       (result_moves registers at fits value.Text (joined a.0 b.0) to skip scalar.Text declared (λ text. refl))))
 
-  length_moves : (to from : ℕ) → AllYes (asks_value registers to scalar.Int ++ asks_value registers from scalar.Text) → Goes (local_instr (local.Length to from) at) (Moves registers Straight at)
+  length_moves : (to from : ℕ) → AllYes (requires_value registers to scalar.Int ++ requires_value registers from scalar.Text) → Goes (local_instr (local.Length to from) at) (Moves registers Straight at)
   length_moves to from met =
       let declared = declared_as (slice_get registers to) scalar.Int met.1.0 in
       let a = text_there registers at fits from (declared_as (slice_get registers from) scalar.Text met.1.1.1.0) in
@@ -178,7 +178,7 @@ module _ (registers : List Scalar) (at : Position) (fits : ValuesFit registers a
       (goes (text_at at from) _ _ a.0 a.1
       (set_moves registers at fits to scalar.Int (value.Int (pos (length a.0))) declared refl))
 
-  show_moves : (to from : ℕ) → AllYes (asks_value registers to scalar.Text ++ asks_value registers from scalar.Int) → Goes (local_instr (local.Show to from) at) (Moves registers Straight at)
+  show_moves : (to from : ℕ) → AllYes (requires_value registers to scalar.Text ++ requires_value registers from scalar.Int) → Goes (local_instr (local.Show to from) at) (Moves registers Straight at)
   show_moves to from met =
       let declared = declared_as (slice_get registers to) scalar.Text met.1.0 in
       let a = int_there registers at fits from (declared_as (slice_get registers from) scalar.Int met.1.1.1.0) in
@@ -186,7 +186,7 @@ module _ (registers : List Scalar) (at : Position) (fits : ValuesFit registers a
       (goes (int_at at from) _ _ a.0 a.1
       (set_moves registers at fits to scalar.Text (value.Text (signed_decimal a.0)) declared refl))
 
-  read_moves : (to from skip : ℕ) → AllYes (asks_value registers to scalar.Int ++ asks_value registers from scalar.Text) → Goes (local_instr (local.ReadInt to from skip) at) (Moves registers (Branch skip) at)
+  read_moves : (to from skip : ℕ) → AllYes (requires_value registers to scalar.Int ++ requires_value registers from scalar.Text) → Goes (local_instr (local.ReadInt to from skip) at) (Moves registers (Branch skip) at)
   read_moves to from skip met =
       let declared = declared_as (slice_get registers to) scalar.Int met.1.0 in
       let a = text_there registers at fits from (declared_as (slice_get registers from) scalar.Text met.1.1.1.0) in
@@ -197,7 +197,7 @@ module _ (registers : List Scalar) (at : Position) (fits : ValuesFit registers a
   jump_moves : (skip : ℕ) → Goes (local_instr (local.Jump skip) at) (Moves registers (Jump skip) at)
   jump_moves skip = record { way = Completed; goes_on = refl; values = fits }
 
-  equal_moves : (left right skip : ℕ) → AllYes (asks_alike registers left right) → Goes (local_instr (local.JumpEqual left right skip) at) (Moves registers (Branch skip) at)
+  equal_moves : (left right skip : ℕ) → AllYes (requires_alike registers left right) → Goes (local_instr (local.JumpEqual left right skip) at) (Moves registers (Branch skip) at)
   equal_moves left right skip met =
       let both = declared_alike (slice_get registers left) (slice_get registers right) met.1.1.0 in
       let a = value_found registers at.values left both.0 fits both.1 in
@@ -208,7 +208,7 @@ module _ (registers : List Scalar) (at : Position) (fits : ValuesFit registers a
       (goes (same_value a.0 b.0) _ _ same.0 same.1
       (branch_moves registers at fits same.0 skip)))
 
-  less_moves : (left right skip : ℕ) → AllYes (asks_value registers left scalar.Int ++ asks_value registers right scalar.Int) → Goes (local_instr (local.JumpLess left right skip) at) (Moves registers (Branch skip) at)
+  less_moves : (left right skip : ℕ) → AllYes (requires_value registers left scalar.Int ++ requires_value registers right scalar.Int) → Goes (local_instr (local.JumpLess left right skip) at) (Moves registers (Branch skip) at)
   less_moves left right skip met =
       let a = int_there registers at fits left (declared_as (slice_get registers left) scalar.Int met.1.0) in
       let b = int_there registers at fits right (declared_as (slice_get registers right) scalar.Int met.1.1.1.0) in
@@ -223,7 +223,7 @@ module _ (registers : List Scalar) (at : Position) (fits : ValuesFit registers a
   end_moves (cursor, e) = goes (ok_or (after_end at.place at.loops) NoLoop) _ _ cursor (at_some (after_end at.place at.loops) NoLoop cursor e) (record { way = Completed; goes_on = e; values = fits })
 
   -- each of them, a line an instruction
-  pub local_moves : (i : LocalInstr) → AllYes (asks_local registers i) → (local_flow i ≡ Close → HasLoop at) → Goes (local_instr i at) (Moves registers (local_flow i) at)
+  pub local_moves : (i : LocalInstr) → AllYes (requires_local registers i) → (local_flow i ≡ Close → HasLoop at) → Goes (local_instr i at) (Moves registers (local_flow i) at)
   local_moves (local.Int to n) met loop = int_moves to n met
   local_moves (local.Text to text) met loop = text_moves to text met
   local_moves (local.Copy to from) met loop = copy_moves to from met

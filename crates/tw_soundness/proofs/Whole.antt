@@ -1,6 +1,6 @@
 -- The three events of a running task keep the invariant, and never trap, if its step is one that the typing allows.
 use Rattle.std.proofs.Common.{◌≡◌, ℕ, ◌+◌, ◌<◌, true, List, slice_get, Some, refl, sym, ap, subst, ◌∙◌, arith}
-use Rattle.tw_soundness.proofs.MachineNames.{◌>>=◌, Actor, Cause, Context, CountsHeld, DataInstr, Datum, Err, Frame, Instr, IsHeld, Ok, Outcome, Procedure, Result, RightType, Scalar, RunningInstr, IsAtPosition, State, TypesHeld, Typing, Typings, Went, actor_cmp, actor_cmp-IsAntisymmetric, actor_cmp_total, after_context, asks, asks_data, at_next_place, balanced_same, call_by, call_event, context_of, data_instr, frame_reads, frame_writes, get, insert, is_write, ok_of, option_flatten, outcome_of, params_of, right_at, same_Some, running_instr_of, total, typing_at, typing_of, without_args, writes}
+use Rattle.tw_soundness.proofs.MachineNames.{◌>>=◌, Actor, Cause, Context, CountsHeld, DataInstr, Datum, Err, Frame, Instr, IsHeld, Ok, Outcome, Procedure, Result, RightType, Scalar, RunningInstr, IsAtPosition, State, TypesHeld, Typing, Typings, Went, actor_cmp, actor_cmp-IsAntisymmetric, actor_cmp_total, after_context, requires_by_instr, requires_data, at_next_place, balanced_same, call_by, call_event, context_of, data_instr, frame_reads, frame_writes, get, insert, is_write, ok_of, option_flatten, outcome_of, params_of, right_at, same_Some, running_instr_of, total, typing_at, typing_of, without_args, writes}
 use Rattle.tw_code.specs.declared.instr.DataInstr.TheVariants as on_data
 use Rattle.tw_code.specs.declared.instr.Action.{Action}
 use Rattle.tw_code.specs.declared.instr.Instr.TheVariants as instr
@@ -25,7 +25,7 @@ writer_found typing c r w from q mode h id x at there =
     let more : 0 < h.x.writes = omega arith in
     subst (λ (y : Datum). 0 < y.writes) x_is more
 
-pub has_writer : (registers : List Scalar) (c : Context) (typing : Typing) (r w : ℕ → ℕ) → Fits typing c r w → (i : DataInstr) → AllYes (asks_data registers i typing) → HasWriter c i
+pub has_writer : (registers : List Scalar) (c : Context) (typing : Typing) (r w : ℕ → ℕ) → Fits typing c r w → (i : DataInstr) → AllYes (requires_data registers i typing) → HasWriter c i
 has_writer registers c typing r w fits (on_data.CopyWrite to from) met =
     let q = passed writes (right_at typing from) met.1.0 in
     writer_found typing c r w from q.0 q.2 (at_right from typing c r w q.0 fits q.1)
@@ -58,7 +58,7 @@ module _ (program : List Procedure) (typings : Typings) (s : State) (held : IsHe
 
   -- its instruction's turn
   pub record Turn (i : Instr) : Type 0 where
-    pub met : AllYes (asks program p i (typing_of typings f))
+    pub met : AllYes (requires_by_instr program p i (typing_of typings f))
     pub by_data : (d : DataInstr) → i ≡ instr.Data d → Goes (data_instr d (context_of s f)) LeftSo
     pub after_rule : (action : Action) → i ≡ instr.Rule action → GoesAfter action
     pub after_put : (action : Action) → i ≡ instr.Put action → GoesAfter action
@@ -91,7 +91,7 @@ module _ (program : List Procedure) (typings : Typings) (s : State) (held : IsHe
           (omega arith, omega arith));
     }
 
-    left_held : (i : DataInstr) → AllYes (asks_data p.registers i (typing_of typings f)) → data_instr i (context_of s f) ≡ Ok c → IsHeld program typings (after_context s a f c)
+    left_held : (i : DataInstr) → AllYes (requires_data p.registers i (typing_of typings f)) → data_instr i (context_of s f) ≡ Ok c → IsHeld program typings (after_context s a f c)
     left_held i met e = record {
       numbers = record { tasks = held.numbers.tasks; rules = held.numbers.rules };
       types = types_left;
@@ -103,7 +103,7 @@ module _ (program : List Procedure) (typings : Typings) (s : State) (held : IsHe
       budgets = budgets_framed program typings (record s { store = c.store; notices = c.notices }) a next_frame p here l.fits_place (record { begun = held.budgets.begun; within = held.budgets.within });
     }
 
-  keeps_data : (i : DataInstr) (o : Result Context Cause) → data_instr i (context_of s f) ≡ o → AllYes (asks_data p.registers i (typing_of typings f)) → Goes o LeftSo → Keeps (outcome_of o >>= λ c. Went (after_context s a f c)) (IsHeld program typings)
+  keeps_data : (i : DataInstr) (o : Result Context Cause) → data_instr i (context_of s f) ≡ o → AllYes (requires_data p.registers i (typing_of typings f)) → Goes o LeftSo → Keeps (outcome_of o >>= λ c. Went (after_context s a f c)) (IsHeld program typings)
   keeps_data i (Ok c) e met l = left_held c l i met e
   keeps_data i (Err cause) e met l = l
 

@@ -1,6 +1,6 @@
 -- Errors at a place, and lists of typings extended by one place without an error.
 use Rattle.std.proofs.Common.{◌≡◌, ℕ, ◌+◌, ◌<◌, ◌≤◌, ◌⊎◌, inl, inr, Bool, true, false, List, [], ◌∷◌, ◌++◌, length, length-append, get_or, Option, Some, None, refl, sym, ap, ◌∙◌, subst, arith}
-use Rattle.tw_verify.proofs.VerifierNames.{Brings, HasChanged, Instr, IsEndOf, IsReached, IsRejectionAt, IsTypingRejection, IsWellTyped, LeadsTo, Procedure, Typing, after, asks_at, cases_lt, flow_of, lowest_at, onward, rejection_in, same_Some, slice_get, slice_get-get_or, slice_get_within, start_typing}
+use Rattle.tw_verify.proofs.VerifierNames.{Brings, HasChanged, Instr, IsEndOf, IsReached, IsRejectionAt, IsTypingRejection, IsWellTyped, LeadsTo, Procedure, Typing, after, requires_at, cases_lt, flow_of, lowest_at, onward, rejection_in, same_Some, slice_get, slice_get-get_or, slice_get_within, start_typing}
 use Rattle.tw_code.specs.declared.flow.Way.{Way}
 use Rattle.tw_code.specs.declared.flow.Way.TheVariants.{Completed, Skipped}
 use Rattle.tw_verify.specs.declared.reached.Reached.{Reached}
@@ -30,7 +30,7 @@ none_typed program p = record {
 
 -- one place more
 pub typed_more : (program : List Procedure) (p : Procedure) (typings : List Typing) (place : ℕ) (r : Reached) (i : Instr) → IsWellTyped program p typings place → HasReached program p typings (place + place) place r → slice_get p.code place ≡ Some i
-    → rejection_in (asks_at program p place i r.typing) ≡ None → r.differs ≡ false → ((first : ℕ) (begun : Typing) → IsEndOf p.code first place → slice_get typings first ≡ Some begun → r.typing ≡ begun)
+    → rejection_in (requires_at program p place i r.typing) ≡ None → r.differs ≡ false → ((first : ℕ) (begun : Typing) → IsEndOf p.code first place → slice_get typings first ≡ Some begun → r.typing ≡ begun)
     → IsWellTyped program p (typings ++ r.typing ∷ []) (place + 1)
 typed_more program p typings place r i w h here fine alike kept = record {
   long = omega (arith, length-append typings (r.typing ∷ []), w.long);
@@ -49,11 +49,11 @@ typed_more program p typings place r i w h here fine alike kept = record {
     begins u (inl (start, is)) (inr (first, same)) = same ∙ is
     begins u (inr (before, f)) (inr (first, same)) = absurd (omega (arith, f.brings.step.earlier))
 
-    asks : (k : ℕ) (j : Instr) (u : Typing) → slice_get p.code k ≡ Some j → ((k < place) × (slice_get typings k ≡ Some u)) ⊎ ((k ≡ place) × (u ≡ t)) → rejection_in (asks_at program p k j u) ≡ None
+    asks : (k : ℕ) (j : Instr) (u : Typing) → slice_get p.code k ≡ Some j → ((k < place) × (slice_get typings k ≡ Some u)) ⊎ ((k ≡ place) × (u ≡ t)) → rejection_in (requires_at program p k j u) ≡ None
     asks k j u there (inl (before, at)) = w.asks k j u there at
     asks k j u there (inr (same, is)) =
         let same_instr = same_Some j i (sym there ∙ ap (slice_get p.code) same ∙ here) in
-        ap (λ (n : ℕ). rejection_in (asks_at program p n j u)) same ∙ ap (λ (x : Instr). rejection_in (asks_at program p place x u)) same_instr ∙ ap (λ (x : Typing). rejection_in (asks_at program p place i x)) is ∙ fine
+        ap (λ (n : ℕ). rejection_in (requires_at program p n j u)) same ∙ ap (λ (x : Instr). rejection_in (requires_at program p place x u)) same_instr ∙ ap (λ (x : Typing). rejection_in (requires_at program p place i x)) is ∙ fine
 
     later : (k next : ℕ) (j : Instr) (way : Way) (u v : Typing) → slice_get p.code k ≡ Some j → onward way k (flow_of j) ≡ Some next
         → ((k < place) × (slice_get typings k ≡ Some u)) ⊎ ((k ≡ place) × (u ≡ t)) → ((next < place) × (slice_get typings next ≡ Some v)) ⊎ ((next ≡ place) × (v ≡ t)) → v ≡ after program way j u
@@ -112,7 +112,7 @@ not_false false h = absurd (h refl)
 -- a place that is reached and has an error
 pub rejection_at : (program : List Procedure) (p : Procedure) (typings : List Typing) (place number : ℕ) (r : Reached) (i : Instr) (changed : Bool) → IsWellTyped program p typings place → HasReached program p typings (place + place) place r → slice_get p.code place ≡ Some i
     → (changed ≡ true → HasChanged p.code typings place r.typing) → ((first : ℕ) (begun : Typing) → changed ≡ false → IsEndOf p.code first place → slice_get typings first ≡ Some begun → r.typing ≡ begun)
-    → lowest_at (rejection_in (asks_at program p place i r.typing)) r.differs changed ≡ Some number → IsTypingRejection program p number place
+    → lowest_at (rejection_in (requires_at program p place i r.typing)) r.differs changed ≡ Some number → IsTypingRejection program p number place
 rejection_at program p typings place number r i changed w h here has kept is = record {
   inside = slice_get_within p.code place i here;
   typings = typings;
@@ -122,7 +122,7 @@ rejection_at program p typings place number r i changed w h here has kept is = r
 }
   where
     own : Option ℕ
-    own = rejection_in (asks_at program p place i r.typing)
+    own = rejection_in (requires_at program p place i r.typing)
 
     cause : IsCause own r.differs changed number
     cause = cause_at own r.differs changed number is
@@ -146,7 +146,7 @@ rejection_at program p typings place number r i changed w h here has kept is = r
 
         by : IsCause own r.differs changed number → ⊥
         by (inl e) =
-            let both : Some number ≡ None = sym e ∙ ap (λ (x : Typing). rejection_in (asks_at program p place i x)) (sym same) ∙ v.asks place i u here at in
+            let both : Some number ≡ None = sym e ∙ ap (λ (x : Typing). rejection_in (requires_at program p place i x)) (sym same) ∙ v.asks place i u here at in
             cc
         by (inr (inl (e, seven))) =
             let o = h.another e in
@@ -171,7 +171,7 @@ rejection_at program p typings place number r i changed w h here has kept is = r
     lowest other (inr (inl a)) =
         let same = reached_same program p typings place a.typing r.typing a.reached h.first in
         let instr = same_Some a.instr i (sym a.here ∙ here) in
-        least.0 other (sym (ap (λ (x : Instr). rejection_in (asks_at program p place x a.typing)) instr ∙ ap (λ (x : Typing). rejection_in (asks_at program p place i x)) same) ∙ a.vain)
+        least.0 other (sym (ap (λ (x : Instr). rejection_in (requires_at program p place x a.typing)) instr ∙ ap (λ (x : Typing). rejection_in (requires_at program p place i x)) same) ∙ a.vain)
     lowest other (inr (inr (inl d))) =
         let same = reached_same program p typings place d.typing r.typing d.reached h.first in
         let differs : r.differs ≡ true = not_false r.differs (λ e. d.differs (h.same e d.before d.other d.brings (early_outcome d.before place d.brings.step.way d.brings.step.earlier) ∙ sym same)) in

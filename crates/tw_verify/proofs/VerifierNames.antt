@@ -10,7 +10,7 @@ pub use Rattle.tw_code.specs.declared.procedure.Procedure.{Procedure}
 pub use Rattle.tw_code.specs.accepting.Flow.{flow_of, flows, onward}
 pub use Rattle.tw_code.specs.accepting.Question.{Question, lower, passes, rejection_in}
 pub use Rattle.tw_code.specs.accepting.Structure.{IsStructureRejection, depth_after, depth_of, end_from, end_of, structure_rejection, structure_rejection_at}
-pub use Rattle.tw_code.specs.accepting.Typing.{after, asks, asks_args, asks_at, asks_callee, asks_params, asks_priority, asks_value, right_fits_param, rights_given, start_typing, value_types, values_fit, without_args}
+pub use Rattle.tw_code.specs.accepting.Typing.{after, requires_by_instr, requires_args, requires_at, requires_callee, requires_params, requires_priority, requires_value, right_fits_param, rights_given, start_typing, value_types, values_fit, without_args}
 pub use Rattle.tw_code.specs.accepting.WellTyped.{Brings, IsAccepted, IsAcceptedProcedure, IsEndOf, IsFirstRejection, IsLowestRejection, IsProcedureRejection, IsReached, IsRejectionAt, IsTypingRejection, IsWellTyped, LeadsTo}
 pub use Rattle.tw_code.specs.format.Program.{IsProgram, IsRegister}
 pub use Rattle.tw_code.specs.machine.Rights.{RightType, Typing, right_at, right_of}

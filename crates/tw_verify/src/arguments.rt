@@ -6,7 +6,7 @@ ghost use Rattle.std.specs.Option.{option_map};
 ghost use Rattle.tw_types.specs.Actor.{is_control};
 ghost use Rattle.tw_code.specs.format.Program.{IsAction, IsRegister};
 ghost use Rattle.tw_code.specs.accepting.Question.{rejection_in};
-ghost use Rattle.tw_code.specs.accepting.Typing.{asks_args, asks_callee, asks_action, asks_priority};
+ghost use Rattle.tw_code.specs.accepting.Typing.{requires_args, requires_callee, requires_action, requires_priority};
 ghost use Rattle.tw_verify.specs.Rejection.{verify_error_code};
 
 use crate::questions::{beside, lowest, value_rejection};
@@ -25,7 +25,7 @@ fn argument_rejection(
 ) -> Option<VerifyError>
     requires { IsRegister arg }
     ensures { option_map verify_error_code result
-        ≡ rejection_in (asks_args waits registers.now (param ∷ []) (arg ∷ []) typing.now) }
+        ≡ rejection_in (requires_args waits registers.now (param ∷ []) (arg ∷ []) typing.now) }
 {
     if param.mode.is_val() {
         return value_rejection(registers, arg, param.ty.scalar());
@@ -46,7 +46,7 @@ fn arguments_rejection(
 ) -> Option<VerifyError>
     requires { AllByRecursion IsRegister args.now }
     ensures { option_map verify_error_code result
-        ≡ rejection_in (asks_args waits registers.now params.now args.now typing.now) }
+        ≡ rejection_in (requires_args waits registers.now params.now args.now typing.now) }
 {
     let mut rejection = None;
     let mut left = *typing;
@@ -68,7 +68,7 @@ fn callee_rejection(
 ) -> Option<VerifyError>
     requires { IsAction action.now }
     ensures { option_map verify_error_code result
-        ≡ rejection_in (asks_callee waits procedure.now.registers
+        ≡ rejection_in (requires_callee waits procedure.now.registers
         (slice_get procedures.now action.now.procedure) action.now.args typing.now) }
 {
     let Some(callee) = procedures.get(action.procedure as usize) else {
@@ -82,9 +82,9 @@ fn callee_rejection(
     arguments_rejection(waits, procedure.registers.as_slice(), params, args, typing)
 }
 
-/// Checks that a computed priority is in a declared register of type int.
+/// Checks that the register of an action's computed priority is declared, of type int.
 fn priority_rejection(registers: &[Scalar], priority: Priority) -> Option<VerifyError>
-    ensures { option_map verify_error_code result ≡ rejection_in (asks_priority registers.now priority) }
+    ensures { option_map verify_error_code result ≡ rejection_in (requires_priority registers.now priority) }
 {
     match priority {
         Priority::Constant(_) => None,
@@ -92,6 +92,7 @@ fn priority_rejection(registers: &[Scalar], priority: Priority) -> Option<Verify
     }
 }
 
+/// Returns whether the procedure that has a RULE or PUT is a control procedure.
 fn is_control(procedure: &Procedure) -> bool
     ensures { result ≡ is_control procedure.now.kind }
 {
@@ -108,7 +109,7 @@ pub(crate) fn action_rejection(
 ) -> Option<VerifyError>
     requires { IsAction action.now }
     ensures { option_map verify_error_code result
-        ≡ rejection_in (asks_action waits procedures.now procedure.now action.now typing.now) }
+        ≡ rejection_in (requires_action waits procedures.now procedure.now action.now typing.now) }
 {
     let priority = priority_rejection(procedure.registers.as_slice(), action.priority);
     let callee = callee_rejection(waits, procedures, procedure, action, typing);

@@ -14,7 +14,7 @@ pub(crate) struct Fault {
 }
 
 impl Fault {
-    /// Returns the error of a failed allocation.
+    /// Returns the verifier's error of a failed allocation, at place 0 of a procedure.
     pub(crate) fn no_memory() -> Fault
         ensures { result ≡ no_memory }
     {
@@ -28,6 +28,7 @@ impl Fault {
 impl From<AllocError> for Fault {
     ghost from_gives = { λ _ fault. fault ≡ no_memory };
 
+    /// Returns the verifier's error in a procedure for a failed allocation.
     fn from(_error: AllocError) -> Fault {
         Fault::no_memory()
     }
@@ -44,13 +45,14 @@ pub(crate) struct Rejection {
 impl From<AllocError> for Rejection {
     ghost from_gives = { λ _ rejection. rejection ≡ rejection_of 0 no_memory };
 
+    /// Returns the rejection of a program for which an allocation of the verifier failed.
     fn from(_error: AllocError) -> Rejection {
         Rejection::new(0, Fault::no_memory())
     }
 }
 
 impl Rejection {
-    /// Makes the program's error from a procedure's. If an allocation failed, procedure and place are 0.
+    /// Makes the rejection of a program from an error in a procedure. If an allocation failed, procedure and place are 0.
     pub(crate) fn new(procedure: usize, fault: Fault) -> Rejection
         ensures { result ≡ rejection_of procedure fault }
     {

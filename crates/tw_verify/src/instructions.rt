@@ -5,7 +5,7 @@ ghost use Rattle.std.specs.Option.{option_map, option_map_or};
 ghost use Rattle.tw_types.specs.DataType.{same_scalar};
 ghost use Rattle.tw_code.specs.format.Program.{IsDataInstr, IsInstr};
 ghost use Rattle.tw_code.specs.accepting.Question.{rejection_in};
-ghost use Rattle.tw_code.specs.accepting.Typing.{asks_local, asks_data, asks, asks_params, asks_at};
+ghost use Rattle.tw_code.specs.accepting.Typing.{requires_local, requires_data, requires_by_instr, requires_params, requires_at};
 ghost use Rattle.tw_verify.specs.Rejection.{verify_error_code};
 
 use crate::arguments::action_rejection;
@@ -22,7 +22,7 @@ use tw_types::Scalar;
 
 /// Checks a local instruction, with one line for each.
 fn local_rejection(registers: &[Scalar], instr: &LocalInstr) -> Option<VerifyError>
-    ensures { option_map verify_error_code result ≡ rejection_in (asks_local registers.now instr.now) }
+    ensures { option_map verify_error_code result ≡ rejection_in (requires_local registers.now instr.now) }
 {
     match instr {
         LocalInstr::Int { to, .. } => value_rejection(registers, *to, Scalar::Int),
@@ -75,7 +75,7 @@ fn store_rejection(
 ) -> Option<VerifyError>
     requires { datum < 16 }
     ensures { option_map verify_error_code result
-        ≡ rejection_in (asks_data registers.now (DataInstr.Store datum from) typing.now) }
+        ≡ rejection_in (requires_data registers.now (DataInstr.Store datum from) typing.now) }
 {
     let right = typing.right_at(datum);
     let fits = right.is_some_and(RightType::writes_scalar);
@@ -86,7 +86,7 @@ fn store_rejection(
 fn get_rejection(registers: &[Scalar], typing: &Typing, to: u8, datum: u8) -> Option<VerifyError>
     requires { datum < 16 }
     ensures { option_map verify_error_code result
-        ≡ rejection_in (asks_data registers.now (DataInstr.Get to datum) typing.now) }
+        ≡ rejection_in (requires_data registers.now (DataInstr.Get to datum) typing.now) }
 {
     let right = typing.right_at(datum);
     let fits = right.is_some_and(RightType::reads_closed_scalar);
@@ -105,7 +105,7 @@ fn insert_rejection(
     requires container { container < 16 }
     requires member { member < 16 }
     ensures { option_map verify_error_code result
-        ≡ rejection_in (asks_data registers.now (DataInstr.Insert by container subscript member 0) typing.now) }
+        ≡ rejection_in (requires_data registers.now (DataInstr.Insert by container subscript member 0) typing.now) }
 {
     let others = value_rejection(registers, subscript, by);
     let fits = is_member_read(typing, container, member);
@@ -126,7 +126,7 @@ fn look_rejection(
     requires member { member < 16 }
     requires container { container < 16 }
     ensures { option_map verify_error_code result
-        ≡ rejection_in (asks_data registers.now (DataInstr.Look by member container subscript 0) typing.now) }
+        ≡ rejection_in (requires_data registers.now (DataInstr.Look by member container subscript 0) typing.now) }
 {
     let others = value_rejection(registers, subscript, by);
     let others = members_by_rejection(typing, container, by, others);
@@ -144,7 +144,7 @@ fn subscript_rejection(
 ) -> Option<VerifyError>
     requires { container < 16 }
     ensures { option_map verify_error_code result
-        ≡ rejection_in (asks_data registers.now (DataInstr.SubscriptAt by to container index 0) typing.now) }
+        ≡ rejection_in (requires_data registers.now (DataInstr.SubscriptAt by to container index 0) typing.now) }
 {
     let others = both_rejection(registers, to, by, index, Scalar::Int);
     subscripts_by_rejection(typing, container, by, others)
@@ -160,7 +160,7 @@ fn insert_value_rejection(
 ) -> Option<VerifyError>
     requires { map < 16 }
     ensures { option_map verify_error_code result
-        ≡ rejection_in (asks_data registers.now (DataInstr.InsertValue map subscript from 0) typing.now) }
+        ≡ rejection_in (requires_data registers.now (DataInstr.InsertValue map subscript from 0) typing.now) }
 {
     let right = typing.right_at(map);
     let fits = right.is_some_and(RightType::writes_map);
@@ -177,7 +177,7 @@ fn add_value_rejection(
 ) -> Option<VerifyError>
     requires { map < 16 }
     ensures { option_map verify_error_code result
-        ≡ rejection_in (asks_data registers.now (DataInstr.AddValue map subscript from) typing.now) }
+        ≡ rejection_in (requires_data registers.now (DataInstr.AddValue map subscript from) typing.now) }
 {
     let right = typing.right_at(map);
     let fits = right.is_some_and(RightType::writes_sums);
@@ -194,7 +194,7 @@ fn get_value_rejection(
 ) -> Option<VerifyError>
     requires { map < 16 }
     ensures { option_map verify_error_code result
-        ≡ rejection_in (asks_data registers.now (DataInstr.GetValue to map subscript 0) typing.now) }
+        ≡ rejection_in (requires_data registers.now (DataInstr.GetValue to map subscript 0) typing.now) }
 {
     let right = typing.right_at(map);
     let fits = right.is_some_and(RightType::reads_closed_map);
@@ -210,7 +210,7 @@ fn size_rejection(
 ) -> Option<VerifyError>
     requires { container < 16 }
     ensures { option_map verify_error_code result
-        ≡ rejection_in (asks_data registers.now (DataInstr.Size to container) typing.now) }
+        ≡ rejection_in (requires_data registers.now (DataInstr.Size to container) typing.now) }
 {
     let others = value_rejection(registers, to, Scalar::Int);
     members_rejection(typing, container, others)
@@ -221,7 +221,7 @@ fn copy_read_rejection(typing: &Typing, to: u8, from: u8) -> Option<VerifyError>
     requires to { to < 16 }
     requires from { from < 16 }
     ensures { option_map verify_error_code result
-        ≡ rejection_in (asks_data [] (DataInstr.CopyRead to from) typing.now) }
+        ≡ rejection_in (requires_data [] (DataInstr.CopyRead to from) typing.now) }
 {
     let others = read_rejection(typing, from);
     beside(typing.is_free(to), VerifyError::RightNotEmpty, others)
@@ -232,7 +232,7 @@ fn copy_write_rejection(typing: &Typing, to: u8, from: u8) -> Option<VerifyError
     requires to { to < 16 }
     requires from { from < 16 }
     ensures { option_map verify_error_code result
-        ≡ rejection_in (asks_data [] (DataInstr.CopyWrite to from) typing.now) }
+        ≡ rejection_in (requires_data [] (DataInstr.CopyWrite to from) typing.now) }
 {
     let others = container_write_rejection(typing, from);
     beside(typing.is_free(to), VerifyError::RightNotEmpty, others)
@@ -241,7 +241,7 @@ fn copy_write_rejection(typing: &Typing, to: u8, from: u8) -> Option<VerifyError
 /// Checks an instruction on data at a typing, with one case for each.
 fn data_rejection(registers: &[Scalar], instr: DataInstr, typing: &Typing) -> Option<VerifyError>
     requires { IsDataInstr instr }
-    ensures { option_map verify_error_code result ≡ rejection_in (asks_data registers.now instr typing.now) }
+    ensures { option_map verify_error_code result ≡ rejection_in (requires_data registers.now instr typing.now) }
 {
     match instr {
         DataInstr::New { write, read, .. } => empty_pair_rejection(typing, write, read),
@@ -302,7 +302,7 @@ fn instr_rejection(
 ) -> Option<VerifyError>
     requires { IsInstr instr.now }
     ensures { option_map verify_error_code result
-        ≡ rejection_in (asks procedures.now procedure.now instr.now typing.now) }
+        ≡ rejection_in (requires_by_instr procedures.now procedure.now instr.now typing.now) }
 {
     let registers = procedure.registers.as_slice();
     match instr {
@@ -314,7 +314,7 @@ fn instr_rejection(
     }
 }
 
-/// Returns whether a register is of this type, or isn't declared.
+/// Returns whether the register of a value parameter is of its type, or isn't declared.
 fn is_open_or_of(registers: &[Scalar], register: usize, ty: Scalar) -> bool
     ensures { result ≡ option_map_or (λ declared. same_scalar declared ty)
         (slice_get registers.now register) true }
@@ -327,7 +327,7 @@ fn is_open_or_of(registers: &[Scalar], register: usize, ty: Scalar) -> bool
 
 /// Checks that the value parameters have registers, of their types.
 fn params_rejection(procedure: &Procedure) -> Option<VerifyError>
-    ensures { option_map verify_error_code result ≡ rejection_in (asks_params procedure.now) }
+    ensures { option_map verify_error_code result ≡ rejection_in (requires_params procedure.now) }
 {
     let registers = procedure.registers.as_slice();
     let mut given = 0;
@@ -355,7 +355,7 @@ pub fn place_rejection(
 ) -> Option<VerifyError>
     requires { IsInstr instr.now }
     ensures { option_map verify_error_code result
-        ≡ rejection_in (asks_at procedures.now procedure.now place instr.now typing.now) }
+        ≡ rejection_in (requires_at procedures.now procedure.now place instr.now typing.now) }
 {
     let own = instr_rejection(procedures, procedure, instr, typing);
     if place == 0 {

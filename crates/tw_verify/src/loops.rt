@@ -9,6 +9,7 @@ ghost use Rattle.tw_verify.specs.Loops.{EndsFrom, DepthsTo, AreFirsts, AreLoops}
 use std::alloc::{AllocError, Global};
 use tw_code::{Flow, Instr, flow_at};
 
+/// Returns the END in the table of loops at a place. `from` is for the contract alone: ends from there on are known.
 fn end_known(code: &[Instr], ends: &[Option<usize>], from: usize, place: usize) -> Option<usize>
     requires ahead { from ≤ place }
     requires within { place ≤ length code.now }
@@ -18,7 +19,7 @@ fn end_known(code: &[Instr], ends: &[Option<usize>], from: usize, place: usize) 
     ends[place]
 }
 
-/// Returns the next END that ends a loop begun before the place, from the later ones.
+/// Returns the next END that ends a loop begun before the place, from the ENDs of later places.
 fn end_at(code: &[Instr], ends: &[Option<usize>], place: usize) -> Option<usize>
     requires within { place < length code.now }
     requires short { length code.now < 2 ^ 32 }
@@ -36,6 +37,7 @@ fn end_at(code: &[Instr], ends: &[Option<usize>], place: usize) -> Option<usize>
     }
 }
 
+/// Returns for each place, and after the last, the next END that ends a loop begun before it.
 fn all_ends(alloc: Global, code: &[Instr]) -> Result<Vec<Option<usize>>, AllocError>
     requires { length code.now < 2 ^ 32 }
     ensures { IfOk result (λ ends. EndsFrom (flows code.now) ends.items 0) }
@@ -49,7 +51,7 @@ fn all_ends(alloc: Global, code: &[Instr]) -> Result<Vec<Option<usize>>, AllocEr
     Ok(ends)
 }
 
-/// Returns how many loops are begun and not ended after an instruction.
+/// Returns how many loops are begun and not ended after an instruction of this flow.
 fn deeper(depth: usize, flow: Flow) -> usize
     requires { depth < 2 ^ 32 }
     ensures depth { result ≡ depth_after depth (flow ∷ []) }
@@ -62,6 +64,7 @@ fn deeper(depth: usize, flow: Flow) -> usize
     }
 }
 
+/// Returns for each place of a code how many loops are begun and not ended before it.
 fn all_depths(alloc: Global, code: &[Instr]) -> Result<Vec<usize>, AllocError>
     requires { length code.now < 2 ^ 32 }
     ensures { IfOk result (λ depths. DepthsTo (flows code.now) depths.items (length code.now)) }
@@ -89,7 +92,7 @@ fn end_of_begin(code: &[Instr], ends: &[Option<usize>], place: usize) -> Option<
     }
 }
 
-/// Returns the first place of each END's loop.
+/// Returns for each END of a code the first place of its loop.
 fn all_firsts(
     alloc: Global,
     code: &[Instr],
@@ -118,7 +121,7 @@ pub(crate) struct Loops {
 }
 
 impl Loops {
-    /// Computes the tables of a code.
+    /// Computes the tables of a code's loops.
     pub(crate) fn new(alloc: Global, code: &[Instr]) -> Result<Loops, AllocError>
         requires { length code.now < 2 ^ 32 }
         ensures { IfOk result (AreLoops code.now) }

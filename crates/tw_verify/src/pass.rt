@@ -7,7 +7,7 @@ ghost use Rattle.tw_code.specs.format.Program.{IsInstr, IsProcedure};
 ghost use Rattle.tw_code.specs.accepting.Question.{rejection_in};
 ghost use Rattle.tw_code.specs.accepting.Structure.{IsStructured};
 ghost use Rattle.tw_code.specs.machine.Rights.{Typing};
-ghost use Rattle.tw_code.specs.accepting.Typing.{asks_at};
+ghost use Rattle.tw_code.specs.accepting.Typing.{requires_at};
 ghost use Rattle.tw_code.specs.accepting.Walk.{IsBudget, greatest_budget};
 ghost use Rattle.tw_code.specs.accepting.WellTyped.{IsEndOf, IsBudgetRejection, IsProcedureRejection};
 ghost use Rattle.tw_verify.specs.Rejection.{verify_error_code};
@@ -31,6 +31,7 @@ use tw_budget::{BudgetError, budgets};
 use tw_code::{Instr, Procedure};
 use tw_types::{Items, keep};
 
+/// Returns the typing of a place that the pass over a procedure has reached.
 fn typing_at(typings: &[Typing], place: usize) -> Option<Typing>
     ensures { result ≡ slice_get typings.now place }
 {
@@ -60,7 +61,7 @@ fn is_changed(
     }
 }
 
-/// Returns the lowest error at a place that is reached.
+/// Returns the lowest error of typing at a place that is reached.
 fn typing_rejection(
     procedures: &[Procedure],
     procedure: &Procedure,
@@ -71,7 +72,7 @@ fn typing_rejection(
 ) -> Option<VerifyError>
     requires { IsInstr instr.now }
     ensures { option_map verify_error_code result ≡ lowest_at
-        (rejection_in (asks_at procedures.now procedure.now place instr.now reached.now.typing))
+        (rejection_in (requires_at procedures.now procedure.now place instr.now reached.now.typing))
         reached.now.differs changed }
 {
     let own = place_rejection(procedures, procedure, place, instr, &reached.typing);
@@ -124,7 +125,7 @@ fn typing_pass(
     Ok(Pass::Through(Items::from(all)))
 }
 
-/// Returns the typings known of a procedure, whether it is accepted or not.
+/// Returns the typings that the verifier knows of a procedure, whether it is accepted or not.
 pub(crate) fn known_typings(
     alloc: Global,
     procedures: &[Procedure],
@@ -143,7 +144,7 @@ pub(crate) fn known_typings(
     }
 }
 
-/// Returns the budget of the procedure.
+/// Returns the budget of a procedure to the verifier. A budget that is too large is an error at place 0.
 fn budget(alloc: Global, procedure: &Procedure) -> Result<u64, Fault>
     requires operands { IsProcedure procedure.now }
     requires structured { IsStructured procedure.now.code }

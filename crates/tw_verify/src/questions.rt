@@ -5,14 +5,14 @@ ghost use Rattle.std.specs.Prelude.{◌≡◌, ◌<◌, ◌∷◌, [], ◌++◌,
 ghost use Rattle.std.specs.Option.{option_map};
 ghost use Rattle.tw_code.specs.accepting.Question.{passes, rejection_in};
 ghost use Rattle.tw_code.specs.machine.Rights.{RightType, right_at};
-ghost use Rattle.tw_code.specs.accepting.Typing.{asks_value, asks_alike, asks_values, asks_entry_of, reads_closed_by, asks_value_of, asks_empty_pair, asks_container_write, suits_subscripts, writes_container_by, reads, reads_closed_container, reads_closed_container_by, reads_member_of};
+ghost use Rattle.tw_code.specs.accepting.Typing.{requires_value, requires_alike, requires_values, requires_entry_of, reads_closed_by, requires_value_of, requires_empty_pair, requires_container_write, suits_subscripts, writes_container_by, reads, reads_closed_container, reads_closed_container_by, reads_member_of};
 ghost use Rattle.tw_verify.specs.Rejection.{lowest_of, rejection_with, verify_error_code};
 
 use crate::rejection::VerifyError;
 use crate::typing::{RightType, Typing};
 use tw_types::Scalar;
 
-/// Returns the lower of two errors, each of which may be missing.
+/// Returns the lower of two errors of the verifier, each of which may be missing.
 pub fn lowest(first: Option<VerifyError>, second: Option<VerifyError>) -> Option<VerifyError>
     ensures { option_map verify_error_code result
         ≡ lowest_of (option_map verify_error_code first) (option_map verify_error_code second) }
@@ -42,7 +42,7 @@ pub(crate) fn beside(
 
 /// Checks that a value register is declared, and of this type.
 pub(crate) fn value_rejection(registers: &[Scalar], register: u8, ty: Scalar) -> Option<VerifyError>
-    ensures { option_map verify_error_code result ≡ rejection_in (asks_value registers.now register ty) }
+    ensures { option_map verify_error_code result ≡ rejection_in (requires_value registers.now register ty) }
 {
     match registers.get(register as usize) {
         None => Some(VerifyError::UndeclaredValue),
@@ -59,7 +59,7 @@ pub(crate) fn both_rejection(
     second_ty: Scalar,
 ) -> Option<VerifyError>
     ensures { option_map verify_error_code result
-        ≡ rejection_in (asks_value registers.now first first_ty ++ asks_value registers.now second second_ty) }
+        ≡ rejection_in (requires_value registers.now first first_ty ++ requires_value registers.now second second_ty) }
 {
     lowest(
         value_rejection(registers, first, first_ty),
@@ -76,7 +76,7 @@ pub(crate) fn values_rejection(
     ty: Scalar,
 ) -> Option<VerifyError>
     ensures { option_map verify_error_code result
-        ≡ rejection_in (asks_values registers.now first second third ty) }
+        ≡ rejection_in (requires_values registers.now first second third ty) }
 {
     lowest(
         value_rejection(registers, first, ty),
@@ -86,7 +86,7 @@ pub(crate) fn values_rejection(
 
 /// Checks that two value registers are declared, and of the same type.
 pub(crate) fn alike_rejection(registers: &[Scalar], first: u8, second: u8) -> Option<VerifyError>
-    ensures { option_map verify_error_code result ≡ rejection_in (asks_alike registers.now first second) }
+    ensures { option_map verify_error_code result ≡ rejection_in (requires_alike registers.now first second) }
 {
     match registers.get(first as usize) {
         None => Some(VerifyError::UndeclaredValue),
@@ -104,7 +104,7 @@ pub(crate) fn value_of_rejection(
 ) -> Option<VerifyError>
     ensures { (test : RightType → Bool) → fits ≡ passes test right.now
         → option_map verify_error_code result
-        ≡ rejection_in (asks_value_of registers.now register test right.now) }
+        ≡ rejection_in (requires_value_of registers.now register test right.now) }
 {
     let Some(declared) = registers.get(register as usize) else {
         return Some(VerifyError::UndeclaredValue);
@@ -139,7 +139,7 @@ pub(crate) fn entry_rejection(
 ) -> Option<VerifyError>
     ensures { (test : RightType → Bool) → fits ≡ passes test right.now
         → option_map verify_error_code result
-        ≡ rejection_in (asks_entry_of registers.now subscript register test right.now) }
+        ≡ rejection_in (requires_entry_of registers.now subscript register test right.now) }
 {
     let Some(named) = registers.get(subscript as usize) else {
         return Some(VerifyError::UndeclaredValue);
@@ -160,7 +160,7 @@ pub(crate) fn entry_rejection(
 pub(crate) fn empty_pair_rejection(typing: &Typing, first: u8, second: u8) -> Option<VerifyError>
     requires first { first < 16 }
     requires second { second < 16 }
-    ensures { option_map verify_error_code result ≡ rejection_in (asks_empty_pair typing.now first second) }
+    ensures { option_map verify_error_code result ≡ rejection_in (requires_empty_pair typing.now first second) }
 {
     let fits = typing.is_free(first) && typing.is_free(second) && first != second;
     (!fits).then_some(VerifyError::RightNotEmpty)
@@ -180,7 +180,7 @@ pub(crate) fn read_rejection(typing: &Typing, register: u8) -> Option<VerifyErro
 pub(crate) fn container_write_rejection(typing: &Typing, register: u8) -> Option<VerifyError>
     requires { register < 16 }
     ensures { option_map verify_error_code result
-        ≡ rejection_in (asks_container_write (right_at typing.now register)) }
+        ≡ rejection_in (requires_container_write (right_at typing.now register)) }
 {
     match typing.right_at(register) {
         Some(right) if right.writes() => right.writes_scalar().then_some(VerifyError::ScalarWrite),

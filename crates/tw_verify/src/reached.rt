@@ -19,7 +19,7 @@ pub(crate) struct Reached {
     pub(crate) differs: bool,
 }
 
-/// Records that `typing` reaches the place. A second, different one sets `differs` (V07).
+/// Records that a typing reaches a place. A second, different one sets `differs` (V07).
 fn note(reached: Option<Reached>, typing: Typing) -> Option<Reached>
     ensures { result ≡ noted reached typing }
 {
@@ -105,7 +105,7 @@ pub(crate) fn first_rows(
     Ok(rows)
 }
 
-/// Returns what has reached a place.
+/// Returns what has reached a place: a typing, and whether typings differ there.
 pub(crate) fn row_at(rows: &[Option<Reached>], place: usize) -> Option<Reached>
     requires { place < length rows.now }
     ensures { slice_get rows.now place ≡ Some result }

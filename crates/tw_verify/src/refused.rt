@@ -40,6 +40,7 @@ impl Refused {
 
 /// Displays the error, without the program.
 impl fmt::Debug for Refused {
+    /// Writes the verifier's rejection for `Debug`: its code, procedure and place, without the program.
     fn fmt<W: fmt::Write>(&self, f: &mut fmt::Formatter<W>) -> fmt::Result {
         write!(f, "{self}")
     }

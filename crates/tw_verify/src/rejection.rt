@@ -45,21 +45,21 @@ pub enum VerifyError {
 }
 
 impl VerifyError {
-    /// Returns whether it is a failed allocation, which says nothing of the program.
+    /// Returns whether an error of the verifier is a failed allocation, which says nothing of the program.
     pub(crate) fn is_memory(self) -> bool
         ensures { result ≡ is_memory self }
     {
         matches!(self, VerifyError::NoMemory)
     }
 
-    /// Returns whether it is V16, which is checked before any procedure.
+    /// Returns whether an error of the verifier is V16, which is checked before any procedure.
     pub(crate) fn is_main_shape(self) -> bool
         ensures { result ≡ (verify_error_code self == 16) }
     {
         matches!(self, VerifyError::MainShape)
     }
 
-    /// Returns its code without the letter V.
+    /// Returns the code of the verifier's error without the letter V.
     pub fn number(self) -> u8
         ensures { result ≡ verify_error_code self }
     {

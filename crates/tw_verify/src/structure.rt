@@ -12,6 +12,7 @@ use crate::loops::Loops;
 use crate::rejection::VerifyError;
 use tw_code::{Flow, Instr, Procedure, flow_at};
 
+/// Returns whether two places are in the same block: in one loop's body, or both in none.
 fn is_same_block(left: Option<usize>, right: Option<usize>) -> bool
     ensures { result ≡ same_block left right }
 {
@@ -31,6 +32,7 @@ fn is_goal_in_block(code: &[Instr], loops: &Loops, place: usize, goal: usize) ->
     goal < code.len() && is_same_block(loops.block(code, goal), loops.block(code, place))
 }
 
+/// Returns whether an instruction's skip stays in its block; one without a skip passes.
 fn is_skip_in_block(code: &[Instr], loops: &Loops, place: usize, flow: Flow) -> bool
     requires known { AreLoops code.now loops.now }
     requires within { place < length code.now }
@@ -44,7 +46,8 @@ fn is_skip_in_block(code: &[Instr], loops: &Loops, place: usize, flow: Flow) -> 
     }
 }
 
-/// Returns whether a REPEAT has its END and isn't the fifth of a nest, and an END has its REPEAT.
+/// Returns whether the structure of a loop is right: a REPEAT has its END and isn't the fifth of a nest, and an END has its
+/// REPEAT.
 fn has_partner(code: &[Instr], loops: &Loops, place: usize, flow: Flow) -> bool
     requires known { AreLoops code.now loops.now }
     requires within { place < length code.now }
@@ -58,7 +61,7 @@ fn has_partner(code: &[Instr], loops: &Loops, place: usize, flow: Flow) -> bool
     }
 }
 
-/// Returns whether a RET is in no loop, and another instruction isn't the last.
+/// Returns whether the structure at a code's end is right: a RET is in no loop, and another instruction isn't the last.
 fn is_ending_well(code: &[Instr], loops: &Loops, place: usize, flow: Flow) -> bool
     requires known { AreLoops code.now loops.now }
     requires within { place < length code.now }
@@ -71,7 +74,7 @@ fn is_ending_well(code: &[Instr], loops: &Loops, place: usize, flow: Flow) -> bo
     }
 }
 
-/// Returns the lowest error of the structure at a place.
+/// Returns the lowest error of the structure at a place: skip, loop or end.
 fn structure_rejection(code: &[Instr], loops: &Loops, place: usize) -> Option<VerifyError>
     requires known { AreLoops code.now loops.now }
     requires within { place < length code.now }

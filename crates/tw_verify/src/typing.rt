@@ -34,21 +34,21 @@ impl Model for RightType {
 }
 
 impl RightType {
-    /// Returns its mode: `Closed`, `Ref` or `Write`.
+    /// Returns the mode of a right that a typing has: `Closed`, `Ref` or `Write`.
     pub fn mode(self) -> Mode
         ensures { result ≡ self.mode }
     {
         self.mode
     }
 
-    /// Returns the type of its datum.
+    /// Returns the type of the datum on which a typing has a right.
     pub fn ty(self) -> DataType
         ensures { result ≡ self.ty }
     {
         self.ty
     }
 
-    /// Returns a write right on a datum of the type.
+    /// Returns the type of a write right on a datum of a type, for a typing.
     fn write(ty: DataType) -> RightType
         ensures { a_write ty ≡ Some result }
     {
@@ -58,7 +58,7 @@ impl RightType {
         }
     }
 
-    /// Returns a read right on a datum of the type.
+    /// Returns the type of a read right on a datum of a type, for a typing.
     fn read(ty: DataType) -> RightType
         ensures { a_read ty ≡ Some result }
     {
@@ -68,81 +68,91 @@ impl RightType {
         }
     }
 
-    /// Returns a read right on a member of its datum, or `None` if that is a scalar.
+    /// Returns the right's type that LOOK adds: a read on a member; `None` if there are no members.
     fn member_read(self) -> Option<RightType>
         ensures { result ≡ option_and_then a_read (element_of self.ty) }
     {
         self.ty.element().map(RightType::read)
     }
 
+    /// Returns whether the right of a typing is a write right.
     pub(crate) fn writes(self) -> bool
         ensures { result ≡ writes self }
     {
         self.mode.is_write()
     }
 
+    /// Returns whether the right of a typing is a write right on a scalar.
     pub(crate) fn writes_scalar(self) -> bool
         ensures { result ≡ writes_scalar self }
     {
         self.mode.is_write() && self.ty.is_scalar()
     }
 
+    /// Returns whether the right of a typing is a write right on a container with such subscripts.
     pub(crate) fn writes_container_by(self, by: Scalar) -> bool
         ensures { result ≡ writes_container_by by self }
     {
         self.mode.is_write() && self.ty.is_container_by(by)
     }
 
+    /// Returns whether the right of a typing is a read right, `closed` or `ref`.
     pub(crate) fn reads(self) -> bool
         ensures { result ≡ reads self }
     {
         matches!(self.mode, Mode::Closed | Mode::Ref)
     }
 
+    /// Returns whether the right of a typing is a `closed` right on a scalar.
     pub(crate) fn reads_closed_scalar(self) -> bool
         ensures { result ≡ reads_closed_scalar self }
     {
         self.mode == Mode::Closed && self.ty.is_scalar()
     }
 
+    /// Returns whether the right of a typing is a `closed` right on what isn't a scalar.
     pub(crate) fn reads_closed_container(self) -> bool
         ensures { result ≡ reads_closed_container self }
     {
         self.mode == Mode::Closed && !self.ty.is_scalar()
     }
 
+    /// Returns whether the right of a typing is a `closed` right on a container with such subscripts.
     pub(crate) fn reads_closed_container_by(self, by: Scalar) -> bool
         ensures { result ≡ reads_closed_container_by by self }
     {
         self.mode == Mode::Closed && self.ty.is_container_by(by)
     }
 
-    /// Returns whether it is a closed read right on a container or a map with such subscripts.
+    /// Returns whether the right of a typing is a `closed` right on a container or a map with such subscripts.
     pub(crate) fn reads_closed_by(self, by: Scalar) -> bool
         ensures { result ≡ reads_closed_by by self }
     {
         self.mode == Mode::Closed && self.ty.has_subscripts_by(by)
     }
 
+    /// Returns whether the right of a typing is a `closed` right on a map.
     pub(crate) fn reads_closed_map(self) -> bool
         ensures { result ≡ reads_closed_map self }
     {
         self.mode == Mode::Closed && self.ty.is_map()
     }
 
+    /// Returns whether the right of a typing is a write right on a map, but none of sums.
     pub(crate) fn writes_map(self) -> bool
         ensures { result ≡ writes_map self }
     {
         self.mode.is_write() && self.ty.is_plain_map()
     }
 
+    /// Returns whether the right of a typing is a write right on a map of sums of integers.
     pub(crate) fn writes_sums(self) -> bool
         ensures { result ≡ writes_sums self }
     {
         self.mode.is_write() && (self.ty.is_sums() && Scalar::Int == self.ty.scalar())
     }
 
-    /// Returns whether it suits a parameter. For a `closed` one any read does, if the task waits for its data.
+    /// Returns whether the right of a typing suits a parameter. For a `closed` one any read does, if the task waits for its data.
     pub(crate) fn right_fits_param(self, waits: bool, param: Param) -> bool
         ensures { result ≡ right_fits_param waits param self }
     {
@@ -156,6 +166,7 @@ impl RightType {
         suits && self.ty == param.ty
     }
 
+    /// Returns whether the datum of a typing's right has the type of a container's members.
     fn is_element_of(self, container: DataType) -> bool
         ensures { result ≡ is_element_of self.ty container }
     {
@@ -165,7 +176,7 @@ impl RightType {
         }
     }
 
-    /// Returns whether it is a read right on a datum of that container's element type.
+    /// Returns whether the right of a typing is a read right on a datum of another's element type.
     pub(crate) fn reads_member_of(self, container: RightType) -> bool
         ensures { result ≡ reads_member_of container self }
     {
@@ -191,7 +202,7 @@ impl Model for Typing {
 }
 
 impl Typing {
-    /// Returns the typing with which a procedure of these parameters starts.
+    /// Returns the typing at the start of a procedure: the rights of its parameters in the first registers.
     pub fn start(params: &[Param]) -> Typing
         requires { length params.now ≤ 16 }
         ensures { result ≡ start_typing params.now }
@@ -210,7 +221,7 @@ impl Typing {
         Typing { rights }
     }
 
-    /// Returns the right in a register, or `None` if it is empty.
+    /// Returns the right that a typing has in a register, or `None` if it is empty.
     pub fn right_at(&self, register: u8) -> Option<RightType>
         requires { register < 16 }
         ensures { result ≡ right_at self.now register }
@@ -218,7 +229,7 @@ impl Typing {
         self.rights[register as usize]
     }
 
-    /// Returns whether a register is empty.
+    /// Returns whether a right register is empty in a typing.
     pub(crate) fn is_free(&self, register: u8) -> bool
         requires { register < 16 }
         ensures { result ≡ is_free self.now register }
@@ -226,20 +237,21 @@ impl Typing {
         self.right_at(register).is_none()
     }
 
-    /// Returns whether every register is empty.
+    /// Returns whether a typing has no right in any register.
     pub fn is_empty(&self) -> bool
         ensures { result ≡ list_all is_none self.now }
     {
         self.rights.iter().all(|right| right.is_none())
     }
 
-    /// Returns whether both typings have the same rights.
+    /// Returns whether two typings have the same rights in all registers.
     pub fn is_same(&self, other: &Typing) -> bool
         ensures { result ≡ same_typing self.now other.now }
     {
         self.rights == other.rights
     }
 
+    /// Returns the typing with this right in a register, or with the register empty.
     fn with(mut self, register: u8, right: Option<RightType>) -> Typing
         requires { register < 16 }
         ensures { result ≡ slice_set self register right }
@@ -294,7 +306,7 @@ impl Typing {
         }
     }
 
-    /// Empties the register of a parameter's argument, if that is a right.
+    /// Empties the register of a parameter's argument in a typing, if that is a right.
     pub fn without(self, param: Param, arg: u8) -> Typing
         requires { IsRegister arg }
         ensures { result ≡ without_args (param ∷ []) (arg ∷ []) self }
@@ -306,7 +318,7 @@ impl Typing {
         }
     }
 
-    /// Empties the registers of all arguments that are rights.
+    /// Empties in a typing the registers of all arguments that are rights.
     fn without_args(self, params: &[Param], args: &[u8]) -> Typing
         requires { AllByRecursion IsRegister args.now }
         ensures { result ≡ without_args params.now args.now self }
@@ -329,7 +341,7 @@ impl Typing {
         }
     }
 
-    /// Returns the typing after an instruction with this outcome.
+    /// Returns the typing after an instruction of any kind with this outcome.
     pub fn after(self, procedures: &[Procedure], way: Way, instr: &Instr) -> Typing
         requires { IsInstr instr.now }
         ensures { result ≡ after procedures.now way instr.now self }

@@ -18,7 +18,7 @@ use std::alloc::Global;
 use tw_code::{Procedure, Program, has_main_shape};
 use tw_types::{Items, keep};
 
-/// Returns the findings of each procedure of an accepted program.
+/// Checks main's shape, verifies all procedures of a program in order, and returns the findings of each.
 fn all_findings(alloc: Global, procedures: &[Procedure]) -> Result<Items<Findings>, Rejection>
     requires { IsProgram procedures.now }
     ensures accepted { IfOk result (IsTyped procedures.now) }

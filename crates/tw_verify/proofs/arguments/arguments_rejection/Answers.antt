@@ -2,7 +2,7 @@ use Rattle.std.proofs.Common.{◌∷◌, [], ℕ, List, Option, refl, sym, ap, s
 use Rattle.std.proofs.lemmas.Slice.Zip.{Zip-more, either_empty_from_Zip}
 use Rattle.std.specs.Iterator.Adapters.{zip_first, zip_second}
 use Rattle.std.specs.List.{AllByRecursion}
-use Rattle.tw_verify.proofs.VerifierNames.{IsRegister, Typing, asks_args, lowest_of, option_map, rejection_in, verify_error_code, without_args}
+use Rattle.tw_verify.proofs.VerifierNames.{IsRegister, Typing, requires_args, lowest_of, option_map, rejection_in, verify_error_code, without_args}
 use Rattle.std.specs.Slice.Iter.{iter_rest}
 use Rattle.tw_types.specs.declared.param.Param.{Param}
 use Rattle.tw_verify.proofs.Asking.{ask_more, nothing_asked}
@@ -19,18 +19,18 @@ loop-param-preserved c =
     let params = iter_rest (zip_first c.next.new.self) in
     let args = iter_rest (zip_second c.next.new.self) in
     let so_far = option_map verify_error_code c.loop-param.rejection in
-    let own = rejection_in (asks_args waits registers (p ∷ []) (arg ∷ []) left) in
-    let others = rejection_in (asks_args waits registers params args (without_args (p ∷ []) (arg ∷ []) left)) in
+    let own = rejection_in (requires_args waits registers (p ∷ []) (arg ∷ []) left) in
+    let others = rejection_in (requires_args waits registers params args (without_args (p ∷ []) (arg ∷ []) left)) in
     let more = Zip-more c.loop-param.param-iterator c.next.new.self _ (c.in-Some.param, c.in-Some.arg) refl c.in-Some.ensures.steps in
     record {
       rest = c.loop-param.invariant.rest
-          ∙ ap (λ (ps : List Param). lowest_of so_far (rejection_in (asks_args waits registers ps (iter_rest (zip_second c.loop-param.param-iterator)) left))) more.0
-          ∙ ap (λ (xs : List ℕ). lowest_of so_far (rejection_in (asks_args waits registers (p ∷ params) xs left))) more.1
+          ∙ ap (λ (ps : List Param). lowest_of so_far (rejection_in (requires_args waits registers ps (iter_rest (zip_second c.loop-param.param-iterator)) left))) more.0
+          ∙ ap (λ (xs : List ℕ). lowest_of so_far (rejection_in (requires_args waits registers (p ∷ params) xs left))) more.1
           ∙ ap (lowest_of so_far) (ask_more waits registers p params arg args left)
           ∙ sym (lowest_of_three so_far own others)
           ∙ ap (λ (o : Option ℕ). lowest_of (lowest_of so_far o) others) (sym c.argument_rejection-own.ensures)
           ∙ ap (λ (o : Option ℕ). lowest_of o others) (sym c.lowest-rejection.ensures)
-          ∙ ap (λ (t : Typing). lowest_of (option_map verify_error_code c.lowest-rejection.result) (rejection_in (asks_args waits registers params args t))) (sym c.without-left.ensures);
+          ∙ ap (λ (t : Typing). lowest_of (option_map verify_error_code c.lowest-rejection.result) (rejection_in (requires_args waits registers params args t))) (sym c.without-left.ensures);
       operands = (subst (AllByRecursion IsRegister) more.1 c.loop-param.invariant.operands).1;
     }
 

@@ -1,5 +1,5 @@
 use Rattle.std.proofs.Common.{◌≡◌, ℕ, Option, ap, sym, ◌∙◌, subst}
-use Rattle.tw_verify.proofs.VerifierNames.{asks, asks_at, asks_params, lowest_of, option_map, rejection_in, verify_error_code}
+use Rattle.tw_verify.proofs.VerifierNames.{requires_by_instr, requires_at, requires_params, lowest_of, option_map, rejection_in, verify_error_code}
 use Rattle.tw_verify.proofs.Numbers.{rejection_in-append}
 use Rattle.tw_verify.proofs.instructions.place_rejection.Goals as goal
 
@@ -9,8 +9,8 @@ returns-then-place-eq0 c =
     let p = c.args.procedure.now in
     let i = c.args.instr.now in
     let t = c.args.typing.now in
-    subst (λ (n : ℕ). option_map verify_error_code c.lowest.result ≡ rejection_in (asks_at program p n i t)) (sym c.if-place-eq0.true)
+    subst (λ (n : ℕ). option_map verify_error_code c.lowest.result ≡ rejection_in (requires_at program p n i t)) (sym c.if-place-eq0.true)
     (c.lowest.ensures
     ∙ ap (λ (first : Option ℕ). lowest_of first (option_map verify_error_code c.instr_rejection-own.result)) c.params_rejection.ensures
-    ∙ ap (lowest_of (rejection_in (asks_params p))) c.instr_rejection-own.ensures
-    ∙ sym (rejection_in-append (asks_params p) (asks program p i t)))
+    ∙ ap (lowest_of (rejection_in (requires_params p))) c.instr_rejection-own.ensures
+    ∙ sym (rejection_in-append (requires_params p) (requires_by_instr program p i t)))

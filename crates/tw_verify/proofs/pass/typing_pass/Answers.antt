@@ -1,5 +1,5 @@
 use Rattle.std.proofs.Common.{◌≡◌, ℕ, ◌+◌, ◌∷◌, [], ◌++◌, List, Option, Some, drop, take, refl, sym, ap, ◌∙◌, subst, arith}
-use Rattle.tw_verify.proofs.VerifierNames.{HasChanged, Instr, IsEndOf, IsWellTyped, Typing, asks_at, first_row, length, lowest_at, option_map, rejection_in, slice_get, slice_get_read, start_typing, verify_error_code}
+use Rattle.tw_verify.proofs.VerifierNames.{HasChanged, Instr, IsEndOf, IsWellTyped, Typing, requires_at, first_row, length, lowest_at, option_map, rejection_in, slice_get, slice_get_read, start_typing, verify_error_code}
 use Rattle.tw_verify.specs.Known.{AreUpTo}
 use Rattle.tw_verify.specs.declared.reached.Reached.{Reached}
 use Rattle.tw_verify.proofs.Causes.{nothing_at}
@@ -48,7 +48,7 @@ returns-in-Some-typing_rejection c =
     let at = subst (λ (xs : List (Option Reached)). slice_get xs place ≡ Some c.row_at.result) c.deref.ensures.value c.row_at.ensures in
     let row : HasReached program p all (place + place) place r = subst (λ (x : Option Reached). IsRow program p all (place + place) place x) c.in-Some.is (c.loop-place.invariant.rows place c.row_at.result at) in
     let here : slice_get p.code place ≡ Some i = ap (λ (xs : List Instr). slice_get xs place) (sym c.as_slice-code.ensures) ∙ slice_get_read code (length code) place i refl c.loop-place-test.true c.index-code-place.is in
-    let is : lowest_at (rejection_in (asks_at program p place i r.typing)) r.differs changed ≡ Some (verify_error_code c.in-Some-typing_rejection.no) = sym c.typing_rejection.ensures ∙ ap (option_map verify_error_code) c.in-Some-typing_rejection.is in (
+    let is : lowest_at (rejection_in (requires_at program p place i r.typing)) r.differs changed ≡ Some (verify_error_code c.in-Some-typing_rejection.no) = sym c.typing_rejection.ensures ∙ ap (option_map verify_error_code) c.in-Some-typing_rejection.is in (
       rejection_at program p all place (verify_error_code c.in-Some-typing_rejection.no) r i changed typed row here
           (λ e. subst (λ (ts : List Typing). HasChanged p.code ts place r.typing) c.deref-in-loop-place.ensures.value (subst (λ (xs : List Instr). HasChanged xs c.deref-in-loop-place.result.now place r.typing) c.as_slice-code.ensures (c.is_changed-changed.ensures.found e)))
           (λ first begun e end there. c.is_changed-changed.ensures.all first begun e (subst (λ (xs : List Instr). IsEndOf xs first place) (sym c.as_slice-code.ensures) end) (subst (λ (ts : List Typing). slice_get ts first ≡ Some begun) (sym c.deref-in-loop-place.ensures.value) there))
@@ -71,7 +71,7 @@ loop-place-preserved c =
     let at = subst (λ (xs : List (Option Reached)). slice_get xs place ≡ Some c.row_at.result) c.deref.ensures.value c.row_at.ensures in
     let row : HasReached program p all (place + place) place r = subst (λ (x : Option Reached). IsRow program p all (place + place) place x) c.in-Some.is (c.loop-place.invariant.rows place c.row_at.result at) in
     let here : slice_get p.code place ≡ Some i = ap (λ (xs : List Instr). slice_get xs place) (sym c.as_slice-code.ensures) ∙ slice_get_read code (length code) place i refl c.loop-place-test.true c.index-code-place.is in
-    let nothing = nothing_at (rejection_in (asks_at program p place i r.typing)) r.differs changed (sym c.typing_rejection.ensures ∙ ap (option_map verify_error_code) c.in_default-typing_rejection.is) in
+    let nothing = nothing_at (rejection_in (requires_at program p place i r.typing)) r.differs changed (sym c.typing_rejection.ensures ∙ ap (option_map verify_error_code) c.in_default-typing_rejection.is) in
     let kept : c.keep.new.list.items ≡ all ++ r.typing ∷ [] = c.in_ok-keep.ensures in
     let same : length new ≡ length old = c.send_both.auto.rows ∙ ap length c.deref_mut.ensures.value in
     let whole : take c.loop-place.rows.len (new ++ drop (length new) old) ≡ new = whole_slice new old c.loop-place.rows.len same c.loop-place.rows.ok.0 in

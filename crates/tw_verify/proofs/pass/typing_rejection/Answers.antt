@@ -1,12 +1,12 @@
 use Rattle.std.proofs.Common.{ℕ, Option, Some, None, ap, ◌∙◌}
-use Rattle.tw_verify.proofs.VerifierNames.{asks_at, if◌then◌else◌, lowest_of, option_map, rejection_in, verify_error_code}
+use Rattle.tw_verify.proofs.VerifierNames.{requires_at, if◌then◌else◌, lowest_of, option_map, rejection_in, verify_error_code}
 use Rattle.tw_verify.specs.declared.rejection.VerifyError.TheVariants.{TypingsDiffer, TypingChanged}
 use Rattle.tw_verify.proofs.Causes.{then_number}
 use Rattle.tw_verify.proofs.pass.typing_rejection.Goals as goal
 
 pub returns : goal.returns
 returns c =
-    let own = rejection_in (asks_at c.args.procedures.now c.args.procedure.now c.args.place c.args.instr.now c.args.reached.now.typing) in
+    let own = rejection_in (requires_at c.args.procedures.now c.args.procedure.now c.args.place c.args.instr.now c.args.reached.now.typing) in
     let differs = c.args.reached.now.differs in
     let inner =
     c.lowest.ensures
