@@ -12,20 +12,21 @@ use crate::datum::Datum;
 use crate::member::Member;
 use tw_types::{Cause, DataType, Scalar, Value};
 
+/// Fails with the trap's cause, unless the condition on a datum holds.
 fn must(holds: bool, cause: Cause) -> Result<(), Cause>
     ensures { result ≡ must holds cause }
 {
     if holds { Ok(()) } else { Err(cause) }
 }
 
-/// Returns whether a value may be stored in a datum of a type.
+/// Returns whether a value may be stored in a datum of this type: a scalar's, the same as the value's.
 fn is_of(value: &Value, ty: DataType) -> bool
     ensures { result ≡ is_of value.now ty }
 {
     ty.is_scalar() && value.scalar() == ty.scalar()
 }
 
-/// Returns whether the first is the type of the second's members.
+/// Returns whether a datum's type is that of a container's members, for the check of an insertion.
 fn is_element_of(element: DataType, ty: DataType) -> bool
     ensures { result ≡ is_element_of element ty }
 {

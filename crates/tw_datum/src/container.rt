@@ -15,7 +15,7 @@ use crate::ranked_map::RankedMap;
 use std::alloc::AllocError;
 use tw_types::{DatumId, Value, ValueRef};
 
-/// Returns the id of a member, with its subscript.
+/// Returns the id of a datum's member, with its subscript.
 fn borrowed_entry<M: Member>(entry: Option<&(Value, M)>) -> Option<(&Value, DatumId)>
     ensures { option_map borrowed_entry result ≡ option_map (bare M.id) (option_copied entry.entry) }
 {
@@ -26,7 +26,7 @@ fn borrowed_entry<M: Member>(entry: Option<&(Value, M)>) -> Option<(&Value, Datu
 }
 
 impl<M: Member> Datum<M> {
-    /// Returns the members, or `None` for a scalar or a map.
+    /// Returns the map of a datum's members, or `None` for a scalar or a map of values.
     fn members(&self) -> Option<&RankedMap<M>>
         ensures { AreMembers M.id self.now (option_copied result) }
     {
@@ -36,7 +36,7 @@ impl<M: Member> Datum<M> {
         }
     }
 
-    /// Returns the number of members; a scalar has none.
+    /// Returns the number of members of a datum; a scalar or a map has none.
     pub fn len(&self) -> usize
         ensures { result ≡ map.len (members_in self.now.datum.content) }
     {
@@ -46,7 +46,8 @@ impl<M: Member> Datum<M> {
         }
     }
 
-    /// Returns the member with `index` smaller subscripts, and its subscript. A container with texts as subscripts gives `None`.
+    /// Returns the member of a datum with `index` smaller integers as subscripts, and its subscript; `None` if subscripts are
+    /// texts.
     pub fn member(&self, index: usize) -> Option<(i64, DatumId)>
         ensures { result ≡ option_and_then by_int (slice_get (map.entries (members_in self.now.datum.content)) index) }
     {
@@ -56,7 +57,7 @@ impl<M: Member> Datum<M> {
         }
     }
 
-    /// Returns the member with `index` smaller subscripts, and its subscript of either type.
+    /// Returns the member of a datum with `index` smaller subscripts, and its subscript of either type.
     pub fn entry(&self, index: usize) -> Option<(&Value, DatumId)>
         ensures { option_map borrowed_entry result ≡ slice_get (map.entries (members_in self.now.datum.content)) index }
     {
@@ -77,7 +78,7 @@ impl<M: Member> Datum<M> {
         }
     }
 
-    /// Returns the member at a subscript, as the container stores it.
+    /// Returns the member of a datum at a subscript, as the container stores it.
     pub fn kept_member(&self, subscript: ValueRef<'_>) -> Option<M>
         ensures member { option_map M.id result ≡ map.get (members_in self.now.datum.content) (named subscript.entry) }
         ensures kept { result ≡ map.get self.now.members (named subscript.entry) }
@@ -88,7 +89,7 @@ impl<M: Member> Datum<M> {
         }
     }
 
-    /// Returns the id of the member at a subscript.
+    /// Returns the id of the member of a datum at a subscript.
     pub fn member_at(&self, subscript: ValueRef<'_>) -> Option<DatumId>
         ensures { result ≡ map.get (members_in self.now.datum.content) (named subscript.entry) }
     {
@@ -98,7 +99,8 @@ impl<M: Member> Datum<M> {
         }
     }
 
-    /// Inserts a member at a copy of the subscript, unless one is there. Returns whether none was. Fails if an allocation fails.
+    /// Inserts a member into a datum at a copy of the subscript, unless one is there. Returns whether none was. Fails if an
+    /// allocation fails.
     pub fn add_absent(&mut self, subscript: ValueRef<'_>, member: M) -> Result<bool, AllocError>
         requires container { is_container_by (scalar_of (named subscript)) self.old.datum.ty ≡ true }
         requires proper { IsProper (named subscript) }
@@ -110,7 +112,7 @@ impl<M: Member> Datum<M> {
         }
     }
 
-    /// Inserts a member, in place of one at the subscript.
+    /// Inserts a member into a datum, in place of one at the subscript.
     pub fn add_member(&mut self, subscript: Value, member: M) -> Result<(), AllocError>
         requires { is_container_by (scalar_of subscript) self.old.datum.ty ≡ true }
         ensures added { OnOk result (self.new ≡ with_kept_member M.id subscript member self.old) }

@@ -58,7 +58,7 @@ impl<M: Member> Model for Datum<M> {
     ghost invariant = { λ d. FitsType d.ty (content_of M.id d.content) };
 }
 
-/// Returns an unset scalar, a container without members, or a map without values.
+/// Returns the content of a new datum: an unset scalar, no members, or a map without values.
 fn empty_content<M: Member>(alloc: Global, ty: DataType) -> Content<M>
     ensures content { content_of M.id result ≡ empty_content ty }
     ensures members { members_kept result ≡ map.empty }
@@ -101,14 +101,14 @@ impl<M: Member> Datum<M> {
         }
     }
 
-    /// Returns the type.
+    /// Returns the type of a datum.
     pub fn ty(&self) -> DataType
         ensures { result ≡ self.now.datum.ty }
     {
         self.ty
     }
 
-    /// Returns the value of a set scalar.
+    /// Returns the value of a datum that is a set scalar.
     pub fn value(&self) -> Option<&Value>
         ensures { option_copied result ≡ value_in self.now.datum.content }
     {
@@ -118,7 +118,7 @@ impl<M: Member> Datum<M> {
         }
     }
 
-    /// Returns whether it will never change again: it is a set scalar, or a container or map without write rights.
+    /// Returns whether a datum will never change again: it is a set scalar, or a container or map without write rights.
     pub fn closed(&self) -> bool
         ensures { result ≡ is_closed self.now.datum }
     {
@@ -129,42 +129,42 @@ impl<M: Member> Datum<M> {
         }
     }
 
-    /// Returns the number of read rights on it, those of its containers and of the host included.
+    /// Returns the number of read rights on a datum, those of its containers and of the host included.
     pub fn reads(&self) -> u64
         ensures { result ≡ self.now.datum.reads }
     {
         self.reads
     }
 
-    /// Returns the number of write rights on it.
+    /// Returns the number of write rights on a datum.
     pub fn writes(&self) -> u64
         ensures { result ≡ self.now.datum.writes }
     {
         self.writes
     }
 
-    /// Returns whether it is a scalar without a value.
+    /// Returns whether a datum is a scalar without a value.
     pub fn is_unset(&self) -> bool
         ensures { result ≡ is_unset self.now.datum.content }
     {
         matches!(self.content, Content::Unset)
     }
 
-    /// Returns whether nobody holds a right on it.
+    /// Returns whether nobody holds a right on a datum, by its counts of reads and writes.
     pub fn is_unheld(&self) -> bool
         ensures { result ≡ is_unheld self.now.datum }
     {
         self.reads == 0 && self.writes == 0
     }
 
-    /// Returns its subscribers, in the order of asking.
+    /// Returns the subscribers of a datum, in the order of asking.
     pub fn subscribers(&self) -> &[Subscriber]
         ensures { result.now ≡ self.now.datum.subscribers }
     {
         self.subscribers.as_slice()
     }
 
-    /// Returns the subscribers that get a notice if it loses one write: none if it stays open.
+    /// Returns the subscribers that get a notice if the datum loses one write: none if it stays open.
     pub fn heard_by_drop_write(&self) -> &[Subscriber]
         ensures { result.now ≡ if is_closed (one_write_less self.now.datum) then self.now.datum.subscribers else [] }
     {
@@ -180,7 +180,7 @@ impl<M: Member> Datum<M> {
         }
     }
 
-    /// Sets a scalar, which spends a write and drops its subscribers. Read the subscribers before.
+    /// Sets a datum that is a scalar, which spends a write and drops its subscribers. Read the subscribers before.
     pub fn set(&mut self, value: Value)
         requires scalar { is_scalar self.old.datum.ty ≡ true }
         requires write { 0 < self.old.datum.writes }
@@ -191,7 +191,7 @@ impl<M: Member> Datum<M> {
         self.subscribers.clear();
     }
 
-    /// Takes one write. If that closes it, drops its subscribers: read `heard_by_drop_write` before.
+    /// Takes one write off a datum's count. If that closes it, drops its subscribers: read `heard_by_drop_write` before.
     pub fn take_write(&mut self)
         requires { 0 < self.old.datum.writes }
         ensures { self.new ≡ record self.old { datum = subscribers_cleared (one_write_less self.old.datum) } }
@@ -202,7 +202,7 @@ impl<M: Member> Datum<M> {
         }
     }
 
-    /// Takes one read away.
+    /// Takes one read off a datum's count.
     pub fn take_read(&mut self)
         requires { 0 < self.old.datum.reads }
         ensures { self.new ≡ record self.old { datum = record self.old.datum { reads = self.old.datum.reads - 1 } } }
@@ -210,7 +210,7 @@ impl<M: Member> Datum<M> {
         self.reads -= 1;
     }
 
-    /// Adds one read.
+    /// Adds one read to a datum's count.
     pub fn add_read(&mut self)
         requires { self.old.datum.reads < 2 ^ 63 }
         ensures { self.new ≡ record self.old { datum = one_read_more self.old.datum } }
@@ -218,7 +218,7 @@ impl<M: Member> Datum<M> {
         self.reads += 1;
     }
 
-    /// Adds one write.
+    /// Adds one write to a datum's count.
     pub fn add_write(&mut self)
         requires { self.old.datum.writes < 2 ^ 63 }
         ensures { self.new ≡ record self.old { datum = one_write_more self.old.datum } }
@@ -226,7 +226,7 @@ impl<M: Member> Datum<M> {
         self.writes += 1;
     }
 
-    /// Adds a subscriber, after the others.
+    /// Adds a subscriber to a datum, after the others.
     pub fn add_subscriber(&mut self, subscriber: Subscriber) -> Result<(), AllocError>
         ensures added { OnOk result (self.new ≡ record self.old { datum = with_subscriber subscriber self.old.datum }) }
         ensures refused { OnErr result (self.new ≡ self.old) }

@@ -9,7 +9,7 @@ use crate::ranked_map::RankedMap;
 use std::alloc::{AllocError, Global};
 use tw_types::{AsValue, Value};
 
-/// Copies an entry. Its texts have to be short.
+/// Copies an entry of an input's map for a datum. Its texts have to be short.
 fn entry_copy<K: AsValue, V: AsValue>(
     alloc: Global,
     entry: &(K, V),
@@ -24,7 +24,7 @@ fn entry_copy<K: AsValue, V: AsValue>(
     Ok((subscript, value))
 }
 
-/// Returns the values at their subscripts. All texts have to be short.
+/// Returns the values of an input's map at their subscripts, for a datum. All texts have to be short.
 pub fn entered<K: AsValue, V: AsValue>(
     alloc: Global,
     members: &[(K, V)],

@@ -16,7 +16,7 @@ use std::alloc::AllocError;
 use tw_types::{Value, ValueRef};
 
 impl<M: Member> Datum<M> {
-    /// Returns the values, or `None` for a scalar or a container.
+    /// Returns the sorted values of a datum, or `None` for a scalar or a container.
     fn values(&self) -> Option<&RankedMap<Value>>
         ensures { AreValues self.now (option_copied result) }
     {
@@ -26,14 +26,14 @@ impl<M: Member> Datum<M> {
         }
     }
 
-    /// Returns whether it is a map.
+    /// Returns whether a datum is a map, of values or of sums.
     pub fn is_map(&self) -> bool
         ensures { result ≡ has_entries self.now.datum.content }
     {
         matches!(self.content, Content::Maps(_))
     }
 
-    /// Returns the number of members, or of values; a scalar has none.
+    /// Returns the number of a datum's members, or of its values; a scalar has none.
     pub fn count(&self) -> usize
         ensures { result ≡ count_in self.now.datum.content }
     {
@@ -44,7 +44,7 @@ impl<M: Member> Datum<M> {
         }
     }
 
-    /// Returns the value of a map at a subscript.
+    /// Returns the value of a datum that is a map, at a subscript.
     pub fn value_at(&self, subscript: ValueRef<'_>) -> Option<&Value>
         ensures { option_copied result ≡ map.get (entries_in self.now.datum.content) (named subscript.entry) }
     {
@@ -54,7 +54,7 @@ impl<M: Member> Datum<M> {
         }
     }
 
-    /// Returns the value of a map with `index` smaller subscripts, and its subscript.
+    /// Returns the value of a datum that is a map, with `index` smaller subscripts, and its subscript.
     pub fn nth_value(&self, index: usize) -> Option<&(Value, Value)>
         ensures { option_copied result ≡ slice_get (map.entries (entries_in self.now.datum.content)) index }
     {
@@ -64,7 +64,7 @@ impl<M: Member> Datum<M> {
         }
     }
 
-    /// Puts a value into a map, in place of one at the subscript.
+    /// Puts a value into a datum that is a map, in place of one at the subscript.
     pub fn put_value(&mut self, subscript: Value, value: Value) -> Result<(), AllocError>
         requires { is_map_of (scalar_of subscript) (scalar_of value) self.old.datum.ty ≡ true }
         ensures added { OnOk result (self.new ≡ record self.old { datum = with_entry subscript value self.old.datum }) }

@@ -8,7 +8,7 @@ use tw_types::DatumId;
 pub trait Member: Copy {
     ghost id: { Self → ℕ };
 
-    /// Returns the id of its datum.
+    /// Returns the id of the member's own datum, whatever a container stores of it.
     fn id(&self) -> DatumId
         ensures { result ≡ id self.now };
 }
@@ -17,6 +17,7 @@ pub trait Member: Copy {
 impl Member for DatumId {
     ghost id = { λ it. it };
 
+    /// Returns the id itself, for a container that stores only its members' ids.
     fn id(&self) -> DatumId {
         *self
     }

@@ -9,7 +9,7 @@ use crate::datum::{Content, Datum};
 use crate::member::Member;
 use tw_types::Value;
 
-/// Returns the subscript of a member or value.
+/// Returns the subscript of an entry of a datum, a member or a value.
 fn subscript_of<V>(entry: Option<&(Value, V)>) -> Option<&Value>
     ensures { option_copied result ≡ option_map (λ e. e.0) (option_copied entry.entry) }
 {
@@ -20,7 +20,7 @@ fn subscript_of<V>(entry: Option<&(Value, V)>) -> Option<&Value>
 }
 
 impl<M: Member> Datum<M> {
-    /// Returns the subscript with exactly `index` smaller ones, if there is one.
+    /// Returns the subscript of a datum's entry with exactly `index` smaller ones, if there is one.
     pub fn subscript(&self, index: i64) -> Option<&Value>
         ensures found { option_copied result ≡ subscript_after index (subscripts_of self.now.datum.content) }
         ensures fits { FitsType self.now.datum.ty self.now.datum.content }
@@ -29,6 +29,7 @@ impl<M: Member> Datum<M> {
         self.subscript_after(index)
     }
 
+    /// Returns the subscript of a datum's entry with so many smaller ones, by an integer that may be negative.
     fn subscript_after(&self, index: i64) -> Option<&Value>
         ensures { option_copied result ≡ subscript_after index (subscripts_of self.now.datum.content) }
     {
@@ -38,7 +39,7 @@ impl<M: Member> Datum<M> {
         }
     }
 
-    /// Returns the subscript with `index` smaller ones.
+    /// Returns the subscript of a datum's entry with `index` smaller ones.
     pub fn nth_subscript(&self, index: usize) -> Option<&Value>
         ensures { option_copied result ≡ slice_get (subscripts_of self.now.datum.content) index }
     {

@@ -52,14 +52,14 @@ impl<V> Model for Tree<V> {
 }
 
 impl<V: Drop> Tree<V> {
-    /// Makes an empty tree.
+    /// Makes an empty balanced tree.
     pub fn new() -> Tree<V>
         ensures { result ≡ [] }
     {
         Tree { root: None }
     }
 
-    /// Returns the number of its entries.
+    /// Returns the number of entries of a balanced tree.
     pub fn len(&self) -> usize
         ensures { result ≡ length self.now }
     {
@@ -69,7 +69,7 @@ impl<V: Drop> Tree<V> {
         }
     }
 
-    /// Returns the value at a key.
+    /// Returns the value at a key of a balanced tree.
     pub fn get(&self, key: ValueRef<'_>) -> Option<&V>
         ensures { T (is_sorted value_cmp self.now) → option_copied result ≡ find value_cmp (named key.entry) self.now }
     {
@@ -86,7 +86,7 @@ impl<V: Drop> Tree<V> {
         }
     }
 
-    /// Returns the entry with `index` smaller keys.
+    /// Returns the entry of a balanced tree with `index` smaller keys.
     pub fn nth(&self, index: usize) -> Option<&(Value, V)>
         ensures { option_copied result ≡ slice_get self.now index }
     {
@@ -104,7 +104,7 @@ impl<V: Drop> Tree<V> {
         }
     }
 
-    /// Inserts a value at a copy of the key, unless one is there. Returns whether none was.
+    /// Inserts a value into a balanced tree at a copy of the key, unless one is there. Returns whether none was.
     pub fn add(&mut self, alloc: Global, key: ValueRef<'_>, value: V) -> Result<bool, AllocError>
         requires room { length self.old < 2 ^ 64 - 1 }
         requires proper { IsProper (named key) }
@@ -148,7 +148,7 @@ impl<V: Drop> Tree<V> {
         }
     }
 
-    /// Inserts a value at a key, in place of one that is there.
+    /// Inserts a value at a key of a balanced tree, in place of one that is there.
     pub fn insert(&mut self, alloc: Global, key: Value, value: V) -> Result<(), AllocError>
         requires room { length self.old < 2 ^ 64 - 1 }
         ensures added { OnOk result (T (is_sorted value_cmp self.old) → self.new ≡ put value_cmp key value self.old) }
@@ -194,6 +194,7 @@ impl<V: Drop> Tree<V> {
 }
 
 impl<V: Drop> Tree<V> {
+    /// Makes a balanced tree with this node at its root.
     fn of(fork: Box<Fork<V>>) -> Tree<V>
         requires { IsRight fork.value }
         ensures { result ≡ in_fork fork.value }
@@ -201,7 +202,7 @@ impl<V: Drop> Tree<V> {
         Tree { root: Some(fork) }
     }
 
-    /// Takes the root node, which leaves the tree empty.
+    /// Takes the root node out of a balanced tree, which is empty then.
     fn take(&mut self) -> Box<Fork<V>>
         requires { 0 < length self.old }
         ensures entries { self.old ≡ in_fork result.value }
@@ -216,7 +217,7 @@ impl<V: Drop> Tree<V> {
 }
 
 impl<V: Drop> Fork<V> {
-    /// Corrects the number and balances the sides, one of which may have one entry too many.
+    /// Corrects a node's number of entries and balances its sides, one of which may have one entry too many.
     fn even_out(&mut self)
         requires room { length self.old.before + length self.old.after < 2 ^ 64 - 1 }
         requires near { AreNearlyEven (length self.old.before) (length self.old.after) }
@@ -233,7 +234,7 @@ impl<V: Drop> Fork<V> {
         }
     }
 
-    /// Rotates to the right, if the left side is too heavy.
+    /// Rotates a node of a tree to the right, if its left side is too heavy.
     #[inline(never)]
     fn turn_right(&mut self)
         requires room { length self.old.before + length self.old.after < 2 ^ 64 - 1 }
@@ -255,7 +256,7 @@ impl<V: Drop> Fork<V> {
         }
     }
 
-    /// Rotates to the left, if the right side is too heavy.
+    /// Rotates a node of a tree to the left, if its right side is too heavy.
     #[inline(never)]
     fn turn_left(&mut self)
         requires room { length self.old.before + length self.old.after < 2 ^ 64 - 1 }

@@ -49,9 +49,10 @@ nobodys = record {
   position = record { place = 0; values = []; loops = [] };
 }
 
-abbrev pub lent_in : Option JobBuffer → JobView
-lent_in None = nobodys
-lent_in (Some job_buffer) = job_buffer.lent
+-- returns the issued job, or that of no task
+abbrev pub issued_in : Option JobBuffer → JobView
+issued_in None = nobodys
+issued_in (Some job_buffer) = job_buffer.lent
 
 abbrev pub done_of : JobBuffer → DoneView
 done_of job_buffer = record {
@@ -66,7 +67,7 @@ done_in None = record { before = nobodys; after = nobodys.position; steps = 0; s
 done_in (Some job_buffer) = done_of job_buffer
 
 abbrev pub draft_in : Option JobBuffer → DraftView
-draft_in place = record { program = (lent_in place).program; procedure = (lent_in place).procedure; values = (lent_in place).position.values }
+draft_in place = record { program = (issued_in place).program; procedure = (issued_in place).procedure; values = (issued_in place).position.values }
 
 abbrev pub IsThere : Option JobBuffer → Type 0
 IsThere None = ⊥

@@ -16,7 +16,7 @@ pub(crate) struct Context<'a> {
 }
 
 impl<'a> Context<'a> {
-    /// Makes a context of no task, in its own memory.
+    /// Makes a task's context without a task, in its own memory.
     pub(crate) fn boxed(alloc: Global) -> Result<Box<Context<'a>>, AllocError> {
         let context = Context {
             place: 0,
@@ -26,7 +26,7 @@ impl<'a> Context<'a> {
         Ok(Box::new(alloc, context)?)
     }
 
-    /// Changes the place and the loops, and keeps the values.
+    /// Changes the place and the loops of a context, and keeps the values.
     pub(crate) fn set_position(&mut self, place: usize, loops: Loops)
         ensures { self.new ≡ record self.old { place = place; loops = loops } }
     {
@@ -34,7 +34,7 @@ impl<'a> Context<'a> {
         self.loops = loops;
     }
 
-    /// Becomes a copy of another context. Allocates only if that has texts.
+    /// Makes the context a copy of another. Allocates only if that has texts.
     pub(crate) fn copy_from(&mut self, alloc: Global, other: &Context<'a>) -> Result<(), AllocError>
         ensures copy { OnOk result (self.new ≡ other.now) }
         ensures texts { OnErr result (HasText other.now.registers.types) }

@@ -47,7 +47,8 @@ impl<'a> Draft<'a> {
         }
     }
 
-    /// Replaces one value by another of its type. Call it when an instruction sets the register.
+    /// Replaces one value of the draft for a task's next job by another of its type. Call it when an instruction sets the
+    /// register.
     pub fn set(&mut self, register: u8, value: Value)
         requires { MaySet self.old.values register value }
         ensures { self.new ≡ record self.old { values = slice_set self.old.values register value } }

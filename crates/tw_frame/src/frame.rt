@@ -43,8 +43,8 @@ impl<'a> Model for Frame<'a> {
 }
 
 impl<'a> Frame<'a> {
-    /// Starts a task with these values and the rights among its arguments. With the values of `FrameBuffers::start` the frame is the
-    /// machine's. The draft is for its first job.
+    /// Starts a running task's frame with these values and the rights among its arguments. With the values of
+    /// `FrameBuffers::start` the frame is the machine's. The draft is for its first job.
     pub fn start(
         task: Task,
         actor: Actor,
@@ -93,7 +93,7 @@ impl<'a> Frame<'a> {
         (frame, Draft::first(lent, scratch, job_buffer))
     }
 
-    /// Makes the frame of an issued task, with its own context and its rights.
+    /// Makes the frame of a task whose job is issued, with its own context and its rights.
     fn of(lent: &JobState<'a>, own: Box<Context<'a>>, rights: Box<RightFile>) -> Frame<'a>
         requires { AreOf lent.now.program.program lent.now.procedure own.value.registers.types }
         ensures { result ≡ record {
@@ -145,8 +145,8 @@ impl<'a> Frame<'a> {
         self.own.registers.same(&job.at.registers)
     }
 
-    /// Issues a job: the task's work up to its next instruction that isn't local. `event_no` is the number of its actor's events. The
-    /// draft must have the frame's values.
+    /// Issues a job of a frame: the task's work up to its next instruction that isn't local. `event_no` is the number of its
+    /// actor's events. The draft must have the frame's values.
     pub fn lend(&mut self, event_no: u64, draft: Draft<'a>) -> Job<'a>
         requires program { draft.program ≡ self.old.program }
         requires procedure { draft.procedure ≡ self.old.procedure }
@@ -185,8 +185,8 @@ impl<'a> Frame<'a> {
         Draft { job_buffer }
     }
 
-    /// Completes the job that was issued last, and returns a draft of the values with which the frame continues. Returns any other
-    /// `Done` as the error.
+    /// Completes the frame's job that was issued last, and returns a draft of the values with which the frame continues. Returns
+    /// any other `Done` as the error.
     pub fn exchange(&mut self, done: Done<'a>) -> Result<Draft<'a>, Done<'a>>
         requires program { done.before.program ≡ self.old.program }
         requires spent { self.old.spent < 2 ^ 63 }
@@ -203,7 +203,7 @@ impl<'a> Frame<'a> {
         Ok(self.complete_job(done))
     }
 
-    /// Completes the job that was issued last. Returns any other `Done` as the error.
+    /// Completes the frame's job that was issued last. Returns any other `Done` as the error.
     pub fn accept(&mut self, done: Done<'a>) -> Result<(), Done<'a>>
         requires program { done.before.program ≡ self.old.program }
         requires spent { self.old.spent < 2 ^ 63 }
@@ -219,7 +219,7 @@ impl<'a> Frame<'a> {
         }
     }
 
-    /// Sets a register to a value of its type.
+    /// Sets a register of a running task's frame to a value of its type.
     pub fn set(&mut self, register: u8, value: Value)
         requires { MaySet self.old.position.values register value }
         ensures { self.new ≡ record self.old { position = with_value self.old.position register value } }
@@ -227,7 +227,7 @@ impl<'a> Frame<'a> {
         self.own.registers.replace(register, value);
     }
 
-    /// Moves to a place, and counts one instruction.
+    /// Moves the frame of a running task to a place, and counts one instruction.
     pub fn go(&mut self, place: usize)
         requires { self.old.spent < 2 ^ 63 }
         ensures { self.new ≡ record self.old { position = record self.old.position { place = place }; spent = self.old.spent + 1 } }
@@ -236,7 +236,7 @@ impl<'a> Frame<'a> {
         self.spent += 1;
     }
 
-    /// Moves to the next place, and counts one instruction.
+    /// Moves the frame of a running task to the next place, and counts one instruction.
     pub fn to_next_place(&mut self)
         requires place { self.old.position.place < 2 ^ 63 }
         requires spent { self.old.spent < 2 ^ 63 }
@@ -246,7 +246,7 @@ impl<'a> Frame<'a> {
         self.go(place + 1);
     }
 
-    /// Skips, as a refused instruction does, and counts one instruction.
+    /// Skips in the frame of a running task, as a refused instruction does, and counts one instruction.
     pub fn skip(&mut self, skip: u16)
         requires place { self.old.position.place < 2 ^ 62 }
         requires spent { self.old.spent < 2 ^ 63 }
@@ -256,13 +256,13 @@ impl<'a> Frame<'a> {
         self.go(place + 1 + usize::from(skip));
     }
 
-    /// Spends every right.
+    /// Spends every right of a running task's frame.
     pub fn shut(self) {
         let (_own, rights) = self.spend();
         rights.shut();
     }
 
-    /// Spends every right. Returns its memory and that of a `Done` for the seat's next task.
+    /// Spends every right of a frame whose task ends. Returns its memory and that of a `Done` for the seat's next task.
     pub fn end(self, alloc: Global, done: Done<'a>) -> FrameBuffers<'a> {
         let Done { job_buffer } = done;
         let (there, job_buffer) = FreeJobBuffer::of(job_buffer);
@@ -287,7 +287,7 @@ impl<'a> Frame<'a> {
         rooms
     }
 
-    /// Spends every right. Returns the context and the empty right registers.
+    /// Spends every right of a frame. Returns its context and the empty right registers.
     fn spend(self) -> (Box<Context<'a>>, EmptyFile) {
         let Frame {
             verified: _,

@@ -33,6 +33,7 @@ impl Model for EmptyFile {
 }
 
 impl EmptyFile {
+    /// Allocates empty right registers for a task.
     fn new(alloc: Global) -> Result<EmptyFile, AllocError> {
         match Box::new(alloc, RightFile::new()) {
             Ok(file) => Ok(EmptyFile { file }),
@@ -44,13 +45,13 @@ impl EmptyFile {
         }
     }
 
-    /// Spends the rights in these registers.
+    /// Spends the rights in right registers, which are kept for the next task.
     pub(crate) fn of(mut file: Box<RightFile>) -> EmptyFile {
         file.spend_all();
         EmptyFile { file }
     }
 
-    /// Makes the right registers of a task that starts with these arguments.
+    /// Fills empty right registers for a task that starts with these arguments.
     pub(crate) fn fill(self, args: Bundle) -> Box<RightFile>
         ensures { result.value ≡ filed (rights_in args) }
     {
@@ -59,6 +60,7 @@ impl EmptyFile {
         file
     }
 
+    /// Frees the memory of empty right registers.
     pub(crate) fn shut(self) {
         let EmptyFile { file } = self;
         Box::into_inner(file).shut();
@@ -82,7 +84,7 @@ impl<'a> Model for FrameBuffers<'a> {
 }
 
 impl<'a> FrameBuffers<'a> {
-    /// Allocates memory for one task at a time.
+    /// Allocates the memory of contexts, job and right registers for one task at a time.
     pub fn new(alloc: Global) -> Result<FrameBuffers<'a>, AllocError> {
         let own = Context::boxed(alloc)?;
         let lent = Context::boxed(alloc)?;
@@ -99,7 +101,7 @@ impl<'a> FrameBuffers<'a> {
         })
     }
 
-    /// Frees its memory.
+    /// Frees the memory of contexts, job and right registers for one task.
     pub fn shut(self) {
         let FrameBuffers {
             own: _,
@@ -111,7 +113,7 @@ impl<'a> FrameBuffers<'a> {
         rights.shut();
     }
 
-    /// Frees the memory of texts. The other contexts of a task have none if its frame's has none.
+    /// Frees the memory of texts in a task's contexts. The other contexts of a task have none if its frame's has none.
     pub(crate) fn empty(&mut self, alloc: Global) {
         if self.own.registers.has_texts() {
             self.own.registers.empty(alloc);

@@ -49,11 +49,11 @@ pub struct Job<'a> {
 
 impl<'a> Model for Job<'a> {
     ghost use Rattle.tw_frame.specs.Jobs.{JobView};
-    ghost use Rattle.tw_frame.specs.JobBuffers.{MayRun, lent_in};
+    ghost use Rattle.tw_frame.specs.JobBuffers.{MayRun, issued_in};
 
     ghost Value = { JobView };
 
-    ghost view = { λ j. lent_in j.job_buffer.value };
+    ghost view = { λ j. issued_in j.job_buffer.value };
 
     ghost invariant = { λ j. MayRun j.job_buffer.value };
 }
@@ -76,49 +76,50 @@ impl<'a> Model for Done<'a> {
 }
 
 impl<'a> JobState<'a> {
-    /// Returns the program to which it belongs.
+    /// Returns the verified program to which a job's task belongs.
     pub fn program(&self) -> &'a Verified
         ensures { result.now ≡ self.now.program }
     {
         self.verified
     }
 
-    /// Returns the task's number.
+    /// Returns the number of a job's task.
     pub fn task(&self) -> TaskNo
         ensures { result ≡ self.now.task }
     {
         self.task
     }
 
-    /// Returns the number of the task's procedure.
+    /// Returns the number of the procedure of a job's task.
     pub fn procedure(&self) -> u8
         ensures { result ≡ self.now.procedure }
     {
         self.procedure
     }
 
-    /// Returns the place from which it continues.
+    /// Returns the place from which a job continues its task.
     pub fn place(&self) -> usize
         ensures { result ≡ self.now.position.place }
     {
         self.at.place
     }
 
-    /// Returns the actor to which it was issued.
+    /// Returns the actor to which a job was issued.
     pub fn actor(&self) -> Actor
         ensures { result ≡ self.now.actor }
     {
         self.actor
     }
 
-    /// Returns how many events its actor had when it was issued.
+    /// Returns how many events its actor had when a job was issued.
     pub fn event_no(&self) -> u64
         ensures { result ≡ self.now.event_no }
     {
         self.event_no
     }
 
-    /// Runs it in a copy of its context, and copies the resulting context once more. Returns nothing if the stop signal is raised.
+    /// Runs the job's task in a copy of its context, and copies the resulting context once more. Returns nothing if the stop
+    /// signal is raised.
     pub(crate) fn run<S: StopSignal>(
         &self,
         alloc: Global,
@@ -141,7 +142,7 @@ impl<'a> JobState<'a> {
         )
     }
 
-    /// Issues it again, with the same values.
+    /// Makes the job of a task's context the next job, with the same values at this place.
     pub(crate) fn reissue(
         &mut self,
         task: TaskNo,
@@ -159,7 +160,7 @@ impl<'a> JobState<'a> {
         self.event_no = event_no;
     }
 
-    /// Swaps its context with another, whose registers have the same types.
+    /// Swaps the job's context with another, whose registers have the same types.
     pub(crate) fn exchange(&mut self, other: &mut Box<Context<'a>>)
         requires { AreOf self.old.program.program self.old.procedure other.old.value.registers.types }
         ensures { self.new ≡ record self.old { position = position_of other.old.value } }
@@ -167,7 +168,7 @@ impl<'a> JobState<'a> {
         std::mem::swap(&mut self.at, other);
     }
 
-    /// Replaces one value by another of its type.
+    /// Replaces one value in the job's context by another of its type.
     pub(crate) fn set(&mut self, register: u8, value: Value)
         requires { MaySet self.old.position.values register value }
         ensures { self.new ≡ record self.old { position = with_value self.old.position register value } }
@@ -229,7 +230,7 @@ fn run_in<'a, S: StopSignal>(
 }
 
 impl<'a> Job<'a> {
-    /// Returns what was issued: task, place, values and loops.
+    /// Returns what was issued with a job: task, place, values and loops.
     pub fn lent(&self) -> &JobState<'a>
         ensures { result.now ≡ self.now }
     {
@@ -239,9 +240,10 @@ impl<'a> Job<'a> {
         }
     }
 
-    /// Runs it up to its next instruction that isn't local, or up to a local one for which an allocation fails (`short`). Copies the
-    /// values twice, before and after, so that the next job needs no allocation. The copies share texts: the bytes of one are copied
-    /// once after it was set. Makes no copy if the first instruction isn't local, and no step if the values can't be copied.
+    /// Runs the job up to its task's next instruction that isn't local, or up to a local one for which an allocation fails
+    /// (`short`). Copies the values twice, before and after, so that the next job needs no allocation. The copies share texts: the
+    /// bytes of one are copied once after it was set. Makes no copy if the first instruction isn't local, and no step if the
+    /// values can't be copied.
     #[inline(always)]
     pub fn run(self, alloc: Global) -> Done<'a>
         ensures { result.before ≡ self.entry }
@@ -271,6 +273,7 @@ impl<'a> Job<'a> {
 }
 
 impl<'a> Done<'a> {
+    /// Returns the memory in which a `Done` has its job and the result.
     fn job_buffer(&self) -> &JobBuffer<'a>
         ensures is { done_of result.now ≡ self.now }
         ensures run { IsRunOf result.now }
@@ -281,21 +284,21 @@ impl<'a> Done<'a> {
         }
     }
 
-    /// Returns the job that was run.
+    /// Returns the job as it was before the run that made the `Done`.
     pub fn before(&self) -> &JobState<'a>
         ensures { result.now ≡ self.now.before }
     {
         &self.job_buffer().lent
     }
 
-    /// Returns the place that it reached.
+    /// Returns the place that the task reached when the job was run.
     pub fn after_place(&self) -> usize
         ensures { result ≡ self.now.after.place }
     {
         self.context_after().place
     }
 
-    /// Returns the value of a register after the run.
+    /// Returns the value of a register after the run of a job.
     pub fn look(&self, register: u8) -> ValueRef<'_>
         requires { register < length self.now.after.values }
         ensures is { slice_get self.now.after.values register ≡ Some (named result) }
@@ -306,7 +309,7 @@ impl<'a> Done<'a> {
         context.registers.at(register)
     }
 
-    /// Copies the value of a register after the run.
+    /// Copies the value of a register after the run of a job.
     pub fn value(&self, alloc: Global, register: u8) -> Result<Value, AllocError>
         requires { register < length self.now.after.values }
         ensures copy { IfOk result (λ value. slice_get self.now.after.values register ≡ Some value) }
@@ -317,13 +320,14 @@ impl<'a> Done<'a> {
         context.registers.copy_of(alloc, register)
     }
 
-    /// Returns the number of value registers.
+    /// Returns the number of value registers of a `Done`.
     pub fn count(&self) -> usize
         ensures { result ≡ length self.now.after.values }
     {
         self.context_after().registers.count()
     }
 
+    /// Returns the context after the run of a job: the issued one if the task didn't move.
     fn context_after(&self) -> &Context<'a>
         ensures { position_of result.now ≡ self.now.after }
     {
@@ -335,7 +339,7 @@ impl<'a> Done<'a> {
         }
     }
 
-    /// Returns how many steps were made. Its clause `done` is the theorem on every `Done`.
+    /// Returns how many steps the run of a job made. Its clause `done` is the theorem on every `Done`.
     pub fn steps(&self) -> u64
         ensures is { result ≡ self.now.steps }
         ensures done { IsDone self.now.before.program.program self.now.before.procedure self.now.before.position self.now.after self.now.steps self.now.short }
@@ -343,7 +347,7 @@ impl<'a> Done<'a> {
         self.job_buffer().outcome.steps
     }
 
-    /// Returns whether it stopped before a local instruction for which an allocation failed.
+    /// Returns whether a job's run stopped before a local instruction for which an allocation failed.
     pub fn short(&self) -> bool
         ensures { result ≡ self.now.short }
     {

@@ -20,6 +20,7 @@ pub(crate) struct JobOutcome {
 }
 
 impl JobOutcome {
+    /// Makes what a job's run did, from how the run ended: steps, moved and short.
     pub(crate) fn of(went: RunOutcome) -> JobOutcome
         ensures { result ≡ outcome_of went }
     {
@@ -37,7 +38,7 @@ impl JobOutcome {
         }
     }
 
-    /// Returns what was done before the run: nothing.
+    /// Returns what was done of a job before its run: nothing.
     pub(crate) fn nothing() -> JobOutcome {
         JobOutcome {
             steps: 0,
@@ -58,8 +59,8 @@ pub(crate) struct JobBuffer<'a> {
 }
 
 impl<'a> JobBuffer<'a> {
-    /// Runs the task in a copy of its context, and copies the resulting context once more. Returns whether the stop signal was raised
-    /// meanwhile.
+    /// Runs the task of a job buffer in a copy of its context, and copies the resulting context once more. Returns whether the
+    /// stop signal was raised meanwhile.
     #[inline(always)]
     pub(crate) fn run<S: StopSignal>(&mut self, alloc: Global, stop: &mut S) -> bool
         requires { MayBeAt self.old.lent.program.program self.old.lent.procedure self.old.lent.position }
@@ -108,12 +109,13 @@ impl<'a> Model for FreeJobBuffer<'a> {
 }
 
 impl<'a> FreeJobBuffer<'a> {
+    /// Allocates memory for a job, without one in it.
     pub(crate) fn new(alloc: Global) -> Result<FreeJobBuffer<'a>, AllocError> {
         let job_buffer = Box::new(alloc, None)?;
         Ok(FreeJobBuffer { job_buffer })
     }
 
-    /// Puts a job into the memory.
+    /// Puts a job into free memory for one.
     pub(crate) fn hold(self, job_buffer: JobBuffer<'a>) -> Box<Option<JobBuffer<'a>>>
         ensures { result.value ≡ Some job_buffer.entry }
     {
@@ -124,7 +126,7 @@ impl<'a> FreeJobBuffer<'a> {
         place
     }
 
-    /// Takes the job out of the memory.
+    /// Takes the job out of its memory, which is free then.
     pub(crate) fn of(
         mut place: Box<Option<JobBuffer<'a>>>,
     ) -> (Option<JobBuffer<'a>>, FreeJobBuffer<'a>)

@@ -23,6 +23,7 @@ impl Model for LoopState {
     ghost inverse = { λ l. record { first = l.first; left = l.left } };
 }
 
+/// Returns whether two begun loops of a task have the same first place and iterations left.
 fn same_loop(left: LoopState, right: LoopState) -> bool
     ensures { IsTrue result ↔ (left ≡ right) }
 {
@@ -52,7 +53,7 @@ impl Model for Loops {
 }
 
 impl Loops {
-    /// Returns the loops of a task that has begun none.
+    /// Returns the loops of a running task that has begun none.
     pub(crate) fn new() -> Loops
         ensures { result ≡ [] }
     {
@@ -62,7 +63,7 @@ impl Loops {
         }
     }
 
-    /// Returns the innermost loop, if one is begun.
+    /// Returns the innermost loop that a running task has begun, if any.
     #[inline(always)]
     pub(crate) fn innermost(&self) -> LoopState
         ensures { with_innermost result self.now ≡ self.now }
@@ -74,7 +75,7 @@ impl Loops {
         }
     }
 
-    /// Changes the innermost loop, if one is begun.
+    /// Changes the innermost loop that a running task has begun, if any.
     #[inline(always)]
     pub(crate) fn set_innermost(&mut self, innermost: LoopState)
         ensures set { self.new ≡ with_innermost innermost self.old }
@@ -85,6 +86,7 @@ impl Loops {
         }
     }
 
+    /// Adds a loop inside those that a running task has begun.
     fn push(&mut self, first: u32, iterations: u16)
         requires { length self.old < 4 }
         ensures { self.new ≡ record { first = first; left = iterations } ∷ self.old }
@@ -96,6 +98,7 @@ impl Loops {
         self.depth += 1;
     }
 
+    /// Removes and returns the innermost loop that a running task has begun.
     fn pop(&mut self) -> LoopState
         requires { 0 < length self.old }
         ensures { self.old ≡ result ∷ self.new }
@@ -105,7 +108,7 @@ impl Loops {
         innermost
     }
 
-    /// Begins a loop inside the others. `innermost` is the innermost one before and after.
+    /// Begins a loop of a running task inside the others. `innermost` is the innermost one before and after.
     #[inline(always)]
     pub(crate) fn begin(&mut self, innermost: &mut LoopState, first: u32, iterations: u16)
         requires { length (with_innermost innermost.old self.old) < 4 }
@@ -116,7 +119,7 @@ impl Loops {
         *innermost = self.innermost();
     }
 
-    /// Ends an iteration of the innermost loop. Returns the next place.
+    /// Ends an iteration of a running task's innermost loop. Returns the next place.
     #[inline(always)]
     pub(crate) fn end_iteration(&mut self, innermost: &mut LoopState, place: usize) -> usize
         requires begun { 0 < length (with_innermost innermost.old self.old) }
@@ -133,7 +136,7 @@ impl Loops {
         }
     }
 
-    /// Returns whether the same loops are begun, with the same iterations left.
+    /// Returns whether two tasks have begun the same loops, with the same iterations left.
     pub(crate) fn same(&self, other: &Loops) -> bool
         ensures { IsTrue result ↔ (self.now ≡ other.now) }
     {
@@ -148,7 +151,7 @@ impl Loops {
         true
     }
 
-    /// Copies the loops.
+    /// Copies the loops that a running task has begun.
     pub(crate) fn copy(&self) -> Loops
         ensures { result ≡ self.now }
     {

@@ -12,7 +12,7 @@ use tw_rights::{Arg, Bundle, Held, ReadRight, WriteRight};
 use tw_types::{Param, Value};
 
 impl<'a> Frame<'a> {
-    /// Returns the read right in a register, where it stays.
+    /// Returns the read right in a register of a running task, where it stays.
     pub fn peek_read(&self, register: u8) -> &ReadRight
         requires { kind_at self.now.held register ≡ Some false }
         ensures { slice_index_or self.now.held register None ≡ Some (ReadOf result.now) }
@@ -20,7 +20,7 @@ impl<'a> Frame<'a> {
         self.rights.peek_read(register)
     }
 
-    /// Returns the write right in a register, where it stays.
+    /// Returns the write right in a register of a running task, where it stays.
     pub fn peek_write(&self, register: u8) -> &WriteRight
         requires { kind_at self.now.held register ≡ Some true }
         ensures { slice_index_or self.now.held register None ≡ Some (WriteOf result.now) }
@@ -28,7 +28,7 @@ impl<'a> Frame<'a> {
         self.rights.peek_write(register)
     }
 
-    /// Takes the read right out of a register.
+    /// Takes the read right out of a register of a running task.
     pub fn take_read(&mut self, register: u8) -> ReadRight
         requires { kind_at self.old.held register ≡ Some false }
         ensures taken { slice_index_or self.old.held register None ≡ Some (ReadOf result) }
@@ -37,7 +37,7 @@ impl<'a> Frame<'a> {
         self.rights.take_read(register)
     }
 
-    /// Takes the write right out of a register.
+    /// Takes the write right out of a register of a running task.
     pub fn take_write(&mut self, register: u8) -> WriteRight
         requires { kind_at self.old.held register ≡ Some true }
         ensures taken { slice_index_or self.old.held register None ≡ Some (WriteOf result) }
@@ -46,7 +46,7 @@ impl<'a> Frame<'a> {
         self.rights.take_write(register)
     }
 
-    /// Fills an empty register.
+    /// Puts a right into an empty register of a running task.
     pub fn fill(&mut self, register: u8, right: Held)
         requires in_file { register < 16 }
         requires empty { slice_index_or self.old.held register None ≡ None }
@@ -55,7 +55,7 @@ impl<'a> Frame<'a> {
         self.rights.place(register, right);
     }
 
-    /// Moves the arguments out of the registers, into memory with capacity for them, and moves to the next place.
+    /// Moves the arguments out of a running task's registers, into memory with capacity for them, and moves to the next place.
     #[inline(always)]
     pub fn take_args(
         &mut self,

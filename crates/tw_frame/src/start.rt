@@ -40,7 +40,7 @@ impl<'a> Model for Start<'a> {
     ghost invariant = { λ s. AreOfBoth s.verified.now.program s.procedure s.own.value.registers s.lent.value.registers };
 }
 
-/// Returns the argument at an index, if it is a value.
+/// Returns the argument at an index of a task that starts, if it is a value.
 fn value_at(args: &Bundle, index: usize) -> Option<&Value>
     ensures { option_copied result ≡ value_in (slice_get args.now index) }
 {
@@ -52,7 +52,7 @@ fn value_at(args: &Bundle, index: usize) -> Option<&Value>
     }
 }
 
-/// Sets the first registers to the values among arguments. The registers must be blank.
+/// Sets the first registers of a task that starts to the values among its arguments. The registers must be blank.
 fn fill(alloc: Global, registers: &mut Registers<'_>, args: &Bundle) -> Result<(), AllocError>
     requires fit { (values : List Content) × (started args.now registers.old.types ≡ Ok values) }
     requires blank { registers.old.values ≡ each blank_of registers.old.types }

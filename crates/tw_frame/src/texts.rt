@@ -18,7 +18,7 @@ enum Slot {
 }
 
 impl Slot {
-    /// Returns its text.
+    /// Returns the text of a slot in a context's bank of texts.
     fn as_str(&self) -> &str
         ensures is { result.now ≡ text_in self.now }
         ensures text { IsText result.now }
@@ -30,7 +30,7 @@ impl Slot {
         }
     }
 
-    /// Copies the slot. Copies the bytes of its own text only.
+    /// Copies a slot of a context's bank of texts. Copies the bytes of its own text only.
     fn try_clone(&self, alloc: Global) -> Result<Slot, AllocError>
         ensures { IfOk result (λ copy. text_in copy ≡ text_in self.now) }
     {
@@ -58,7 +58,7 @@ impl Model for Texts {
 }
 
 impl Texts {
-    /// Returns a bank without texts and without memory.
+    /// Returns a context's bank of texts without any, and without memory.
     pub(crate) fn none(alloc: Global) -> Texts
         ensures { result ≡ [] }
     {
@@ -67,7 +67,7 @@ impl Texts {
         }
     }
 
-    /// Makes `count` empty texts.
+    /// Makes a context's bank of `count` empty texts.
     pub(crate) fn blank(alloc: Global, count: usize) -> Result<Texts, AllocError>
         ensures blank { IfOk result (λ texts. texts ≡ replicate count []) }
         ensures some { OnErr result (0 < count) }
@@ -79,14 +79,14 @@ impl Texts {
         Ok(Texts { slots })
     }
 
-    /// Returns the number of texts.
+    /// Returns the number of texts in a context's bank.
     pub(crate) fn len(&self) -> usize
         ensures { result ≡ length self.now }
     {
         self.slots.len()
     }
 
-    /// Returns the bytes of a text.
+    /// Returns the bytes of a text in a context's bank.
     pub(crate) fn bytes(&self, index: usize) -> &[u8]
         requires { index < length self.now }
         ensures is { result.now ≡ slice_index_or self.now index result.now }
@@ -95,7 +95,7 @@ impl Texts {
         self.text(index).as_bytes()
     }
 
-    /// Returns a text.
+    /// Returns a text in a context's bank.
     pub(crate) fn text(&self, index: usize) -> &str
         requires { index < length self.now }
         ensures is { result.now ≡ slice_index_or self.now index result.now }
@@ -104,7 +104,7 @@ impl Texts {
         self.slots[index].as_str()
     }
 
-    /// Replaces one text.
+    /// Replaces one text in a context's bank.
     pub(crate) fn set(&mut self, index: usize, text: Text)
         requires { index < length self.old }
         ensures { self.new ≡ slice_set self.old index text }
@@ -112,7 +112,7 @@ impl Texts {
         self.slots[index] = Slot::Own(text);
     }
 
-    /// Copies the texts.
+    /// Copies a context's bank of texts.
     pub(crate) fn try_clone(&self, alloc: Global) -> Result<Texts, AllocError>
         ensures copy { IfOk result (λ copy. copy ≡ self.now) }
         ensures some { OnErr result (0 < length self.now) }
@@ -124,7 +124,7 @@ impl Texts {
         Ok(Texts { slots })
     }
 
-    /// Becomes a bank of `count` empty texts.
+    /// Makes a context's bank one of `count` empty texts.
     pub(crate) fn begin(&mut self, alloc: Global, count: usize) -> Result<(), AllocError>
         ensures blank { OnOk result (self.new ≡ replicate count []) }
         ensures refused { OnErr result (self.new ≡ self.old) }
@@ -136,7 +136,7 @@ impl Texts {
         Ok(())
     }
 
-    /// Becomes a copy of other texts.
+    /// Makes a context's bank of texts a copy of another's.
     #[inline(always)]
     pub(crate) fn copy_from(&mut self, alloc: Global, others: &Texts) -> Result<(), AllocError>
         ensures copy { OnOk result (self.new ≡ others.now) }

@@ -8,7 +8,7 @@ use Rattle.tw_types.specs.declared.value.Value.{Value}
 use Rattle.tw_types.specs.Result.{◌>>=◌}
 use Rattle.tw_types.specs.Store.{Data, Datum}
 use Rattle.tw_types.specs.Task.{Arg}
-use Rattle.tw_code.specs.machine.Arguments.{HandedOver, all_pass, handed_over, values_suit}
+use Rattle.tw_code.specs.machine.Arguments.{MovedArgs, all_pass, moved_args, values_suit}
 use Rattle.tw_code.specs.machine.Rights.{Rights}
 use Rattle.tw_instr.specs.declared.failure.Failure.{Failure}
 use Rattle.tw_instr.specs.declared.failure.Failure.TheVariants as failure
@@ -32,13 +32,13 @@ pass_at_end view test live (p ∷ params) (x ∷ args) (inl e) = cc
 pass_at_end view test live (p ∷ params) (x ∷ args) (inr e) = cc
 
 -- these arguments, followed by those of the other parameters
-abbrev pub after : List Arg → Result HandedOver Cause → Result HandedOver Cause
+abbrev pub after : List Arg → Result MovedArgs Cause → Result MovedArgs Cause
 after firsts r = r >>= λ others. Ok (record others { args = firsts ++ others.args })
 
 pub after_nothing : (firsts : List Arg) (rights : Rights) → after firsts (Ok (record { args = []; rights = rights })) ≡ Ok (record { args = firsts; rights = rights })
 after_nothing firsts rights = ap (λ (xs : List Arg). Ok (record { args = xs; rights = rights })) (append-nil firsts)
 
-pub given_at_end : (values : List Value) (rights : Rights) (params : List Param) (registers : List ℕ) → (params ≡ []) ⊎ (registers ≡ []) → handed_over values rights params registers ≡ Ok (record { args = []; rights = rights })
+pub given_at_end : (values : List Value) (rights : Rights) (params : List Param) (registers : List ℕ) → (params ≡ []) ⊎ (registers ≡ []) → moved_args values rights params registers ≡ Ok (record { args = []; rights = rights })
 given_at_end values rights [] registers h = refl
 given_at_end values rights (p ∷ params) [] h = refl
 given_at_end values rights (p ∷ params) (r ∷ registers) (inl e) = cc

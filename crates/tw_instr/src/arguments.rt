@@ -4,7 +4,7 @@ ghost use Rattle.std.specs.Prelude.{◌≡◌, ◌≤◌, length, map, slice_get
 ghost use Rattle.std.specs.Option.{option_copied};
 ghost use Rattle.tw_types.specs.Notices.{Notices};
 ghost use Rattle.tw_code.specs.format.Program.{IsProgram};
-ghost use Rattle.tw_code.specs.machine.Arguments.{all_pass, called, handed_over, has_type, priority_at, put_called, values_suit};
+ghost use Rattle.tw_code.specs.machine.Arguments.{all_pass, called, moved_args, has_type, priority_at, put_called, values_suit};
 ghost use Rattle.tw_code.specs.machine.Rights.{held};
 ghost use Rattle.tw_datum.specs.Kept.{datum_if};
 ghost use Rattle.tw_instr.specs.Arguments.{arg_of, test_of};
@@ -32,7 +32,7 @@ pub enum Arg {
 }
 
 impl Arg {
-    /// Copies the argument.
+    /// Copies an argument of a task: its value, or the id of the right's datum.
     pub fn try_clone(&self, alloc: Global) -> Result<Arg, AllocError>
         ensures { IfOk result (λ copy. copy ≡ self.now) }
     {
@@ -62,7 +62,7 @@ impl<'a> Model for Named<'a> {
     ghost invariant = { λ n. length n.params.now ≤ 8 };
 }
 
-/// Returns the constant, or the integer in the register.
+/// Returns the priority that an action names: the constant, or the integer in the task's register.
 fn priority_of(position: &Position, priority: Priority) -> Result<i64, Cause>
     ensures { result ≡ priority_at position.now priority }
 {
@@ -72,7 +72,8 @@ fn priority_of(position: &Position, priority: Priority) -> Result<i64, Cause>
     }
 }
 
-/// Returns what a RULE names, executed in a procedure of this kind. The frame doesn't change.
+/// Returns the task that a RULE names, its parameters, and the rights that stay. It is executed in a procedure of this kind. The
+/// frame doesn't change.
 pub fn called<'a>(
     alloc: Global,
     program: &'a [Procedure],
@@ -131,7 +132,7 @@ pub fn put_called<'a>(
     Ok(named)
 }
 
-/// Returns whether a register is declared and its value is of the type of a parameter.
+/// Returns whether a value register of the task is declared and its value is of the type of a parameter.
 fn has_type(position: &Position, register: u8, param: Param) -> bool
     ensures { result ≡ has_type (slice_get position.now.values register) param }
 {
@@ -141,7 +142,7 @@ fn has_type(position: &Position, register: u8, param: Param) -> bool
     }
 }
 
-/// Returns whether the registers for `val` parameters have values of their types.
+/// Returns whether the registers that a RULE or PUT names for `val` parameters have values of their types.
 fn values_suit(position: &Position, params: &[Param], registers: &[u8]) -> bool
     ensures { result ≡ values_suit position.now.values params.now registers.now }
 {
@@ -153,7 +154,7 @@ fn values_suit(position: &Position, params: &[Param], registers: &[u8]) -> bool
     true
 }
 
-/// Takes the id out of a right register. Fails if it is empty.
+/// Takes the id out of one of the task's right registers. Fails if it is empty.
 fn take_right(rights: &mut [Option<DatumId>; 16], register: u8) -> Result<DatumId, Cause>
     ensures gives { result ≡ held rights.old register }
     ensures left { OnOk result (rights.new ≡ slice_set rights.old register None) }
@@ -174,7 +175,7 @@ fn take_args(
     params: &[Param],
     registers: &[u8],
 ) -> Result<Vec<Arg>, Failure>
-    ensures given { MatchResult result (λ args. handed_over position.now.values rights.old params.now registers.now ≡ Ok (record { args = map arg_of args.items; rights = rights.new })) (MayFail (handed_over position.now.values rights.old params.now registers.now)) }
+    ensures given { MatchResult result (λ args. moved_args position.now.values rights.old params.now registers.now ≡ Ok (record { args = map arg_of args.items; rights = rights.new })) (MayFail (moved_args position.now.values rights.old params.now registers.now)) }
     ensures few { IfOk result (λ args. length args.items ≤ length params.now) }
 {
     let mut args = Vec::new(alloc);
@@ -197,6 +198,7 @@ enum Need {
     ClosedIfAsked,
 }
 
+/// Returns whether the datum of an argument meets a requirement of RULE or PUT for its parameter.
 fn passes(need: Need, param: Param, datum: Option<&Datum>) -> bool
     ensures { result ≡ test_of need param (datum_if (option_copied datum.entry)) }
 {

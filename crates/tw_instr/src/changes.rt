@@ -17,7 +17,7 @@ use std::alloc::AllocError;
 use std::collections::BTreeMap;
 use tw_types::{DatumId, Subscriber, Value};
 
-/// Sets a scalar, which closes it.
+/// Sets a scalar among the live data, which closes it, and frees it if nobody holds it.
 pub fn set_in(live: &mut BTreeMap<u64, Datum>, id: u64, value: Value)
     requires { may_store value (get (data_of live.old.entries) id) ≡ Ok tt }
     ensures { (s : Store) → s.live ≡ data_of live.old.entries → record s { live = data_of live.new.entries } ≡ store_after s id (set_to value) }
@@ -29,7 +29,7 @@ pub fn set_in(live: &mut BTreeMap<u64, Datum>, id: u64, value: Value)
     free_unheld(live, id);
 }
 
-/// Takes one write of a container. The last one closes it.
+/// Takes one write of a container among the live data. The last one closes it.
 pub fn drop_write_in(live: &mut BTreeMap<u64, Datum>, id: u64)
     requires { may_drop_write (get (data_of live.old.entries) id) ≡ Ok tt }
     ensures { (s : Store) → s.live ≡ data_of live.old.entries → record s { live = data_of live.new.entries } ≡ store_after s id one_write_less }
@@ -41,7 +41,7 @@ pub fn drop_write_in(live: &mut BTreeMap<u64, Datum>, id: u64)
     free_unheld(live, id);
 }
 
-/// Inserts a member into a container.
+/// Inserts a member into a container among the live data.
 pub fn insert_in(
     live: &mut BTreeMap<u64, Datum>,
     id: u64,
@@ -58,7 +58,7 @@ pub fn insert_in(
     datum.add_member(subscript, member)
 }
 
-/// Puts a value into a map.
+/// Puts a value into a map among the live data.
 pub fn put_in(
     live: &mut BTreeMap<u64, Datum>,
     id: u64,
@@ -75,7 +75,7 @@ pub fn put_in(
     datum.put_value(subscript, value)
 }
 
-/// Adds a read.
+/// Adds a read to a datum among the live data.
 pub fn add_read_in(live: &mut BTreeMap<u64, Datum>, id: u64)
     requires { HasReadRoom (get (data_of live.old.entries) id) }
     ensures { (s : Store) → s.live ≡ data_of live.old.entries → record s { live = data_of live.new.entries } ≡ changed s id one_read_more }
@@ -86,7 +86,7 @@ pub fn add_read_in(live: &mut BTreeMap<u64, Datum>, id: u64)
     datum.add_read();
 }
 
-/// Adds a write.
+/// Adds a write to a datum among the live data.
 pub fn add_write_in(live: &mut BTreeMap<u64, Datum>, id: u64)
     requires { HasWriteRoom (get (data_of live.old.entries) id) }
     ensures { (s : Store) → s.live ≡ data_of live.old.entries → record s { live = data_of live.new.entries } ≡ changed s id one_write_more }
@@ -97,7 +97,7 @@ pub fn add_write_in(live: &mut BTreeMap<u64, Datum>, id: u64)
     datum.add_write();
 }
 
-/// Adds a subscriber.
+/// Adds a subscriber to a datum among the live data.
 pub fn subscribe_in(
     live: &mut BTreeMap<u64, Datum>,
     id: u64,

@@ -15,7 +15,7 @@ use crate::value_registers::{int_at, must_have_type, of_type_at};
 use std::alloc::Global;
 use tw_types::{Cause, Scalar, Value};
 
-/// Executes INS, or TINS if `by` is text.
+/// Executes INS in the reference machine, or TINS if `by` is text.
 pub fn insert(
     alloc: Global,
     store: &mut Data,
@@ -44,7 +44,7 @@ pub fn insert(
     Ok(())
 }
 
-/// Executes LOOK, or TLOOK if `by` is text.
+/// Executes LOOK in the reference machine, or TLOOK if `by` is text.
 pub fn look(
     store: &mut Data,
     frame: &mut Frame,
@@ -73,7 +73,7 @@ pub fn look(
     Ok(())
 }
 
-/// Executes SIZE.
+/// Executes SIZE in the reference machine.
 pub fn size(store: &Data, frame: &mut Frame, to: u8, container: u8) -> Result<(), Cause>
     requires place { frame.old.position.place < 2 ^ 63 }
     requires room { HasRoom store.now }
@@ -87,7 +87,7 @@ pub fn size(store: &Data, frame: &mut Frame, to: u8, container: u8) -> Result<()
     Ok(())
 }
 
-/// Executes SUBAT, or TSUBAT if `by` is text.
+/// Executes SUBAT in the reference machine, or TSUBAT if `by` is text.
 pub fn subscript_at(
     alloc: Global,
     store: &Data,

@@ -48,7 +48,7 @@ impl Model for Data {
 }
 
 impl Data {
-    /// Makes a store without data.
+    /// Makes the reference machine's store without data.
     pub fn new(alloc: Global) -> Data
         ensures { result ≡ empty_store }
     {
@@ -58,21 +58,21 @@ impl Data {
         }
     }
 
-    /// Returns the id of the datum that is made next.
+    /// Returns the id of the datum that the reference machine makes next.
     pub fn next(&self) -> DatumId
         ensures { result ≡ self.now.next }
     {
         DatumId::new(self.next)
     }
 
-    /// Returns the datum of an id, if it is live.
+    /// Returns the datum of an id in the reference machine's store, if it is live.
     pub fn datum(&self, id: DatumId) -> Option<&Datum>
         ensures { datum_if (option_copied result) ≡ get self.now.live id }
     {
         self.live.get(&id.number())
     }
 
-    /// Makes a datum with the next id, one write and one read.
+    /// Makes a datum in the reference machine's store, with the next id, one write and one read.
     pub fn create(&mut self, alloc: Global, ty: DataType) -> Result<DatumId, AllocError>
         requires { self.old.next < 2 ^ 63 }
         ensures made { OnOk result (self.new ≡ created self.old ty) }
@@ -98,6 +98,7 @@ impl Data {
         self.add(Datum::new_closed(alloc, ty, content))
     }
 
+    /// Adds a datum to the reference machine's store under the next id, which it returns.
     fn add(&mut self, datum: Datum) -> Result<DatumId, AllocError>
         requires { self.old.next < 2 ^ 63 }
         ensures made { OnOk result (self.new ≡ added self.old datum.datum) }
@@ -110,7 +111,8 @@ impl Data {
         Ok(DatumId::new(id))
     }
 
-    /// Sets and closes a scalar, which spends a write. Read its subscribers before: `heard_by_set`.
+    /// Sets and closes a scalar of the reference machine's store, which spends a write. Read its subscribers before:
+    /// `heard_by_set`.
     pub fn set(&mut self, id: DatumId, value: Value)
         requires { may_store value (get self.old.live id) ≡ Ok tt }
         ensures { self.new ≡ stored self.old id value }
@@ -128,7 +130,8 @@ impl Data {
         }
     }
 
-    /// Takes a write of a container, which closes with the last. Read its subscribers before: `heard_by_drop_write`.
+    /// Takes a write of a container of the reference machine's store, which closes with the last. Read its subscribers before:
+    /// `heard_by_drop_write`.
     pub fn drop_write(&mut self, id: DatumId)
         requires { may_drop_write (get self.old.live id) ≡ Ok tt }
         ensures { self.new ≡ write_dropped self.old id }
@@ -136,7 +139,8 @@ impl Data {
         drop_write_in(&mut self.live, id.number());
     }
 
-    /// Returns the subscribers that get a notice when a write is dropped, in the order of asking: none if the datum stays open.
+    /// Returns, by a datum's id, the subscribers that get a notice when a write is dropped, in the order of asking: none if the
+    /// datum stays open.
     pub fn heard_by_drop_write(&self, id: DatumId) -> &[Subscriber]
         ensures { each (notice_to id) result.now ≡ notices_of_write_dropped self.now id }
     {
@@ -146,14 +150,15 @@ impl Data {
         }
     }
 
-    /// Takes a read. If it was the last right, frees the datum, and each of its members loses a read.
+    /// Takes a read in the reference machine's store. If it was the last right, frees the datum, and each of its members loses a
+    /// read.
     pub fn drop_read(&mut self, id: DatumId)
         ensures { self.new ≡ read_dropped self.old id }
     {
         drop_read_within(&mut self.live, id.number(), DataType::MAX_DEPTH);
     }
 
-    /// Inserts a member, with its read, at a subscript of a container, in place of one that is there.
+    /// Inserts a member by its id into a container of the reference machine's store, in place of one at the subscript.
     pub fn insert(
         &mut self,
         id: DatumId,
@@ -167,7 +172,7 @@ impl Data {
         insert_in(&mut self.live, id.number(), subscript, member)
     }
 
-    /// Adds a read.
+    /// Adds a read to a datum of the reference machine's store.
     pub fn add_read(&mut self, id: DatumId)
         requires { HasReadRoom (get self.old.live id) }
         ensures { self.new ≡ read_copied self.old id }
@@ -175,7 +180,7 @@ impl Data {
         add_read_in(&mut self.live, id.number());
     }
 
-    /// Adds a write.
+    /// Adds a write to a datum of the reference machine's store.
     pub fn add_write(&mut self, id: DatumId)
         requires { HasWriteRoom (get self.old.live id) }
         ensures { self.new ≡ write_copied self.old id }
@@ -183,7 +188,7 @@ impl Data {
         add_write_in(&mut self.live, id.number());
     }
 
-    /// Adds a subscriber to the datum, after the others.
+    /// Adds a subscriber to a datum of the reference machine's store, after the others.
     pub fn subscribe(&mut self, id: DatumId, subscriber: Subscriber) -> Result<(), AllocError>
         ensures noted { OnOk result (self.new ≡ subscribed self.old id subscriber) }
         ensures refused { OnErr result (self.new ≡ self.old) }
@@ -191,21 +196,21 @@ impl Data {
         subscribe_in(&mut self.live, id.number(), subscriber)
     }
 
-    /// Returns the value of a set scalar.
+    /// Returns the value of a set scalar of the reference machine's store.
     pub fn value(&self, id: DatumId) -> Option<&Value>
         ensures { option_copied result ≡ value_at self.now id }
     {
         self.datum(id)?.value()
     }
 
-    /// Returns the member at a subscript.
+    /// Returns the id of a container's member at a subscript, in the reference machine's store.
     pub fn member(&self, id: DatumId, subscript: ValueRef<'_>) -> Option<DatumId>
         ensures { result ≡ member_at self.now id (named subscript.entry) }
     {
         self.datum(id)?.member_at(subscript)
     }
 
-    /// Returns the number of members, or of a map's values.
+    /// Returns the number of a container's members, or of a map's values, in the reference machine's store.
     pub fn size(&self, id: DatumId) -> usize
         ensures { result ≡ size_at self.now id }
     {
@@ -215,7 +220,7 @@ impl Data {
         }
     }
 
-    /// Returns the subscript with exactly `index` smaller ones, if there is one.
+    /// Returns the subscript with exactly `index` smaller ones in a datum of the reference machine's store.
     pub fn subscript_at(&self, id: DatumId, index: i64) -> Option<&Value>
         ensures found { option_copied result ≡ subscript_after index (subscripts_at self.now id) }
         ensures kind { (by : ScalarMeaning) → may_read_subscripts_by by (get self.now.live id) ≡ Ok tt → IfSome (option_copied result) (λ subscript. scalar_of subscript ≡ by) }
@@ -229,28 +234,28 @@ impl Data {
 
 /// The checks of the calls. Each fails with the first cause.
 impl Data {
-    /// Checks that a value can be stored in a datum. Returns the first cause against it.
+    /// Checks by its id that a value can be stored in a datum. Returns the first cause against it.
     pub fn may_store(&self, id: DatumId, value: &Value) -> Result<(), Cause>
         ensures { result ≡ may_store value.now (get self.now.live id) }
     {
         checks::may_store(self.datum(id), value)
     }
 
-    /// Checks that the value of a datum can be read.
+    /// Checks by its id that the value of a datum can be read.
     pub fn may_retrieve(&self, id: DatumId) -> Result<(), Cause>
         ensures { result ≡ may_retrieve (get self.now.live id) }
     {
         checks::may_retrieve(self.datum(id))
     }
 
-    /// Checks that a member can be inserted into a container with subscripts of this type.
+    /// Checks by their ids that a member can be inserted into a container with subscripts of this type.
     pub fn may_insert(&self, by: Scalar, container: DatumId, member: DatumId) -> Result<(), Cause>
         ensures { result ≡ may_insert by (get self.now.live container) (get self.now.live member) }
     {
         checks::may_insert(by, self.datum(container), self.datum(member))
     }
 
-    /// Checks that the member at a subscript can be looked up, and have one more read.
+    /// Checks by a container's id that the member at a subscript can be looked up, and have one more read.
     pub fn may_look(&self, id: DatumId, subscript: &Value) -> Result<(), Cause>
         ensures { result ≡ may_look self.now id subscript.now }
     {
@@ -261,7 +266,7 @@ impl Data {
         }
     }
 
-    /// Checks that the members of a datum can be read.
+    /// Checks by its id that the members of a datum can be read.
     pub fn may_read_members(&self, id: DatumId) -> Result<(), Cause>
         ensures { result ≡ may_read_members (get self.now.live id) }
     {
@@ -275,28 +280,28 @@ impl Data {
         checks::may_read_subscripts_by(by, self.datum(id))
     }
 
-    /// Checks that a datum is live, so that it can have one more read.
+    /// Checks by its id that a datum is live, so that it can have one more read.
     pub fn may_be_read(&self, id: DatumId) -> Result<(), Cause>
         ensures { result ≡ may_be_read (get self.now.live id) }
     {
         checks::may_be_read(self.datum(id))
     }
 
-    /// Checks that a datum can have one more write.
+    /// Checks by its id that a datum can have one more write.
     pub fn may_copy_write(&self, id: DatumId) -> Result<(), Cause>
         ensures { result ≡ may_copy_write (get self.now.live id) }
     {
         checks::may_copy_write(self.datum(id))
     }
 
-    /// Checks that a read of a datum can be dropped.
+    /// Checks by its id that a read of a datum can be dropped.
     pub fn may_drop_read(&self, id: DatumId) -> Result<(), Cause>
         ensures { result ≡ may_drop_read (get self.now.live id) }
     {
         checks::may_drop_read(self.datum(id))
     }
 
-    /// Checks that a write of a datum can be dropped.
+    /// Checks by its id that a write of a datum can be dropped.
     pub fn may_drop_write(&self, id: DatumId) -> Result<(), Cause>
         ensures { result ≡ may_drop_write (get self.now.live id) }
     {

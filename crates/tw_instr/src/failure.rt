@@ -19,6 +19,7 @@ impl From<Cause> for Failure {
 
     ghost from_gives = { λ cause failure. failure ≡ Trap cause };
 
+    /// Returns the error of an instruction that traps with this cause.
     fn from(cause: Cause) -> Failure {
         Failure::Trap(cause)
     }
@@ -30,12 +31,13 @@ impl From<AllocError> for Failure {
 
     ghost from_gives = { λ _ failure. failure ≡ NoMemory };
 
+    /// Returns the error of an instruction for which an allocation failed.
     fn from(_: AllocError) -> Failure {
         Failure::NoMemory
     }
 }
 
-/// Fails with the cause unless the condition holds.
+/// Fails with the trap's cause unless the condition of an instruction holds.
 pub fn must(holds: bool, cause: Cause) -> Result<(), Cause>
     ensures { result ≡ must holds cause }
 {

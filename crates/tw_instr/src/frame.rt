@@ -4,7 +4,7 @@ ghost use Rattle.std.specs.Prelude.{◌≡◌, ◌<◌, ◌^◌, ◌+◌, IfOk, 
 ghost use Rattle.std.specs.List.{list_all};
 ghost use Rattle.tw_code.specs.machine.Rights.{right_at};
 ghost use Rattle.tw_code.specs.machine.Position.{at_goal, at_next_place, with_value};
-ghost use Rattle.tw_code.specs.machine.State.{gone_after};
+ghost use Rattle.tw_code.specs.machine.State.{frame_after_call};
 ghost use Rattle.tw_instr.specs.Stretch.{IsStretch};
 
 use crate::local::count_local;
@@ -33,7 +33,7 @@ impl Model for Frame {
 }
 
 impl Frame {
-    /// Makes the frame of a task at the start of its procedure's code, with these registers.
+    /// Makes the reference machine's frame of a task, at the start of its procedure's code, with these registers.
     pub fn first(
         alloc: Global,
         task: TaskNo,
@@ -52,36 +52,36 @@ impl Frame {
         }
     }
 
-    /// Returns the number of its task.
+    /// Returns the number of the task whose frame it is, in the reference machine.
     pub fn task(&self) -> TaskNo
         ensures { result ≡ self.now.task }
     {
         self.task
     }
 
-    /// Returns the number of its procedure in the program.
+    /// Returns the number of the procedure that a frame of the reference machine executes.
     pub fn procedure(&self) -> u8
         ensures { result ≡ self.now.procedure }
     {
         self.procedure
     }
 
-    /// Returns the place of the next instruction.
+    /// Returns the place of the next instruction of a frame of the reference machine.
     pub fn place(&self) -> usize
         ensures { result ≡ self.now.position.place }
     {
         self.position.place()
     }
 
-    /// Returns how many instructions it has executed.
+    /// Returns how many instructions a frame of the reference machine has executed.
     pub fn spent(&self) -> u64
         ensures { result ≡ self.now.spent }
     {
         self.spent
     }
 
-    /// Returns how many local instructions its task can execute from here, at most `most`. The instruction after them isn't local, or
-    /// traps, unless there are `most`.
+    /// Returns how many local instructions a frame of the reference machine can execute from its place, at most `most`. The
+    /// instruction after them isn't local, or traps, unless there are `most`.
     pub fn local_steps(
         &self,
         alloc: Global,
@@ -97,14 +97,14 @@ impl Frame {
         count_local(alloc, procedure.code.as_slice(), &mut position, most)
     }
 
-    /// Returns its place, values and loops.
+    /// Returns the position of a frame of the reference machine: place, values and loops.
     pub fn position(&self) -> &Position
         ensures { result.now ≡ self.now.position }
     {
         &self.position
     }
 
-    /// Copies the right registers.
+    /// Copies the right registers of a frame of the reference machine.
     pub(crate) fn rights(&self) -> [Option<DatumId>; 16]
         ensures { result ≡ self.now.rights }
     {
@@ -113,35 +113,35 @@ impl Frame {
         copy
     }
 
-    /// Returns the id in a right register, if it has one.
+    /// Returns the id in a right register of a frame of the reference machine, if it has one.
     pub fn right(&self, register: u8) -> Option<DatumId>
         ensures { result ≡ right_at self.now.rights register }
     {
         self.rights.get(usize::from(register)).copied().flatten()
     }
 
-    /// Returns whether every right register is empty.
+    /// Returns whether every right register of a frame of the reference machine is empty.
     pub fn is_clear(&self) -> bool
         ensures { result ≡ list_all is_none self.now.rights }
     {
         self.rights.iter().all(|right| right.is_none())
     }
 
-    /// Empties a right register.
+    /// Empties a right register of a frame of the reference machine.
     pub(crate) fn empty(&mut self, register: u8)
         ensures { self.new ≡ record self.old { rights = slice_set self.old.rights register None } }
     {
         set_in(&mut self.rights, register, None);
     }
 
-    /// Puts an id into a right register.
+    /// Puts an id into a right register of a frame of the reference machine.
     pub(crate) fn fill(&mut self, register: u8, id: DatumId)
         ensures { self.new ≡ record self.old { rights = slice_set self.old.rights register (Some id) } }
     {
         set_in(&mut self.rights, register, Some(id));
     }
 
-    /// Sets a value register, and moves to the next place.
+    /// Sets a value register of a frame of the reference machine, and moves to the next place.
     pub(crate) fn put(&mut self, register: u8, value: Value)
         requires declared { register < length self.old.position.values }
         requires inside { self.old.position.place < 2 ^ 63 }
@@ -150,7 +150,7 @@ impl Frame {
         self.position.put(register, value);
     }
 
-    /// Moves `skip` instructions beyond the next place.
+    /// Moves a frame of the reference machine `skip` instructions beyond the next place.
     pub(crate) fn skip(&mut self, skip: u16)
         requires { self.old.position.place < 2 ^ 63 }
         ensures { self.new ≡ record self.old { position = at_goal self.old.position skip } }
@@ -158,7 +158,7 @@ impl Frame {
         self.position.skip(skip);
     }
 
-    /// Moves to the next place.
+    /// Moves a frame of the reference machine to the next place.
     pub(crate) fn to_next_place(&mut self)
         requires { self.old.position.place < 2 ^ 63 }
         ensures { self.new ≡ record self.old { position = at_next_place self.old.position } }
@@ -170,14 +170,14 @@ impl Frame {
     pub fn finish_action(&mut self, rights: [Option<DatumId>; 16])
         requires place { self.old.position.place < 2 ^ 63 }
         requires spent { self.old.spent < 2 ^ 63 }
-        ensures { self.new ≡ gone_after self.old rights }
+        ensures { self.new ≡ frame_after_call self.old rights }
     {
         self.position.to_next_place();
         self.rights = rights;
         self.spent += 1;
     }
 
-    /// Counts one more instruction.
+    /// Counts one more instruction that a frame of the reference machine has executed.
     pub fn count(&mut self)
         requires { self.old.spent < 2 ^ 63 }
         ensures { self.new ≡ record self.old { spent = self.old.spent + 1 } }
@@ -185,7 +185,7 @@ impl Frame {
         self.spent += 1;
     }
 
-    /// Moves to the position, and counts `steps` instructions.
+    /// Moves a frame of the reference machine to the position, and counts `steps` instructions.
     pub fn move_to(&mut self, position: Position, steps: u64)
         requires steps { steps < 2 ^ 63 }
         requires spent { self.old.spent < 2 ^ 63 }
@@ -196,6 +196,7 @@ impl Frame {
     }
 }
 
+/// Sets one of the right registers of a frame of the reference machine, if there is one of this number.
 fn set_in(rights: &mut [Option<DatumId>], register: u8, right: Option<DatumId>)
     ensures { rights.new ≡ slice_set rights.old register right }
 {

@@ -11,7 +11,7 @@ use std::collections::BTreeMap;
 use tw_datum::RankedMap;
 use tw_types::DatumId;
 
-/// Takes one read of a datum whose type has at most `depth` containers. If it was the last right, frees the datum.
+/// Takes one read of a live datum by its id, whose type has at most `depth` containers. If it was the last right, frees the datum.
 #[cycle(freeing)]
 pub fn drop_read_within(live: &mut BTreeMap<u64, Datum>, id: u64, depth: u8)
     ensures { data_of live.new.entries ≡ drop_read_within depth (data_of live.old.entries) id }
@@ -37,7 +37,7 @@ pub fn drop_read_within(live: &mut BTreeMap<u64, Datum>, id: u64, depth: u8)
     }
 }
 
-/// Takes one read of each member of a container that is freed.
+/// Takes one read of each member, by its id, of a container that is freed.
 #[cycle(freeing)]
 fn drop_each(live: &mut BTreeMap<u64, Datum>, members: RankedMap<DatumId>, depth: u8)
     ensures { data_of live.new.entries ≡ fold (drop_read_within depth) (data_of live.old.entries) (map.values members) }
@@ -49,7 +49,7 @@ fn drop_each(live: &mut BTreeMap<u64, Datum>, members: RankedMap<DatumId>, depth
     }
 }
 
-/// Frees a datum if nobody holds it.
+/// Frees a live datum by its id, if nobody holds it.
 pub fn free_unheld(live: &mut BTreeMap<u64, Datum>, id: u64)
     ensures { IfSome (get (data_of live.old.entries) id) (λ x. data_of live.new.entries ≡ settled (data_of live.old.entries) id x) }
 {

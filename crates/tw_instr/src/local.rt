@@ -18,7 +18,7 @@ use tw_code::compute::{int_shown_as, joined, result_of, shown};
 use tw_code::{Arithmetic, Instr, LocalInstr};
 use tw_types::{Cause, Scalar, Text, Value};
 
-/// Returns whether two values are equal. Fails if their types differ.
+/// Returns for JEQ whether two values are equal. Fails if their types differ.
 fn same_value(left: &Value, right: &Value) -> Result<bool, Cause>
     ensures { result ≡ same_value left.now right.now }
 {
@@ -31,6 +31,7 @@ fn same_value(left: &Value, right: &Value) -> Result<bool, Cause>
     }
 }
 
+/// Executes INT at a position of the reference machine.
 fn int(position: &mut Position, to: u8, value: i64) -> Result<(), Cause>
     requires { position.old.place < 2 ^ 63 }
     ensures { Leaves (local_instr (INT to value) position.old) position.old (failing result) position.new }
@@ -40,6 +41,7 @@ fn int(position: &mut Position, to: u8, value: i64) -> Result<(), Cause>
     Ok(())
 }
 
+/// Executes TEXT at a position of the reference machine.
 fn text(alloc: Global, position: &mut Position, to: u8, text: &Text) -> Result<(), Failure>
     requires { position.old.place < 2 ^ 63 }
     ensures { Leaves (local_instr (TEXT to text.now) position.old) position.old result position.new }
@@ -50,6 +52,7 @@ fn text(alloc: Global, position: &mut Position, to: u8, text: &Text) -> Result<(
     Ok(())
 }
 
+/// Executes COPY at a position of the reference machine.
 fn copy(alloc: Global, position: &mut Position, to: u8, from: u8) -> Result<(), Failure>
     requires { position.old.place < 2 ^ 63 }
     ensures { Leaves (local_instr (COPY to from) position.old) position.old result position.new }
@@ -61,7 +64,8 @@ fn copy(alloc: Global, position: &mut Position, to: u8, from: u8) -> Result<(), 
     Ok(())
 }
 
-fn compute(
+/// Executes ADD, SUB, MUL, DIV or REM at a position of the reference machine.
+fn compute_position(
     position: &mut Position,
     operation: Arithmetic,
     to: u8,
@@ -82,6 +86,7 @@ fn compute(
     Ok(())
 }
 
+/// Executes CAT at a position of the reference machine.
 fn concatenate(
     alloc: Global,
     position: &mut Position,
@@ -102,6 +107,7 @@ fn concatenate(
     Ok(())
 }
 
+/// Executes LEN at a position of the reference machine.
 fn length(position: &mut Position, to: u8, from: u8) -> Result<(), Cause>
     requires { position.old.place < 2 ^ 63 }
     ensures { Leaves (local_instr (LEN to from) position.old) position.old (failing result) position.new }
@@ -112,6 +118,7 @@ fn length(position: &mut Position, to: u8, from: u8) -> Result<(), Cause>
     Ok(())
 }
 
+/// Executes SHOW at a position of the reference machine.
 fn show(alloc: Global, position: &mut Position, to: u8, from: u8) -> Result<(), Failure>
     requires { position.old.place < 2 ^ 63 }
     ensures { Leaves (local_instr (SHOW to from) position.old) position.old result position.new }
@@ -123,6 +130,7 @@ fn show(alloc: Global, position: &mut Position, to: u8, from: u8) -> Result<(), 
     Ok(())
 }
 
+/// Executes READI at a position of the reference machine.
 fn read_int(
     alloc: Global,
     position: &mut Position,
@@ -142,6 +150,7 @@ fn read_int(
     Ok(())
 }
 
+/// Moves a position of the reference machine beyond the next place if the condition holds, else to the next place.
 fn skip_if(position: &mut Position, condition: bool, skip: u16)
     requires { position.old.place < 2 ^ 63 }
     ensures { position.new ≡ (if condition then at_goal position.old skip else at_next_place position.old) }
@@ -153,6 +162,7 @@ fn skip_if(position: &mut Position, condition: bool, skip: u16)
     }
 }
 
+/// Executes JEQ at a position of the reference machine.
 fn jump_equal(position: &mut Position, left: u8, right: u8, skip: u16) -> Result<(), Cause>
     requires { position.old.place < 2 ^ 63 }
     ensures { Leaves (local_instr (JEQ left right skip) position.old) position.old (failing result) position.new }
@@ -162,6 +172,7 @@ fn jump_equal(position: &mut Position, left: u8, right: u8, skip: u16) -> Result
     Ok(())
 }
 
+/// Executes JLT at a position of the reference machine.
 fn jump_less(position: &mut Position, left: u8, right: u8, skip: u16) -> Result<(), Cause>
     requires { position.old.place < 2 ^ 63 }
     ensures { Leaves (local_instr (JLT left right skip) position.old) position.old (failing result) position.new }
@@ -171,6 +182,7 @@ fn jump_less(position: &mut Position, left: u8, right: u8, skip: u16) -> Result<
     Ok(())
 }
 
+/// Executes END at a position of the reference machine. Fails with `NoLoop` if no loop is begun.
 fn end(position: &mut Position) -> Result<(), Cause>
     requires { position.old.place < 2 ^ 63 }
     ensures { Leaves (local_instr END position.old) position.old (failing result) position.new }
@@ -182,6 +194,7 @@ fn end(position: &mut Position) -> Result<(), Cause>
     }
 }
 
+/// Executes any local instruction at a position of the reference machine.
 fn local_instr(alloc: Global, instr: &LocalInstr, position: &mut Position) -> Result<(), Failure>
     requires { position.old.place < 2 ^ 63 }
     ensures { Leaves (local_instr instr.now position.old) position.old result position.new }
@@ -196,7 +209,7 @@ fn local_instr(alloc: Global, instr: &LocalInstr, position: &mut Position) -> Re
             left,
             right,
             skip,
-        } => Ok(compute(position, *operation, *to, *left, *right, *skip)?),
+        } => Ok(compute_position(position, *operation, *to, *left, *right, *skip)?),
         LocalInstr::Concatenate {
             to,
             left,
@@ -221,6 +234,7 @@ fn local_instr(alloc: Global, instr: &LocalInstr, position: &mut Position) -> Re
     }
 }
 
+/// Executes the instruction at a position of the reference machine, if it is local.
 fn local_step(alloc: Global, code: &[Instr], position: &mut Position) -> Result<(), Stopped>
     ensures { Changes (local_step code.now position.old) position.old result position.new }
 {
@@ -231,7 +245,7 @@ fn local_step(alloc: Global, code: &[Instr], position: &mut Position) -> Result<
     Ok(())
 }
 
-/// Executes `steps` local instructions. If one fails, the position is unspecified.
+/// Executes `steps` local instructions at a position of the reference machine. If one fails, the position is unspecified.
 pub fn local_steps(
     alloc: Global,
     code: &[Instr],

@@ -64,7 +64,7 @@ fn put_copies(
     store.put(id, subscript, value)
 }
 
-/// Executes MINS: puts a value, or skips if the subscript is taken.
+/// Executes MINS in the reference machine: puts a value, or skips if the subscript is taken.
 pub fn insert_value(
     alloc: Global,
     store: &mut Data,
@@ -111,7 +111,7 @@ fn add_to(
     store.put(id, own, sum)
 }
 
-/// Executes MADD.
+/// Executes MADD in the reference machine.
 pub fn add_value(
     alloc: Global,
     store: &mut Data,
@@ -136,7 +136,7 @@ pub fn add_value(
     Ok(())
 }
 
-/// Executes MGET: sets a register, or skips if nothing is at the subscript.
+/// Executes MGET in the reference machine: sets a register, or skips if nothing is at the subscript.
 pub fn get_value(
     alloc: Global,
     store: &Data,

@@ -23,14 +23,14 @@ impl Model for NoticeKey {
 }
 
 impl NoticeKey {
-    /// Makes the key of a notice.
+    /// Makes the key by which a notice is sorted in the set of waiting ones.
     pub fn of(notice: Notice) -> NoticeKey
         ensures { result ≡ notice }
     {
         NoticeKey { notice }
     }
 
-    /// Returns the notice.
+    /// Returns the notice whose key it is.
     pub fn notice(self) -> Notice
         ensures { result ≡ self }
     {
@@ -51,6 +51,7 @@ impl Ord for NoticeKey {
 
     ghost matches_eq = { Prim.search (comparing, rules) };
 
+    /// Compares notices by their data, then by their rules, then by their parameters.
     fn cmp(&self, other: &NoticeKey) -> Ordering {
         let (ours, theirs) = (self.notice, other.notice);
         let by_parameter = ours.parameter.cmp(&theirs.parameter);
@@ -71,6 +72,7 @@ impl PartialOrd for NoticeKey {
 
     ghost laws = { partial_order_from_own_ties (Prim.search (comparing, rules) depth 9) (Prim.search (comparing, rules) depth 9) };
 
+    /// Compares notices like `cmp`: by datum, rule and parameter.
     fn partial_cmp(&self, other: &NoticeKey) -> Option<Ordering> {
         Some(self.cmp(other))
     }

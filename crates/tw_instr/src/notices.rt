@@ -33,7 +33,7 @@ impl Model for Notices {
 }
 
 impl Notices {
-    /// Makes a set without notices.
+    /// Makes a set of waiting notices without any.
     pub fn new(alloc: Global) -> Notices
         ensures { result ≡ empty }
     {
@@ -42,21 +42,21 @@ impl Notices {
         }
     }
 
-    /// Returns whether there is no notice.
+    /// Returns whether no notice waits in the set.
     pub fn is_empty(&self) -> bool
         ensures { result ≡ (len self.now == 0) }
     {
         self.keys.is_empty()
     }
 
-    /// Returns the notices, in the order in which they are delivered.
+    /// Returns the waiting notices, in the order in which they are delivered.
     pub fn keys(&self) -> &BTreeSet<NoticeKey>
         ensures { from_list result.now.keys ≡ self.now }
     {
         &self.keys
     }
 
-    /// Removes a notice, and returns whether it was there.
+    /// Removes a waiting notice, and returns whether it was there.
     pub fn remove(&mut self, notice: &Notice) -> bool
         ensures was { result ≡ contains self.old notice.now }
         ensures removed { self.new ≡ remove self.old notice.now }
@@ -104,7 +104,7 @@ fn missing(
     Ok(more)
 }
 
-/// Adds these keys, which aren't in the set. Changes nothing if an allocation fails.
+/// Adds these keys of notices, which aren't in the set. Changes nothing if an allocation fails.
 fn add_all(keys: &mut BTreeSet<NoticeKey>, more: &[NoticeKey]) -> Result<(), AllocError>
     requires { (n : ANotice) → is_among more.now n ≡ true → is_in keys.old n ≡ false }
     ensures added { OnOk result ((n : ANotice) → is_in keys.new n ≡ (is_among more.now n || is_in keys.old n)) }
@@ -119,6 +119,7 @@ fn add_all(keys: &mut BTreeSet<NoticeKey>, more: &[NoticeKey]) -> Result<(), All
     Ok(())
 }
 
+/// Removes these keys of notices from the set again, after an allocation has failed.
 fn remove_all(keys: &mut BTreeSet<NoticeKey>, more: &[NoticeKey])
     ensures { (n : ANotice) → is_in keys.new n ≡ (not (is_among more.now n) && is_in keys.old n) }
 {

@@ -13,7 +13,7 @@ use crate::{containers, maps, rights, scalars};
 use std::alloc::Global;
 use tw_code::DataInstr;
 
-/// Executes one instruction on data.
+/// Executes one instruction on data in the reference machine.
 pub fn data_instr(
     alloc: Global,
     instr: DataInstr,

@@ -44,7 +44,7 @@ impl Model for Position {
 }
 
 impl Position {
-    /// Returns the position at the start of the code.
+    /// Returns a task's position at the start of its procedure's code, with these values.
     pub fn first(alloc: Global, values: Vec<Value>) -> Position
         ensures { result ≡ record { place = 0; values = values.items; loops = [] } }
     {
@@ -55,21 +55,21 @@ impl Position {
         }
     }
 
-    /// Returns the place of the next instruction, counted from 0.
+    /// Returns the place of the next instruction of a position, counted from 0.
     pub fn place(&self) -> usize
         ensures { result ≡ self.now.place }
     {
         self.place
     }
 
-    /// Returns the value of a register, if it is declared.
+    /// Returns the value of a register at a position, if the register is declared.
     pub fn value(&self, register: u8) -> Option<&Value>
         ensures { option_copied result ≡ slice_get self.now.values register }
     {
         self.values.get(usize::from(register))
     }
 
-    /// Sets a register, and moves to the next place.
+    /// Sets a value register of a position, and moves to the next place.
     pub fn put(&mut self, register: u8, value: Value)
         requires declared { register < length self.old.values }
         requires inside { self.old.place < 2 ^ 63 }
@@ -79,7 +79,7 @@ impl Position {
         self.place += 1;
     }
 
-    /// Moves to the next place.
+    /// Moves a position to the next place.
     pub fn to_next_place(&mut self)
         requires { self.old.place < 2 ^ 63 }
         ensures { self.new ≡ at_next_place self.old }
@@ -87,7 +87,7 @@ impl Position {
         self.place += 1;
     }
 
-    /// Moves `skip` instructions beyond the next place.
+    /// Moves a position `skip` instructions beyond the next place.
     pub fn skip(&mut self, skip: u16)
         requires { self.old.place < 2 ^ 63 }
         ensures { self.new ≡ at_goal self.old skip }
@@ -95,7 +95,7 @@ impl Position {
         self.place += 1 + usize::from(skip);
     }
 
-    /// Begins a loop of `iterations` iterations at the next place.
+    /// Begins a loop of `iterations` iterations at the next place of a position.
     pub fn begin_loop(&mut self, iterations: u16) -> Result<(), AllocError>
         requires { self.old.place < 2 ^ 63 }
         ensures begun { OnOk result (self.new ≡ record self.old { place = self.old.place + 1; loops = record { first = self.old.place + 1; left = iterations } ∷ self.old.loops }) }
@@ -110,7 +110,7 @@ impl Position {
         Ok(())
     }
 
-    /// Ends an iteration of the innermost loop. Returns whether a loop was begun.
+    /// Ends an iteration of a position's innermost loop. Returns whether a loop was begun.
     pub fn end_turn(&mut self) -> bool
         requires { self.old.place < 2 ^ 63 }
         ensures ended { result ≡ true → after_end self.old.place self.old.loops ≡ Some (record { place = self.new.place; loops = self.new.loops }) }
@@ -126,7 +126,7 @@ impl Position {
         }
     }
 
-    /// Copies the position.
+    /// Copies a position: its place, values and loops.
     pub fn try_clone(&self, alloc: Global) -> Result<Position, AllocError>
         ensures { IfOk result (λ copy. copy ≡ self.now) }
     {
@@ -154,6 +154,7 @@ fn end_turn_in(loops: &mut Vec<Loop>, place: usize) -> Option<usize>
     }
 }
 
+/// Sets one of the value registers of a position.
 fn set_in(values: &mut Vec<Value>, register: u8, value: Value)
     requires { register < length values.old.items }
     ensures { values.new.items ≡ slice_set values.old.items register value }
@@ -161,6 +162,7 @@ fn set_in(values: &mut Vec<Value>, register: u8, value: Value)
     values[usize::from(register)] = value;
 }
 
+/// Copies the values of a position's registers.
 fn copies_of(alloc: Global, values: &[Value]) -> Result<Vec<Value>, AllocError>
     ensures { IfOk result (λ copies. copies.items ≡ values.now) }
 {

@@ -7,7 +7,7 @@ use crate::failure::must;
 use crate::frame::Frame;
 use tw_types::{Cause, DatumId};
 
-/// Returns the id in a right register. Fails with `EmptyRegister` if it is empty.
+/// Returns the id in a right register of the frame. Fails with `EmptyRegister` if it is empty.
 pub fn held(frame: &Frame, register: u8) -> Result<DatumId, Cause>
     ensures { result ≡ held frame.now.rights register }
 {

@@ -18,7 +18,7 @@ use crate::right_registers::{held, must_be_empty};
 use std::alloc::{AllocError, Global};
 use tw_types::{Cause, DataType, DatumId};
 
-/// Executes NEW.
+/// Executes NEW in the reference machine.
 pub fn create(
     alloc: Global,
     store: &mut Data,
@@ -41,7 +41,7 @@ pub fn create(
     Ok(())
 }
 
-/// Executes DUPR.
+/// Executes DUPR in the reference machine.
 pub fn copy_read(store: &mut Data, frame: &mut Frame, to: u8, from: u8) -> Result<(), Cause>
     requires place { frame.old.position.place < 2 ^ 63 }
     requires room { HasRoom store.old }
@@ -56,7 +56,7 @@ pub fn copy_read(store: &mut Data, frame: &mut Frame, to: u8, from: u8) -> Resul
     Ok(())
 }
 
-/// Executes DUPW.
+/// Executes DUPW in the reference machine.
 pub fn copy_write(store: &mut Data, frame: &mut Frame, to: u8, from: u8) -> Result<(), Cause>
     requires place { frame.old.position.place < 2 ^ 63 }
     requires room { HasRoom store.old }
@@ -71,7 +71,7 @@ pub fn copy_write(store: &mut Data, frame: &mut Frame, to: u8, from: u8) -> Resu
     Ok(())
 }
 
-/// Executes DROPR.
+/// Executes DROPR in the reference machine.
 pub fn drop_read(store: &mut Data, frame: &mut Frame, right: u8) -> Result<(), Cause>
     requires { frame.old.position.place < 2 ^ 63 }
     ensures { DoesQuietly (DROPR right) store.old frame.old (failing result) store.new frame.new }
@@ -84,7 +84,7 @@ pub fn drop_read(store: &mut Data, frame: &mut Frame, right: u8) -> Result<(), C
     Ok(())
 }
 
-/// Takes a write of a container, and adds the notices of its subscribers if it closes. Changes nothing if an allocation
+/// Takes a write of a container for DROPW, and adds the notices of its subscribers if it closes. Changes nothing if an allocation
 /// fails.
 fn take_write(
     alloc: Global,
@@ -102,7 +102,7 @@ fn take_write(
     Ok(())
 }
 
-/// Executes DROPW.
+/// Executes DROPW in the reference machine.
 pub fn drop_write(
     alloc: Global,
     store: &mut Data,

@@ -24,7 +24,7 @@ use crate::value_registers::value_at;
 use std::alloc::{AllocError, Global};
 use tw_types::{Cause, DatumId, Value};
 
-/// Returns whether a value is of the type of the datum, if that is a live scalar.
+/// Returns whether a value is of the type of the datum for STORE or GET, if that is a live scalar.
 fn suits(value: &Value, datum: Option<&Datum>) -> bool
     ensures { result ≡ suits value.now (datum_if (option_copied datum.entry)) }
 {
@@ -34,14 +34,14 @@ fn suits(value: &Value, datum: Option<&Datum>) -> bool
     }
 }
 
-/// Returns the datum of a right register, if it is live.
+/// Returns the datum of a right register of the reference machine's frame, if it is live.
 pub(crate) fn datum_at<'a>(store: &'a Data, frame: &Frame, register: u8) -> Option<&'a Datum>
     ensures { datum_if (option_copied result) ≡ option_and_then (get store.now.live) (right_at frame.now.rights register) }
 {
     store.datum(frame.right(register)?)
 }
 
-/// Sets a scalar, and adds the notices of its subscribers. Changes nothing if an allocation fails.
+/// Sets a scalar for STORE, and adds the notices of its subscribers. Changes nothing if an allocation fails.
 fn set(
     alloc: Global,
     store: &mut Data,
@@ -59,7 +59,7 @@ fn set(
     Ok(())
 }
 
-/// Executes STORE.
+/// Executes STORE in the reference machine.
 pub fn store(
     alloc: Global,
     store: &mut Data,
@@ -84,7 +84,7 @@ pub fn store(
     Ok(())
 }
 
-/// Copies the value of a scalar. Fails with `UnsetDatum` if it isn't set.
+/// Copies the value of a scalar for GET. Fails with `UnsetDatum` if it isn't set.
 fn copy_of(alloc: Global, store: &Data, id: DatumId) -> Result<Value, Failure>
     ensures { Gives (ok_or (stored_at store.now id) UnsetDatum) result }
 {
@@ -92,7 +92,7 @@ fn copy_of(alloc: Global, store: &Data, id: DatumId) -> Result<Value, Failure>
     Ok(value.try_clone(alloc)?)
 }
 
-/// Executes GET.
+/// Executes GET in the reference machine.
 pub fn get(alloc: Global, store: &Data, frame: &mut Frame, to: u8, datum: u8) -> Result<(), Failure>
     requires { frame.old.position.place < 2 ^ 63 }
     ensures { DoesQuietly (GET to datum) store.now frame.old result store.now frame.new }

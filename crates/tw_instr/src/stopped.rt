@@ -30,6 +30,7 @@ impl From<Cause> for Barred {
 
     ghost from_gives = { λ cause barred. barred ≡ Trap cause };
 
+    /// Returns the error of an event that doesn't allocate and traps with this cause.
     fn from(cause: Cause) -> Barred {
         Barred::Trap(cause)
     }
@@ -41,6 +42,7 @@ impl From<Barred> for Stopped {
 
     ghost from_gives = { λ barred stopped. stopped ≡ barred_by barred };
 
+    /// Returns the error of an event from that of a part which doesn't allocate.
     fn from(barred: Barred) -> Stopped {
         match barred {
             Barred::NotEnabled => Stopped::NotEnabled,
@@ -55,6 +57,7 @@ impl From<Cause> for Stopped {
 
     ghost from_gives = { λ cause stopped. stopped ≡ Trap cause };
 
+    /// Returns the error of an event that traps with this cause.
     fn from(cause: Cause) -> Stopped {
         Stopped::Trap(cause)
     }
@@ -66,6 +69,7 @@ impl From<Failure> for Stopped {
 
     ghost from_gives = { λ failure stopped. stopped ≡ stopped_by failure };
 
+    /// Returns the error of an event from that of its instruction.
     fn from(failure: Failure) -> Stopped {
         match failure {
             Failure::Trap(cause) => Stopped::Trap(cause),
@@ -80,6 +84,7 @@ impl From<AllocError> for Stopped {
 
     ghost from_gives = { λ _ stopped. stopped ≡ NoMemory };
 
+    /// Returns the error of an event for which an allocation failed.
     fn from(_: AllocError) -> Stopped {
         Stopped::NoMemory
     }
@@ -91,6 +96,7 @@ impl<T: Drop> From<AllocFailed<T>> for Stopped {
 
     ghost from_gives = { λ _ stopped. stopped ≡ NoMemory };
 
+    /// Drops what wasn't stored, and returns the error of an event for which an allocation failed.
     fn from(_: AllocFailed<T>) -> Stopped {
         Stopped::NoMemory
     }

@@ -60,8 +60,8 @@ impl Task {
         })
     }
 
-    /// Makes the task that RULE or PUT names. `kind` is its procedure's; `priority` is the action's, read from its register if it is
-    /// computed.
+    /// Makes the task that RULE or PUT names in the reference machine. `kind` is its procedure's; `priority` is the action's, read
+    /// from its register if it is computed.
     pub fn of(kind: Kind, action: &Action, priority: i64, args: Vec<Arg>) -> Task
         requires { length args.items ≤ 8 }
         ensures { result ≡ record { kind = kind; procedure = action.now.procedure; priority = priority; target = action.now.target; args = map arg_of args.items } }
@@ -75,7 +75,7 @@ impl Task {
         }
     }
 
-    /// Copies the task, but with this kind.
+    /// Copies a waiting task of the reference machine, but with this kind.
     pub fn try_clone(&self, alloc: Global, kind: Kind) -> Result<Task, AllocError>
         ensures { IfOk result (λ copy. copy ≡ record self.now { kind = kind }) }
     {
@@ -88,28 +88,28 @@ impl Task {
         })
     }
 
-    /// Returns the number of its procedure in the program.
+    /// Returns the number of a waiting task's procedure in the program.
     pub fn procedure(&self) -> u8
         ensures { result ≡ self.now.procedure }
     {
         self.procedure
     }
 
-    /// Returns its priority.
+    /// Returns the priority of a waiting task.
     pub fn priority(&self) -> i64
         ensures { result ≡ self.now.priority }
     {
         self.priority
     }
 
-    /// Returns the number of the one actor that may take it, or `None` for any.
+    /// Returns the number of the one actor that may take a waiting task, or `None` for any.
     pub fn target(&self) -> Option<u8>
         ensures { result ≡ self.now.target }
     {
         self.target
     }
 
-    /// Returns its arguments.
+    /// Returns the arguments of a waiting task: values, and ids of the data of its rights.
     pub fn args(&self) -> &[Arg]
         ensures { map arg_of result.now ≡ self.now.args }
     {
@@ -123,8 +123,9 @@ impl Task {
         actor.may_take(self.kind) && is_for(self.target, actor.number())
     }
 
-    /// Makes the frame of the task at its start. Its values, in order, fill the first value registers, which must be of their
-    /// types, or it traps with `WrongRegister`; the others are blank. The ids of its rights fill the first right registers.
+    /// Makes the reference machine's frame of the task at its start. Its values, in order, fill the first value registers, which
+    /// must be of their types, or it traps with `WrongRegister`; the others are blank. The ids of its rights fill the first right
+    /// registers.
     pub fn begin(
         &self,
         alloc: Global,
@@ -141,6 +142,7 @@ impl Task {
     }
 }
 
+/// Copies the arguments of a task of the reference machine.
 fn copies_of(alloc: Global, args: &[Arg]) -> Result<Vec<Arg>, AllocError>
     ensures { IfOk result (λ copies. copies.items ≡ args.now) }
 {
@@ -151,6 +153,7 @@ fn copies_of(alloc: Global, args: &[Arg]) -> Result<Vec<Arg>, AllocError>
     Ok(copies)
 }
 
+/// Returns the value registers with which a task starts: its arguments' values, and blanks.
 fn values_at_start(alloc: Global, args: &[Arg], types: &[Scalar]) -> Result<Vec<Value>, Failure>
     ensures { MatchResult result (λ values. filled (values_in (map arg_of args.now)) types.now ≡ Ok values.items) (MayFail (filled (values_in (map arg_of args.now)) types.now)) }
 {
@@ -160,6 +163,7 @@ fn values_at_start(alloc: Global, args: &[Arg], types: &[Scalar]) -> Result<Vec<
     Ok(values)
 }
 
+/// Returns the first value registers of a task: the values among its arguments. Fails with `WrongRegister` if a type differs.
 fn given_values(alloc: Global, args: &[Arg], types: &[Scalar]) -> Result<Vec<Value>, Failure>
     ensures begins { MatchResult result (λ values. filled (values_in (map arg_of args.now)) types.now ≡ Ok (values.items ++ map blank_of (drop (length values.items) types.now))) (MayFail (filled (values_in (map arg_of args.now)) types.now)) }
     ensures fits { IfOk result (λ values. length values.items ≤ length types.now) }
@@ -177,6 +181,7 @@ fn given_values(alloc: Global, args: &[Arg], types: &[Scalar]) -> Result<Vec<Val
     Ok(values)
 }
 
+/// Adds a blank value for each further register of a task that starts.
 fn add_blanks(alloc: Global, values: &mut Vec<Value>, types: &[Scalar]) -> Result<(), AllocError>
     ensures { OnOk result (values.new.items ≡ values.old.items ++ map blank_of types.now) }
 {
@@ -186,6 +191,7 @@ fn add_blanks(alloc: Global, values: &mut Vec<Value>, types: &[Scalar]) -> Resul
     Ok(())
 }
 
+/// Returns the right registers of a task that starts: the ids among its arguments, then empty ones.
 fn first_rights(args: &[Arg]) -> [Option<DatumId>; 16]
     requires { length args.now ≤ 8 }
     ensures { result ≡ first_rights (ids_in (map arg_of args.now)) }

@@ -20,7 +20,7 @@ use Rattle.tw_instr.specs.declared.stopped.Stopped.{Stopped}
 use Rattle.tw_instr.specs.Attempts.{Changes, IsStopped}
 use Rattle.tw_instr.proofs.Stops.{stopped_then}
 use Rattle.tw_machine.specs.declared.tables.Tables.{Tables}
-use Rattle.tw_machine.specs.Events.{FrameComes, FramesCome, HaveRoom, TablesCome, with_frames, with_tables}
+use Rattle.tw_machine.specs.Events.{LeavesFrame, LeavesFrames, HaveRoom, LeavesTables, with_frames, with_tables}
 use Rattle.tw_machine.specs.Parts.{frames_of}
 use Rattle.tw_types.proofs.ActorOrder.{actor_cmp_total, actor_cmp-IsAntisymmetric}
 use Rattle.tw_types.proofs.Maps.{found_view, insert_same, written_view}
@@ -86,14 +86,14 @@ module _ (m n : BTreeMap Actor Frame) (actor : Actor) (f g : Frame) (here : Some
   unchanged : g ≡ f → frames_of n.entries ≡ frames_of m.entries
   unchanged e = written ∙ ap (insert (frames_of m.entries) actor) e ∙ insert_same actor_cmp_total actor_cmp-IsAntisymmetric (frames_of m.entries) actor f there
 
-  pub frames_come : (event : Actor → State → Outcome State) (result : Result (Unit {0}) Stopped) → FrameComes event f result g → FramesCome (event actor) (frames_of m.entries) result (frames_of n.entries)
+  pub frames_come : (event : Actor → State → Outcome State) (result : Result (Unit {0}) Stopped) → LeavesFrame event f result g → LeavesFrames (event actor) (frames_of m.entries) result (frames_of n.entries)
   frames_come event (Ok x) h = λ s. h (with_frames s (frames_of m.entries)) actor there ∙ ap (λ fs. Went (with_frames s fs)) (sym written)
   frames_come event (Err why) h = λ s. (h.0 (with_frames s (frames_of m.entries)) actor there, ap (with_frames s) (unchanged h.1))
 
   abbrev state : State → Tables → State
   state s t = with_frames (with_tables s t) (frames_of m.entries)
 
-  pub tables_come : (event : State → Outcome State) (t u : Tables) (result : Result (Unit {0}) Stopped) (s : State) → TablesCome event actor t f result u g
+  pub tables_come : (event : State → Outcome State) (t u : Tables) (result : Result (Unit {0}) Stopped) (s : State) → LeavesTables event actor t f result u g
       → Changes (event (state s t)) (state s t) result (with_frames (with_tables s u) (frames_of n.entries))
   tables_come event t u (Ok x) s h = h (with_frames s (frames_of m.entries)) there ∙ ap (λ fs. Went (with_frames (with_tables s u) fs)) (sym written)
   tables_come event t u (Err why) s h = (

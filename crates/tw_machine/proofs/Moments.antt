@@ -5,7 +5,7 @@ use Rattle.tw_types.specs.Layout.{ActorCounts}
 use Rattle.tw_types.specs.Outcome.{Outcome, Went}
 use Rattle.tw_types.proofs.Outcomes.{same_went, went_first}
 use Rattle.tw_code.specs.declared.procedure.Procedure.{Procedure}
-use Rattle.tw_code.specs.machine.History.{if_went}
+use Rattle.tw_code.specs.machine.History.{if_succeeded}
 use Rattle.tw_code.specs.machine.Machine.{run, step}
 use Rattle.tw_code.specs.machine.State.{State}
 use Rattle.tw_machine.specs.Moments.{Moment, moments}
@@ -17,7 +17,7 @@ unfolding run
 moments_more program layout number [] event s t u e h =
     let same : s ≡ t = same_went s t e in
     let here : number ≡ number + 0 = omega arith in
-    ap (λ (o : Outcome State). if_went o (λ next. record { number = number; event = event; before = s; state_after = next } ∷ [])) (ap (step program layout event) same ∙ h)
+    ap (λ (o : Outcome State). if_succeeded o (λ next. record { number = number; event = event; before = s; state_after = next } ∷ [])) (ap (step program layout event) same ∙ h)
     ∙ ap (λ (x : State). record { number = number; event = event; before = x; state_after = u } ∷ []) same
     ∙ ap (λ (n : ℕ). record { number = n; event = event; before = t; state_after = u } ∷ []) here
 moments_more program layout number (first ∷ events) event s t u e h =
@@ -25,7 +25,7 @@ moments_more program layout number (first ∷ events) event s t u e h =
     let now : State → Moment = λ next. record { number = number; event = first; before = s; state_after = next } in
     let last : ℕ → Moment = λ n. record { number = n; event = event; before = t; state_after = u } in
     let here : suc number + length events ≡ number + length (first ∷ events) = omega arith in
-    ap (λ (o : Outcome State). if_went o (λ next. now next ∷ moments program layout (suc number) (events ++ event ∷ []) next)) one.1
+    ap (λ (o : Outcome State). if_succeeded o (λ next. now next ∷ moments program layout (suc number) (events ++ event ∷ []) next)) one.1
     ∙ ap (λ (ms : List Moment). now one.0 ∷ ms) (moments_more program layout (suc number) events event one.0 t u one.2 h)
     ∙ ap (λ (n : ℕ). now one.0 ∷ (moments program layout (suc number) events one.0 ++ last n ∷ [])) here
-    ∙ ap (λ (ms : List Moment). ms ++ last (number + length (first ∷ events)) ∷ []) (sym (ap (λ (o : Outcome State). if_went o (λ next. now next ∷ moments program layout (suc number) events next)) one.1))
+    ∙ ap (λ (ms : List Moment). ms ++ last (number + length (first ∷ events)) ∷ []) (sym (ap (λ (o : Outcome State). if_succeeded o (λ next. now next ∷ moments program layout (suc number) events next)) one.1))

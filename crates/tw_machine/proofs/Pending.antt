@@ -22,7 +22,7 @@ use Rattle.tw_machine.specs.Waiting.{RuleTable, TaskTable, rule_released, staged
 use Rattle.tw_machine.proofs.Numbered.{staged_some}
 use Rattle.tw_machine.specs.declared.tables.Tables.{Tables}
 use Rattle.tw_machine.specs.Events.{with_frames, with_tables}
-use Rattle.tw_machine.specs.Memory.{AsksOpen, Goes}
+use Rattle.tw_machine.specs.Memory.{IsAskOfOpen, Succeeds}
 
 same_is : (a b : ℕ) → a ≡ b → (a == b) ≡ true
 same_is a b h = grind (arith, nat_tests)
@@ -127,10 +127,10 @@ module _ (engine number : ℕ) (s : State) (t : Tables) (frames : Frames) where
           ∙ rw (closed, heard) (ap (λ (r : RuleTable). Went (state (record t { store = subscribed t.store id (record { rule = number; parameter = parameter }); rules = r }))) (staged_some t.rules parameter Waiting number number rule refl (own_there engine number (state t) rule own) ∙ sym is))
 
     module _ (parameter id : ℕ) (some : unasked_id rule parameter ≡ Some id) (x : Datum) (live : get t.store.live id ≡ Some x) where
-      pub asks_open : is_closed x ≡ false → AsksOpen engine number parameter (state t)
+      pub asks_open : is_closed x ≡ false → IsAskOfOpen engine number parameter (state t)
       asks_open closed = (rule, id, x, ask_goes engine number (state t) parameter rule own id some x live, closed)
 
-    pub releases : (program : List Procedure) (q : ℕ) (p : Procedure) → is_releasable rule ≡ true → q ≡ rule.procedure → procedure_of program q ≡ Ok p → Goes (release_event program engine number (state t))
+    pub releases : (program : List Procedure) (q : ℕ) (p : Procedure) → is_releasable rule ≡ true → q ≡ rule.procedure → procedure_of program q ≡ Ok p → Succeeds (release_event program engine number (state t))
     releases program q p ready same here = rw (release_goes engine number (state t) program rule own ready q p same here) tt
 
     pub released : (program : List Procedure) (q : ℕ) (p : Procedure) (task : Task) (tasks : TaskTable) (rules : RuleTable) → is_releasable rule ≡ true → q ≡ rule.procedure → procedure_of program q ≡ Ok p

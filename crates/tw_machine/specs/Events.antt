@@ -49,25 +49,26 @@ IsLocalAt code place = (i : LocalInstr) × (instr_at code place ≡ Ok (LOCAL i)
 
 -- holds if, in each state where the actor has this frame, the event leaves the state with the other frame; or it fails, and the frame
 -- doesn't change
-abbrev pub FrameComes : (Actor → State → Outcome State) → Frame → Result (Unit {0}) Stopped → Frame → Type 0
-FrameComes event f (Ok _) g = (s : State) (actor : Actor) → get s.frames actor ≡ Some f → event actor s ≡ Went (with_frame s actor g)
-FrameComes event f (Err why) g = ((s : State) (actor : Actor) → get s.frames actor ≡ Some f → IsStopped (event actor s) why) × (g ≡ f)
+abbrev pub LeavesFrame : (Actor → State → Outcome State) → Frame → Result (Unit {0}) Stopped → Frame → Type 0
+LeavesFrame event f (Ok _) g = (s : State) (actor : Actor) → get s.frames actor ≡ Some f → event actor s ≡ Went (with_frame s actor g)
+LeavesFrame event f (Err why) g = ((s : State) (actor : Actor) → get s.frames actor ≡ Some f → IsStopped (event actor s) why) × (g ≡ f)
 
 -- holds if the instruction that is next in the actor's frame leaves these tables and this frame; or it fails, and they don't change
-abbrev pub CallComes : List Procedure → Actor → Procedure → Instr → Tables → Frame → Result (Unit {0}) Stopped → Tables → Frame → Type 0
-CallComes program actor p i t f (Ok _) u g = (s : State) → call_by program (with_tables s t) actor (record { frame = f; procedure = p; instr = i }) i ≡ Went (with_frame (with_tables s u) actor g)
-CallComes program actor p i t f (Err why) u g = ((s : State) → IsStopped (call_by program (with_tables s t) actor (record { frame = f; procedure = p; instr = i }) i) why) × (u ≡ t) × (g ≡ f)
+abbrev pub CallLeaves : List Procedure → Actor → Procedure → Instr → Tables → Frame → Result (Unit {0}) Stopped → Tables → Frame → Type 0
+CallLeaves program actor p i t f (Ok _) u g = (s : State) → call_by program (with_tables s t) actor (record { frame = f; procedure = p; instr = i }) i ≡ Went (with_frame (with_tables s u) actor g)
+CallLeaves program actor p i t f (Err why) u g = ((s : State) → IsStopped (call_by program (with_tables s t) actor (record { frame = f; procedure = p; instr = i }) i) why) × (u ≡ t) × (g ≡ f)
 
 -- holds if, in each state where the actor has this frame, with these tables, the event leaves the other ones; or it fails
-abbrev pub TablesCome : (State → Outcome State) → Actor → Tables → Frame → Result (Unit {0}) Stopped → Tables → Frame → Type 0
-TablesCome event actor t f (Ok _) u g = (s : State) → get s.frames actor ≡ Some f → event (with_tables s t) ≡ Went (with_frame (with_tables s u) actor g)
-TablesCome event actor t f (Err why) u g = ((s : State) → get s.frames actor ≡ Some f → IsStopped (event (with_tables s t)) why) × (u ≡ t) × (g ≡ f)
+abbrev pub LeavesTables : (State → Outcome State) → Actor → Tables → Frame → Result (Unit {0}) Stopped → Tables → Frame → Type 0
+LeavesTables event actor t f (Ok _) u g = (s : State) → get s.frames actor ≡ Some f → event (with_tables s t) ≡ Went (with_frame (with_tables s u) actor g)
+LeavesTables event actor t f (Err why) u g = ((s : State) → get s.frames actor ≡ Some f → IsStopped (event (with_tables s t)) why) × (u ≡ t) × (g ≡ f)
 
 -- ---- results of events in each state with these parts
 
-abbrev pub FramesCome : (State → Outcome State) → Frames → Result (Unit {0}) Stopped → Frames → Type 0
-FramesCome event frames result left = (s : State) → Changes (event (with_frames s frames)) (with_frames s frames) result (with_frames s left)
+-- holds if, in each state with these frames, the event leaves the other frames; or it fails
+abbrev pub LeavesFrames : (State → Outcome State) → Frames → Result (Unit {0}) Stopped → Frames → Type 0
+LeavesFrames event frames result left = (s : State) → Changes (event (with_frames s frames)) (with_frames s frames) result (with_frames s left)
 
--- like `FramesCome`, for an event that leaves the frames as they are
+-- like `LeavesFrames`, for an event that leaves the frames as they are
 abbrev pub TablesChange : (State → Outcome State) → Frames → Tables → Result (Unit {0}) Stopped → Tables → Type 0
 TablesChange event frames t result u = (s : State) → Changes (event (with_frames (with_tables s t) frames)) (with_frames (with_tables s t) frames) result (with_frames (with_tables s u) frames)

@@ -16,10 +16,11 @@ use Rattle.tw_instr.specs.Memory.{takes_memory}
 
 -- ---- results of an event
 
-abbrev pub Goes : {A : Type 0} → Outcome A → Type 0
-Goes (Went x) = Unit {0}
-Goes NotEnabled = ⊥
-Goes (Trap cause) = ⊥
+-- holds if it succeeds
+abbrev pub Succeeds : {A : Type 0} → Outcome A → Type 0
+Succeeds (Went x) = Unit {0}
+Succeeds NotEnabled = ⊥
+Succeeds (Trap cause) = ⊥
 
 -- holds if it succeeds or traps
 abbrev pub IsEnabled : {A : Type 0} → Outcome A → Type 0
@@ -39,34 +40,34 @@ IsLocal instr.Ret = ⊥
 -- holds if the instruction may allocate: one on data allocates after all its checks, RULE and PUT copy their arguments before
 abbrev pub CallTakesMemory : Outcome State → Instr → Type 0
 CallTakesMemory o (instr.Local i) = ⊥
-CallTakesMemory o (instr.Data i) = (takes_memory i ≡ true) × Goes o
+CallTakesMemory o (instr.Data i) = (takes_memory i ≡ true) × Succeeds o
 CallTakesMemory o (instr.Rule action) = Unit {0}
 CallTakesMemory o (instr.Put action) = Unit {0}
 CallTakesMemory o instr.Ret = ⊥
 
 -- holds if a task runs there, and P holds of its next instruction
-abbrev pub HasCome : (Instr → Type 0) → Outcome RunningInstr → Type 0
-HasCome P (Went at) = P at.instr
-HasCome P NotEnabled = ⊥
-HasCome P (Trap cause) = ⊥
+abbrev pub NextIs : (Instr → Type 0) → Outcome RunningInstr → Type 0
+NextIs P (Went at) = P at.instr
+NextIs P NotEnabled = ⊥
+NextIs P (Trap cause) = ⊥
 
 -- holds if the next instruction of the actor's task may allocate
-abbrev pub MayWant : List Procedure → Actor → State → Type 0
-MayWant program actor s = HasCome (CallTakesMemory (call_event program actor s)) (running_instr_of program actor s)
+abbrev pub MayAllocate : List Procedure → Actor → State → Type 0
+MayAllocate program actor s = NextIs (CallTakesMemory (call_event program actor s)) (running_instr_of program actor s)
 
 -- ---- events
 
 -- holds if the engine asks for an open datum, which gets a subscriber
-abbrev pub AsksOpen : ℕ → ℕ → ℕ → State → Type 0
-AsksOpen engine number parameter s =
+abbrev pub IsAskOfOpen : ℕ → ℕ → ℕ → State → Type 0
+IsAskOfOpen engine number parameter s =
     (rule : Rule) × (id : ℕ) × (x : Datum) × (ask_event engine number parameter s ≡ Went (asked s number rule parameter id x)) × (is_closed x ≡ false)
 
 -- Holds if the event may allocate. A Take copies values while it checks their types, and local instructions change a copy of the position.
 abbrev pub TakesMemory : List Procedure → ActorCounts → Event → State → Type 0
 TakesMemory program layout (Take actor) s = IsEnabled (take_event program layout actor s)
-TakesMemory program layout (Local actor n) s = HasCome IsLocal (running_instr_of program actor s)
-TakesMemory program layout (Call actor) s = MayWant program actor s
+TakesMemory program layout (Local actor n) s = NextIs IsLocal (running_instr_of program actor s)
+TakesMemory program layout (Call actor) s = MayAllocate program actor s
 TakesMemory program layout (End actor) s = ⊥
-TakesMemory program layout (Ask engine number parameter) s = AsksOpen engine number parameter s
+TakesMemory program layout (Ask engine number parameter) s = IsAskOfOpen engine number parameter s
 TakesMemory program layout (Deliver server datum rule parameter) s = ⊥
-TakesMemory program layout (Release engine number) s = Goes (release_event program engine number s)
+TakesMemory program layout (Release engine number) s = Succeeds (release_event program engine number s)

@@ -3,7 +3,7 @@ use Rattle.std.specs.Prelude.{ℕ, suc, List, [], ◌∷◌}
 use Rattle.tw_types.specs.declared.event.Event.{Event}
 use Rattle.tw_types.specs.Layout.{ActorCounts}
 use Rattle.tw_code.specs.declared.procedure.Procedure.{Procedure}
-use Rattle.tw_code.specs.machine.History.{if_went}
+use Rattle.tw_code.specs.machine.History.{if_succeeded}
 use Rattle.tw_code.specs.machine.Machine.{step}
 use Rattle.tw_code.specs.machine.State.{State}
 use Rattle.tw_machine.specs.PlainView.{PlainView}
@@ -19,7 +19,7 @@ pub record Moment : Type 0 where
 abbrev pub moments : List Procedure → ActorCounts → ℕ → List Event → State → List Moment
 moments program layout number [] s = []
 moments program layout number (event ∷ events) s =
-    if_went (step program layout event s) (λ next. record { number = number; event = event; before = s; state_after = next } ∷ moments program layout (suc number) events next)
+    if_succeeded (step program layout event s) (λ next. record { number = number; event = event; before = s; state_after = next } ∷ moments program layout (suc number) events next)
 
 abbrev pub history : PlainView → List Event → List Moment
 history first events = moments first.program first.layout 1 events first.state

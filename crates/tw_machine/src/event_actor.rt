@@ -5,7 +5,7 @@ ghost use Rattle.tw_code.specs.machine.History.{actor_of};
 
 use tw_types::{Actor, Event};
 
-/// Returns the actor that makes an event.
+/// Returns the actor that makes an event of the machine.
 pub fn actor_of(event: &Event) -> Actor
     ensures { result ≡ actor_of event.now }
 {

@@ -40,7 +40,7 @@ impl Model for Opened {
 }
 
 impl Opened {
-    /// Returns the state before the first parameter.
+    /// Returns the reference machine's data before the first parameter of main.
     pub fn new(alloc: Global) -> Opened
         ensures { result ≡ nothing_opened }
     {
@@ -51,7 +51,7 @@ impl Opened {
         }
     }
 
-    /// Makes the data of parameters, with the inputs for those that take one.
+    /// Makes the reference machine's data of main's parameters, with the inputs for those that take one.
     pub fn of(alloc: Global, params: &[Param], inputs: &[Input]) -> Result<Opened, AllocError>
         requires fit { are_inputs_of (input_params params.now) inputs.now ≡ true }
         requires few { length params.now ≤ 8 }
@@ -71,7 +71,7 @@ impl Opened {
         Ok(opened)
     }
 
-    /// Makes an output: main gets the write right, and the host the read right.
+    /// Makes the datum of an output in the reference machine: main gets the write right, and the host the read right.
     pub fn add_output(&mut self, alloc: Global, ty: DataType) -> Result<(), AllocError>
         requires { self.old.store.next < 2 ^ 63 }
         ensures { OnOk result (self.new ≡ with_output self.old ty) }
@@ -82,7 +82,7 @@ impl Opened {
         Ok(())
     }
 
-    /// Makes the data of an input: main gets the read right.
+    /// Makes the data of an input in the reference machine: main gets the read right.
     pub fn add_input(
         &mut self,
         alloc: Global,
@@ -98,7 +98,7 @@ impl Opened {
     }
 }
 
-/// Adds the datum of an input of the type, and then those of its members, if it is a container.
+/// Adds the datum of an input to the reference machine's store, and then those of its members, if it is a container.
 fn add_input(alloc: Global, store: &mut Data, ty: DataType, input: &Input) -> Result<(), AllocError>
     requires fits { is_input_of ty input.now ≡ true }
     requires room { store.old.next + 1001 < 2 ^ 63 }
@@ -114,7 +114,7 @@ fn add_input(alloc: Global, store: &mut Data, ty: DataType, input: &Input) -> Re
     }
 }
 
-/// Adds a closed scalar.
+/// Adds a closed scalar of an input to the reference machine's store.
 fn add_scalar<V: AsValue>(alloc: Global, store: &mut Data, value: &V) -> Result<(), AllocError>
     requires short { is_short (V.value value.now) ≡ true }
     requires room { store.old.next < 2 ^ 63 }
@@ -144,7 +144,7 @@ fn add_members<K: AsValue, V: AsValue>(
     }
 }
 
-/// Adds a closed map.
+/// Adds a closed map of an input to the reference machine's store.
 fn add_map<K: AsValue, V: AsValue>(
     alloc: Global,
     store: &mut Data,
@@ -160,7 +160,7 @@ fn add_map<K: AsValue, V: AsValue>(
     Ok(())
 }
 
-/// Adds a closed container, and then its members.
+/// Adds a closed container of an input to the reference machine's store, and then its members.
 fn add_container<K: AsValue, V: AsValue>(
     alloc: Global,
     store: &mut Data,
@@ -177,7 +177,7 @@ fn add_container<K: AsValue, V: AsValue>(
     add_values(alloc, store, members)
 }
 
-/// Returns the ids of the members by their subscripts: `first` and those after it, in order.
+/// Returns the ids of an input's members by their subscripts: `first` and those after it, in order.
 fn numbered<K: AsValue, V: AsValue>(
     alloc: Global,
     first: u64,
@@ -196,7 +196,7 @@ fn numbered<K: AsValue, V: AsValue>(
     Ok(numbers)
 }
 
-/// Adds a closed scalar for each member.
+/// Adds a closed scalar to the reference machine's store for each member of an input.
 fn add_values<K: AsValue, V: AsValue>(
     alloc: Global,
     store: &mut Data,

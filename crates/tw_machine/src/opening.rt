@@ -7,7 +7,7 @@ use crate::rejection::OpenError;
 use tw_code::{Procedure, has_fitting_inputs, has_input_count, has_main_shape};
 use tw_types::Input;
 
-/// Returns the error of an opening, apart from a failed allocation.
+/// Returns why the reference machine can't be opened with these inputs, apart from a failed allocation.
 pub fn rejection_of(program: &[Procedure], inputs: &[Input]) -> Option<OpenError>
     ensures { result ≡ rejection_of program.now inputs.now }
 {

@@ -56,8 +56,8 @@ impl Model for Plain {
 }
 
 impl Plain {
-    /// Makes a machine in which main waits, with the data of the inputs. Checks main's shape first, then the number of the
-    /// inputs, then their types. An error returns the program.
+    /// Makes the reference machine, in which main waits, with the data of the inputs. Checks main's shape first, then the number
+    /// of the inputs, then their types. An error returns the program.
     pub fn open(
         alloc: Global,
         program: Program,
@@ -85,7 +85,7 @@ impl Plain {
         }
     }
 
-    /// Makes one event. Changes nothing if it isn't enabled, it traps, or an allocation fails.
+    /// Makes one event of the reference machine. Changes nothing if it isn't enabled, it traps, or an allocation fails.
     pub fn step(&mut self, alloc: Global, event: Event) -> Result<(), Stopped>
         requires small { AreBelow (2 ^ 63) self.old.state }
         requires size { size_of event < 2 ^ 63 }
@@ -100,14 +100,14 @@ impl Plain {
             .step(alloc, self.program.procedures(), self.layout, event)
     }
 
-    /// Returns the state.
+    /// Returns the state of the reference machine.
     pub fn state(&self) -> &State
         ensures { result.now ≡ self.now.state }
     {
         &self.state
     }
 
-    /// Returns the program.
+    /// Returns the program that the reference machine executes.
     pub fn program(&self) -> &Program
         ensures is { result.now.procedures ≡ self.now.program }
         ensures version { result.now.version ≡ self.now.version }
@@ -115,14 +115,14 @@ impl Plain {
         &self.program
     }
 
-    /// Returns the actors.
+    /// Returns the actors of the reference machine.
     pub fn layout(&self) -> Layout
         ensures { result ≡ self.now.layout }
     {
         self.layout
     }
 
-    /// Returns how the run has ended, if it has.
+    /// Returns how the reference machine's run has ended, if it has.
     pub fn ending(&self) -> Option<Ending>
         ensures { result ≡ ending self.now.state }
     {

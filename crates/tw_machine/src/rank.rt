@@ -15,7 +15,7 @@ pub struct Rank {
 }
 
 impl Rank {
-    /// Returns the rank of the task of this number.
+    /// Returns the rank of the reference machine's waiting task of this number.
     pub fn of(number: u64, task: &Task) -> Rank
         ensures { result ≡ rank_of number task.now }
     {
@@ -26,7 +26,7 @@ impl Rank {
     }
 }
 
-/// Returns the kind of a task: a control task is one that an engine may take.
+/// Returns the kind of a waiting task: a control task is one that an engine may take.
 pub fn kind_of(task: &Task) -> Kind
     ensures { result ≡ task.now.kind }
 {
@@ -51,6 +51,7 @@ impl Ord for Rank {
 
     ghost matches_eq = { Prim.search (comparing, rules) };
 
+    /// Compares ranks of waiting tasks: a greater priority is less, then a lower number.
     fn cmp(&self, other: &Rank) -> Ordering {
         let by_number = self.number.cmp(&other.number);
         other.priority.cmp(&self.priority).then(by_number)
@@ -68,6 +69,7 @@ impl PartialOrd for Rank {
 
     ghost laws = { partial_order_from_own_ties (Prim.search (comparing, rules) depth 9) (Prim.search (comparing, rules) depth 9) };
 
+    /// Compares ranks of waiting tasks like `cmp`: by priority, then by number.
     fn partial_cmp(&self, other: &Rank) -> Option<Ordering> {
         Some(self.cmp(other))
     }

@@ -22,7 +22,7 @@ pub struct Ranks {
 }
 
 impl Ranks {
-    /// Makes ranks without tasks.
+    /// Makes the reference machine's ranks of waiting tasks, without any.
     pub fn new(alloc: Global) -> Ranks
         ensures { (kind : AKind) (target : Option ℕ) (rank : ARank) → has_rank result kind target rank ≡ false }
     {
@@ -32,7 +32,7 @@ impl Ranks {
         }
     }
 
-    /// Adds the rank of a task of this kind and target.
+    /// Adds the rank of a waiting task of this kind and target to the reference machine's.
     pub fn add(
         &mut self,
         alloc: Global,
@@ -49,7 +49,7 @@ impl Ranks {
         }
     }
 
-    /// Removes the rank of a task of this kind and target.
+    /// Removes the rank of a waiting task of this kind and target from the reference machine's.
     pub fn remove(&mut self, kind: Kind, target: Option<u8>, rank: Rank)
         ensures { IsMarked kind target rank false self.old self.new }
     {
@@ -59,7 +59,7 @@ impl Ranks {
         }
     }
 
-    /// Returns the first rank of the tasks that the actor may take.
+    /// Returns the first of the reference machine's ranks of the tasks that the actor may take.
     pub fn first(&self, actor: Actor) -> Option<Rank>
         ensures { IsLeast (is_offered self.now actor) result }
     {
@@ -71,6 +71,7 @@ impl Ranks {
     }
 }
 
+/// Adds the rank of a waiting task to the set of its target, which is made if there is none.
 fn add_at(
     alloc: Global,
     sets: &mut BTreeMap<Option<u8>, BTreeSet<Rank>>,
@@ -102,6 +103,7 @@ fn add_set(
     Ok(())
 }
 
+/// Makes a set with one rank of a waiting task.
 fn single(alloc: Global, rank: Rank) -> Result<BTreeSet<Rank>, AllocError>
     ensures { IfOk result (λ set. (r : ARank) → contains rank_cmp set r ≡ eq_by_cmp rank_cmp rank r) }
 {
@@ -110,6 +112,7 @@ fn single(alloc: Global, rank: Rank) -> Result<BTreeSet<Rank>, AllocError>
     Ok(set)
 }
 
+/// Removes the rank of a waiting task from the set of its target, if there is one.
 fn remove_at(sets: &mut BTreeMap<Option<u8>, BTreeSet<Rank>>, target: Option<u8>, rank: Rank)
     ensures { IsMarkedAt target rank false sets.old sets.new }
 {
@@ -119,6 +122,7 @@ fn remove_at(sets: &mut BTreeMap<Option<u8>, BTreeSet<Rank>>, target: Option<u8>
     remove_in(set, rank);
 }
 
+/// Adds the rank of a waiting task to a set of ranks.
 fn add_in(ranks: &mut BTreeSet<Rank>, rank: Rank) -> Result<(), AllocError>
     ensures added { OnOk result (IsMarkedIn rank true ranks.old ranks.new) }
     ensures refused { OnErr result (IsUnchanged ranks.old ranks.new) }
@@ -127,6 +131,7 @@ fn add_in(ranks: &mut BTreeSet<Rank>, rank: Rank) -> Result<(), AllocError>
     Ok(())
 }
 
+/// Removes the rank of a waiting task from a set of ranks.
 fn remove_in(ranks: &mut BTreeSet<Rank>, rank: Rank)
     ensures { IsMarkedIn rank false ranks.old ranks.new }
 {
@@ -145,6 +150,7 @@ fn first_for(sets: &BTreeMap<Option<u8>, BTreeSet<Rank>>, number: u8) -> Option<
     }
 }
 
+/// Returns the first rank of the waiting tasks with this target.
 fn first_at(sets: &BTreeMap<Option<u8>, BTreeSet<Rank>>, target: Option<u8>) -> Option<Rank>
     ensures { IsLeast (has_rank_at sets.now target) result }
 {
@@ -154,6 +160,7 @@ fn first_at(sets: &BTreeMap<Option<u8>, BTreeSet<Rank>>, target: Option<u8>) -> 
     }
 }
 
+/// Returns the first rank in a set of waiting tasks' ranks.
 fn first_of(set: &BTreeSet<Rank>) -> Option<Rank>
     ensures { IsLeast (contains rank_cmp set.now) result }
 {

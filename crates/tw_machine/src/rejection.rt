@@ -22,7 +22,7 @@ pub enum OpenError {
 }
 
 impl OpenError {
-    /// Returns its code without the letter O.
+    /// Returns the code of the reference machine's error of opening without the letter O.
     pub fn number(self) -> u8
         ensures { result ≡ open_error_code self }
     {
@@ -45,6 +45,7 @@ pub struct OpenRefused {
 
 /// Displays the error, without the program.
 impl fmt::Debug for OpenRefused {
+    /// Writes why the reference machine wasn't opened for `Debug`, without the program.
     fn fmt<W: fmt::Write>(&self, f: &mut fmt::Formatter<W>) -> fmt::Result {
         write!(f, "{self}")
     }

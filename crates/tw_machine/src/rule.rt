@@ -31,7 +31,7 @@ impl Model for Rule {
 }
 
 impl Rule {
-    /// Makes a rule of the engine for such a task, with every `closed` parameter unasked.
+    /// Makes a pending rule of the engine in the reference machine, with every `closed` parameter unasked.
     pub fn new(alloc: Global, engine: u8, params: &[Param], task: Task) -> Result<Rule, AllocError>
         requires { length params.now ≤ 8 }
         ensures { IfOk result (λ rule. rule ≡ new_rule engine params.now task) }
@@ -44,62 +44,63 @@ impl Rule {
         })
     }
 
-    /// Returns the number of the engine that holds it.
+    /// Returns the number of the engine that holds the reference machine's rule.
     pub fn engine(&self) -> u8
         ensures { result ≡ self.now.engine }
     {
         self.engine
     }
 
-    /// Returns the number of its task's procedure in the program.
+    /// Returns the number of the procedure of a pending rule's task in the program.
     pub fn procedure(&self) -> u8
         ensures { result ≡ self.now.procedure }
     {
         self.task.procedure()
     }
 
-    /// Returns the priority of its task.
+    /// Returns the priority of a pending rule's task.
     pub fn priority(&self) -> i64
         ensures { result ≡ self.now.priority }
     {
         self.task.priority()
     }
 
-    /// Returns the number of the one actor that may take its task, or `None` for any.
+    /// Returns the number of the one actor that may take a pending rule's task, or `None` for any.
     pub fn target(&self) -> Option<u8>
         ensures { result ≡ self.now.target }
     {
         self.task.target()
     }
 
-    /// Returns the arguments of its task.
+    /// Returns the arguments of a pending rule's task.
     pub fn args(&self) -> &[Arg]
         ensures { map arg_of result.now ≡ self.now.args }
     {
         self.task.args()
     }
 
-    /// Returns the stage of each parameter.
+    /// Returns the stage of each parameter of the reference machine's rule.
     pub fn stages(&self) -> &[Stage]
         ensures { result.now ≡ self.now.stages }
     {
         &self.stages
     }
 
-    /// Returns whether it can be released: all its parameters are settled.
+    /// Returns whether the reference machine's rule can be released: all its parameters are settled.
     pub fn is_releasable(&self) -> bool
         ensures { result ≡ is_releasable self.now }
     {
         Stage::all_settled(&self.stages)
     }
 
+    /// Returns whether the reference machine's rule has an unasked parameter.
     pub(crate) fn has_unasked(&self) -> bool
         ensures { result ≡ has_unasked self.now }
     {
         Stage::any_unasked(&self.stages)
     }
 
-    /// Returns the id of the datum of an unasked parameter.
+    /// Returns the id of the datum of an unasked parameter of the reference machine's rule.
     pub fn unasked_id(&self, parameter: u8) -> Option<DatumId>
         ensures { result ≡ unasked_id self.now parameter }
     {
@@ -112,14 +113,14 @@ impl Rule {
         }
     }
 
-    /// Changes the stage of a parameter.
+    /// Changes the stage of a parameter of the reference machine's rule.
     pub(crate) fn set_stage(&mut self, parameter: u8, stage: Stage)
         ensures { self.new ≡ at_stage self.old parameter stage }
     {
         set_in(&mut self.stages, parameter, stage);
     }
 
-    /// Returns the task that it becomes, if its procedure is of this kind.
+    /// Returns the task that a released rule of the reference machine becomes, if its procedure is of this kind.
     pub fn task(&self, alloc: Global, kind: Kind) -> Result<Task, AllocError>
         ensures { IfOk result (λ task. task ≡ task_from kind self.now) }
     {
@@ -127,7 +128,7 @@ impl Rule {
     }
 }
 
-/// Returns the id of the datum on which an argument is a right.
+/// Returns the id of the datum on which an argument of a rule's task is a right.
 fn id_in(arg: &Arg) -> Option<DatumId>
     ensures { result ≡ id_in (arg_of arg.now) }
 {
@@ -137,6 +138,7 @@ fn id_in(arg: &Arg) -> Option<DatumId>
     }
 }
 
+/// Returns the stage of each parameter in a new rule of the reference machine.
 fn first_stages(alloc: Global, params: &[Param]) -> Result<Vec<Stage>, AllocError>
     ensures { IfOk result (λ stages. stages.items ≡ map (λ p. first_stage p.mode) params.now) }
 {
@@ -146,6 +148,7 @@ fn first_stages(alloc: Global, params: &[Param]) -> Result<Vec<Stage>, AllocErro
         .collect(alloc)
 }
 
+/// Sets the stage of a parameter among those of the reference machine's rule, if there is one of this number.
 fn set_in(stages: &mut Vec<Stage>, parameter: u8, stage: Stage)
     ensures { stages.new.items ≡ slice_set stages.old.items parameter stage }
 {

@@ -40,7 +40,7 @@ impl Model for Rules {
 }
 
 impl Rules {
-    /// Makes a table without rules; the first will be rule 1.
+    /// Makes the reference machine's table without rules; the first will be rule 1.
     pub fn new(alloc: Global) -> Rules
         ensures { result ≡ record { pending = empty; next = 1 } }
     {
@@ -50,28 +50,28 @@ impl Rules {
         }
     }
 
-    /// Returns the pending rules, by their numbers.
+    /// Returns the reference machine's pending rules, by their numbers.
     pub fn pending(&self) -> &BTreeMap<u64, Rule>
         ensures { rules_of result.now.entries ≡ self.now.pending }
     {
         &self.pending
     }
 
-    /// Returns the number of pending rules.
+    /// Returns the number of pending rules of the reference machine.
     pub fn len(&self) -> u64
         ensures { result ≡ len self.now.pending }
     {
         self.pending.len() as u64
     }
 
-    /// Returns the pending rule of this number.
+    /// Returns the reference machine's pending rule of this number.
     pub fn get(&self, number: RuleNo) -> Option<&Rule>
         ensures { option_copied result ≡ get self.now.pending number }
     {
         self.pending.get(&number.number())
     }
 
-    /// Adds a rule with the next number.
+    /// Adds a rule to the reference machine's table, with the next number.
     pub fn add(&mut self, rule: Rule) -> Result<(), AllocError>
         requires { self.old.next < 2 ^ 63 }
         ensures added { OnOk result (self.new ≡ rule_made self.old rule) }
@@ -82,14 +82,14 @@ impl Rules {
         Ok(())
     }
 
-    /// Removes a rule.
+    /// Removes a rule from the reference machine's table.
     pub fn remove(&mut self, number: RuleNo)
         ensures { self.new ≡ rule_released self.old number }
     {
         let _released = self.pending.remove(&number.number());
     }
 
-    /// Changes the stage of a rule's parameter, if the rule is pending.
+    /// Changes the stage of a rule's parameter in the reference machine's table, if the rule is pending.
     pub fn set_stage(&mut self, number: RuleNo, parameter: u8, stage: Stage)
         ensures { self.new ≡ staged self.old number parameter stage }
     {
@@ -99,7 +99,7 @@ impl Rules {
         rule.set_stage(parameter, stage);
     }
 
-    /// Returns whether no rule has an unasked parameter, and none can be released.
+    /// Returns whether none of the reference machine's rules has an unasked parameter or can be released.
     pub fn are_idle(&self) -> bool
         ensures { result ≡ (not (list_any has_unasked (values self.now.pending)) && not (list_any is_releasable (values self.now.pending))) }
     {
@@ -109,13 +109,14 @@ impl Rules {
     }
 }
 
+/// Returns whether none of two conditions holds: unasked parameters, and rules that can be released.
 fn neither(first: bool, second: bool) -> bool
     ensures { result ≡ (not first && not second) }
 {
     !first && !second
 }
 
-/// Returns whether any of the rules has an unasked parameter.
+/// Returns whether any of the reference machine's pending rules has an unasked parameter.
 fn has_unasked(rules: &BTreeMap<u64, Rule>) -> bool
     ensures is { result ≡ list_any has_unasked (map (λ e. e.1) rules.now.entries) }
     ensures sorted { IsStrictlySortedBy nat_cmp (keys_of rules.now.entries) }
@@ -128,7 +129,7 @@ fn has_unasked(rules: &BTreeMap<u64, Rule>) -> bool
     false
 }
 
-/// Returns whether any of the rules can be released.
+/// Returns whether any of the reference machine's pending rules can be released.
 fn has_releasable(rules: &BTreeMap<u64, Rule>) -> bool
     ensures { result ≡ list_any is_releasable (map (λ e. e.1) rules.now.entries) }
 {

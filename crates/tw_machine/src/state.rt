@@ -75,7 +75,7 @@ impl Model for State {
 }
 
 impl State {
-    /// Makes the state in which main waits, with the data of its parameters.
+    /// Makes the reference machine's state in which main waits, with the data of its parameters.
     pub(crate) fn open(
         alloc: Global,
         params: &[Param],
@@ -105,56 +105,56 @@ impl State {
         })
     }
 
-    /// Returns the data of main's `write` parameters, in their order.
+    /// Returns the ids of the outputs of the reference machine, in the order of main's `write` parameters.
     pub fn outputs(&self) -> &[DatumId]
         ensures { result.now ≡ self.now.outputs }
     {
         &self.outputs
     }
 
-    /// Returns the datum of an id, if it is live.
+    /// Returns the datum of an id in the reference machine's state, if it is live.
     pub fn datum(&self, id: DatumId) -> Option<&Datum>
         ensures { option_map (λ d. d.datum) (option_copied result) ≡ get self.now.store.live id }
     {
         self.tables.store.datum(id)
     }
 
-    /// Returns the task that an actor runs, if it runs one.
+    /// Returns the frame of the task that an actor of the reference machine runs, if it runs one.
     pub fn frame(&self, actor: Actor) -> Option<&Frame>
         ensures { option_copied result ≡ get self.now.frames actor }
     {
         self.frames.get(&actor)
     }
 
-    /// Returns the running tasks, by their actors.
+    /// Returns the frames of the running tasks, by their actors.
     pub fn frames(&self) -> &BTreeMap<Actor, Frame>
         ensures { frames_of result.now.entries ≡ self.now.frames }
     {
         &self.frames
     }
 
-    /// Returns the pending rules, by their numbers.
+    /// Returns the pending rules of the reference machine's state, by their numbers.
     pub fn rules(&self) -> &BTreeMap<u64, Rule>
         ensures { rules_of result.now.entries ≡ self.now.rules }
     {
         self.tables.rules.pending()
     }
 
-    /// Returns the waiting tasks, by their numbers.
+    /// Returns the waiting tasks of the reference machine's state, by their numbers.
     pub fn tasks(&self) -> &BTreeMap<u64, Task>
         ensures { tasks_of result.now.entries ≡ self.now.tasks }
     {
         self.tables.tasks.waiting()
     }
 
-    /// Returns the notices that wait, in their order.
+    /// Returns the notices that wait in the reference machine's state, in their order.
     pub fn notices(&self) -> &BTreeSet<NoticeKey>
         ensures { from_list result.now.keys ≡ self.now.notices }
     {
         self.tables.notices.keys()
     }
 
-    /// Returns whether no task runs or waits, no notice has to be delivered, and the rules are idle.
+    /// Returns whether in this state no task runs or waits, no notice has to be delivered, and the rules are idle.
     fn is_quiet(&self) -> bool
         ensures { result ≡ is_quiet self.now }
     {
@@ -165,7 +165,7 @@ impl State {
         no_frame & no_task & no_notice & are_idle
     }
 
-    /// Returns how the run has ended, if it has.
+    /// Returns how the run has ended in the reference machine's state, if it has.
     pub fn ending(&self) -> Option<Ending>
         ensures { result ≡ ending self.now }
     {
@@ -180,7 +180,7 @@ impl State {
         }
     }
 
-    /// Makes one event. Changes nothing if it isn't enabled, it traps, or an allocation fails.
+    /// Makes one event in the reference machine's state. Changes nothing if it isn't enabled, it traps, or an allocation fails.
     #[rattlefmt::skip]
     pub(crate) fn step(
         &mut self,

@@ -42,7 +42,7 @@ impl Model for Tasks {
 }
 
 impl Tasks {
-    /// Makes a table without tasks; the first will be task 1.
+    /// Makes the reference machine's table without waiting tasks; the first will be task 1.
     pub fn new(alloc: Global) -> Tasks
         ensures { result ≡ record { waiting = empty; next = 1 } }
     {
@@ -53,21 +53,21 @@ impl Tasks {
         }
     }
 
-    /// Returns the queued tasks, by their numbers.
+    /// Returns the reference machine's waiting tasks, by their numbers.
     pub fn waiting(&self) -> &BTreeMap<u64, Task>
         ensures { tasks_of result.now.entries ≡ self.now.waiting }
     {
         &self.waiting
     }
 
-    /// Returns whether no task is queued.
+    /// Returns whether no task waits in the reference machine's table.
     pub fn is_empty(&self) -> bool
         ensures { result ≡ (len self.now.waiting == 0) }
     {
         self.waiting.is_empty()
     }
 
-    /// Adds a task with the next number.
+    /// Adds a waiting task to the reference machine's table, with the next number.
     pub fn put(&mut self, alloc: Global, task: Task) -> Result<(), AllocError>
         requires { self.old.next < 2 ^ 63 }
         ensures put { OnOk result (self.new ≡ task_put self.old task) }
@@ -85,7 +85,7 @@ impl Tasks {
         Ok(())
     }
 
-    /// Removes a task.
+    /// Removes a waiting task from the reference machine's table.
     pub fn remove(&mut self, number: u64)
         ensures { self.new ≡ task_taken self.old number }
     {
@@ -96,8 +96,8 @@ impl Tasks {
         self.ranks.remove(kind_of(&task), task.target(), rank);
     }
 
-    /// Returns the task that the actor takes, with its number: among those that it may take, the one with the greatest priority,
-    /// and among several of these the one with the least number.
+    /// Returns the reference machine's task that the actor takes, with its number: among those that it may take, the one with the
+    /// greatest priority, and among several of these the one with the least number.
     pub fn best(&self, actor: Actor) -> Option<(u64, &Task)>
         ensures { option_map (λ e. (e.0, e.1.now)) result ≡ best actor self.now.waiting }
     {

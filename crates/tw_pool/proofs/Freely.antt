@@ -35,9 +35,9 @@ use Rattle.tw_soundness.proofs.Asked.{Noted, noted}
 use Rattle.tw_soundness.proofs.Safe.{reached_is_held}
 use Rattle.tw_verify.specs.Typed.{TypedProgram, typings_of}
 use Rattle.tw_frame.specs.Jobs.{FrameView, JobView, bare_frame, job_of}
-use Rattle.tw_pool_state.specs.Events.{Goes, IsTaken, IsTried, Makes, Untouched}
+use Rattle.tw_pool_state.specs.Events.{Succeeds, IsTaken, IsTried, Makes, Untouched}
 use Rattle.tw_pool_state.specs.Fits.{FrameFits}
-use Rattle.tw_pool_state.specs.Memory.{AsksOpen, EventTakes, TakesTexts}
+use Rattle.tw_pool_state.specs.Memory.{IsAskOfOpen, EventTakes, TakesTexts}
 use Rattle.tw_pool_state.specs.Notes.{is_among, queue_at}
 use Rattle.tw_pool_state.specs.Parts.{state_of}
 use Rattle.tw_pool_state.specs.declared.parts.Parts.{Parts}
@@ -45,12 +45,12 @@ use Rattle.tw_pool.specs.declared.answer.Turn.{Turn}
 use Rattle.tw_pool.specs.declared.answer.Turn.TheVariants.{Idle, NoMemory, Run, Went as Made}
 use Rattle.tw_pool.specs.Actors.{events_of}
 use Rattle.tw_pool.specs.History.{HistoryView}
-use Rattle.tw_pool.specs.Kept.{AsksNone, IsFree, IsKept, MayTakeNow, ReleasesNone}
+use Rattle.tw_pool.specs.Kept.{HasNoAsk, IsFree, IsKept, MayTakeNow, HasNoRelease}
 use Rattle.tw_pool.specs.PoolView.{PoolView, HasState, oldest_notice, with_events}
-use Rattle.tw_pool.specs.Turns.{GoesFree, IsTurnBy, Lends, Line, TakesMemory, lent_to}
+use Rattle.tw_pool.specs.Turns.{TurnsFree, IsTurnBy, Issues, Line, TakesMemory, issued_to}
 use Rattle.tw_pool.specs.Words.{FitsWord}
 use Rattle.tw_pool.proofs.Fitting.{few_parameters, low_datum, small_numbers}
-use Rattle.tw_pool.proofs.Keeping.{ask_frames, deliver_frames, made_free, made_lent, no_task, own_count, release_frames, still}
+use Rattle.tw_pool.proofs.Keeping.{ask_frames, deliver_frames, made_free, made_issued, no_task, own_count, release_frames, still}
 
 -- as what a pool is seen
 abbrev pub viewed : TypedProgram → List Input → ActorCounts → Bool → HistoryView → PoolView
@@ -129,7 +129,7 @@ module _ (verified : TypedProgram) (inputs : List Input) (layout : ActorCounts) 
     low_here : server < layout.servers
     low_here = subst (λ (x : PoolView). server < x.layout.servers) (sym seen) low
 
-    pub deliver_idle : queue_at old.store.queues server ≡ [] → GoesFree w state (Server server) Idle []
+    pub deliver_idle : queue_at old.store.queues server ≡ [] → TurnsFree w state (Server server) Idle []
     deliver_idle empty = inr ((λ due d. none_there d.notice (sym (h.parts.queued.all d.notice) ∙ d.waits) (own d.notice d.own)), (refl, refl))
       where
         own : (n : Notice) → server_of w.layout.servers n.datum ≡ server → server_of (length old.store.queues) n.datum ≡ server
@@ -139,7 +139,7 @@ module _ (verified : TypedProgram) (inputs : List Input) (layout : ActorCounts) 
         none_there n has at = let no : false ≡ true = sym (ap (λ q. is_among n q) (ap (queue_at old.store.queues) at ∙ empty)) ∙ has in cc
 
     module _ (n : Notice) (new : Parts) (makes : Makes verified layout (Deliver server n.datum n.rule n.parameter) old new) where
-      goes : Goes verified layout (Deliver server n.datum n.rule n.parameter) old h.notices new
+      goes : Succeeds verified layout (Deliver server n.datum n.rule n.parameter) old h.notices new
       goes = makes h.notices h.parts
 
       waits : (set.contains state.notices n ≡ true) × (server_of layout.servers n.datum ≡ server)
@@ -161,7 +161,7 @@ module _ (verified : TypedProgram) (inputs : List Input) (layout : ActorCounts) 
       deliver_kept = made_free verified inputs layout traced.limit traced.events old h (Deliver server n.datum n.rule n.parameter) new goes (room_here room) (free_here (Server server) free)
           (deliver_frames verified.program layout state (state_of new goes.left) server n goes.step_is)
 
-      pub deliver_line : slice_get (queue_at old.store.queues server) 0 ≡ Some n → GoesFree w state (Server server) Made (Deliver server n.datum n.rule n.parameter ∷ [])
+      pub deliver_line : slice_get (queue_at old.store.queues server) 0 ≡ Some n → TurnsFree w state (Server server) Made (Deliver server n.datum n.rule n.parameter ∷ [])
       deliver_line oldest = inl (
         Deliver server n.datum n.rule n.parameter,
         record { notice = n; waits = waits.0; own = ap (λ (x : PoolView). server_of x.layout.servers n.datum) (sym seen) ∙ waits.1; is = refl },
@@ -178,10 +178,10 @@ module _ (verified : TypedProgram) (inputs : List Input) (layout : ActorCounts) 
     pub slot_free : get old.running_tasks.tasks (Engine engine) ≡ None
     slot_free = no_task old h.notices (Engine engine) (free_here (Engine engine) free)
 
-    pub asks_none : next_ask engine old.rules.rules ≡ None → AsksNone w engine
+    pub asks_none : next_ask engine old.rules.rules ≡ None → HasNoAsk w engine
     asks_none e s at = ap (λ (t : State). next_ask engine t.rules) (same_went s state (sym at ∙ has_state)) ∙ next_ask_mapped bare_arg engine old.rules.rules ∙ e
 
-    pub releases_none : next_release engine old.rules.rules ≡ None → ReleasesNone w engine
+    pub releases_none : next_release engine old.rules.rules ≡ None → HasNoRelease w engine
     releases_none e s at = ap (λ (t : State). next_release engine t.rules) (same_went s state (sym at ∙ has_state)) ∙ next_release_mapped bare_arg engine old.rules.rules ∙ e
 
     pub next_task_small : old.next_task < 2 ^ 63
@@ -196,11 +196,11 @@ module _ (verified : TypedProgram) (inputs : List Input) (layout : ActorCounts) 
       ask_due : IsDueFree w.layout (Engine engine) state (Ask engine rule parameter)
       ask_due = ap (λ o. first_of engine o (next_release engine state.rules) (best (Engine engine) state.tasks)) asked
 
-      ask_refused : AsksOpen state rule parameter → GoesFree w state (Engine engine) (NoMemory None) []
+      ask_refused : IsAskOfOpen state rule parameter → TurnsFree w state (Engine engine) (NoMemory None) []
       ask_refused takes = inl (Ask engine rule parameter, ask_due, tt, inr (wanted (Ask engine rule parameter) takes, (refl, refl)))
 
       module _ (new : Parts) (makes : Makes verified layout (Ask engine rule parameter) old new) where
-        ask_goes : Goes verified layout (Ask engine rule parameter) old h.notices new
+        ask_goes : Succeeds verified layout (Ask engine rule parameter) old h.notices new
         ask_goes = makes h.notices h.parts
 
         pub ask_fits : FitsWord (Ask engine rule parameter)
@@ -216,29 +216,29 @@ module _ (verified : TypedProgram) (inputs : List Input) (layout : ActorCounts) 
         ask_kept = made_free verified inputs layout traced.limit traced.events old h (Ask engine rule parameter) new ask_goes (room_here room) (free_here (Engine engine) free)
             (ask_frames verified.program layout state (state_of new ask_goes.left) engine rule parameter ask_goes.step_is)
 
-        pub ask_line : GoesFree w state (Engine engine) Made (Ask engine rule parameter ∷ [])
+        pub ask_line : TurnsFree w state (Engine engine) Made (Ask engine rule parameter ∷ [])
         ask_line = inl (Ask engine rule parameter, ask_due, tt, inl (refl, refl))
 
-    pub ask_refused_for : IsSome (next_ask engine old.rules.rules) → ((q : ℕ × ℕ) (ns : Notices) → next_ask engine old.rules.rules ≡ Some q → AsksOpen (state_of old ns) q.0 q.1)
-        → GoesFree w state (Engine engine) (NoMemory None) []
+    pub ask_refused_for : IsSome (next_ask engine old.rules.rules) → ((q : ℕ × ℕ) (ns : Notices) → next_ask engine old.rules.rules ≡ Some q → IsAskOfOpen (state_of old ns) q.0 q.1)
+        → TurnsFree w state (Engine engine) (NoMemory None) []
     ask_refused_for some takes = by (next_ask engine old.rules.rules) refl some
       where
-        by : (o : Option (ℕ × ℕ)) → next_ask engine old.rules.rules ≡ o → IsSome o → GoesFree w state (Engine engine) (NoMemory None) []
+        by : (o : Option (ℕ × ℕ)) → next_ask engine old.rules.rules ≡ o → IsSome o → TurnsFree w state (Engine engine) (NoMemory None) []
         by None e is = cc
         by (Some q) e is = ask_refused q.0 q.1 e (takes q h.notices e)
 
-    module _ (none : AsksNone w engine) (rule : ℕ) (due : next_release engine old.rules.rules ≡ Some rule) where
+    module _ (none : HasNoAsk w engine) (rule : ℕ) (due : next_release engine old.rules.rules ≡ Some rule) where
       released : next_release engine state.rules ≡ Some rule
       released = next_release_mapped bare_arg engine old.rules.rules ∙ due
 
       release_due : IsDueFree w.layout (Engine engine) state (Release engine rule)
       release_due = ap (λ o. first_of engine o (next_release engine state.rules) (best (Engine engine) state.tasks)) (none state has_state) ∙ ap (λ o. first_of engine None o (best (Engine engine) state.tasks)) released
 
-      release_refused : GoesFree w state (Engine engine) (NoMemory None) []
+      release_refused : TurnsFree w state (Engine engine) (NoMemory None) []
       release_refused = inl (Release engine rule, release_due, tt, inr (wanted (Release engine rule) tt, (refl, refl)))
 
       module _ (new : Parts) (makes : Makes verified layout (Release engine rule) old new) where
-        release_goes : Goes verified layout (Release engine rule) old h.notices new
+        release_goes : Succeeds verified layout (Release engine rule) old h.notices new
         release_goes = makes h.notices h.parts
 
         pub release_fits : FitsWord (Release engine rule)
@@ -253,13 +253,13 @@ module _ (verified : TypedProgram) (inputs : List Input) (layout : ActorCounts) 
         release_kept = made_free verified inputs layout traced.limit traced.events old h (Release engine rule) new release_goes (room_here room) (free_here (Engine engine) free)
             (release_frames verified.program layout state (state_of new release_goes.left) engine rule release_goes.step_is)
 
-        pub release_line : GoesFree w state (Engine engine) Made (Release engine rule ∷ [])
+        pub release_line : TurnsFree w state (Engine engine) Made (Release engine rule ∷ [])
         release_line = inl (Release engine rule, release_due, tt, inl (refl, refl))
 
-    pub release_refused_for : AsksNone w engine → IsSome (next_release engine old.rules.rules) → GoesFree w state (Engine engine) (NoMemory None) []
+    pub release_refused_for : HasNoAsk w engine → IsSome (next_release engine old.rules.rules) → TurnsFree w state (Engine engine) (NoMemory None) []
     release_refused_for none some = by (next_release engine old.rules.rules) refl some
       where
-        by : (o : Option ℕ) → next_release engine old.rules.rules ≡ o → IsSome o → GoesFree w state (Engine engine) (NoMemory None) []
+        by : (o : Option ℕ) → next_release engine old.rules.rules ≡ o → IsSome o → TurnsFree w state (Engine engine) (NoMemory None) []
         by None e is = cc
         by (Some rule) e is = release_refused none rule e
 
@@ -277,15 +277,15 @@ module _ (verified : TypedProgram) (inputs : List Input) (layout : ActorCounts) 
     fits : FrameFits verified new.store.places actor f
     fits = kept.parts.rights_fit.frames actor f is_running
 
-    is_lent : lent_to (with_events w es) after actor ≡ Some (job_of f)
-    is_lent =
+    is_issued : issued_to (with_events w es) after actor ≡ Some (job_of f)
+    is_issued =
         let runs : get after.frames actor ≡ Some (bare_frame f) = get_mapped bare_frame new.running_tasks.tasks actor ∙ ap (option_map bare_frame) is_running in
-        subst (λ (x : PoolView). lent_to (with_events x es) after actor ≡ Some (job_of f)) seen
+        subst (λ (x : PoolView). issued_to (with_events x es) after actor ≡ Some (job_of f)) seen
         (ap (option_map (λ (g : Frame). record { program = verified; task = g.task; procedure = g.procedure; actor = actor; event_no = length (events_of actor (traced.events ++ es)); position = g.position })) runs
         ∙ ap Some (λ i. record { program = sym fits.program i; task = f.task; procedure = f.procedure; actor = sym fits.own i; event_no = sym by_number i; position = f.position }))
 
-    pub lends : Lends w actor es (Run (job_of f)) es
-    lends = (after, after_here, job_of f, is_lent, (refl, refl))
+    pub lends : Issues w actor es (Run (job_of f)) es
+    lends = (after, after_here, job_of f, is_issued, (refl, refl))
 
   -- ---- a task is taken
 
@@ -313,10 +313,10 @@ module _ (verified : TypedProgram) (inputs : List Input) (layout : ActorCounts) 
     best_is : best actor state.tasks ≡ option_map (entry_by bare_task) (best actor old.tasks.tasks)
     best_is = best_mapped bare_arg actor old.tasks.tasks
 
-    pub take_idle : best actor old.tasks.tasks ≡ None → GoesFree w state actor Idle []
+    pub take_idle : best actor old.tasks.tasks ≡ None → TurnsFree w state actor Idle []
     take_idle none = inr ((λ due d. let no : None ≡ Some due = due_is actor first None (best_is ∙ ap (option_map (entry_by bare_task)) none) due d in cc), (refl, refl))
 
-    pub take_refused : TakesTexts verified.program (best actor old.tasks.tasks) → GoesFree w state actor (NoMemory None) []
+    pub take_refused : TakesTexts verified.program (best actor old.tasks.tasks) → TurnsFree w state actor (NoMemory None) []
     take_refused takes =
         let is : best actor state.tasks ≡ Some (entry_by bare_task takes.e) = best_is ∙ ap (option_map (entry_by bare_task)) takes.is in
         inl (
@@ -328,15 +328,15 @@ module _ (verified : TypedProgram) (inputs : List Input) (layout : ActorCounts) 
 
     module _ (t : ℕ × TaskOf Arg) (is : best actor old.tasks.tasks ≡ Some t) (new : Parts) (makes : Makes verified layout (Take actor) old new) (f : FrameView) (is_running : get new.running_tasks.tasks actor ≡ Some f)
         (number : f.event_no ≡ length (events_of actor traced.events) + 1) where
-      take_goes : Goes verified layout (Take actor) old h.notices new
+      take_goes : Succeeds verified layout (Take actor) old h.notices new
       take_goes = makes h.notices h.parts
 
       by_number : f.event_no ≡ length (events_of actor (traced.events ++ Take actor ∷ []))
       by_number = number ∙ sym (own_count actor traced.events (Take actor) refl)
 
       pub take_kept : IsKept verified inputs layout traced.limit (traced.events ++ Take actor ∷ []) new
-      take_kept = made_lent verified inputs layout traced.limit traced.events old h (Take actor) new take_goes (room_here room)
+      take_kept = made_issued verified inputs layout traced.limit traced.events old h (Take actor) new take_goes (room_here room)
           (λ g at. ap (λ (x : FrameView). x.event_no) (same_Some g f (sym at ∙ is_running)) ∙ by_number)
 
-      pub take_line : GoesFree w state actor (Run (job_of f)) (Take actor ∷ [])
+      pub take_line : TurnsFree w state actor (Run (job_of f)) (Take actor ∷ [])
       take_line = inl (Take actor, is_due actor first (entry_by bare_task t) (best_is ∙ ap (option_map (entry_by bare_task)) is), tt, inl (lends actor (Take actor ∷ []) new take_kept f is_running by_number))

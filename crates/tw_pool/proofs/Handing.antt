@@ -35,22 +35,22 @@ use Rattle.tw_soundness.proofs.Safe.{opened_held}
 use Rattle.tw_verify.specs.Typed.{TypedProgram, typings_of}
 use Rattle.tw_store.specs.Served.{Served}
 use Rattle.tw_frame.specs.Jobs.{DoneView, FrameView, JobView, bare_frame, job_of}
-use Rattle.tw_pool_state.specs.Coming.{come, lent_as}
-use Rattle.tw_pool_state.specs.Events.{Goes, IsLent, IsOwed, IsSmall, Makes, MakesAfter, IsAtInstr, with_done}
+use Rattle.tw_pool_state.specs.Coming.{frame_after, issued_as}
+use Rattle.tw_pool_state.specs.Events.{Succeeds, IsIssued, IsOwed, IsSmall, Makes, MakesAfter, IsAtInstr, with_done}
 use Rattle.tw_pool_state.specs.Fits.{AreParts}
 use Rattle.tw_pool_state.specs.Memory.{CallTakes, EventTakes, InstrTakes, IsAtAllocating}
 use Rattle.tw_pool_state.specs.Parts.{state_of}
 use Rattle.tw_pool_state.specs.Queued.{no_notices, queues_after, queues_along}
 use Rattle.tw_pool_state.specs.declared.parts.Parts.{Parts}
-use Rattle.tw_pool_state.proofs.Goings.{lent_parts, lent_state}
+use Rattle.tw_pool_state.proofs.Goings.{issued_parts, issued_state}
 use Rattle.tw_pool.specs.declared.answer.Closing.TheVariants.{Limit}
 use Rattle.tw_pool.specs.declared.answer.Turn.{Turn}
 use Rattle.tw_pool.specs.declared.answer.Turn.TheVariants.{Over, Run}
 use Rattle.tw_pool.specs.Actors.{HasPlace, events_of, same_actor}
 use Rattle.tw_pool.specs.History.{HistoryView}
-use Rattle.tw_pool.specs.Kept.{AreLent, IsKept, IsOwedBy}
+use Rattle.tw_pool.specs.Kept.{AreIssued, IsKept, IsOwedBy}
 use Rattle.tw_pool.specs.PoolView.{HasState, PoolView, with_events}
-use Rattle.tw_pool.specs.Turns.{Answers, IsTurnBy, Lends, Line, OrNoMemory, TakesMemory, is_last, instr_after, lent_to, steps_of}
+use Rattle.tw_pool.specs.Turns.{Answers, IsTurnBy, Issues, Line, OrNoMemory, TakesMemory, is_last, instr_after, issued_to, steps_of}
 use Rattle.tw_pool.specs.Words.{FitsWord}
 use Rattle.tw_pool.proofs.Queueing.{queues_more}
 use Rattle.tw_pool.proofs.Counting.{AreBy, has_place, itself, others_same, the_same}
@@ -94,7 +94,7 @@ pub record AreAt (verified : TypedProgram) (inputs : List Input) (layout : Actor
   pub parts : AreParts verified layout p notices
   pub queues : p.store.queues ≡ queues_along verified.program layout history (opening verified.program inputs) (no_notices layout)
 
-then_at : (verified : TypedProgram) (inputs : List Input) (layout : ActorCounts) (history : List Event) (p new : Parts) (at : AreAt verified inputs layout history p) (e : Event) → Goes verified layout e p at.notices new
+then_at : (verified : TypedProgram) (inputs : List Input) (layout : ActorCounts) (history : List Event) (p new : Parts) (at : AreAt verified inputs layout history p) (e : Event) → Succeeds verified layout e p at.notices new
     → AreAt verified inputs layout (history ++ e ∷ []) new
 then_at verified inputs layout history p new at e goes = record {
   notices = goes.left;
@@ -126,8 +126,8 @@ module _ (verified : TypedProgram) (inputs : List Input) (layout : ActorCounts) 
     pub own : done.before ≡ job_of f
     pub program : done.before.program ≡ verified
 
-  lent_now : lent_to (viewed verified inputs layout stopped traced) here actor ≡ Some done.before
-  lent_now = subst (λ (x : PoolView). lent_to x here actor ≡ Some done.before) (sym seen) (owed here (has_state verified inputs layout stopped traced old h w seen))
+  issued_now : issued_to (viewed verified inputs layout stopped traced) here actor ≡ Some done.before
+  issued_now = subst (λ (x : PoolView). issued_to x here actor ≡ Some done.before) (sym seen) (owed here (has_state verified inputs layout stopped traced old h w seen))
 
   pub its : (f : FrameView) × IsIts f
   its = by (get old.running_tasks.tasks actor) refl
@@ -137,9 +137,9 @@ module _ (verified : TypedProgram) (inputs : List Input) (layout : ActorCounts) 
 
       by : (o : Option FrameView) → get old.running_tasks.tasks actor ≡ o → (f : FrameView) × IsIts f
       by None e =
-          let none : None ≡ Some done.before = sym (ap (option_map job_by) (get_mapped bare_frame old.running_tasks.tasks actor ∙ ap (option_map bare_frame) e)) ∙ lent_now in cc
+          let none : None ≡ Some done.before = sym (ap (option_map job_by) (get_mapped bare_frame old.running_tasks.tasks actor ∙ ap (option_map bare_frame) e)) ∙ issued_now in cc
       by (Some f) e =
-          let same : job_by (bare_frame f) ≡ done.before = same_Some _ _ (sym (ap (option_map job_by) (get_mapped bare_frame old.running_tasks.tasks actor ∙ ap (option_map bare_frame) e)) ∙ lent_now) in
+          let same : job_by (bare_frame f) ≡ done.before = same_Some _ _ (sym (ap (option_map job_by) (get_mapped bare_frame old.running_tasks.tasks actor ∙ ap (option_map bare_frame) e)) ∙ issued_now) in
           let fits = h.parts.rights_fit.frames actor f e in
           let number = h.lent actor f e in
           let job_is : job_by (bare_frame f) ≡ job_of f = λ i. record { program = sym fits.program i; task = f.task; procedure = f.procedure; actor = sym fits.own i; event_no = sym number i; position = f.position } in
@@ -246,17 +246,17 @@ module _ (verified : TypedProgram) (inputs : List Input) (layout : ActorCounts) 
 
   -- if the instruction there may allocate
   pub wanted : (o : Option Event) → HasCome o → (i : Instr) → instr_after w.program.program done ≡ Some i
-      → ((f : FrameView) → IsOwed old actor f done → CallTakes i old.store (come f done)) → TakesMemory w (steps_of actor done) (Call actor)
+      → ((f : FrameView) → IsOwed old actor f done → CallTakes i old.store (frame_after f done)) → TakesMemory w (steps_of actor done) (Call actor)
   wanted o c i e takes =
       let at : AreAt verified inputs layout (traced.events ++ steps_of actor done) came = subst (λ es. AreAt verified inputs layout (traced.events ++ es) came) c.is c.at in
-      let here_is : instr_here verified.program (bare_frame (come its.0 done)) ≡ Some i =
+      let here_is : instr_here verified.program (bare_frame (frame_after its.0 done)) ≡ Some i =
       ap (λ (j : JobView). option_and_then (λ (p : Procedure). slice_get p.code done.after.place) (slice_get verified.program j.procedure)) (sym its.1.own) ∙ subst (λ (x : PoolView). instr_after x.program.program done ≡ Some i) (sym seen) e in
       let fits_place : IsAtAllocating verified.program (state_of came at.notices) actor = record {
-        frame = bare_frame (come its.0 done);
-        runs = get_mapped bare_frame came.running_tasks.tasks actor ∙ ap (option_map bare_frame) (get_own (come its.0 done) old.running_tasks.tasks actor);
+        frame = bare_frame (frame_after its.0 done);
+        runs = get_mapped bare_frame came.running_tasks.tasks actor ∙ ap (option_map bare_frame) (get_own (frame_after its.0 done) old.running_tasks.tasks actor);
         here = i;
         is = here_is;
-        takes = takes_some i old.store (come its.0 done) (takes its.0 owed_now);
+        takes = takes_some i old.store (frame_after its.0 done) (takes its.0 owed_now);
       } in
       record {
         state = state_of came at.notices;
@@ -278,7 +278,7 @@ module _ (verified : TypedProgram) (inputs : List Input) (layout : ActorCounts) 
   -- ---- with one more event after them
 
   module _ (e : Event) (is_own : actor_of e ≡ actor) (o : Option Event) (c : HasCome o) (new : Parts) (makes : MakesAfter e old actor done new) where
-    goes : Goes verified layout e came c.at.notices new
+    goes : Succeeds verified layout e came c.at.notices new
     goes = subst (λ (v : TypedProgram). Makes v layout e came new) its.1.program (makes layout its.0 owed_now) c.at.notices c.at.parts
 
     both_are : (traced.events ++ option_to_list o) ++ e ∷ [] ≡ traced.events ++ (steps_of actor done ++ e ∷ [])
@@ -291,7 +291,7 @@ module _ (verified : TypedProgram) (inputs : List Input) (layout : ActorCounts) 
     at_two = subst (λ es. AreAt verified inputs layout es new) both_are (then_at verified inputs layout (traced.events ++ option_to_list o) came new c.at e goes)
 
     pub others_two : (a : Actor) → a ≢ actor → get new.running_tasks.tasks a ≡ get old.running_tasks.tasks a
-    others_two a h = goes.others a (λ is. h (is ∙ is_own)) ∙ get_other (come its.0 done) old.running_tasks.tasks actor a h
+    others_two a h = goes.others a (λ is. h (is ∙ is_own)) ∙ get_other (frame_after its.0 done) old.running_tasks.tasks actor a h
 
     pub within_two : length (traced.events ++ option_to_list o) < traced.limit → length (traced.events ++ (steps_of actor done ++ e ∷ [])) ≤ traced.limit
     within_two less = let long = ap (λ es. length es) (sym both_are) ∙ length-append (traced.events ++ option_to_list o) (e ∷ []) in omega (arith, long, less)
@@ -310,14 +310,14 @@ module _ (verified : TypedProgram) (inputs : List Input) (layout : ActorCounts) 
     replays = (at_two (End actor) refl o c new makes).replays;
     parts = (at_two (End actor) refl o c new makes).parts;
     queues = (at_two (End actor) refl o c new makes).queues;
-    lent = lent_others;
+    lent = issued_others;
   }
     where
       gone : get new.running_tasks.tasks actor ≡ None
       gone = no_task new (goes (End actor) refl o c new makes).left actor (end_frames verified.program layout actor (state_of came c.at.notices) (state_of new (goes (End actor) refl o c new makes).left) (goes (End actor) refl o c new makes).step_is)
 
-      lent_others : AreLent (traced.events ++ (steps_of actor done ++ End actor ∷ [])) new.running_tasks.tasks
-      lent_others a f is_running = by (same_actor a actor) refl
+      issued_others : AreIssued (traced.events ++ (steps_of actor done ++ End actor ∷ [])) new.running_tasks.tasks
+      issued_others a f is_running = by (same_actor a actor) refl
         where
           by : (b : Bool) → same_actor a actor ≡ b → f.event_no ≡ length (events_of a (traced.events ++ (steps_of actor done ++ End actor ∷ [])))
           by true is = let no : None ≡ Some f = sym gone ∙ ap (get new.running_tasks.tasks) (sym (the_same a actor is)) ∙ is_running in cc
@@ -328,9 +328,9 @@ module _ (verified : TypedProgram) (inputs : List Input) (layout : ActorCounts) 
   -- ---- issuing again
 
   module _ (es : List Event) (by : AreBy actor es) (new : Parts) (at : AreAt verified inputs layout (traced.events ++ es) new) (others : (a : Actor) → a ≢ actor → get new.running_tasks.tasks a ≡ get old.running_tasks.tasks a) (within : length (traced.events ++ es) ≤ traced.limit)
-      (event_no : ℕ) (number : event_no ≡ length (events_of actor (traced.events ++ es))) (job : JobView) (lent : IsLent new actor event_no job) where
-    lent_all : AreLent (traced.events ++ es) new.running_tasks.tasks
-    lent_all a f is_running = by_key (same_actor a actor) refl
+      (event_no : ℕ) (number : event_no ≡ length (events_of actor (traced.events ++ es))) (job : JobView) (lent : IsIssued new actor event_no job) where
+    issued_all : AreIssued (traced.events ++ es) new.running_tasks.tasks
+    issued_all a f is_running = by_key (same_actor a actor) refl
       where
         by_key : (b : Bool) → same_actor a actor ≡ b → f.event_no ≡ length (events_of a (traced.events ++ es))
         by_key true is =
@@ -341,35 +341,35 @@ module _ (verified : TypedProgram) (inputs : List Input) (layout : ActorCounts) 
             let other : a ≢ actor = λ e. let yes : true ≡ false = sym (itself actor) ∙ ap (λ x. same_actor x actor) (sym e) ∙ is in cc in
             h.lent a f (sym (others a other) ∙ is_running) ∙ sym (others_same a actor other traced.events es by)
 
-    kept_lent : IsKept verified inputs layout traced.limit (traced.events ++ es) new
-    kept_lent = record { given = h.given; few = h.few; within = within; notices = at.notices; replays = at.replays; parts = at.parts; queues = at.queues; lent = lent_all }
+    kept_issued : IsKept verified inputs layout traced.limit (traced.events ++ es) new
+    kept_issued = record { given = h.given; few = h.few; within = within; notices = at.notices; replays = at.replays; parts = at.parts; queues = at.queues; lent = issued_all }
 
-    line_lent : Lends w actor es (Run job) es
-    line_lent = subst (λ j. Lends w actor es (Run j) es) (sym lent.job_is) (lends verified inputs layout stopped traced old h w seen actor es new kept_lent lent.f lent.is_running (lent.number ∙ number))
+    line_issued : Issues w actor es (Run job) es
+    line_issued = subst (λ j. Issues w actor es (Run j) es) (sym lent.job_is) (lends verified inputs layout stopped traced old h w seen actor es new kept_issued lent.f lent.is_running (lent.number ∙ number))
 
     module _ (t : HistoryView) (t_is : t ≡ record { events = traced.events ++ es; limit = traced.limit }) where
       kept_again : IsKept verified inputs layout t.limit t.events new
-      kept_again = subst (λ (x : HistoryView). IsKept verified inputs layout x.limit x.events new) (sym t_is) kept_lent
+      kept_again = subst (λ (x : HistoryView). IsKept verified inputs layout x.limit x.events new) (sym t_is) kept_issued
 
-      line_again : IsTurnBy (λ s. Lends w actor es) w (Run job) (viewed verified inputs layout stopped t)
-      line_again = line_traced verified inputs layout stopped traced old h w seen (λ s. Lends w actor es) (Run job) es t t_is line_lent
+      line_again : IsTurnBy (λ s. Issues w actor es) w (Run job) (viewed verified inputs layout stopped t)
+      line_again = line_traced verified inputs layout stopped traced old h w seen (λ s. Issues w actor es) (Run job) es t t_is line_issued
 
   -- after the steps
   module _ (o : Option Event) (c : HasCome o) (t : HistoryView) (t_is : t ≡ record traced { events = traced.events ++ option_to_list o }) (event_no : ℕ) (counted : event_no ≡ length (events_of actor t.events))
-      (new : Parts) (is : (f : FrameView) → IsOwed old actor f done → new ≡ with_done old actor (lent_as event_no f) done) (job : JobView) (lent : IsLent new actor event_no job) where
-    abbrev came_lent : Parts
-    came_lent = with_done old actor (lent_as event_no its.0) done
+      (new : Parts) (is : (f : FrameView) → IsOwed old actor f done → new ≡ with_done old actor (issued_as event_no f) done) (job : JobView) (lent : IsIssued new actor event_no job) where
+    abbrev came_issued : Parts
+    came_issued = with_done old actor (issued_as event_no its.0) done
 
     at_come : AreAt verified inputs layout (traced.events ++ steps_of actor done) new
     at_come = let at = at_steps o c in subst (AreAt verified inputs layout (traced.events ++ steps_of actor done)) (sym (is its.0 owed_now)) (record {
       notices = at.notices;
-      replays = at.replays ∙ ap Went (sym (lent_state came_lent old.running_tasks.tasks actor (come its.0 done) event_no refl at.notices));
-      parts = lent_parts came_lent old.running_tasks.tasks actor (come its.0 done) event_no refl verified layout at.notices at.parts;
+      replays = at.replays ∙ ap Went (sym (issued_state came_issued old.running_tasks.tasks actor (frame_after its.0 done) event_no refl at.notices));
+      parts = issued_parts came_issued old.running_tasks.tasks actor (frame_after its.0 done) event_no refl verified layout at.notices at.parts;
       queues = at.queues;
     })
 
     others_at : (a : Actor) → a ≢ actor → get new.running_tasks.tasks a ≡ get old.running_tasks.tasks a
-    others_at a h = ap (λ (p : Parts). get p.running_tasks.tasks a) (is its.0 owed_now) ∙ get_other (come (lent_as event_no its.0) done) old.running_tasks.tasks actor a h
+    others_at a h = ap (λ (p : Parts). get p.running_tasks.tasks a) (is its.0 owed_now) ∙ get_other (frame_after (issued_as event_no its.0) done) old.running_tasks.tasks actor a h
 
     number_is : event_no ≡ length (events_of actor (traced.events ++ steps_of actor done))
     number_is = counted ∙ ap (λ (x : HistoryView). length (events_of actor x.events)) (traced_one o c t t_is)
@@ -377,23 +377,23 @@ module _ (verified : TypedProgram) (inputs : List Input) (layout : ActorCounts) 
     pub kept_on : IsKept verified inputs layout t.limit t.events new
     kept_on = kept_again (steps_of actor done) (steps_by actor done) new at_come others_at (within_steps o c) event_no number_is job lent t (traced_one o c t t_is)
 
-    pub line_on : IsTurnBy (λ s. Lends w actor (steps_of actor done)) w (Run job) (viewed verified inputs layout stopped t)
+    pub line_on : IsTurnBy (λ s. Issues w actor (steps_of actor done)) w (Run job) (viewed verified inputs layout stopped t)
     line_on = line_again (steps_of actor done) (steps_by actor done) new at_come others_at (within_steps o c) event_no number_is job lent t (traced_one o c t t_is)
 
   -- after the steps and a call
   module _ (o : Option Event) (c : HasCome o) (less : length (traced.events ++ option_to_list o) < traced.limit) (t p : HistoryView) (one : t ≡ record traced { events = traced.events ++ option_to_list o }) (two : p ≡ record t { events = t.events ++ Call actor ∷ [] })
-      (event_no : ℕ) (number : event_no ≡ length (events_of actor (traced.events ++ (steps_of actor done ++ Call actor ∷ [])))) (new : Parts) (makes : MakesAfter (Call actor) old actor done new) (job : JobView) (lent : IsLent new actor event_no job) where
+      (event_no : ℕ) (number : event_no ≡ length (events_of actor (traced.events ++ (steps_of actor done ++ Call actor ∷ [])))) (new : Parts) (makes : MakesAfter (Call actor) old actor done new) (job : JobView) (lent : IsIssued new actor event_no job) where
     abbrev es : List Event
     es = steps_of actor done ++ Call actor ∷ []
 
     pub kept_called : IsKept verified inputs layout p.limit p.events new
     kept_called = kept_again es (by_two (Call actor) refl o c new makes) new (at_two (Call actor) refl o c new makes) (others_two (Call actor) refl o c new makes) (within_two (Call actor) refl o c new makes less) event_no number job lent p (traced_two (Call actor) refl o c new makes t p one two)
 
-    pub line_called : IsTurnBy (λ s. Lends w actor es) w (Run job) (viewed verified inputs layout stopped p)
+    pub line_called : IsTurnBy (λ s. Issues w actor es) w (Run job) (viewed verified inputs layout stopped p)
     line_called = line_again es (by_two (Call actor) refl o c new makes) new (at_two (Call actor) refl o c new makes) (others_two (Call actor) refl o c new makes) (within_two (Call actor) refl o c new makes less) event_no number job lent p (traced_two (Call actor) refl o c new makes t p one two)
 
 -- a run that reaches the limit
-pub filled : (w v : PoolView) (actor : Actor) (es : List Event) (a : Turn) → IsTurnBy (λ s. Lends w actor es) w a v → IsTurnBy (λ s. Answers (Over Limit) es) w (Over Limit) v
+pub filled : (w v : PoolView) (actor : Actor) (es : List Event) (a : Turn) → IsTurnBy (λ s. Issues w actor es) w a v → IsTurnBy (λ s. Answers (Over Limit) es) w (Over Limit) v
 filled w v actor es a l = record { state = l.state; has_state = l.has_state; events = l.events; is = (refl, l.is.4.1); appended = l.appended }
 
 -- a line, or a failed allocation

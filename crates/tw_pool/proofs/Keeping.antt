@@ -23,14 +23,14 @@ use Rattle.tw_code.proofs.Leaving.{ask_leaves, deliver_leaves, release_leaves}
 use Rattle.tw_code.proofs.Runs.{run_more}
 use Rattle.tw_verify.specs.Typed.{TypedProgram}
 use Rattle.tw_frame.specs.Jobs.{FrameView, bare_frame}
-use Rattle.tw_pool_state.specs.Events.{Goes, Untouched}
+use Rattle.tw_pool_state.specs.Events.{Succeeds, Untouched}
 use Rattle.tw_pool_state.specs.Fits.{AreParts, IsReached}
 use Rattle.tw_pool_state.specs.Parts.{state_of}
 use Rattle.tw_pool_state.specs.Queued.{no_notices, queues_after}
 use Rattle.tw_pool_state.specs.RunningTasks.{RunningView}
 use Rattle.tw_pool_state.specs.declared.parts.Parts.{Parts}
 use Rattle.tw_pool.specs.Actors.{events_of, same_actor}
-use Rattle.tw_pool.specs.Kept.{AreLent, IsKept}
+use Rattle.tw_pool.specs.Kept.{AreIssued, IsKept}
 use Rattle.tw_pool.proofs.Queueing.{queues_more}
 use Rattle.tw_pool.proofs.Counting.{itself, of_more, the_same}
 
@@ -77,7 +77,7 @@ module _ (program : List Procedure) (layout : ActorCounts) (s t : State) where
 
 module _ (verified : TypedProgram) (inputs : List Input) (layout : ActorCounts) (limit : ℕ) (history : List Event) (old : Parts) (h : IsKept verified inputs layout limit history old) where
   -- one event more
-  pub one_more : (event : Event) (new : Parts) → Goes verified layout event old h.notices new → length history < limit → AreLent (history ++ event ∷ []) new.running_tasks.tasks → IsKept verified inputs layout limit (history ++ event ∷ []) new
+  pub one_more : (event : Event) (new : Parts) → Succeeds verified layout event old h.notices new → length history < limit → AreIssued (history ++ event ∷ []) new.running_tasks.tasks → IsKept verified inputs layout limit (history ++ event ∷ []) new
   one_more event new goes room lent =
       let long = length-append history (event ∷ []) in
       record {
@@ -93,9 +93,9 @@ module _ (verified : TypedProgram) (inputs : List Input) (layout : ActorCounts) 
       }
 
   -- the others' tasks were issued before
-  others_lent : (event : Event) (new : Parts) → Goes verified layout event old h.notices new
-      → ((f : FrameView) → get new.running_tasks.tasks (actor_of event) ≡ Some f → f.event_no ≡ length (events_of (actor_of event) (history ++ event ∷ []))) → AreLent (history ++ event ∷ []) new.running_tasks.tasks
-  others_lent event new goes own actor f at = by (same_actor (actor_of event) actor) refl
+  others_issued : (event : Event) (new : Parts) → Succeeds verified layout event old h.notices new
+      → ((f : FrameView) → get new.running_tasks.tasks (actor_of event) ≡ Some f → f.event_no ≡ length (events_of (actor_of event) (history ++ event ∷ []))) → AreIssued (history ++ event ∷ []) new.running_tasks.tasks
+  others_issued event new goes own actor f at = by (same_actor (actor_of event) actor) refl
     where
       by : (b : Bool) → same_actor (actor_of event) actor ≡ b → f.event_no ≡ length (events_of actor (history ++ event ∷ []))
       by true same =
@@ -106,16 +106,16 @@ module _ (verified : TypedProgram) (inputs : List Input) (layout : ActorCounts) 
           h.lent actor f (sym (goes.others actor apart) ∙ at) ∙ sym (others_count actor history event other)
 
   -- an event of an actor that has no task, before and after
-  pub made_free : (event : Event) (new : Parts) (goes : Goes verified layout event old h.notices new) → length history < limit
+  pub made_free : (event : Event) (new : Parts) (goes : Succeeds verified layout event old h.notices new) → length history < limit
       → get (state_of old h.notices).frames (actor_of event) ≡ None → (state_of new goes.left).frames ≡ (state_of old h.notices).frames → IsKept verified inputs layout limit (history ++ event ∷ []) new
   made_free event new goes room free same =
       let none : get new.running_tasks.tasks (actor_of event) ≡ None = no_task new goes.left (actor_of event) (ap (λ m. get m (actor_of event)) same ∙ free) in
-      one_more event new goes room (others_lent event new goes (λ f at. let no : None ≡ Some f = sym none ∙ at in cc))
+      one_more event new goes room (others_issued event new goes (λ f at. let no : None ≡ Some f = sym none ∙ at in cc))
 
   -- an event whose actor's task is issued under its number
-  pub made_lent : (event : Event) (new : Parts) (goes : Goes verified layout event old h.notices new) → length history < limit
+  pub made_issued : (event : Event) (new : Parts) (goes : Succeeds verified layout event old h.notices new) → length history < limit
       → ((f : FrameView) → get new.running_tasks.tasks (actor_of event) ≡ Some f → f.event_no ≡ length (events_of (actor_of event) (history ++ event ∷ []))) → IsKept verified inputs layout limit (history ++ event ∷ []) new
-  made_lent event new goes room own = one_more event new goes room (others_lent event new goes own)
+  made_issued event new goes room own = one_more event new goes room (others_issued event new goes own)
 
   module _ (new : Parts) (u : Untouched old new) where
     pub same_state : state_of new h.notices ≡ state_of old h.notices
@@ -150,5 +150,5 @@ module _ (verified : TypedProgram) (inputs : List Input) (layout : ActorCounts) 
       replays = h.replays ∙ ap Went (sym same_state);
       parts = still_parts;
       queues = u.store.queues ∙ h.queues;
-      lent = subst (λ (r : RunningView). AreLent history r.tasks) (sym u.running_tasks) h.lent;
+      lent = subst (λ (r : RunningView). AreIssued history r.tasks) (sym u.running_tasks) h.lent;
     }

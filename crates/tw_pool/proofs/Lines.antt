@@ -17,7 +17,7 @@ use Rattle.tw_pool.specs.declared.answer.Closing.{Closing}
 use Rattle.tw_pool.specs.declared.answer.Turn.{Turn}
 use Rattle.tw_pool.specs.Actors.{events_of, same_actor}
 use Rattle.tw_pool.specs.PoolView.{PoolView}
-use Rattle.tw_pool.specs.Turns.{AreOwn, GoesFree, HandsIn, Makes, TakesBack, Turns, TurnsUnless, instr_after, is_last, lent_to, steps_of}
+use Rattle.tw_pool.specs.Turns.{AreOwn, TurnsFree, Submits, Makes, TakesBack, Turns, TurnsUnless, instr_after, is_last, issued_to, steps_of}
 use Rattle.tw_pool.proofs.Counting.{itself}
 
 -- ---- events of one actor
@@ -101,7 +101,7 @@ module _ (p : PoolView) (s : State) (actor : Actor) (answer : Turn) (events : Li
       by (inl is) = none_then is
       by (inr is) = subst (AreOwn actor) (sym is) (own_after actor done (event_of actor (instr_after p.program.program done)) (actor_of_next actor (instr_after p.program.program done)))
 
-  free : GoesFree p s actor answer events → AreOwn actor events
+  free : TurnsFree p s actor answer events → AreOwn actor events
   free (inl l) = by (made p actor None [] l.0 answer events l.3)
     where
       by : (events ≡ []) ⊎ (events ≡ l.0 ∷ []) → AreOwn actor events
@@ -109,7 +109,7 @@ module _ (p : PoolView) (s : State) (actor : Actor) (answer : Turn) (events : Li
       by (inr is) = subst (AreOwn actor) (sym is) (one actor l.0 (whose_due p.layout actor s l.0 l.1))
   free (inr l) = none_then l.1.1
 
-  handed : (job : JobView) (done : DoneView) → HandsIn p actor job done answer events → AreOwn actor events
+  handed : (job : JobView) (done : DoneView) → Submits p actor job done answer events → AreOwn actor events
   handed job done (inl l) = taken_back done.short (is_last p done) done l.1
   handed job done (inr l) = none_then l.1.1
 
@@ -121,4 +121,4 @@ module _ (p : PoolView) (s : State) (actor : Actor) (answer : Turn) (events : Li
 
   pub own_events : (closing : Option Closing) (given : Option DoneView) → TurnsUnless closing p s actor given answer events → AreOwn actor events
   own_events (Some closing) given l = none_then l.1
-  own_events None given l = turned (lent_to p s actor) given l
+  own_events None given l = turned (issued_to p s actor) given l

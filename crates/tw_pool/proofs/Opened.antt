@@ -15,11 +15,11 @@ use Rattle.tw_pool_state.specs.Opening.{IsOpening}
 use Rattle.tw_pool_state.specs.Parts.{state_of}
 use Rattle.tw_pool_state.specs.RunningTasks.{TasksByActor}
 use Rattle.tw_pool_state.specs.declared.parts.Parts.{Parts}
-use Rattle.tw_pool.specs.Kept.{AreLent, IsKept}
+use Rattle.tw_pool.specs.Kept.{AreIssued, IsKept}
 use Rattle.tw_pool.specs.Openings.{MayOpen}
 use Rattle.tw_pool.proofs.Queueing.{none_queued}
 
-nobody : (running_tasks : TasksByActor) → running_tasks ≡ fin.empty → AreLent [] running_tasks
+nobody : (running_tasks : TasksByActor) → running_tasks ≡ fin.empty → AreIssued [] running_tasks
 nobody running_tasks none actor f at = let no_one : None ≡ Some f = sym (get-empty actor_cmp actor) ∙ (sym (ap (λ (s : TasksByActor). get s actor) none) ∙ at) in cc
 
 replays_nothing : (verified : TypedProgram) (inputs : List Input) (layout : ActorCounts) (s : State) → s ≡ opening verified.program inputs → reached verified.program inputs layout [] ≡ Went s

@@ -30,7 +30,7 @@ use Rattle.tw_pool.specs.Actors.{events_of}
 use Rattle.tw_pool.specs.History.{HistoryView}
 use Rattle.tw_pool.specs.Kept.{IsFree, IsKept, IsOwedBy}
 use Rattle.tw_pool.specs.PoolView.{PoolView, HasState}
-use Rattle.tw_pool.specs.Turns.{Answers, GoesFree, IsTurn, IsTurnBy, Lends, Line, Makes, OrNoMemory, TakesBack, Turns, TurnsUnless, closing_at, closing_of, instr_after, is_last, lent_to, steps_of}
+use Rattle.tw_pool.specs.Turns.{Answers, TurnsFree, IsTurn, IsTurnBy, Issues, Line, Makes, OrNoMemory, TakesBack, Turns, TurnsUnless, closing_at, closing_of, instr_after, is_last, issued_to, steps_of}
 use Rattle.tw_pool.proofs.Freely.{has_state, line_still, state, viewed}
 
 -- ---- why a run is over
@@ -47,7 +47,7 @@ room_left p s within goes_on = by (ending s) p.stopped (length p.history == p.li
 
 -- ---- lines
 
-pub unless : (w v : PoolView) (actor : Actor) (given : Option DoneView) (a : Turn) → ((s : State) → HasState w s → None ≡ closing_at w s) → IsTurnBy (λ s. Turns w s actor (lent_to w s actor) given) w a v → IsTurn w actor given a v
+pub unless : (w v : PoolView) (actor : Actor) (given : Option DoneView) (a : Turn) → ((s : State) → HasState w s → None ≡ closing_at w s) → IsTurnBy (λ s. Turns w s actor (issued_to w s actor) given) w a v → IsTurn w actor given a v
 unless w v actor given a goes_on l = record {
   state = l.state;
   has_state = l.has_state;
@@ -56,9 +56,9 @@ unless w v actor given a goes_on l = record {
   appended = l.appended;
 }
 
-pub without_task : (w v : PoolView) (actor : Actor) (a : Turn) → IsFree w actor → IsTurnBy (λ s. GoesFree w s actor) w a v → IsTurnBy (λ s. Turns w s actor (lent_to w s actor) None) w a v
+pub without_task : (w v : PoolView) (actor : Actor) (a : Turn) → IsFree w actor → IsTurnBy (λ s. TurnsFree w s actor) w a v → IsTurnBy (λ s. Turns w s actor (issued_to w s actor) None) w a v
 without_task w v actor a free l =
-    let none : lent_to w l.state actor ≡ None = ap (option_map (λ (f : Frame). record { program = w.program; task = f.task; procedure = f.procedure; actor = actor; event_no = length (events_of actor w.history); position = f.position })) (free l.state l.has_state) in
+    let none : issued_to w l.state actor ≡ None = ap (option_map (λ (f : Frame). record { program = w.program; task = f.task; procedure = f.procedure; actor = actor; event_no = length (events_of actor w.history); position = f.position })) (free l.state l.has_state) in
     record {
       state = l.state;
       has_state = l.has_state;
@@ -67,7 +67,7 @@ without_task w v actor a free l =
       appended = l.appended;
     }
 
-pub with_own : (w v : PoolView) (actor : Actor) (done : DoneView) (a : Turn) → IsOwedBy w actor done → IsTurnBy (λ s. TakesBack done.short (is_last w done) w actor done) w a v → IsTurnBy (λ s. Turns w s actor (lent_to w s actor) (Some done)) w a v
+pub with_own : (w v : PoolView) (actor : Actor) (done : DoneView) (a : Turn) → IsOwedBy w actor done → IsTurnBy (λ s. TakesBack done.short (is_last w done) w actor done) w a v → IsTurnBy (λ s. Turns w s actor (issued_to w s actor) (Some done)) w a v
 with_own w v actor done a owed l = record {
   state = l.state;
   has_state = l.has_state;
@@ -78,7 +78,7 @@ with_own w v actor done a owed l = record {
 
 -- ---- a `Done` of the issued job
 
-pub back_short : (w v : PoolView) (actor : Actor) (done : DoneView) (a : Turn) → true ≡ done.short → IsTurnBy (λ s. Lends w actor (steps_of actor done)) w a v → IsTurnBy (λ s. TakesBack done.short (is_last w done) w actor done) w a v
+pub back_short : (w v : PoolView) (actor : Actor) (done : DoneView) (a : Turn) → true ≡ done.short → IsTurnBy (λ s. Issues w actor (steps_of actor done)) w a v → IsTurnBy (λ s. TakesBack done.short (is_last w done) w actor done) w a v
 back_short w v actor done a is l = subst (λ b. IsTurnBy (λ s. TakesBack b (is_last w done) w actor done) w a v) is l
 
 pub back_last : (w v : PoolView) (actor : Actor) (done : DoneView) (a : Turn) → false ≡ done.short → true ≡ is_last w done → IsTurnBy (λ s. Answers (Over Limit) (steps_of actor done)) w a v → IsTurnBy (λ s. TakesBack done.short (is_last w done) w actor done) w a v
@@ -115,7 +115,7 @@ pub past_ret : (w v : PoolView) (actor : Actor) (done : DoneView) (a : Turn) (i 
 past_ret w v actor done a i at is l = subst (λ e. IsTurnBy (λ s. Makes w actor (Some done) (steps_of actor done) e) w a v) (sym (ap (event_of actor) at ∙ last_event actor i is)) l
 
 pub past_call : (w v : PoolView) (actor : Actor) (done : DoneView) (a : Turn) (i : Instr) → instr_after w.program.program done ≡ Some i → local_of i ≡ None → false ≡ is_ret i
-    → IsTurnBy (λ s. OrNoMemory w (Some done) (steps_of actor done) (Call actor) (Lends w actor (steps_of actor done ++ Call actor ∷ []))) w a v → IsTurnBy (λ s. Makes w actor (Some done) (steps_of actor done) (event_of actor (instr_after w.program.program done))) w a v
+    → IsTurnBy (λ s. OrNoMemory w (Some done) (steps_of actor done) (Call actor) (Issues w actor (steps_of actor done ++ Call actor ∷ []))) w a v → IsTurnBy (λ s. Makes w actor (Some done) (steps_of actor done) (event_of actor (instr_after w.program.program done))) w a v
 past_call w v actor done a i at other is l = subst (λ e. IsTurnBy (λ s. Makes w actor (Some done) (steps_of actor done) e) w a v) (sym (ap (event_of actor) at ∙ call_event actor i other is)) l
 
 pub stops_there : (code : List Instr) (place : ℕ) (i : Instr) → IsStop code place → slice_get code place ≡ Some i → local_of i ≡ None
@@ -161,11 +161,11 @@ module _ (verified : TypedProgram) (inputs : List Input) (layout : ActorCounts) 
       job_by g = record { program = verified; task = g.task; procedure = g.procedure; actor = actor; event_no = length (events_of actor traced.events); position = g.position }
 
       -- the issued job
-      pub lent_is : lent_to w here actor ≡ Some (job_of f)
-      lent_is =
+      pub issued_is : issued_to w here actor ≡ Some (job_of f)
+      issued_is =
           let fits = h.parts.rights_fit.frames actor f is_running in
           let number = h.lent actor f is_running in
-          subst (λ (x : PoolView). lent_to x here actor ≡ Some (job_of f)) seen
+          subst (λ (x : PoolView). issued_to x here actor ≡ Some (job_of f)) seen
           (ap (option_map job_by) (get_mapped bare_frame old.running_tasks.tasks actor ∙ ap (option_map bare_frame) is_running)
           ∙ ap Some (λ i. record { program = sym fits.program i; task = f.task; procedure = f.procedure; actor = sym fits.own i; event_no = sym number i; position = f.position }))
 
@@ -173,26 +173,26 @@ module _ (verified : TypedProgram) (inputs : List Input) (layout : ActorCounts) 
       program_is = ap (λ (x : PoolView). x.program) (sym seen) ∙ sym (h.parts.rights_fit.frames actor f is_running).program
 
       pub is_owed : (done : DoneView) → done.before ≡ job_of f → IsOwedBy w actor done
-      is_owed done own s at = ap (λ t. lent_to w t actor) (only_here s at) ∙ lent_is ∙ ap Some (sym own)
+      is_owed done own s at = ap (λ t. issued_to w t actor) (only_here s at) ∙ issued_is ∙ ap Some (sym own)
 
-      pub owed_line : IsTurnBy (λ s. Turns w s actor (lent_to w s actor) None) w Owed w
-      owed_line = unchanged (λ s. Turns w s actor (lent_to w s actor) None) Owed
-          (subst (λ j. Turns w here actor j None Owed []) (sym lent_is) (refl, refl))
+      pub owed_line : IsTurnBy (λ s. Turns w s actor (issued_to w s actor) None) w Owed w
+      owed_line = unchanged (λ s. Turns w s actor (issued_to w s actor) None) Owed
+          (subst (λ j. Turns w here actor j None Owed []) (sym issued_is) (refl, refl))
 
-      pub foreign_line : (done : DoneView) → (done.before ≡ job_of f → ⊥) → IsTurnBy (λ s. Turns w s actor (lent_to w s actor) (Some done)) w (Foreign done) w
-      foreign_line done other = unchanged (λ s. Turns w s actor (lent_to w s actor) (Some done)) (Foreign done)
-          (subst (λ j. Turns w here actor j (Some done) (Foreign done) []) (sym lent_is) (inr (other, (refl, refl))))
+      pub foreign_line : (done : DoneView) → (done.before ≡ job_of f → ⊥) → IsTurnBy (λ s. Turns w s actor (issued_to w s actor) (Some done)) w (Foreign done) w
+      foreign_line done other = unchanged (λ s. Turns w s actor (issued_to w s actor) (Some done)) (Foreign done)
+          (subst (λ j. Turns w here actor j (Some done) (Foreign done) []) (sym issued_is) (inr (other, (refl, refl))))
 
-    pub owed_if : IsSome (get old.running_tasks.tasks actor) → IsTurnBy (λ s. Turns w s actor (lent_to w s actor) None) w Owed w
+    pub owed_if : IsSome (get old.running_tasks.tasks actor) → IsTurnBy (λ s. Turns w s actor (issued_to w s actor) None) w Owed w
     owed_if some = by (get old.running_tasks.tasks actor) refl some
       where
-        by : (o : Option FrameView) → get old.running_tasks.tasks actor ≡ o → IsSome o → IsTurnBy (λ s. Turns w s actor (lent_to w s actor) None) w Owed w
+        by : (o : Option FrameView) → get old.running_tasks.tasks actor ≡ o → IsSome o → IsTurnBy (λ s. Turns w s actor (issued_to w s actor) None) w Owed w
         by None none is = cc
         by (Some f) is_running is = owed_line f is_running
 
     -- a Done, and no task
-    pub stray_line : (done : DoneView) → IsFree w actor → IsTurnBy (λ s. Turns w s actor (lent_to w s actor) (Some done)) w (Foreign done) w
+    pub stray_line : (done : DoneView) → IsFree w actor → IsTurnBy (λ s. Turns w s actor (issued_to w s actor) (Some done)) w (Foreign done) w
     stray_line done free =
-        let no_job : lent_to w here actor ≡ None = ap (option_map (λ (f : Frame). record { program = w.program; task = f.task; procedure = f.procedure; actor = actor; event_no = length (events_of actor w.history); position = f.position })) (free here at_here) in
-        unchanged (λ s. Turns w s actor (lent_to w s actor) (Some done)) (Foreign done)
+        let no_job : issued_to w here actor ≡ None = ap (option_map (λ (f : Frame). record { program = w.program; task = f.task; procedure = f.procedure; actor = actor; event_no = length (events_of actor w.history); position = f.position })) (free here at_here) in
+        unchanged (λ s. Turns w s actor (issued_to w s actor) (Some done)) (Foreign done)
         (subst (λ j. Turns w here actor j (Some done) (Foreign done) []) (sym no_job) (refl, refl))

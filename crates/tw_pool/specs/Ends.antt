@@ -25,7 +25,7 @@ pub record IsLeftOf (program : List Procedure) (s : State) (final : FinalView) :
   pub pending : final.pending ≡ pending_rules program s
 
 -- the results are those of the state that the events reach
-pub record IsShut (p : PoolView) (final : FinalView) (history : HistoryView) : Type 0 where
+pub record IsClosedPool (p : PoolView) (final : FinalView) (history : HistoryView) : Type 0 where
   pub state : State
   pub has_state : HasState p state
   pub left : IsLeftOf p.program.program state final

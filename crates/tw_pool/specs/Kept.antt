@@ -21,11 +21,11 @@ use Rattle.tw_pool_state.specs.RunningTasks.{TasksByActor}
 use Rattle.tw_pool_state.specs.declared.parts.Parts.{Parts}
 use Rattle.tw_pool.specs.Actors.{events_of}
 use Rattle.tw_pool.specs.PoolView.{PoolView, HasState}
-use Rattle.tw_pool.specs.Turns.{lent_to}
+use Rattle.tw_pool.specs.Turns.{issued_to}
 
 -- holds if each task was issued last under the number of its actor's events
-abbrev pub AreLent : List Event → TasksByActor → Type 0
-AreLent history running_tasks = (actor : Actor) (f : FrameView) → get running_tasks actor ≡ Some f → f.event_no ≡ length (events_of actor history)
+abbrev pub AreIssued : List Event → TasksByActor → Type 0
+AreIssued history running_tasks = (actor : Actor) (f : FrameView) → get running_tasks actor ≡ Some f → f.event_no ≡ length (events_of actor history)
 
 -- the state of the parts is the one that the events reach
 pub record IsKept (verified : TypedProgram) (inputs : List Input) (layout : ActorCounts) (limit : ℕ) (history : List Event) (p : Parts) : Type 0 where
@@ -36,7 +36,7 @@ pub record IsKept (verified : TypedProgram) (inputs : List Input) (layout : Acto
   pub replays : reached verified.program inputs layout history ≡ Went (state_of p notices)
   pub parts : AreParts verified layout p notices
   pub queues : p.store.queues ≡ queues_along verified.program layout history (opening verified.program inputs) (no_notices layout)
-  pub lent : AreLent history p.running_tasks.tasks
+  pub lent : AreIssued history p.running_tasks.tasks
 
 -- holds if this is so in the pool's state
 abbrev pub InState : PoolView → (State → Type 0) → Type 0
@@ -45,18 +45,20 @@ InState p Holds = (s : State) → HasState p s → Holds s
 abbrev pub IsFree : PoolView → Actor → Type 0
 IsFree p actor = InState p (λ s. get s.frames actor ≡ None)
 
-abbrev pub AsksNone : PoolView → ℕ → Type 0
-AsksNone p engine = InState p (λ s. next_ask engine s.rules ≡ None)
+-- holds if no Ask is due to the engine
+abbrev pub HasNoAsk : PoolView → ℕ → Type 0
+HasNoAsk p engine = InState p (λ s. next_ask engine s.rules ≡ None)
 
-abbrev pub ReleasesNone : PoolView → ℕ → Type 0
-ReleasesNone p engine = InState p (λ s. next_release engine s.rules ≡ None)
+-- holds if no Release is due to the engine
+abbrev pub HasNoRelease : PoolView → ℕ → Type 0
+HasNoRelease p engine = InState p (λ s. next_release engine s.rules ≡ None)
 
 -- holds if the actor has nothing to do before it takes a task
 abbrev pub MayTakeNow : PoolView → Actor → Type 0
-MayTakeNow p (Engine engine) = AsksNone p engine × ReleasesNone p engine
+MayTakeNow p (Engine engine) = HasNoAsk p engine × HasNoRelease p engine
 MayTakeNow p (Server server) = ⊥
 MayTakeNow p (Worker worker) = Unit {0}
 
 -- holds if the `Done` is of the job that is issued to the actor
 abbrev pub IsOwedBy : PoolView → Actor → DoneView → Type 0
-IsOwedBy p actor done = InState p (λ s. lent_to p s actor ≡ Some done.before)
+IsOwedBy p actor done = InState p (λ s. issued_to p s actor ≡ Some done.before)

@@ -32,8 +32,8 @@ abbrev pub closing_at : PoolView → State → Option Closing
 closing_at p s = option_or (option_map closing_of (ending s)) (if p.stopped then Some Stopped else if length p.history == p.limit then Some Limit else None)
 
 -- returns the job that is issued to an actor: from its task's position, under the number of the actor's events
-abbrev pub lent_to : PoolView → State → Actor → Option JobView
-lent_to p s actor =
+abbrev pub issued_to : PoolView → State → Actor → Option JobView
+issued_to p s actor =
     option_map (λ (f : Frame). record { program = p.program; task = f.task; procedure = f.procedure; actor = actor; event_no = length (events_of actor p.history); position = f.position }) (get s.frames actor)
 
 -- ---- the result and the events of a line
@@ -45,9 +45,9 @@ abbrev pub Answers : Turn → List Event → Line
 Answers wanted appended answer events = (answer ≡ wanted) × (events ≡ appended)
 
 -- holds for the job that is issued to the actor when these events are appended
-abbrev pub Lends : PoolView → Actor → List Event → Line
-Lends p actor appended answer events =
-    (s : State) × HasState (with_events p appended) s × (job : JobView) × (lent_to (with_events p appended) s actor ≡ Some job) × Answers (Run job) appended answer events
+abbrev pub Issues : PoolView → Actor → List Event → Line
+Issues p actor appended answer events =
+    (s : State) × HasState (with_events p appended) s × (job : JobView) × (issued_to (with_events p appended) s actor ≡ Some job) × Answers (Run job) appended answer events
 
 -- an event that is made after these may allocate
 pub record TakesMemory (p : PoolView) (before : List Event) (event : Event) : Type 0 where
@@ -65,9 +65,9 @@ Never answer events = ⊥
 -- ---- the line of an event after others
 
 abbrev pub Makes : PoolView → Actor → Option DoneView → List Event → Event → Line
-Makes p actor given before (Take a) = OrNoMemory p given before (Take a) (Lends p actor (before ++ Take a ∷ []))
+Makes p actor given before (Take a) = OrNoMemory p given before (Take a) (Issues p actor (before ++ Take a ∷ []))
 Makes p actor given before (Local a steps) = Never
-Makes p actor given before (Call a) = OrNoMemory p given before (Call a) (Lends p actor (before ++ Call a ∷ []))
+Makes p actor given before (Call a) = OrNoMemory p given before (Call a) (Issues p actor (before ++ Call a ∷ []))
 Makes p actor given before (End a) = Answers Ended (before ++ End a ∷ [])
 Makes p actor given before (Ask engine rule parameter) = OrNoMemory p given before (Ask engine rule parameter) (Answers Went (before ++ Ask engine rule parameter ∷ []))
 Makes p actor given before (Deliver server datum rule parameter) = Answers Went (before ++ Deliver server datum rule parameter ∷ [])
@@ -90,7 +90,7 @@ is_last p done = not (done.steps == 0) && (length p.history + 1 == p.limit)
 -- A short job is issued again: its `Done` has the values of the next one, so that nothing is allocated. Otherwise the
 -- instruction after the steps is executed, if both events fit the limit.
 abbrev pub TakesBack : Bool → Bool → PoolView → Actor → DoneView → Line
-TakesBack true last p actor done = Lends p actor (steps_of actor done)
+TakesBack true last p actor done = Issues p actor (steps_of actor done)
 TakesBack false true p actor done = Answers (Over Limit) (steps_of actor done)
 TakesBack false false p actor done = Makes p actor (Some done) (steps_of actor done) (event_of actor (instr_after p.program.program done))
 
@@ -106,29 +106,30 @@ IsOldest p (Ask engine rule parameter) = Unit {0}
 IsOldest p (Deliver server datum rule parameter) = oldest_notice p server ≡ Some (record { datum = datum; rule = rule; parameter = parameter })
 IsOldest p (Release engine rule) = Unit {0}
 
-abbrev pub GoesFree : PoolView → State → Actor → Line
-GoesFree p s actor answer events =
+-- holds for a step of an actor without a job and without a `Done`
+abbrev pub TurnsFree : PoolView → State → Actor → Line
+TurnsFree p s actor answer events =
     ((due : Event) × IsDueFree p.layout actor s due × IsOldest p due × Makes p actor None [] due answer events)
     ⊎ (((due : Event) → IsDueFree p.layout actor s due → ⊥) × Answers Idle [] answer events)
 
 -- ---- all lines
 
 -- holds for a `Done` of the issued job, or of another
-abbrev pub HandsIn : PoolView → Actor → JobView → DoneView → Line
-HandsIn p actor job done answer events =
+abbrev pub Submits : PoolView → Actor → JobView → DoneView → Line
+Submits p actor job done answer events =
     ((done.before ≡ job) × TakesBack done.short (is_last p done) p actor done answer events) ⊎ ((done.before ≢ job) × Answers (Foreign done) [] answer events)
 
 -- chooses the line by the issued job, and the `Done`
 abbrev pub Turns : PoolView → State → Actor → Option JobView → Option DoneView → Line
-Turns p s actor None None = GoesFree p s actor
+Turns p s actor None None = TurnsFree p s actor
 Turns p s actor None (Some done) = Answers (Foreign done) []
 Turns p s actor (Some job) None = Answers Owed []
-Turns p s actor (Some job) (Some done) = HandsIn p actor job done
+Turns p s actor (Some job) (Some done) = Submits p actor job done
 
 -- chooses the line, unless the run is over
 abbrev pub TurnsUnless : Option Closing → PoolView → State → Actor → Option DoneView → Line
 TurnsUnless (Some closing) p s actor given = Answers (Over closing) []
-TurnsUnless None p s actor given = Turns p s actor (lent_to p s actor) given
+TurnsUnless None p s actor given = Turns p s actor (issued_to p s actor) given
 
 -- a line in the pool's state, and only its events are new
 pub record IsTurnBy (line : State → Line) (old : PoolView) (answer : Turn) (new : PoolView) : Type 0 where

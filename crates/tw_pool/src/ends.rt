@@ -8,7 +8,7 @@ ghost use Rattle.tw_store.specs.Calls.{IsShown};
 ghost use Rattle.tw_store.specs.Served.{KnowsPlaces};
 ghost use Rattle.tw_code.specs.machine.State.{State};
 ghost use Rattle.tw_soundness.specs.EndsWell.{EndsWell};
-ghost use Rattle.tw_pool.specs.Ends.{IsShut};
+ghost use Rattle.tw_pool.specs.Ends.{IsClosedPool};
 ghost use Rattle.tw_pool.specs.PoolView.{HasState};
 
 use crate::answer::Closing;
@@ -54,14 +54,14 @@ impl Model for Final {
 }
 
 impl Final {
-    /// Returns the ids of the outputs, by the order of main's parameters.
+    /// Returns the ids of the outputs that a closed pool left, by the order of main's parameters.
     pub fn outputs(&self) -> &[DatumId]
         ensures { result.now ≡ self.now.outputs }
     {
         &self.remains.outputs
     }
 
-    /// Returns the datum of an id, if it is live. Searches all places: use it for the few outputs.
+    /// Returns the datum of an id that a closed pool left, if it is live. Searches all places: use it for the few outputs.
     pub fn view(&self, id: DatumId) -> Option<&Datum>
         ensures datum { option_map (λ d. d.datum) (option_copied result) ≡ get self.now.store.store.live id }
         ensures members { IfSome result (λ datum. KnowsPlaces self.now.store datum.now) }
@@ -69,8 +69,8 @@ impl Final {
         self.remains.store.view(id)
     }
 
-    /// Returns the member of a container with `index` smaller subscripts, with its datum, which is found by its place. The container
-    /// must be one that this run returned.
+    /// Returns the member of a container that a closed pool left, with `index` smaller subscripts, and its datum, which is found
+    /// by its place. The container must be one that this run returned.
     pub fn member<'a>(&'a self, container: &'a Datum, index: usize) -> Option<ShownMember<'a>>
         requires { KnowsPlaces self.now.store container.now }
         ensures { IsShown self.now.store container.now index result }
@@ -78,28 +78,29 @@ impl Final {
         self.remains.store.member(container, index)
     }
 
-    /// Returns the id that a further datum would get. The first one has 1.
+    /// Returns the id that a further datum of a closed pool would get. The first one has 1.
     pub fn next(&self) -> DatumId
         ensures { result ≡ self.now.store.store.next }
     {
         self.remains.store.next()
     }
 
-    /// Returns how much the live data are. Looks at each of them, and at each member and value.
+    /// Returns how many members and bytes of texts a closed pool left. Looks at each live datum, and at each member and value.
     pub fn amounts(&self) -> Amounts
         ensures { result ≡ amounts_in self.now.store.store.live }
     {
         self.remains.store.amounts()
     }
 
-    /// Returns the rules that were pending, by rising number, each with the data for which it waits and those of its write rights.
+    /// Returns the rules that a closed pool left pending, by rising number, each with the data for which it waits and those of its
+    /// write rights.
     pub fn pending(&self, alloc: Global) -> Result<Vec<Pending>, AllocError>
         ensures { IfOk result (λ pending. pending.items ≡ self.now.pending) }
     {
         all_pending(alloc, self.remains.pending.as_slice())
     }
 
-    /// Returns why the run is over, if it is.
+    /// Returns why the run of a closed pool is over, if it is.
     pub fn closing(&self) -> Option<Closing>
         ensures { result ≡ self.now.closing }
     {
@@ -108,10 +109,10 @@ impl Final {
 }
 
 impl<'a> Pool<'a> {
-    /// Closes the run: spends every right, and returns the remains and the `History`. If the run has ended by itself, `ends_well`
+    /// Closes the pool: spends every right, and returns the remains and the `History`. If the run has ended by itself, `ends_well`
     /// states how.
     pub fn shut(self) -> (Final, History)
-        ensures left { IsShut self.entry result.0 result.1 }
+        ensures left { IsClosedPool self.entry result.0 result.1 }
         ensures ends_well { (s : State) → HasState self.entry s → EndsWell self.entry.program.program s }
     {
         ends_well(self.verified);

@@ -25,7 +25,7 @@ impl Model for Events {
 }
 
 impl Events {
-    /// Makes an empty list.
+    /// Makes an empty list of a seat's events.
     pub fn new(alloc: Global) -> Events
         ensures { result.items ≡ [] }
     {
@@ -34,14 +34,14 @@ impl Events {
         }
     }
 
-    /// Returns the number of events.
+    /// Returns the number of events in a seat's list.
     pub fn len(&self) -> usize
         ensures { result ≡ length self.now.items }
     {
         self.words.len()
     }
 
-    /// Returns the event at an index.
+    /// Returns the event at an index of a seat's list.
     pub fn event(&self, index: usize) -> Event
         requires { index < length self.now.items }
         ensures { slice_get self.now.items index ≡ Some result }
@@ -49,7 +49,7 @@ impl Events {
         unpack(self.words[index])
     }
 
-    /// Reserves memory for `more` events.
+    /// Reserves memory for `more` events in a seat's list.
     pub fn reserve(&mut self, more: usize) -> Result<(), AllocError>
         ensures items { self.new.items ≡ self.old.items }
         ensures room { OnOk result (length self.new.items + more ≤ self.new.capacity) }
@@ -57,7 +57,7 @@ impl Events {
         self.words.reserve(more)
     }
 
-    /// Appends the event of a `History` at an index. Needs reserved memory.
+    /// Appends to a seat's list the event of a `History` at an index. Needs reserved memory.
     pub fn push_from(&mut self, history: &History, index: usize)
         requires there { index < length history.now.events }
         requires room { length self.old.items < self.old.capacity }
@@ -67,7 +67,7 @@ impl Events {
         self.words.push_reserved(history.word(index));
     }
 
-    /// Returns whether an event equals one of a `History`. Decodes them only if their words differ.
+    /// Returns whether an event of a seat's list equals one of a `History`. Decodes them only if their words differ.
     pub fn is_at(&self, index: usize, history: &History, place: usize) -> bool
         requires inside { index < length self.now.items }
         requires there { place < length history.now.events }

@@ -40,7 +40,7 @@ impl History {
     /// The greatest limit of events.
     pub const MOST_EVENTS: usize = 1_000_000;
 
-    /// Makes an empty list, with memory for `limit` events.
+    /// Makes the empty list of a run's events, with memory for `limit` of them.
     pub fn with_capacity(alloc: Global, limit: usize) -> Result<History, AllocError>
         ensures { IfOk result (λ h. h ≡ record { events = []; limit = limit }) }
     {
@@ -51,21 +51,21 @@ impl History {
         })
     }
 
-    /// Returns the number of events.
+    /// Returns the number of a run's events.
     pub fn len(&self) -> usize
         ensures { result ≡ length self.now.events }
     {
         self.words.len()
     }
 
-    /// Returns whether the limit is reached.
+    /// Returns whether a run's events have reached the limit.
     pub fn is_full(&self) -> bool
         ensures { result ≡ (length self.now.events == self.now.limit) }
     {
         self.words.len() == self.limit
     }
 
-    /// Returns whether exactly one more event fits the limit.
+    /// Returns whether exactly one more event of a run fits the limit.
     pub(crate) fn has_room_for_one(&self) -> bool
         requires { length self.now.events < self.now.limit }
         ensures { result ≡ (length self.now.events + 1 == self.now.limit) }
@@ -73,7 +73,7 @@ impl History {
         self.words.len() + 1 == self.limit
     }
 
-    /// Returns the number of events of an actor.
+    /// Returns how many of a run's events are an actor's.
     pub fn count(&self, actor: Actor) -> u64
         requires { HasPlace actor }
         ensures { result ≡ length (events_of actor self.now.events) }
@@ -81,7 +81,7 @@ impl History {
         self.counts[actor.place()]
     }
 
-    /// Returns the event at an index.
+    /// Returns the event of a run at an index.
     pub fn event(&self, index: usize) -> Event
         requires { index < length self.now.events }
         ensures { slice_get self.now.events index ≡ Some result }
@@ -89,7 +89,7 @@ impl History {
         unpack(self.words[index])
     }
 
-    /// Returns the word of the event at an index.
+    /// Returns the word that encodes the event of a run at an index.
     pub(crate) fn word(&self, index: usize) -> u64
         requires { index < length self.now.events }
         ensures { slice_get self.now.events index ≡ Some (unpack result) }
@@ -97,7 +97,7 @@ impl History {
         self.words[index]
     }
 
-    /// Returns the actor of the event at an index, without decoding the event.
+    /// Returns the actor of the event of a run at an index, without decoding the event.
     pub fn actor(&self, index: usize) -> Actor
         requires { index < length self.now.events }
         ensures { option_map actor_of (slice_get self.now.events index) ≡ Some result }
@@ -105,7 +105,7 @@ impl History {
         maker_of(self.words[index])
     }
 
-    /// Appends an event.
+    /// Appends an event to those of a run.
     #[inline(always)]
     pub fn push(&mut self, event: Event)
         requires fits { FitsWord event }

@@ -28,7 +28,7 @@ pub enum OpenError {
 }
 
 impl OpenError {
-    /// Returns its code without the letter O.
+    /// Returns the code of the pool's error of opening without the letter O.
     pub fn number(self) -> u8
         ensures { result ≡ open_error_code self }
     {
@@ -47,12 +47,13 @@ impl From<AllocError> for OpenError {
 
     ghost from_gives = { λ _ e. e ≡ NoMemory };
 
+    /// Returns the pool's error of opening for a failed allocation.
     fn from(_error: AllocError) -> OpenError {
         OpenError::NoMemory
     }
 }
 
-/// Returns the error of an opening, apart from a failed allocation.
+/// Returns why the pool can't be opened with these inputs, apart from a failed allocation.
 fn rejection_of(
     verified: &Verified,
     inputs: &[Input],
@@ -79,7 +80,7 @@ fn rejection_of(
 }
 
 impl<'a> Pool<'a> {
-    /// Opens a run before its first event, in which main waits. Allocates the memory for all its events.
+    /// Opens a pool before its first event, in which main waits. Allocates the memory for all its events.
     pub fn open(
         alloc: Global,
         verified: &'a Verified,

@@ -9,7 +9,7 @@ use std::alloc::{AllocError, Global};
 use tw_rules::{ErasedArg, ErasedRule};
 use tw_types::{DatumId, Items, Pending, Stage};
 
-/// Adds the datum, if the stage is waiting.
+/// Adds the datum for which a rule's parameter waits, if its stage is waiting.
 fn put_if_waiting(ids: &mut Vec<DatumId>, stage: Stage, id: DatumId) -> Result<(), AllocError>
     ensures { OnOk result (ids.new.items ≡ ids.old.items ++ (if is_waiting stage then id ∷ [] else [])) }
 {
@@ -19,7 +19,7 @@ fn put_if_waiting(ids: &mut Vec<DatumId>, stage: Stage, id: DatumId) -> Result<(
     }
 }
 
-/// Adds the datum of an argument whose parameter waits for it.
+/// Adds the datum of an argument for which a parameter waits, of a rule that a closed pool left.
 fn put_waited(ids: &mut Vec<DatumId>, stage: Stage, arg: ErasedArg) -> Result<(), AllocError>
     ensures { OnOk result (ids.new.items ≡ ids.old.items ++ waited_at stage arg) }
 {
@@ -30,7 +30,7 @@ fn put_waited(ids: &mut Vec<DatumId>, stage: Stage, arg: ErasedArg) -> Result<()
     }
 }
 
-/// Returns the data for which parameters wait.
+/// Returns the data for which the parameters of a rule wait that a closed pool left.
 fn waits_in(alloc: Global, stages: &[Stage], args: &[ErasedArg]) -> Result<Vec<DatumId>, AllocError>
     ensures { IfOk result (λ ids. ids.items ≡ waits_in stages.now args.now) }
 {
@@ -46,7 +46,7 @@ fn waits_in(alloc: Global, stages: &[Stage], args: &[ErasedArg]) -> Result<Vec<D
     Ok(ids)
 }
 
-/// Adds the datum of a write right.
+/// Adds the datum of a write right of a rule that a closed pool left.
 fn put_written(ids: &mut Vec<DatumId>, arg: ErasedArg) -> Result<(), AllocError>
     ensures { OnOk result (ids.new.items ≡ ids.old.items ++ written_at arg) }
 {
@@ -57,7 +57,7 @@ fn put_written(ids: &mut Vec<DatumId>, arg: ErasedArg) -> Result<(), AllocError>
     }
 }
 
-/// Returns the data of write rights.
+/// Returns the data of the write rights of a rule that a closed pool left.
 fn writes_in(alloc: Global, args: &[ErasedArg]) -> Result<Vec<DatumId>, AllocError>
     ensures { IfOk result (λ ids. ids.items ≡ flat_map written_at args.now) }
 {
@@ -68,6 +68,7 @@ fn writes_in(alloc: Global, args: &[ErasedArg]) -> Result<Vec<DatumId>, AllocErr
     Ok(ids)
 }
 
+/// Returns a rule that a closed pool left, with the data for which it waits or that it may write.
 fn pending_with_data(alloc: Global, rule: &ErasedRule) -> Result<Pending, AllocError>
     ensures { IfOk result (λ p. p ≡ pending_with_data rule.now) }
 {
@@ -80,7 +81,7 @@ fn pending_with_data(alloc: Global, rule: &ErasedRule) -> Result<Pending, AllocE
     })
 }
 
-/// Returns the rules with the data for which they wait, and those that they may write.
+/// Returns the rules that a closed pool left, with the data for which they wait, and those that they may write.
 pub(crate) fn all_pending(alloc: Global, rules: &[ErasedRule]) -> Result<Vec<Pending>, AllocError>
     ensures { IfOk result (λ pending. pending.items ≡ map pending_with_data rules.now) }
 {

@@ -40,14 +40,14 @@ impl<'a> Model for Pool<'a> {
 }
 
 impl<'a> Pool<'a> {
-    /// Stops the run: no scheduling step makes an event any more.
+    /// Stops the pool's run: no scheduling step makes an event any more.
     pub fn stop(&mut self)
         ensures { self.new ≡ record self.old { stopped = true } }
     {
         self.stopped = true;
     }
 
-    /// Returns the events that were made, in order.
+    /// Returns the events that the pool's scheduling steps made, in order.
     pub fn history(&self) -> &History
         ensures events { result.now.events ≡ self.now.history }
         ensures limit { result.now.limit ≡ self.now.limit }
@@ -55,7 +55,7 @@ impl<'a> Pool<'a> {
         &self.history
     }
 
-    /// Returns the number of events of an actor.
+    /// Returns the number of events of an actor in the pool.
     pub fn count(&self, actor: Actor) -> u64
         requires { HasPlace actor }
         ensures { result ≡ length (events_of actor self.now.history) }
@@ -63,14 +63,14 @@ impl<'a> Pool<'a> {
         self.history.count(actor)
     }
 
-    /// Returns the program that is run.
+    /// Returns the verified program that the pool runs.
     pub fn program(&self) -> &'a Verified
         ensures { result.now ≡ self.now.program }
     {
         self.verified
     }
 
-    /// Returns the layout.
+    /// Returns the layout of the pool's actors.
     pub fn layout(&self) -> Layout
         ensures { result ≡ self.now.layout }
     {

@@ -3,8 +3,8 @@
 ghost use Rattle.std.specs.Prelude.{◌≡◌, ◌<◌, MatchOption, length, true};
 ghost use Rattle.tw_types.specs.Actor.{is_in};
 ghost use Rattle.tw_types.specs.declared.actor.Actor.TheVariants.{Engine, Server};
-ghost use Rattle.tw_pool.specs.Kept.{AsksNone, IsFree, MayTakeNow, ReleasesNone};
-ghost use Rattle.tw_pool.specs.Turns.{GoesFree, IsTurnBy};
+ghost use Rattle.tw_pool.specs.Kept.{HasNoAsk, IsFree, MayTakeNow, HasNoRelease};
+ghost use Rattle.tw_pool.specs.Turns.{TurnsFree, IsTurnBy};
 
 use crate::answer::Turn;
 use crate::pool::Pool;
@@ -12,12 +12,12 @@ use std::alloc::Global;
 use tw_types::{Actor, Event};
 
 impl<'a> Pool<'a> {
-    /// Delivers the oldest notice of a server, if it has one.
+    /// Lets a server of the pool deliver its oldest notice in a scheduling step, if it has one.
     pub(crate) fn deliver(&mut self, server: u8) -> Turn<'a>
         requires server { server < self.old.layout.servers }
         requires room { length self.old.history < self.old.limit }
         requires free { IsFree self.old (Server server) }
-        ensures { IsTurnBy (λ s. GoesFree self.old s (Server server)) self.old result self.new }
+        ensures { IsTurnBy (λ s. TurnsFree self.old s (Server server)) self.old result self.new }
     {
         let Some(notice) = self.parts.deliver(server) else {
             return Turn::Idle;
@@ -27,12 +27,12 @@ impl<'a> Pool<'a> {
         Turn::Went
     }
 
-    /// Lets an engine ask for its next parameter. Returns `None` if there is none.
+    /// Lets an engine of the pool ask for its next parameter in a scheduling step. Returns `None` if there is none.
     pub(crate) fn ask(&mut self, engine: u8) -> Option<Turn<'a>>
         requires engine { engine < self.old.layout.engines }
         requires room { length self.old.history < self.old.limit }
         requires free { IsFree self.old (Engine engine) }
-        ensures { MatchOption result ((self.new ≡ self.old) × AsksNone self.old engine) (λ answer. IsTurnBy (λ s. GoesFree self.old s (Engine engine)) self.old answer self.new) }
+        ensures { MatchOption result ((self.new ≡ self.old) × HasNoAsk self.old engine) (λ answer. IsTurnBy (λ s. TurnsFree self.old s (Engine engine)) self.old answer self.new) }
     {
         let Ok(asked) = self.parts.ask(engine) else {
             return Some(Turn::NoMemory(None));
@@ -45,13 +45,14 @@ impl<'a> Pool<'a> {
         Some(Turn::Went)
     }
 
-    /// Lets an engine without an ask release its next rule. Returns `None` if none can be released.
+    /// Lets an engine of the pool without an ask release its next rule in a scheduling step. Returns `None` if none can be
+    /// released.
     pub(crate) fn release(&mut self, engine: u8) -> Option<Turn<'a>>
         requires engine { engine < self.old.layout.engines }
         requires room { length self.old.history < self.old.limit }
         requires free { IsFree self.old (Engine engine) }
-        requires asked { AsksNone self.old engine }
-        ensures { MatchOption result ((self.new ≡ self.old) × ReleasesNone self.old engine) (λ answer. IsTurnBy (λ s. GoesFree self.old s (Engine engine)) self.old answer self.new) }
+        requires asked { HasNoAsk self.old engine }
+        ensures { MatchOption result ((self.new ≡ self.old) × HasNoRelease self.old engine) (λ answer. IsTurnBy (λ s. TurnsFree self.old s (Engine engine)) self.old answer self.new) }
     {
         let Ok(released) = self.parts.release(self.verified, engine) else {
             return Some(Turn::NoMemory(None));
@@ -63,13 +64,13 @@ impl<'a> Pool<'a> {
         Some(Turn::Went)
     }
 
-    /// Lets an engine without work on its rules, or a worker, take its best task, if there is one.
+    /// Lets an engine without work on its rules, or a worker, take its best task in a scheduling step, if there is one.
     pub(crate) fn take(&mut self, alloc: Global, actor: Actor) -> Turn<'a>
         requires actor { is_in self.old.layout actor ≡ true }
         requires room { length self.old.history < self.old.limit }
         requires free { IsFree self.old actor }
         requires first { MayTakeNow self.old actor }
-        ensures { IsTurnBy (λ s. GoesFree self.old s actor) self.old result self.new }
+        ensures { IsTurnBy (λ s. TurnsFree self.old s actor) self.old result self.new }
     {
         let event_no = self.history.count(actor) + 1;
         let Ok(taken) = self.parts.take(self.verified, alloc, actor, event_no) else {
@@ -87,7 +88,7 @@ impl<'a> Pool<'a> {
         requires actor { is_in self.old.layout actor ≡ true }
         requires room { length self.old.history < self.old.limit }
         requires free { IsFree self.old actor }
-        ensures { IsTurnBy (λ s. GoesFree self.old s actor) self.old result self.new }
+        ensures { IsTurnBy (λ s. TurnsFree self.old s actor) self.old result self.new }
     {
         match actor {
             Actor::Engine(engine) => {

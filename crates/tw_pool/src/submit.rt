@@ -10,7 +10,7 @@ ghost use Rattle.tw_pool.specs.declared.answer.Closing.TheVariants.{Limit};
 ghost use Rattle.tw_pool.specs.declared.answer.Turn.TheVariants as answer;
 ghost use Rattle.tw_pool.specs.Actors.{HasPlace, events_of};
 ghost use Rattle.tw_pool.specs.Kept.{IsOwedBy};
-ghost use Rattle.tw_pool.specs.Turns.{Answers, IsTurnBy, Lends, instr_after, is_last, steps_of, Makes, Turns, lent_to};
+ghost use Rattle.tw_pool.specs.Turns.{Answers, IsTurnBy, Issues, instr_after, is_last, steps_of, Makes, Turns, issued_to};
 ghost use Rattle.tw_pool.specs.Words.{FitsWord};
 ghost use Rattle.std.specs.Option.{option_and_then};
 ghost use Rattle.tw_code.specs.declared.instr.Instr.{Instr as AnInstr};
@@ -25,7 +25,7 @@ use tw_frame::Done;
 use tw_types::{Actor, Event};
 use tw_verify::Verified;
 
-/// Records an event, if there is one.
+/// Appends the event of a submitted job's local steps to the pool's events, if there is one.
 fn record_event(history: &mut History, event: Option<Event>)
     requires fits { IfSome event FitsWord }
     requires room { length history.old.events < history.old.limit }
@@ -36,7 +36,7 @@ fn record_event(history: &mut History, event: Option<Event>)
     }
 }
 
-/// Returns how many events the actor has after those of its `Done` and a Call.
+/// Returns how many events the pool has of the actor after those of its submitted `Done` and a Call.
 fn count_after(history: &History, actor: Actor, done: &Done<'_>) -> u64
     requires place { HasPlace actor }
     requires few { length history.now.events ≤ 1000000 }
@@ -50,6 +50,7 @@ fn count_after(history: &History, actor: Actor, done: &Done<'_>) -> u64
     }
 }
 
+/// Returns whether the instruction after a submitted job is RET.
 fn is_ret(instr: &Instr) -> bool
     ensures { result ≡ is_ret instr.now }
 {
@@ -59,7 +60,7 @@ fn is_ret(instr: &Instr) -> bool
     }
 }
 
-/// Returns the instruction at a place of a procedure.
+/// Returns the instruction at which a submitted job has stopped, in its procedure of the verified program.
 fn instr_at(verified: &Verified, procedure: u8, place: usize) -> &Instr
     requires { (i : AnInstr) × (option_and_then (λ (p : Procedure). slice_get p.code place) (slice_get verified.now.program procedure) ≡ Some i) }
     ensures { option_and_then (λ (p : Procedure). slice_get p.code place) (slice_get verified.now.program procedure) ≡ Some result.now }
@@ -69,12 +70,12 @@ fn instr_at(verified: &Verified, procedure: u8, place: usize) -> &Instr
 }
 
 impl<'a> Pool<'a> {
-    /// Completes the actor's job, and issues the next one.
+    /// Completes the actor's job in the pool's scheduling step, and issues the next one.
     pub(crate) fn continue_task(&mut self, actor: Actor, done: Done<'a>) -> Turn<'a>
         requires actor { is_in self.old.layout actor ≡ true }
         requires room { length self.old.history < self.old.limit }
         requires owed { IsOwedBy self.old actor done }
-        ensures { IsTurnBy (λ s. Lends self.old actor (steps_of actor done.entry)) self.old result self.new }
+        ensures { IsTurnBy (λ s. Issues self.old actor (steps_of actor done.entry)) self.old result self.new }
     {
         let _steps = done.steps();
         let event = self.parts.event_of(actor, &done);
@@ -94,7 +95,7 @@ impl<'a> Pool<'a> {
         Turn::Over(Closing::Limit)
     }
 
-    /// Completes the actor's job, and ends its task.
+    /// Completes the actor's job in the pool's scheduling step, and ends its task.
     fn end(&mut self, alloc: Global, actor: Actor, done: Done<'a>) -> Turn<'a>
         requires actor { is_in self.old.layout actor ≡ true }
         requires room { length self.old.history < self.old.limit }
@@ -137,7 +138,7 @@ impl<'a> Pool<'a> {
         Turn::Run(job)
     }
 
-    /// Returns whether two events are due, and only one fits the limit.
+    /// Returns whether a submitted job makes two events due, and only one fits the limit.
     fn is_last(&self, done: &Done<'a>) -> bool
         requires { length self.now.history < self.now.limit }
         ensures { result ≡ is_last self.now done.now }
@@ -153,7 +154,7 @@ impl<'a> Pool<'a> {
         requires actor { is_in self.old.layout actor ≡ true }
         requires room { length self.old.history < self.old.limit }
         requires program { done.before.program ≡ self.old.program }
-        ensures { IsTurnBy (λ s. Turns self.old s actor (lent_to self.old s actor) (Some done.entry)) self.old result self.new }
+        ensures { IsTurnBy (λ s. Turns self.old s actor (issued_to self.old s actor) (Some done.entry)) self.old result self.new }
     {
         let Some(frame) = self.parts.running_tasks.get(actor) else {
             return Turn::Foreign(done);

@@ -16,7 +16,7 @@ use tw_frame::Done;
 use tw_pool_state::Parts;
 use tw_types::{Actor, Ending};
 
-/// Returns the closing of a run that ended by itself.
+/// Returns the closing of a pool whose run ended by itself.
 fn closing_of(ending: Ending) -> Closing
     ensures { result ≡ closing_of ending }
 {
@@ -26,7 +26,7 @@ fn closing_of(ending: Ending) -> Closing
     }
 }
 
-/// Returns whether the actor has a task. Its job is then always issued.
+/// Returns whether the actor has a task in the pool. Its job is then always issued.
 fn has_task(parts: &Parts<'_>, actor: Actor) -> bool
     requires { HasSlot actor }
     ensures { MatchBool result (IsSome (get parts.now.running_tasks.tasks actor)) (get parts.now.running_tasks.tasks actor ≡ None) }
@@ -38,7 +38,7 @@ fn has_task(parts: &Parts<'_>, actor: Actor) -> bool
 }
 
 impl<'a> Pool<'a> {
-    /// Returns `Quiet` or `Stuck` if no event is enabled.
+    /// Returns `Quiet` or `Stuck` if no event of the pool is enabled.
     #[inline(always)]
     pub fn ending(&self) -> Option<Ending>
         ensures { (s : State) → HasState self.now s → result ≡ ending s }
@@ -46,7 +46,8 @@ impl<'a> Pool<'a> {
         self.parts.ending(self.layout)
     }
 
-    /// Returns why the run is over, or `None` if it isn't: it ended by itself, was stopped, or is at its limit, in this order.
+    /// Returns why the pool's run is over, or `None` if it isn't: it ended by itself, was stopped, or is at its limit, in this
+    /// order.
     #[inline(always)]
     pub fn closing(&self) -> Option<Closing>
         ensures { (s : State) → HasState self.now s → result ≡ closing_at self.now s }

@@ -7,7 +7,7 @@ ghost use Rattle.tw_pool.specs.Words.{FitsWord, IsPlaced, unpack, word_of};
 
 use tw_types::{Actor, DatumId, Event, RuleNo};
 
-/// Returns the actor at a place.
+/// Returns the actor whose place among all possible ones is encoded in an event's word.
 fn actor_of_place(place: u64) -> Actor
     requires { place < 32 }
     ensures { result ≡ actor_of_place place }
@@ -21,14 +21,14 @@ fn actor_of_place(place: u64) -> Actor
     }
 }
 
-/// Returns the place of the actor of a word's event.
+/// Returns the place of the actor in the word that encodes an event.
 pub(crate) fn maker(word: u64) -> usize
     ensures { result ≡ word / 8 % 32 }
 {
     (word / 8 % 32) as usize
 }
 
-/// Returns the actor of a word's event.
+/// Returns the actor of the event that a word encodes.
 pub(crate) fn maker_of(word: u64) -> Actor
     requires { IsPlaced word }
     ensures { result ≡ actor_of (unpack word) }
@@ -36,7 +36,7 @@ pub(crate) fn maker_of(word: u64) -> Actor
     actor_of_place(word / 8 % 32)
 }
 
-/// Returns a word of this kind, for an actor.
+/// Returns the word that encodes an event of this kind, for an actor and numbers.
 fn word(kind: u64, actor: Actor, numbers: u64) -> u64
     requires actor { HasPlace actor }
     requires kind { kind < 8 }
@@ -46,7 +46,7 @@ fn word(kind: u64, actor: Actor, numbers: u64) -> u64
     kind + 8 * (actor.place() as u64 + 32 * numbers)
 }
 
-/// Encodes an event.
+/// Encodes an event in a word of 64 bits.
 #[inline(always)]
 pub(crate) fn pack(event: Event) -> u64
     requires { FitsWord event }
@@ -69,7 +69,7 @@ pub(crate) fn pack(event: Event) -> u64
     }
 }
 
-/// Decodes an event.
+/// Decodes an event from its word of 64 bits.
 #[tactic(auto, unfolding(crate::specs::Words::unpack))]
 pub(crate) fn unpack(word: u64) -> Event
     ensures { result ≡ unpack word }

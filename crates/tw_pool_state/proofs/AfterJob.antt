@@ -1,6 +1,6 @@
 -- RULE and PUT: the requirements on their parts, if a task is at one after a job.
 use Rattle.std.proofs.Common.{map as each, ◌≡◌, ◌≤◌, ◌<◌, ◌+◌, ◌^◌, ◌∙◌, ℕ, List, Option, Some, None, IsSome, sym, ap, subst, length, slice_get, arith}
-use Rattle.tw_pool_state.proofs.PartNames.{Action, Actor, DoneView, FrameView, HasSlot, Held, IsInstr, IsOwed, IsProcedure, IsProgram, MayBeAt, Param, Parts, Procedure, IsAtInstr, Value, at_next_place, bare_frame, come, context_of, get, job_of, named_values, same_Some, state_of, with_done}
+use Rattle.tw_pool_state.proofs.PartNames.{Action, Actor, DoneView, FrameView, HasSlot, Held, IsInstr, IsOwed, IsProcedure, IsProgram, MayBeAt, Param, Parts, Procedure, IsAtInstr, Value, at_next_place, bare_frame, frame_after, context_of, get, job_of, named_values, same_Some, state_of, with_done}
 use Rattle.tw_rights.specs.Bundled.{Bundled, bundled}
 use Rattle.tw_queue.specs.Queues as queues
 use Rattle.tw_code.specs.declared.instr.Instr.{Instr}
@@ -19,19 +19,19 @@ module _ (old : Parts) (actor : Actor) (done : DoneView) (instr : Instr) (s : Is
   abbrev pub there : Parts
   there = with_done old actor s.f done
 
-  pub runs_there : get there.running_tasks.tasks actor ≡ Some (come s.f done)
-  runs_there = get_own old.running_tasks.tasks actor (come s.f done)
+  pub runs_there : get there.running_tasks.tasks actor ≡ Some (frame_after s.f done)
+  runs_there = get_own old.running_tasks.tasks actor (frame_after s.f done)
 
   pub slot_there : HasSlot actor
-  slot_there = runner_has_slot done.before.program s.layout there s.notices s.parts actor (come s.f done) runs_there
+  slot_there = runner_has_slot done.before.program s.layout there s.notices s.parts actor (frame_after s.f done) runs_there
 
   spent_there : s.f.spent + done.steps < 2 ^ 63
-  spent_there = let few = s.small.spent actor (bare_frame (come s.f done)) (seen bare_frame there.running_tasks.tasks actor (Some (come s.f done)) runs_there) in omega (arith, few)
+  spent_there = let few = s.small.spent actor (bare_frame (frame_after s.f done)) (seen bare_frame there.running_tasks.tasks actor (Some (frame_after s.f done)) runs_there) in omega (arith, few)
 
   place_there : done.after.place < 2 ^ 63
   place_there = let low = low_place done.before.program.program s.parts.runnable.is s.f.procedure s.q s.here done.after.place instr s.following_is in omega (arith, low)
 
-  module _ (action : Action) (u : IsNamed done.before.program.program s.q.kind (context_of (state_of there s.notices) (bare_frame (come s.f done))) action s.f.held)
+  module _ (action : Action) (u : IsNamed done.before.program.program s.q.kind (context_of (state_of there s.notices) (bare_frame (frame_after s.f done))) action s.f.held)
       (params : List Param) (params_is : params ≡ u.procedure.params) (registers : List ℕ) (registers_is : registers ≡ action.args) where
     pub few : length params ≤ 8
     few = let low = few_params done.before.program.program s.parts.runnable.is action.procedure u.procedure u.is in omega (arith, low, ap length params_is)
@@ -46,7 +46,7 @@ module _ (old : Parts) (actor : Actor) (done : DoneView) (instr : Instr) (s : Is
       spent_there,
       place_there,
       subst (λ ps. IsSome (bundled s.f.held ps registers vals)) (sym params_is) (subst (λ rs. IsSome (bundled s.f.held u.procedure.params rs vals)) (sym registers_is)
-          (may_bundle done.before.program s.layout there s.notices s.parts actor (come s.f done) s.q action runs_there u vals (so_valued done.after.values params u.procedure.params params_is action.args vals are))),
+          (may_bundle done.before.program s.layout there s.notices s.parts actor (frame_after s.f done) s.q action runs_there u vals (so_valued done.after.values params u.procedure.params params_is action.args vals are))),
       fits_place,
     )
 
@@ -60,8 +60,8 @@ module _ (old : Parts) (actor : Actor) (done : DoneView) (instr : Instr) (s : Is
   pub here_too : slice_get done.before.program.program f.procedure ≡ Some s.q
   here_too = ap (λ (g : FrameView). slice_get done.before.program.program g.procedure) (sym same_frame) ∙ s.here
 
-  pub runs_too : get (with_done old actor f done).running_tasks.tasks actor ≡ Some (come f done)
-  runs_too = get_own old.running_tasks.tasks actor (come f done)
+  pub runs_too : get (with_done old actor f done).running_tasks.tasks actor ≡ Some (frame_after f done)
+  runs_too = get_own old.running_tasks.tasks actor (frame_after f done)
 
 module _ (program : List Procedure) (number : ℕ) (callee : Procedure) (found : slice_get program number ≡ Some callee) (procedure : Procedure) (is : slice_get program number ≡ Some procedure) where
   same_callee : callee ≡ procedure

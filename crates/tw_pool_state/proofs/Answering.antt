@@ -1,21 +1,21 @@
 -- The result of an instruction on data, by cases.
 use Rattle.std.proofs.Common.{◌≡◌, ℕ, Ok, Err, Result}
-use Rattle.tw_pool_state.proofs.PartNames.{DoneView, FrameView, IfErr, IfOk, IsLentAnswer, IsLentAfter, IsRefused, JobView, OnErr, OnOk, Served}
+use Rattle.tw_pool_state.proofs.PartNames.{DoneView, FrameView, IfErr, IfOk, IsIssuedAnswer, IsIssuedAfter, IsOutOfMemory, JobView, OnErr, OnOk, Served}
 use Rattle.tw_code.specs.declared.instr.DataInstr.{DataInstr}
 
 module _ (d : DataInstr) (old new : Served) (f g : FrameView) (event_no : ℕ) (done : DoneView) where
-  pub when_done : (P : Type 0) (r : Result JobView DoneView) → IsLentAnswer d old new f g event_no done r → ((job : JobView) → IsLentAfter d old new f g event_no done job → P) → OnOk r P
+  pub when_done : (P : Type 0) (r : Result JobView DoneView) → IsIssuedAnswer d old new f g event_no done r → ((job : JobView) → IsIssuedAfter d old new f g event_no done job → P) → OnOk r P
   when_done P (Ok job) a next = next job a
   when_done P (Err back) a next = tt
 
-  pub when_lent : (P : JobView → Type 0) (r : Result JobView DoneView) → IsLentAnswer d old new f g event_no done r → ((job : JobView) → IsLentAfter d old new f g event_no done job → P job) → IfOk r P
-  when_lent P (Ok job) a next = next job a
-  when_lent P (Err back) a next = tt
+  pub when_issued : (P : JobView → Type 0) (r : Result JobView DoneView) → IsIssuedAnswer d old new f g event_no done r → ((job : JobView) → IsIssuedAfter d old new f g event_no done job → P job) → IfOk r P
+  when_issued P (Ok job) a next = next job a
+  when_issued P (Err back) a next = tt
 
-  pub when_refused : (P : Type 0) (r : Result JobView DoneView) → IsLentAnswer d old new f g event_no done r → ((back : DoneView) → IsRefused d old new f g done back → P) → OnErr r P
+  pub when_refused : (P : Type 0) (r : Result JobView DoneView) → IsIssuedAnswer d old new f g event_no done r → ((back : DoneView) → IsOutOfMemory d old new f g done back → P) → OnErr r P
   when_refused P (Ok job) a next = tt
   when_refused P (Err back) a next = next back a
 
-  pub when_back : (r : Result JobView DoneView) → IsLentAnswer d old new f g event_no done r → IfErr r (λ back. back ≡ done)
+  pub when_back : (r : Result JobView DoneView) → IsIssuedAnswer d old new f g event_no done r → IfErr r (λ back. back ≡ done)
   when_back (Ok job) a = tt
   when_back (Err back) a = a.is_back

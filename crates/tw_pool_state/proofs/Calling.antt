@@ -1,6 +1,6 @@
 -- An instruction on data, as a call on the parts.
 use Rattle.std.proofs.Common.{map as each, ◌≡◌, ◌<◌, ◌+◌, ℕ, List, Some, None, refl, sym, ap, subst, ◌∙◌, slice_get, slice_index_or, length, arith, inl, inr}
-use Rattle.tw_pool_state.proofs.PartNames.{Actor, ActorCounts, AreAt, AreParts, AreQueued, Call, Context, FrameFits, FrameView, Goes, Held, IsAt, IsDone, IsInstr, IsLive, IsProcedure, IsSmall, MayDo, Notices, Ok, Parts, Procedure, Right, RightsFit, TypedProgram, Went, actor_cmp-IsAntisymmetric, actor_cmp_total, after_context, after_data, asked_at, bare_file, bare_frame, bare_rule, bare_task, data_instr, get, id_of, insert, insert_mapped, kinds_in, length-set, mapped, notice_to, params_of, queued, right_in, sees, server_of, slice_get_within, state_of, typed_after, typings_of, with_notices, with_running}
+use Rattle.tw_pool_state.proofs.PartNames.{Actor, ActorCounts, AreAt, AreParts, AreQueued, Call, Context, FrameFits, FrameView, Succeeds, Held, IsAt, IsDone, IsInstr, IsLive, IsProcedure, IsSmall, MayDo, Notices, Ok, Parts, Procedure, Right, RightsFit, TypedProgram, Went, actor_cmp-IsAntisymmetric, actor_cmp_total, after_context, after_data, asked_at, bare_file, bare_frame, bare_rule, bare_task, data_instr, get, id_of, insert, insert_mapped, kinds_in, length-set, mapped, notice_to, params_of, queued, right_in, sees, server_of, slice_get_within, state_of, typed_after, typings_of, with_notices, with_running}
 use Rattle.tw_types.proofs.Parts.{put_or_before}
 use Rattle.tw_code.specs.declared.instr.DataInstr.{DataInstr}
 use Rattle.tw_code.specs.declared.instr.Instr.TheVariants as instr
@@ -154,7 +154,7 @@ module _ (verified : TypedProgram) (layout : ActorCounts) (old : Parts) (notices
     queues_now = notified_arrive old.store new.store o.more o.notified ∙ (ap (λ ns. arrived ns old.store.queues) (o.made notices)
         ∙ sym (call_queues verified.program (state_of old notices) actor (bare_frame f) p (instr.Data d) old.store.queues there here at))
 
-    pub called : Goes verified layout (Call actor) old notices new
+    pub called : Succeeds verified layout (Call actor) old notices new
     called = goes_to verified layout old notices h (Call actor) new left _ goes same_state queues_are.0 (queues_are.1 ∙ h.servers) queues_now layout_is fit_is
         (λ other apart. ap (λ m. get m other) running_tasks ∙ get_other old.running_tasks.tasks actor g other apart)
 

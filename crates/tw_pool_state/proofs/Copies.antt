@@ -1,7 +1,7 @@
 -- DUPR and DUPW: their requirements hold, and they are executed.
 use Rattle.tw_types.specs.Room.{HasReadRoom, HasWriteRoom}
 use Rattle.tw_soundness.proofs.DataLeft.{read_no_write}
-use Rattle.tw_pool_state.proofs.PartNames.{◌^◌, Context, Datum, EmptyRegister, FrameView, HasRoom, IsDone, IsHere, IsNow, MayDo, Notices, Ok, Right, RightType, Served, Typing, at_next_place, bare_file, copy_read_asks, copy_write_asks, data_instr, get, is_none, kind_at, kinds_in, map-set, may_be_read, may_copy_write, must_be_empty, ok_after, passed, passes, read_copied, reads, right_at, sees, there_then, with_notices, write_copied, writes as typed_writes, writes as writes_one}
+use Rattle.tw_pool_state.proofs.PartNames.{◌^◌, Context, Datum, EmptyRegister, FrameView, HasRoom, IsDone, IsHere, IsNow, MayDo, Notices, Ok, Right, RightType, Served, Typing, at_next_place, bare_file, copy_read_requires, copy_write_requires, data_instr, get, is_none, kind_at, kinds_in, map-set, may_be_read, may_copy_write, must_be_empty, ok_after, passed, passes, read_copied, reads, right_at, sees, there_then, with_notices, write_copied, writes as typed_writes, writes as writes_one}
 use Rattle.tw_rights.specs.declared.held.Held.TheVariants as held
 use Rattle.tw_code.specs.declared.instr.DataInstr.TheVariants as on_data
 use Rattle.std.proofs.Common.{◌≡◌, ◌∙◌, ◌+◌, ◌<◌, ℕ, Bool, true, false, [], None, Some, Option, refl, sym, ap, inl, arith, slice_index_or, slice_set, option_map}
@@ -35,7 +35,7 @@ module _ (to from : ℕ) (s : Served) (f : FrameView) (m : MayDo (on_data.CopyRe
   copy_read_right = kind_passed f.held m.typed.typing m.typed.kinds from false reads (λ t e. read_no_write t.mode e) m.typed.asked.1.0
 
   pub copy_read_empty : slice_index_or f.held to None ≡ None
-  copy_read_empty = empty_at f.held to (copy_read_asks (sees s m.ns f) m.left to from m.goes).1
+  copy_read_empty = empty_at f.held to (copy_read_requires (sees s m.ns f) m.left to from m.goes).1
 
   module _ (right : Right) (at : slice_index_or f.held from None ≡ Some (held.Read right)) where
     pub copy_read_here : IsHere s right
@@ -65,7 +65,7 @@ module _ (to from : ℕ) (s : Served) (f : FrameView) (m : MayDo (on_data.CopyRe
 
 module _ (to from : ℕ) (s : Served) (f : FrameView) (m : MayDo (on_data.CopyWrite to from) s f) where
   copy_write_is : (id : ℕ) × (is_none (right_at (bare_file f.held) to) ≡ true) × (right_at (bare_file f.held) from ≡ Some id) × (may_copy_write (get s.store.live id) ≡ Ok tt)
-  copy_write_is = copy_write_asks (sees s m.ns f) m.left to from m.goes
+  copy_write_is = copy_write_requires (sees s m.ns f) m.left to from m.goes
 
   pub copy_write_right : kind_at f.held from ≡ Some true
   copy_write_right = kind_passed f.held m.typed.typing m.typed.kinds from true writes_one (λ t e. e) m.typed.asked.1.0

@@ -1,6 +1,6 @@
 -- A server delivers: on the parts.
 use Rattle.std.proofs.Common.{map, ◌≡◌, ◌<◌, ℕ, true, false, nat_lt, nat_eq, List, ◌∷◌, Some, refl, sym, ap, subst, ◌∙◌, drop, length, set, slice_get, option_map, arith}
-use Rattle.tw_pool_state.proofs.PartNames.{ActorCounts, AreParts, AreQueued, Arg, Deliver, Goes, Notice, Notices, Parts, Procedure, Right, Rule, RuleOf, RulesOf, RightsFit, State, TypedProgram, Went, at_stage, bare_frame, bare_rule, bare_task, get, insert, insert_mapped, is_settled, length-set, mapped, nat_cmp-IsAntisymmetric, nat_cmp_total, nat_tests, queue_at, server_of, state_of, with_stage, RunningView}
+use Rattle.tw_pool_state.proofs.PartNames.{ActorCounts, AreParts, AreQueued, Arg, Deliver, Succeeds, Notice, Notices, Parts, Procedure, Right, Rule, RuleOf, RulesOf, RightsFit, State, TypedProgram, Went, at_stage, bare_frame, bare_rule, bare_task, get, insert, insert_mapped, is_settled, length-set, mapped, nat_cmp-IsAntisymmetric, nat_cmp_total, nat_tests, queue_at, server_of, state_of, with_stage, RunningView}
 use Rattle.std.specs.FinSet as set_of
 use Rattle.tw_types.specs.declared.stage.Stage.{Stage}
 use Rattle.tw_types.specs.declared.stage.Stage.TheVariants.{Waiting, Ready}
@@ -69,7 +69,7 @@ module _ (verified : TypedProgram) (layout : ActorCounts) (old : Parts) (notices
         let own : nat_eq (server_of layout.servers n.datum) server ≡ true = let e = ap (λ k. server_of k n.datum) (sym h.servers) ∙ notes.own old.store.queues notices h.queued server inside n rest is in grind (arith, nat_tests, e) in
         deliver_goes verified.program layout server n (state_of old notices) known.rule low own (notes.has old.store.queues notices h.queued server inside n rest is) known.is
 
-    pub delivers : Goes verified layout (Deliver server n.datum n.rule n.parameter) old notices new
+    pub delivers : Succeeds verified layout (Deliver server n.datum n.rule n.parameter) old notices new
     delivers = goes_to verified layout old notices h (Deliver server n.datum n.rule n.parameter) new left _ came same_state
         (subst (λ qs. AreQueued qs left) (sym queues) (notes.taken old.store.queues notices h.queued server inside n rest is))
         (ap length queues ∙ length-set old.store.queues server rest ∙ h.servers)

@@ -1,5 +1,5 @@
 -- DROPW and DROPR: their requirements hold, and they are executed.
-use Rattle.tw_pool_state.proofs.PartNames.{Context, Datum, EmptyRegister, FrameView, FreedDatum, IsDone, IsHere, IsLeft, KeepsPlaces, MayDo, Notices, Ok, Right, Served, at_next_place, bare_file, data_instr, drop_read_asks, drop_write_asks, get, kind_at, may_drop_read, may_drop_write, notices_after, notices_of_write_dropped, ok_after, one_write_less, read_dropped, reads, right_at, sees, there_then, with_notices, write_dropped, writes as writes_one}
+use Rattle.tw_pool_state.proofs.PartNames.{Context, Datum, EmptyRegister, FrameView, FreedDatum, IsDone, IsHere, IsLeft, KeepsPlaces, MayDo, Notices, Ok, Right, Served, at_next_place, bare_file, data_instr, drop_read_requires, drop_write_requires, get, kind_at, may_drop_read, may_drop_write, notices_after, notices_of_write_dropped, ok_after, one_write_less, read_dropped, reads, right_at, sees, there_then, with_notices, write_dropped, writes as writes_one}
 use Rattle.tw_soundness.proofs.DataLeft.{read_no_write}
 use Rattle.tw_rights.specs.declared.held.Held.TheVariants as held
 use Rattle.tw_code.specs.declared.instr.DataInstr.TheVariants as on_data
@@ -14,7 +14,7 @@ module _ (datum : ℕ) (s : Served) (f : FrameView) (m : MayDo (on_data.DropWrit
   drop_write_right = kind_passed f.held m.typed.typing m.typed.kinds datum true writes_one (λ t e. e) m.typed.asked.0
 
   drop_write_is : (id : ℕ) × (right_at (bare_file f.held) datum ≡ Some id) × (may_drop_write (get s.store.live id) ≡ Ok tt)
-  drop_write_is = drop_write_asks (sees s m.ns f) m.left datum m.goes
+  drop_write_is = drop_write_requires (sees s m.ns f) m.left datum m.goes
 
   module _ (right : Right) (at : slice_index_or f.held datum None ≡ Some (held.Write right)) where
     pub drop_write_here : IsHere s right
@@ -54,7 +54,7 @@ module _ (datum : ℕ) (s : Served) (f : FrameView) (m : MayDo (on_data.DropRead
   drop_read_right = kind_passed f.held m.typed.typing m.typed.kinds datum false reads (λ t e. read_no_write t.mode e) m.typed.asked.0
 
   drop_read_is : (id : ℕ) × (right_at (bare_file f.held) datum ≡ Some id) × (may_drop_read (get s.store.live id) ≡ Ok tt)
-  drop_read_is = drop_read_asks (sees s m.ns f) m.left datum m.goes
+  drop_read_is = drop_read_requires (sees s m.ns f) m.left datum m.goes
 
   module _ (right : Right) (at : slice_index_or f.held datum None ≡ Some (held.Read right)) where
     pub drop_read_here : IsHere s right

@@ -1,6 +1,6 @@
 -- A task ends: on the parts.
 use Rattle.std.proofs.Common.{map, ◌≡◌, ◌∙◌, Some, true, refl, ap, slice_get, is_none}
-use Rattle.tw_pool_state.proofs.PartNames.{Actor, ActorCounts, AreParts, End, FrameView, Goes, Notices, Parts, Procedure, Right, RightsFit, TypedProgram, Went, actor_cmp-IsAntisymmetric, actor_cmp_total, asked_at, bare_frame, bare_rule, bare_task, get, mapped, remove, remove_mapped, state_of, typings_of}
+use Rattle.tw_pool_state.proofs.PartNames.{Actor, ActorCounts, AreParts, End, FrameView, Succeeds, Notices, Parts, Procedure, Right, RightsFit, TypedProgram, Went, actor_cmp-IsAntisymmetric, actor_cmp_total, asked_at, bare_frame, bare_rule, bare_task, get, mapped, remove, remove_mapped, state_of, typings_of}
 use Rattle.std.specs.List.{list_all}
 use Rattle.tw_code.specs.declared.instr.Instr.TheVariants.{Ret}
 use Rattle.tw_code.specs.machine.Holders.{typing_of}
@@ -38,7 +38,7 @@ module _ (verified : TypedProgram) (layout : ActorCounts) (old : Parts) (notices
       outputs = map (λ (right : Right). right.id) (outputs i);
     }
 
-    pub ended : Goes verified layout (End actor) old notices new
+    pub ended : Succeeds verified layout (End actor) old notices new
     ended = goes_to verified layout old notices h (End actor) new notices _ goes same_state (rw store h.queued) (rw store h.servers) (rw store refl) layout_is fit_is
         (λ other apart. ap (λ m. get m other) running_tasks ∙ get_other_left old.running_tasks.tasks actor other apart)
       where

@@ -1,5 +1,5 @@
 -- GET: its requirements hold, and it is executed.
-use Rattle.tw_pool_state.proofs.PartNames.{Completed, Context, EmptyRegister, FrameView, IsDone, IsHere, MayDo, MaySet, Notices, Ok, Right, Served, UnsetDatum, Value, WrongRegister, at_next_place, bare_file, data_instr, datum_at, first_so, get, get_asks, is_closed_mode, is_scalar, kind_at, may_retrieve, must_then, ok_after, option_and_then, reads_closed_scalar, right_at, same_Some, sees, suits, there_then, value_at, with_notices, with_value}
+use Rattle.tw_pool_state.proofs.PartNames.{Completed, Context, EmptyRegister, FrameView, IsDone, IsHere, MayDo, MaySet, Notices, Ok, Right, Served, UnsetDatum, Value, WrongRegister, at_next_place, bare_file, data_instr, datum_at, first_so, get, get_requires, is_closed_mode, is_scalar, kind_at, may_retrieve, must_then, ok_after, option_and_then, reads_closed_scalar, right_at, same_Some, sees, suits, there_then, value_at, with_notices, with_value}
 use Rattle.tw_rights.specs.declared.held.Held.TheVariants as held
 use Rattle.tw_code.specs.declared.instr.DataInstr.TheVariants as on_data
 use Rattle.std.proofs.Common.{◌≡◌, ◌∙◌, ◌+◌, ℕ, false, [], None, Some, refl, sym, ap, inl, slice_get, slice_index_or}
@@ -12,7 +12,7 @@ module _ (to datum : ℕ) (s : Served) (f : FrameView) (m : MayDo (on_data.Get t
   get_right = kind_passed f.held m.typed.typing m.typed.kinds datum false reads_closed_scalar (λ t e. closed_reads t.mode (first_so (is_closed_mode t.mode) (is_scalar t.ty) e)) m.typed.asked.0
 
   asks : (id : ℕ) × (right_at (bare_file f.held) datum ≡ Some id) × (may_retrieve (get s.store.live id) ≡ Ok tt)
-  asks = get_asks (sees s m.ns f) m.left to datum m.goes
+  asks = get_requires (sees s m.ns f) m.left to datum m.goes
 
   module _ (right : Right) (at : slice_index_or f.held datum None ≡ Some (held.Read right)) where
     pub get_here : IsHere s right

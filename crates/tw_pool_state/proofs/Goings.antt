@@ -1,6 +1,6 @@
 -- A task moves on by local steps, and its next job is issued: on the parts.
 use Rattle.std.proofs.Common.{◌≡◌, ◌<◌, ◌+◌, ◌∙◌, ℕ, false, List, Some, refl, sym, ap, subst, slice_get, arith, nat_eq}
-use Rattle.tw_pool_state.proofs.PartNames.{Actor, ActorCounts, AreParts, FrameFits, Goes, IsLent, IsOwed, IsReached, Local, Notices, Parts, Procedure, TasksByActor, RightsFit, State, TypedProgram, Went, actor_cmp-IsAntisymmetric, actor_cmp_total, come, get, insert, insert_mapped, kinds_in, lent_as, mapped, nat_tests, position_there, state_of, steps_leave, typings_of, with_done, with_frame}
+use Rattle.tw_pool_state.proofs.PartNames.{Actor, ActorCounts, AreParts, FrameFits, Succeeds, IsIssued, IsOwed, IsReached, Local, Notices, Parts, Procedure, TasksByActor, RightsFit, State, TypedProgram, Went, actor_cmp-IsAntisymmetric, actor_cmp_total, frame_after, get, insert, insert_mapped, kinds_in, issued_as, mapped, nat_tests, position_there, state_of, steps_leave, typings_of, with_done, with_frame}
 use Rattle.tw_types.specs.declared.event.Event.{Event}
 use Rattle.tw_types.proofs.Outcomes.{same_went}
 use Rattle.tw_code.specs.machine.History.{actor_of}
@@ -34,33 +34,33 @@ module _ (verified : TypedProgram) (layout : ActorCounts) (old : Parts) (notices
   there : get (mapped bare_frame old.running_tasks.tasks) actor ≡ Some (bare_frame f)
   there = seen bare_frame old.running_tasks.tasks actor (Some f) runs
 
-  goes : 0 < done.steps → step verified.program layout (Local actor done.steps) (state_of old notices) ≡ Went (with_frame (state_of old notices) actor (bare_frame (come f done)))
+  goes : 0 < done.steps → step verified.program layout (Local actor done.steps) (state_of old notices) ≡ Went (with_frame (state_of old notices) actor (bare_frame (frame_after f done)))
   unfolding step
   goes some =
       let t = there in let test : nat_eq done.steps 0 ≡ false = grind (arith, nat_tests) in
       let here = way.here in let steps = way.steps in
       rw (test, t, here, steps) refl
 
-  fits : FrameFits verified old.store.places actor (come f done)
+  fits : FrameFits verified old.store.places actor (frame_after f done)
   fits =
       let before = h.rights_fit.frames actor f runs in
       let same = steps_leave verified.program (typings_of verified) h.runnable.is h.runnable.right (state_of old notices) (held verified layout old notices h) actor (bare_frame f) there way.p way.here done.steps done.after way.steps in
       record { program = before.program; own = before.own; placed = before.placed; kinds = before.kinds ∙ ap kinds_in (sym same) }
 
-  same_state : state_of (with_done old actor f done) notices ≡ with_frame (state_of old notices) actor (bare_frame (come f done))
-  same_state = ap (λ m. record (state_of old notices) { frames = m }) (insert_mapped bare_frame actor_cmp_total actor_cmp-IsAntisymmetric old.running_tasks.tasks actor (come f done))
+  same_state : state_of (with_done old actor f done) notices ≡ with_frame (state_of old notices) actor (bare_frame (frame_after f done))
+  same_state = ap (λ m. record (state_of old notices) { frames = m }) (insert_mapped bare_frame actor_cmp_total actor_cmp-IsAntisymmetric old.running_tasks.tasks actor (frame_after f done))
 
-  pub gone : 0 < done.steps → Goes verified layout (Local actor done.steps) old notices (with_done old actor f done)
+  pub gone : 0 < done.steps → Succeeds verified layout (Local actor done.steps) old notices (with_done old actor f done)
   gone some = goes_to verified layout old notices h (Local actor done.steps) (with_done old actor f done) notices _ (goes some) same_state h.queued h.servers refl refl
-      (fit_by_actor verified old.store.places old.running_tasks.tasks old.tasks.tasks old.rules.rules old.outputs h.rights_fit actor (come f done) fits)
-      (get_other old.running_tasks.tasks actor (come f done))
+      (fit_by_actor verified old.store.places old.running_tasks.tasks old.tasks.tasks old.rules.rules old.outputs h.rights_fit actor (frame_after f done) fits)
+      (get_other old.running_tasks.tasks actor (frame_after f done))
 
 -- without a step its position doesn't change
 pub stayed : (program : List Procedure) (old : Parts) (actor : Actor) (f : FrameView) → get old.running_tasks.tasks actor ≡ Some f → (done : DoneView) → Leads program f done → done.steps ≡ 0 → with_done old actor f done ≡ old
 stayed program old actor f runs done way none =
     let at : f.position ≡ done.after = same_went f.position done.after (ap (λ n. local_steps n way.p.code f.position) (sym none) ∙ way.steps) in
     let spent : f.spent + done.steps ≡ f.spent = omega (arith, none) in
-    let same : come f done ≡ f = λ i. record f { position = sym at i; spent = spent i } in
+    let same : frame_after f done ≡ f = λ i. record f { position = sym at i; spent = spent i } in
     ap (λ (m : TasksByActor). record old { running_tasks = record old.running_tasks { tasks = m } }) (ap (insert old.running_tasks.tasks actor) same ∙ same_slot old.running_tasks.tasks actor f runs)
 
 -- ---- issuing
@@ -84,38 +84,38 @@ module _ (verified : TypedProgram) (layout : ActorCounts) (old : Parts) (notices
       (kept_by verified.program (typings_of verified) layout event (state_of old notices) t h.runnable.is h.runnable.right (held verified layout old notices h) goes) actor g now p here)
 
 -- the number under which it is issued isn't in the machine's state
-module _ (new : Parts) (running_tasks : TasksByActor) (actor : Actor) (f : FrameView) (event_no : ℕ) (is_running : new.running_tasks.tasks ≡ insert running_tasks actor (lent_as event_no f)) where
+module _ (new : Parts) (running_tasks : TasksByActor) (actor : Actor) (f : FrameView) (event_no : ℕ) (is_running : new.running_tasks.tasks ≡ insert running_tasks actor (issued_as event_no f)) where
   abbrev unlent : Parts
   unlent = record new { running_tasks = record new.running_tasks { tasks = insert running_tasks actor f } }
 
-  pub lent_state : (notices : Notices) → state_of new notices ≡ state_of unlent notices
-  lent_state notices = ap (λ m. record (state_of new notices) { frames = m })
-      (ap (mapped bare_frame) is_running ∙ insert_mapped bare_frame actor_cmp_total actor_cmp-IsAntisymmetric running_tasks actor (lent_as event_no f)
+  pub issued_state : (notices : Notices) → state_of new notices ≡ state_of unlent notices
+  issued_state notices = ap (λ m. record (state_of new notices) { frames = m })
+      (ap (mapped bare_frame) is_running ∙ insert_mapped bare_frame actor_cmp_total actor_cmp-IsAntisymmetric running_tasks actor (issued_as event_no f)
       ∙ sym (insert_mapped bare_frame actor_cmp_total actor_cmp-IsAntisymmetric running_tasks actor f))
 
   module _ (verified : TypedProgram) (layout : ActorCounts) (notices : Notices) (h : AreParts verified layout unlent notices) where
     before : FrameFits verified new.store.places actor f
     before = h.rights_fit.frames actor f (get_own running_tasks actor f)
 
-    pub lent_parts : AreParts verified layout new notices
-    lent_parts = record {
+    pub issued_parts : AreParts verified layout new notices
+    issued_parts = record {
       runnable = h.runnable;
-      law = subst (IsReached verified.program layout) (sym (lent_state notices)) h.law;
+      law = subst (IsReached verified.program layout) (sym (issued_state notices)) h.law;
       queued = h.queued;
       servers = h.servers;
       layout_is = h.layout_is;
-      rights_fit = subst (λ m. RightsFit verified new.store.places m new.tasks.tasks new.rules.rules new.outputs) (again running_tasks actor f (lent_as event_no f) ∙ sym is_running)
-          (fit_by_actor verified new.store.places (insert running_tasks actor f) new.tasks.tasks new.rules.rules new.outputs h.rights_fit actor (lent_as event_no f) (record { program = before.program; own = before.own; placed = before.placed; kinds = before.kinds }));
+      rights_fit = subst (λ m. RightsFit verified new.store.places m new.tasks.tasks new.rules.rules new.outputs) (again running_tasks actor f (issued_as event_no f) ∙ sym is_running)
+          (fit_by_actor verified new.store.places (insert running_tasks actor f) new.tasks.tasks new.rules.rules new.outputs h.rights_fit actor (issued_as event_no f) (record { program = before.program; own = before.own; placed = before.placed; kinds = before.kinds }));
     }
 
-  pub lent_goes : (verified : TypedProgram) (layout : ActorCounts) (event : Event) → actor_of event ≡ actor → (old : Parts) (notices : Notices) → Goes verified layout event old notices unlent → Goes verified layout event old notices new
-  lent_goes verified layout event own old notices goes = record {
+  pub issued_goes : (verified : TypedProgram) (layout : ActorCounts) (event : Event) → actor_of event ≡ actor → (old : Parts) (notices : Notices) → Succeeds verified layout event old notices unlent → Succeeds verified layout event old notices new
+  issued_goes verified layout event own old notices goes = record {
     left = goes.left;
-    step_is = goes.step_is ∙ ap Went (sym (lent_state goes.left));
-    parts = lent_parts verified layout goes.left goes.parts;
+    step_is = goes.step_is ∙ ap Went (sym (issued_state goes.left));
+    parts = issued_parts verified layout goes.left goes.parts;
     queues = goes.queues;
-    others = λ other apart. ap (λ m. get m other) is_running ∙ get_other running_tasks actor (lent_as event_no f) other (λ e. apart (e ∙ sym own)) ∙ sym (get_other running_tasks actor f other (λ e. apart (e ∙ sym own))) ∙ goes.others other apart;
+    others = λ other apart. ap (λ m. get m other) is_running ∙ get_other running_tasks actor (issued_as event_no f) other (λ e. apart (e ∙ sym own)) ∙ sym (get_other running_tasks actor f other (λ e. apart (e ∙ sym own))) ∙ goes.others other apart;
   }
 
-  pub is_lent : (job : JobView) → job ≡ job_of (lent_as event_no f) → IsLent new actor event_no job
-  is_lent job is = record { f = lent_as event_no f; is_running = ap (λ m. get m actor) is_running ∙ get_own running_tasks actor (lent_as event_no f); number = refl; job_is = is }
+  pub is_issued : (job : JobView) → job ≡ job_of (issued_as event_no f) → IsIssued new actor event_no job
+  is_issued job is = record { f = issued_as event_no f; is_running = ap (λ m. get m actor) is_running ∙ get_own running_tasks actor (issued_as event_no f); number = refl; job_is = is }

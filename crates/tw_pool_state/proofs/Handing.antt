@@ -36,7 +36,7 @@ without_held held [] registers = held
 without_held held (p ∷ params) [] = held
 without_held held (p ∷ params) (register ∷ registers) = without_held (if is_val p.mode then held else set held register None) params registers
 
-pub record Handed (places : Places) (params : List Param) (registers : List ℕ) (held : List (Option Held)) (values : List Value) (given : bare.HandedOver) : Type 0 where
+pub record Handed (places : Places) (params : List Param) (registers : List ℕ) (held : List (Option Held)) (values : List Value) (given : bare.MovedArgs) : Type 0 where
   pub over : file.Bundled
   pub goes : file.bundled held params registers values ≡ Some over
   pub args : each bare_arg over.args ≡ given.args
@@ -84,7 +84,7 @@ AreSuited held (p ∷ params) (register ∷ registers) = SuitsOr (is_val p.mode)
 -- ---- one argument and the others
 
 module _ (places : Places) (p : Param) (params : List Param) (register : ℕ) (registers : List ℕ) (held : List (Option Held)) where
-  by_value : (x : Value) (vals : List Value) (others : bare.HandedOver) → is_val p.mode ≡ true → Handed places params registers held vals others → Handed places (p ∷ params) (register ∷ registers) held (x ∷ vals) (bare.with_arg (ValueArg x) others)
+  by_value : (x : Value) (vals : List Value) (others : bare.MovedArgs) → is_val p.mode ≡ true → Handed places params registers held vals others → Handed places (p ∷ params) (register ∷ registers) held (x ∷ vals) (bare.with_arg (ValueArg x) others)
   by_value x vals others val h = record {
     over = file.with_arg (arg.Val x) h.over;
     goes = let g = h.goes in let m = is_value p.mode val in
@@ -105,7 +105,7 @@ module _ (places : Places) (p : Param) (params : List Param) (register : ℕ) (r
       none : is_val p.mode ≡ true → right_of p ≡ None
       none e = ap (λ b. if b then None else Some (record { mode = p.mode; ty = p.ty })) e
 
-  by_right : (vals : List Value) (h : Held) → is_val p.mode ≡ false → (l : Left places p register held vals (id_of h)) (others : bare.HandedOver) → Handed places params registers (set held register None) vals others
+  by_right : (vals : List Value) (h : Held) → is_val p.mode ≡ false → (l : Left places p register held vals (id_of h)) (others : bare.MovedArgs) → Handed places params registers (set held register None) vals others
       → Handed places (p ∷ params) (register ∷ registers) held vals (bare.with_arg (RightArg (id_of h)) others)
   by_right vals h is l others o = record {
     over = file.with_arg l.arg o.over;
@@ -119,57 +119,57 @@ module _ (places : Places) (p : Param) (params : List Param) (register : ℕ) (r
 
 -- ---- all of them
 
-module _ (places : Places) (values : List Value) (p : Param) (params : List Param) (register : ℕ) (registers : List ℕ) (held : List (Option Held)) (given : bare.HandedOver) where
-  abbrev as_value : Option Value → Result bare.HandedOver Cause → Result bare.HandedOver Cause
+module _ (places : Places) (values : List Value) (p : Param) (params : List Param) (register : ℕ) (registers : List ℕ) (held : List (Option Held)) (given : bare.MovedArgs) where
+  abbrev as_value : Option Value → Result bare.MovedArgs Cause → Result bare.MovedArgs Cause
   as_value o rest = ok_or o WrongRegister >>= λ x. rest >>= λ others. Ok (bare.with_arg (ValueArg x) others)
 
-  abbrev as_right : Option ℕ → Result bare.HandedOver Cause → Result bare.HandedOver Cause
+  abbrev as_right : Option ℕ → Result bare.MovedArgs Cause → Result bare.MovedArgs Cause
   as_right o rest = ok_or o EmptyRegister >>= λ id. rest >>= λ others. Ok (bare.with_arg (RightArg id) others)
 
-  ok_is : (a b : bare.HandedOver) → ◌≡◌ {A = Result bare.HandedOver Cause} (Ok a) (Ok b) → a ≡ b
+  ok_is : (a b : bare.MovedArgs) → ◌≡◌ {A = Result bare.MovedArgs Cause} (Ok a) (Ok b) → a ≡ b
   ok_is a b e = cc
 
   value_case : (vals : List Value) → is_val p.mode ≡ true → AreVals values (p ∷ params) (register ∷ registers) vals
-      → ((v : List Value) → AreVals values params registers v → (others : bare.HandedOver) → bare.handed_over values (bare_file held) params registers ≡ Ok others → Handed places params registers held v others)
-      → as_value (slice_get values register) (bare.handed_over values (bare_file held) params registers) ≡ Ok given → Handed places (p ∷ params) (register ∷ registers) held vals given
+      → ((v : List Value) → AreVals values params registers v → (others : bare.MovedArgs) → bare.moved_args values (bare_file held) params registers ≡ Ok others → Handed places params registers held v others)
+      → as_value (slice_get values register) (bare.moved_args values (bare_file held) params registers) ≡ Ok given → Handed places (p ∷ params) (register ∷ registers) held vals given
   value_case [] is are rest e = let no = are.0 in cc
   value_case (x ∷ vals) is are rest e =
       let val = subst (λ b. ValOr b (slice_get values register) (Some x) (AreVals values params registers vals) (AreVals values params registers (x ∷ vals))) is are in
-      by (bare.handed_over values (bare_file held) params registers) refl (subst (λ o. as_value o (bare.handed_over values (bare_file held) params registers) ≡ Ok given) val.0 e) val.1
+      by (bare.moved_args values (bare_file held) params registers) refl (subst (λ o. as_value o (bare.moved_args values (bare_file held) params registers) ≡ Ok given) val.0 e) val.1
     where
-      by : (r : Result bare.HandedOver Cause) → bare.handed_over values (bare_file held) params registers ≡ r → as_value (Some x) (bare.handed_over values (bare_file held) params registers) ≡ Ok given → AreVals values params registers vals
+      by : (r : Result bare.MovedArgs Cause) → bare.moved_args values (bare_file held) params registers ≡ r → as_value (Some x) (bare.moved_args values (bare_file held) params registers) ≡ Ok given → AreVals values params registers vals
           → Handed places (p ∷ params) (register ∷ registers) held (x ∷ vals) given
       by (Ok others) r e v =
           let same = ok_is (bare.with_arg (ValueArg x) others) given (sym (ap (as_value (Some x)) r) ∙ e) in
           subst (Handed places (p ∷ params) (register ∷ registers) held (x ∷ vals)) same (by_value places p params register registers held x vals others is (rest vals v others r))
-      by (Err why) r e v = let no : ◌≡◌ {A = Result bare.HandedOver Cause} (Err why) (Ok given) = sym (ap (as_value (Some x)) r) ∙ e in cc
+      by (Err why) r e v = let no : ◌≡◌ {A = Result bare.MovedArgs Cause} (Err why) (Ok given) = sym (ap (as_value (Some x)) r) ∙ e in cc
 
   right_case : (vals : List Value) → is_val p.mode ≡ false → Suits p.mode (slice_index_or held register None) → ArePlaced places held
-      → ((others : bare.HandedOver) → bare.handed_over values (bare_file (set held register None)) params registers ≡ Ok others → Handed places params registers (set held register None) vals others)
-      → as_right (option_flatten (slice_get (bare_file held) register)) (bare.handed_over values (slice_set (bare_file held) register None) params registers) ≡ Ok given → Handed places (p ∷ params) (register ∷ registers) held vals given
+      → ((others : bare.MovedArgs) → bare.moved_args values (bare_file (set held register None)) params registers ≡ Ok others → Handed places params registers (set held register None) vals others)
+      → as_right (option_flatten (slice_get (bare_file held) register)) (bare.moved_args values (slice_set (bare_file held) register None) params registers) ≡ Ok given → Handed places (p ∷ params) (register ∷ registers) held vals given
   right_case vals is suits placed rest e =
       by (slice_index_or held register None) refl suits
-      (subst (λ o. as_right o (bare.handed_over values (bare_file (set held register None)) params registers) ≡ Ok given) (seen_at held register)
-      (subst (λ rs. as_right (option_flatten (slice_get (bare_file held) register)) (bare.handed_over values rs params registers) ≡ Ok given) (sym (map-set (option_map id_of) held register None)) e))
+      (subst (λ o. as_right o (bare.moved_args values (bare_file (set held register None)) params registers) ≡ Ok given) (seen_at held register)
+      (subst (λ rs. as_right (option_flatten (slice_get (bare_file held) register)) (bare.moved_args values rs params registers) ≡ Ok given) (sym (map-set (option_map id_of) held register None)) e))
     where
-      by_rest : (h : Held) → slice_index_or held register None ≡ Some h → Suits p.mode (Some h) → (r : Result bare.HandedOver Cause) → bare.handed_over values (bare_file (set held register None)) params registers ≡ r
-          → as_right (Some (id_of h)) (bare.handed_over values (bare_file (set held register None)) params registers) ≡ Ok given → Handed places (p ∷ params) (register ∷ registers) held vals given
+      by_rest : (h : Held) → slice_index_or held register None ≡ Some h → Suits p.mode (Some h) → (r : Result bare.MovedArgs Cause) → bare.moved_args values (bare_file (set held register None)) params registers ≡ r
+          → as_right (Some (id_of h)) (bare.moved_args values (bare_file (set held register None)) params registers) ≡ Ok given → Handed places (p ∷ params) (register ∷ registers) held vals given
       by_rest h at s (Ok others) r e =
           let same = ok_is (bare.with_arg (RightArg (id_of h)) others) given (sym (ap (as_right (Some (id_of h))) r) ∙ e) in
           subst (Handed places (p ∷ params) (register ∷ registers) held vals) same
           (by_right places p params register registers held vals h is (leaves places p register held vals h is at s (placed_at places held register h placed at)) others (rest others r))
-      by_rest h at s (Err why) r e = let no : ◌≡◌ {A = Result bare.HandedOver Cause} (Err why) (Ok given) = sym (ap (as_right (Some (id_of h))) r) ∙ e in cc
+      by_rest h at s (Err why) r e = let no : ◌≡◌ {A = Result bare.MovedArgs Cause} (Err why) (Ok given) = sym (ap (as_right (Some (id_of h))) r) ∙ e in cc
 
-      by : (o : Option Held) → slice_index_or held register None ≡ o → Suits p.mode o → as_right (option_map id_of (slice_index_or held register None)) (bare.handed_over values (bare_file (set held register None)) params registers) ≡ Ok given
+      by : (o : Option Held) → slice_index_or held register None ≡ o → Suits p.mode o → as_right (option_map id_of (slice_index_or held register None)) (bare.moved_args values (bare_file (set held register None)) params registers) ≡ Ok given
           → Handed places (p ∷ params) (register ∷ registers) held vals given
-      by None at s e = let no : ◌≡◌ {A = Result bare.HandedOver Cause} (Err EmptyRegister) (Ok given) = sym (ap (λ k. as_right (option_map id_of k) (bare.handed_over values (bare_file (set held register None)) params registers)) at) ∙ e in cc
-      by (Some h) at s e = by_rest h at s (bare.handed_over values (bare_file (set held register None)) params registers) refl (sym (ap (λ k. as_right (option_map id_of k) (bare.handed_over values (bare_file (set held register None)) params registers)) at) ∙ e)
+      by None at s e = let no : ◌≡◌ {A = Result bare.MovedArgs Cause} (Err EmptyRegister) (Ok given) = sym (ap (λ k. as_right (option_map id_of k) (bare.moved_args values (bare_file (set held register None)) params registers)) at) ∙ e in cc
+      by (Some h) at s e = by_rest h at s (bare.moved_args values (bare_file (set held register None)) params registers) refl (sym (ap (λ k. as_right (option_map id_of k) (bare.moved_args values (bare_file (set held register None)) params registers)) at) ∙ e)
 
   either : (b : Bool) → is_val p.mode ≡ b → (vals : List Value) → SuitsOr b (AreSuited held params registers) (Suits p.mode (slice_index_or held register None) × AreSuited (set held register None) params registers)
       → AreVals values (p ∷ params) (register ∷ registers) vals → ArePlaced places held
-      → ((v : List Value) → AreSuited held params registers → AreVals values params registers v → (others : bare.HandedOver) → bare.handed_over values (bare_file held) params registers ≡ Ok others → Handed places params registers held v others)
-      → (AreSuited (set held register None) params registers → AreVals values params registers vals → (others : bare.HandedOver) → bare.handed_over values (bare_file (set held register None)) params registers ≡ Ok others → Handed places params registers (set held register None) vals others)
-      → (if b then as_value (slice_get values register) (bare.handed_over values (bare_file held) params registers) else as_right (option_flatten (slice_get (bare_file held) register)) (bare.handed_over values (slice_set (bare_file held) register None) params registers)) ≡ Ok given
+      → ((v : List Value) → AreSuited held params registers → AreVals values params registers v → (others : bare.MovedArgs) → bare.moved_args values (bare_file held) params registers ≡ Ok others → Handed places params registers held v others)
+      → (AreSuited (set held register None) params registers → AreVals values params registers vals → (others : bare.MovedArgs) → bare.moved_args values (bare_file (set held register None)) params registers ≡ Ok others → Handed places params registers (set held register None) vals others)
+      → (if b then as_value (slice_get values register) (bare.moved_args values (bare_file held) params registers) else as_right (option_flatten (slice_get (bare_file held) register)) (bare.moved_args values (slice_set (bare_file held) register None) params registers)) ≡ Ok given
       → Handed places (p ∷ params) (register ∷ registers) held vals given
   either true is vals suits are placed of_value of_right e = value_case vals is are (λ v a others q. of_value v suits a others q) e
   either false is vals suits are placed of_value of_right e = right_case vals is suits.0 placed (λ others q. of_right suits.1 (right_vals vals are) others q) e
@@ -179,8 +179,8 @@ module _ (places : Places) (values : List Value) (p : Param) (params : List Para
       right_vals (x ∷ vals) are = subst (λ b. ValOr b (slice_get values register) (Some x) (AreVals values params registers vals) (AreVals values params registers (x ∷ vals))) is are
 
 -- if the definition takes the arguments, the file does, with their rights
-pub handed : (places : Places) (values : List Value) (held : List (Option Held)) (params : List Param) (registers : List ℕ) (vals : List Value) (given : bare.HandedOver)
-    → length registers ≡ length params → bare.handed_over values (bare_file held) params registers ≡ Ok given → AreSuited held params registers → AreVals values params registers vals → ArePlaced places held
+pub handed : (places : Places) (values : List Value) (held : List (Option Held)) (params : List Param) (registers : List ℕ) (vals : List Value) (given : bare.MovedArgs)
+    → length registers ≡ length params → bare.moved_args values (bare_file held) params registers ≡ Ok given → AreSuited held params registers → AreVals values params registers vals → ArePlaced places held
     → Handed places params registers held vals given
 handed places values held [] registers vals given long e suits are placed =
     let same : record { args = []; rights = bare_file held } ≡ given = cc in

@@ -1,6 +1,6 @@
 -- RULE and PUT: arguments that leave the frame, and the rest of it.
 use Rattle.std.proofs.Common.{map as each, ◌≡◌, ◌+◌, ◌<◌, ◌≤◌, ◌∙◌, ℕ, List, Option, Some, IsSome, refl, sym, ap, subst, slice_get, length, arith}
-use Rattle.tw_pool_state.proofs.PartNames.{Action, Actor, ActorCounts, AreParts, ArePlaced, Arg, ArgsMatch, FrameFits, FrameView, Held, IsProcedure, IsProgram, Notices, Parts, Procedure, TypedProgram, Typing, Value, at_next_place, bare_arg, bare_file, bare_frame, context_of, get, gone_after, gone_on, kinds_in, kinds_of, named_values, params_in, params_of, same_Some, slice_get_within, state_of, typings_of, without_args}
+use Rattle.tw_pool_state.proofs.PartNames.{Action, Actor, ActorCounts, AreParts, ArePlaced, Arg, ArgsMatch, FrameFits, FrameView, Held, IsProcedure, IsProgram, Notices, Parts, Procedure, TypedProgram, Typing, Value, at_next_place, bare_arg, bare_file, bare_frame, context_of, get, frame_after_call, frame_at_next, kinds_in, kinds_of, named_values, params_in, params_of, same_Some, slice_get_within, state_of, typings_of, without_args}
 use Rattle.tw_rights.specs.Bundled.{Bundled, bundled}
 use Rattle.tw_code.specs.declared.instr.Instr.{Instr}
 use Rattle.tw_code.specs.machine.Holders.{typing_at}
@@ -43,7 +43,7 @@ module _ (verified : TypedProgram) (layout : ActorCounts) (old : Parts) (notices
     pub bare_args : each bare_arg args ≡ u.given.args
     bare_args = ap (λ (o : Bundled). each bare_arg o.args) (sym same) ∙ all_handed.args
 
-    pub frame_is : bare_frame (gone_on f file) ≡ gone_after (bare_frame f) u.given.rights
+    pub frame_is : bare_frame (frame_at_next f file) ≡ frame_after_call (bare_frame f) u.given.rights
     frame_is =
         let rights : bare_file file ≡ u.given.rights = ap (λ (o : Bundled). bare_file o.file) (sym same) ∙ all_handed.rights in
         λ i. record { task = f.task; procedure = f.procedure; position = at_next_place f.position; rights = rights i; spent = f.spent + 1 }
@@ -51,7 +51,7 @@ module _ (verified : TypedProgram) (layout : ActorCounts) (old : Parts) (notices
     pub args_match : ArgsMatch old.store.places (params_of verified.program action.procedure) args
     args_match = subst (λ ps. ArgsMatch old.store.places ps args) (sym (ap params_in u.is)) (subst (λ (o : Bundled). ArgsMatch old.store.places u.procedure.params o.args) same all_handed.rights_fit)
 
-    pub fits_after : typing_at (typings_of verified) f.procedure (f.position.place + 1) ≡ without_args (params_of verified.program action.procedure) action.args typing → FrameFits verified old.store.places actor (gone_on f file)
+    pub fits_after : typing_at (typings_of verified) f.procedure (f.position.place + 1) ≡ without_args (params_of verified.program action.procedure) action.args typing → FrameFits verified old.store.places actor (frame_at_next f file)
     fits_after following_is = record {
       program = fits.program;
       own = fits.own;

@@ -1,5 +1,5 @@
 -- INS: its requirements hold, and it is executed.
-use Rattle.tw_pool_state.proofs.PartNames.{Context, EmptyRegister, FrameView, Held, IsAbsent, IsDone, IsHere, IsNow, IsSome, IsUnchanged, MayDo, Notices, Ok, Right, RightType, Scalar, Served, Skipped, Subscript, after_insert, at_goal, at_next_place, bare_file, bare_frame, data_instr, first_so, get, insert_asks, inserted, is_container_by, is_element_of, is_read, is_write, kind_at, may_insert, member_at, of_type_at, ok_after, ok_first, passed, passes, reads_member_of, right_at, scalar_of, sees, there_then, writes_container_by}
+use Rattle.tw_pool_state.proofs.PartNames.{Context, EmptyRegister, FrameView, Held, IsAbsent, IsDone, IsHere, IsNow, IsSome, IsUnchanged, MayDo, Notices, Ok, Right, RightType, Scalar, Served, Skipped, Subscript, after_insert, at_goal, at_next_place, bare_file, bare_frame, data_instr, first_so, get, insert_requires, inserted, is_container_by, is_element_of, is_read, is_write, kind_at, may_insert, member_at, of_type_at, ok_after, ok_first, passed, passes, reads_member_of, right_at, scalar_of, sees, there_then, writes_container_by}
 use Rattle.tw_soundness.proofs.DataLeft.{read_no_write}
 use Rattle.tw_rights.specs.declared.held.Held.TheVariants as held
 use Rattle.tw_code.specs.declared.instr.DataInstr.TheVariants as on_data
@@ -43,7 +43,7 @@ module _ (by : Scalar) (container subscript member skip : ℕ) (s : Served) (f :
 
   asks : (at : Subscript) × (id inner : ℕ) × (of_type_at f.position subscript by ≡ Ok at) × (right_at (bare_file f.held) container ≡ Some id) × (right_at (bare_file f.held) member ≡ Some inner)
       × (may_insert by (get s.store.live id) (get s.store.live inner) ≡ Ok tt)
-  asks = insert_asks (sees s m.ns f) m.left by container subscript member skip m.goes
+  asks = insert_requires (sees s m.ns f) m.left by container subscript member skip m.goes
 
   pub insert_inside : subscript < length f.position.values
   insert_inside = of_type_inside f.position subscript by asks.0 asks.3

@@ -1,6 +1,6 @@
 -- RULE and PUT: the kinds of the rights that leave the registers, and of those that are left.
 use Rattle.std.proofs.Common.{◌≡◌, ℕ, zero, suc, Bool, true, false, if◌then◌else◌, List, [], ◌∷◌, ◌++◌, Option, Some, None, refl, sym, ap, ◌∙◌, slice_set, slice_index_or, option_map, set}
-use Rattle.tw_pool_state.proofs.PartNames.{AllYes, Held, Mode, Param, RightType, Scalar, Typing, asks_args, asks_value, first_so, is_closed_mode, is_read, is_val, is_write, kinds_in, map-set, right_fits_param, passed, passes, right_at, same_Some, same_type, suits_mode, without_args, yes_after}
+use Rattle.tw_pool_state.proofs.PartNames.{AllYes, Held, Mode, Param, RightType, Scalar, Typing, requires_args, requires_value, first_so, is_closed_mode, is_read, is_val, is_write, kinds_in, map-set, right_fits_param, passed, passes, right_at, same_Some, same_type, suits_mode, without_args, yes_after}
 use Rattle.tw_types.specs.declared.param.Mode.TheVariants as mode
 use Rattle.tw_rights.specs.Kinds.{kinds_of, writes}
 use Rattle.tw_pool_state.proofs.Handing.{AreSuited, Suits, SuitsOr, without_held}
@@ -54,7 +54,7 @@ module _ (waits : Bool) (declared : List Scalar) where
       let kind : writes h ≡ is_write right.0.mode = same_Some _ _ (e ∙ ap (option_map (λ (t : RightType). is_write t.mode)) right.1) in
       kind ∙ same_kind waits p.mode right.0 (first_so (suits_mode waits p.mode right.0) (same_type right.0.ty p.ty) right.2)
 
-  pub suited : (params : List Param) (registers : List ℕ) (held : List (Option Held)) (typing : Typing) → kinds_of held ≡ kinds_in typing → AllYes (asks_args waits declared params registers typing) → AreSuited held params registers
+  pub suited : (params : List Param) (registers : List ℕ) (held : List (Option Held)) (typing : Typing) → kinds_of held ≡ kinds_in typing → AllYes (requires_args waits declared params registers typing) → AreSuited held params registers
   suited [] registers held typing e met = tt
   suited (p ∷ params) [] held typing e met = tt
   suited (p ∷ params) (register ∷ registers) held typing e met = by (is_val p.mode) met (suited params registers held typing e)
@@ -62,11 +62,11 @@ module _ (waits : Bool) (declared : List Scalar) where
       (map-set (option_map writes) held register None ∙ ap (λ ks. set ks register None) e ∙ sym (map-set (option_map (λ (t : RightType). is_write t.mode)) typing register None)) m)
     where
       by : (b : Bool)
-          → AllYes (if b then asks_value declared register p.ty.scalar ++ asks_args waits declared params registers typing else (4, passes (right_fits_param waits p) (right_at typing register)) ∷ asks_args waits declared params registers (slice_set typing register None))
-          → (AllYes (asks_args waits declared params registers typing) → AreSuited held params registers)
-          → (AllYes (asks_args waits declared params registers (slice_set typing register None)) → AreSuited (set held register None) params registers)
+          → AllYes (if b then requires_value declared register p.ty.scalar ++ requires_args waits declared params registers typing else (4, passes (right_fits_param waits p) (right_at typing register)) ∷ requires_args waits declared params registers (slice_set typing register None))
+          → (AllYes (requires_args waits declared params registers typing) → AreSuited held params registers)
+          → (AllYes (requires_args waits declared params registers (slice_set typing register None)) → AreSuited (set held register None) params registers)
           → SuitsOr b (AreSuited held params registers) (Suits p.mode (slice_index_or held register None) × AreSuited (set held register None) params registers)
-      by true m same left = same (yes_after (asks_value declared register p.ty.scalar) (asks_args waits declared params registers typing) m)
+      by true m same left = same (yes_after (requires_value declared register p.ty.scalar) (requires_args waits declared params registers typing) m)
       by false m same left = (suits_at p (slice_index_or held register None) (right_at typing register) (kind_there held typing register e) m.0, left m.1)
 
 -- the remaining rights are of the kinds of the remaining typing

@@ -1,6 +1,6 @@
 -- The theorems on the machine, for the state of the parts.
 use Rattle.std.proofs.Common.{◌≡◌, ◌≢◌, ◌<◌, ◌∙◌, sym, ap, ℕ, ◌++◌, ◌∷◌, [], length, slice_get, Option, Some, None, ◌≤◌, true, arith}
-use Rattle.tw_pool_state.proofs.PartNames.{Actor, ActorCounts, AreParts, AreQueued, FrameView, Goes, HasSlot, IsLayout, IsReached, Notices, Parts, Procedure, RightsFit, State, TypedProgram, Went, bare_frame, get, is_control, is_in, ltb-true, number_in_kind, opening, state_of, step, typings_of}
+use Rattle.tw_pool_state.proofs.PartNames.{Actor, ActorCounts, AreParts, AreQueued, FrameView, Succeeds, HasSlot, IsLayout, IsReached, Notices, Parts, Procedure, RightsFit, State, TypedProgram, Went, bare_frame, get, is_control, is_in, ltb-true, number_in_kind, opening, state_of, step, typings_of}
 use Rattle.tw_types.specs.declared.actor.Actor.TheVariants.{Engine, Server, Worker}
 use Rattle.tw_types.specs.declared.event.Event.{Event}
 use Rattle.tw_types.specs.declared.actor.Kind.{Kind}
@@ -33,7 +33,7 @@ module _ (verified : TypedProgram) (layout : ActorCounts) (p : Parts) (notices :
   -- an event, from what it leaves
   pub goes_to : (event : Event) (new : Parts) (left : Notices) (next : State) → step verified.program layout event (state_of p notices) ≡ Went next → state_of new left ≡ next
       → AreQueued new.store.queues left → length new.store.queues ≡ layout.servers → new.store.queues ≡ queues_after verified.program event (state_of p notices) p.store.queues → new.running_tasks.layout ≡ p.running_tasks.layout → RightsFit verified new.store.places new.running_tasks.tasks new.tasks.tasks new.rules.rules new.outputs
-      → ((actor : Actor) → actor ≢ actor_of event → get new.running_tasks.tasks actor ≡ get p.running_tasks.tasks actor) → Goes verified layout event p notices new
+      → ((actor : Actor) → actor ≢ actor_of event → get new.running_tasks.tasks actor ≡ get p.running_tasks.tasks actor) → Succeeds verified layout event p notices new
   goes_to event new left next step_is same queued servers queues own rights_fit others =
       let went : step verified.program layout event (state_of p notices) ≡ Went (state_of new left) = step_is ∙ ap Went (sym same) in
       record {

@@ -1,5 +1,5 @@
 -- The effects of an instruction, by what changed in the right registers: one was emptied, one was filled, or none changed.
-use Rattle.tw_pool_state.proofs.PartNames.{AllYes, Cause, Completed, Context, Datum, FrameView, Held, IsAt, IsDone, IsLeft, IsLive, AreNotified, Notice, Notices, Ok, Position, Result, Scalar, Served, Typing, after_data, asks_data, at_next_place, bare_file, data_instr, get, id_of, is_closed, kinds_in, map-set, notice_to, notices_after, notices_of, queued, right_in, same_Some, sees, with_notices, writes as typed_writes}
+use Rattle.tw_pool_state.proofs.PartNames.{AllYes, Cause, Completed, Context, Datum, FrameView, Held, IsAt, IsDone, IsLeft, IsLive, AreNotified, Notice, Notices, Ok, Position, Result, Scalar, Served, Typing, after_data, requires_data, at_next_place, bare_file, data_instr, get, id_of, is_closed, kinds_in, map-set, notice_to, notices_after, notices_of, queued, right_in, same_Some, sees, with_notices, writes as typed_writes}
 use Rattle.tw_pool_state.proofs.Registers.{set_own}
 use Rattle.std.proofs.Common.{map as each, ◌≡◌, ◌⊎◌, ◌+◌, ◌∙◌, ℕ, zero, suc, Bool, true, false, if◌then◌else◌, List, [], ◌∷◌, ◌++◌, Some, None, refl, sym, ap, subst, slice_index_or, slice_set, set, option_map, inl, inr, append-nil}
 use Rattle.tw_rights.specs.Kinds.{kinds_of, writes}
@@ -44,7 +44,7 @@ module _ (d : DataInstr) (old new : Served) (f : FrameView) (more : List Notice)
   module _ (register : ℕ) (h : Held) (at : IsAt new.places (right_in h)) (goes : (ns : Notices) (k : Context) → data_instr d (sees old ns f) ≡ Ok k
       → k ≡ record { store = new.store; notices = with_notices ns more; rights = slice_set (bare_file f.held) register (Some (id_of h)); position = at_next_place f.position })
       (onwards : onward Completed f.position.place (data_flow d) ≡ Some (f.position.place + 1))
-      (fills : (registers : List Scalar) (typing : Typing) → kinds_of f.held ≡ kinds_in typing → AllYes (asks_data registers d typing) → kinds_in (after_data Completed d typing) ≡ slice_set (kinds_in typing) register (Some (writes h))) where
+      (fills : (registers : List Scalar) (typing : Typing) → kinds_of f.held ≡ kinds_in typing → AllYes (requires_data registers d typing) → kinds_in (after_data Completed d typing) ≡ slice_set (kinds_in typing) register (Some (writes h))) where
     abbrev pub filled : FrameView
     filled = record f { position = at_next_place f.position; held = slice_set f.held register (Some h); spent = f.spent + 1 }
 

@@ -1,5 +1,5 @@
 -- LOOK: its requirements hold, and it is executed.
-use Rattle.tw_pool_state.proofs.PartNames.{Context, EmptyRegister, FrameView, HasMemberRoom, IsDone, IsHere, IsLook, MayDo, NestedScalar, Notices, Ok, Right, RightType, Scalar, Served, Skipped, Subscript, a_member_read, after_look, at_goal, at_next_place, bare_file, data_instr, element_of, first_so, get, is_closed_mode, is_container_by, is_none, kind_at, kinds_in, look_asks, map-set, may_look, member_at, must_be_empty, of_type_at, ok_after, ok_first, passed, passes, reads_closed_container_by, right_at, second_so, sees, there_then, writes as typed_writes}
+use Rattle.tw_pool_state.proofs.PartNames.{Context, EmptyRegister, FrameView, HasMemberRoom, IsDone, IsHere, IsLook, MayDo, NestedScalar, Notices, Ok, Right, RightType, Scalar, Served, Skipped, Subscript, a_member_read, after_look, at_goal, at_next_place, bare_file, data_instr, element_of, first_so, get, is_closed_mode, is_container_by, is_none, kind_at, kinds_in, look_requires, map-set, may_look, member_at, must_be_empty, of_type_at, ok_after, ok_first, passed, passes, reads_closed_container_by, right_at, second_so, sees, there_then, writes as typed_writes}
 use Rattle.tw_rights.specs.declared.held.Held.TheVariants as held
 use Rattle.tw_code.specs.declared.instr.DataInstr.TheVariants as on_data
 use Rattle.tw_pool_state.proofs.Copies.{read_room}
@@ -27,7 +27,7 @@ module _ (by : Scalar) (member container subscript skip : ℕ) (s : Served) (f :
   look_right = kind_passed f.held m.typed.typing m.typed.kinds container false (reads_closed_container_by by) (λ t e. closed_reads t.mode (first_so (is_closed_mode t.mode) (is_container_by by t.ty) e)) m.typed.asked.1.0
 
   asks : (at : Subscript) × (id : ℕ) × (of_type_at f.position subscript by ≡ Ok at) × (is_none (right_at (bare_file f.held) member) ≡ true) × (right_at (bare_file f.held) container ≡ Some id) × (may_look s.store id at ≡ Ok tt)
-  asks = look_asks (sees s m.ns f) m.left by member container subscript skip m.goes
+  asks = look_requires (sees s m.ns f) m.left by member container subscript skip m.goes
 
   pub look_inside : subscript < length f.position.values
   look_inside = of_type_inside f.position subscript by asks.0 asks.2

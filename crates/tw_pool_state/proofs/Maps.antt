@@ -1,5 +1,5 @@
 -- MINS, MADD and MGET: their requirements hold, and they are executed.
-use Rattle.tw_pool_state.proofs.PartNames.{Completed, Context, Datum, EmptyRegister, FrameView, FreedDatum, IsDone, IsHere, IsNow, IsTextAt, IsValueAbsent, MayDo, MaySet, Notices, Ok, Position, Right, Served, Skipped, Subscript, Value, WrongRegister, WrongType, ℤ, after_put, and_parts, at_goal, at_next_place, bare_file, bare_frame, data_instr, datum_at, entries_in, entry_at, first_so, get, get_value_asks, add_value_asks, if_absent, insert_value_asks, int_at, is_closed_mode, is_map, is_map_by, is_map_of, is_plain_map, is_sums, is_write, kind_at, may_add, may_put, may_read_entry, must_then, ok_after, ok_first, option_and_then, option_map, reads_closed_map, right_at, same_scalar, same_Some, scalar_of, sees, slice_get_within, suits_entry, suits_subscript, sum_with, there_then, value_put, with_result, with_value, writes_map, writes_sums}
+use Rattle.tw_pool_state.proofs.PartNames.{Completed, Context, Datum, EmptyRegister, FrameView, FreedDatum, IsDone, IsHere, IsNow, IsTextAt, IsValueAbsent, MayDo, MaySet, Notices, Ok, Position, Right, Served, Skipped, Subscript, Value, WrongRegister, WrongType, ℤ, after_put, and_parts, at_goal, at_next_place, bare_file, bare_frame, data_instr, datum_at, entries_in, entry_at, first_so, get, get_value_requires, add_value_requires, if_absent, insert_value_requires, int_at, is_closed_mode, is_map, is_map_by, is_map_of, is_plain_map, is_sums, is_write, kind_at, may_add, may_put, may_read_entry, must_then, ok_after, ok_first, option_and_then, option_map, reads_closed_map, right_at, same_scalar, same_Some, scalar_of, sees, slice_get_within, suits_entry, suits_subscript, sum_with, there_then, value_put, with_result, with_value, writes_map, writes_sums}
 use Rattle.tw_types.specs.declared.data_type.Scalar.TheVariants as scalar
 use Rattle.tw_types.specs.declared.value.Value.TheVariants as value
 use Rattle.tw_types.proofs.SameTypes.{same_scalars}
@@ -32,7 +32,7 @@ module _ (d subscript from skip : ℕ) (s : Served) (f : FrameView) (m : MayDo (
   put_right = kind_passed f.held m.typed.typing m.typed.kinds d true writes_map (λ t e. first_so (is_write t.mode) (is_plain_map t.ty) e) m.typed.asked.0
 
   asks : (at : Subscript) × (x : Value) × (id : ℕ) × (slice_get f.position.values subscript ≡ Some at) × (slice_get f.position.values from ≡ Some x) × (right_at (bare_file f.held) d ≡ Some id) × (may_put at x (get s.store.live id) ≡ Ok tt)
-  asks = insert_value_asks (sees s m.ns f) m.left d subscript from skip m.goes
+  asks = insert_value_requires (sees s m.ns f) m.left d subscript from skip m.goes
 
   pub put_inside : subscript < length f.position.values
   put_inside = slice_get_within f.position.values subscript asks.0 asks.3
@@ -93,7 +93,7 @@ module _ (d subscript from : ℕ) (s : Served) (f : FrameView) (m : MayDo (on_da
   add_right = kind_passed f.held m.typed.typing m.typed.kinds d true writes_sums (λ t e. first_so (is_write t.mode) (is_sums t.ty && same_scalar scalar.Int t.ty.scalar) e) m.typed.asked.0
 
   sums : (at : Subscript) × (n : ℤ) × (id : ℕ) × (slice_get f.position.values subscript ≡ Some at) × (int_at f.position from ≡ Ok n) × (right_at (bare_file f.held) d ≡ Some id) × (may_add at (get s.store.live id) ≡ Ok tt)
-  sums = add_value_asks (sees s m.ns f) m.left d subscript from m.goes
+  sums = add_value_requires (sees s m.ns f) m.left d subscript from m.goes
 
   pub add_inside : subscript < length f.position.values
   add_inside = slice_get_within f.position.values subscript sums.0 sums.3
@@ -138,7 +138,7 @@ module _ (to d subscript skip : ℕ) (s : Served) (f : FrameView) (m : MayDo (on
   read_right = kind_passed f.held m.typed.typing m.typed.kinds d false reads_closed_map (λ t e. closed_reads t.mode (first_so (is_closed_mode t.mode) (is_map t.ty) e)) m.typed.asked.0
 
   reads : (old : Value) × (at : Subscript) × (id : ℕ) × (slice_get f.position.values to ≡ Some old) × (slice_get f.position.values subscript ≡ Some at) × (right_at (bare_file f.held) d ≡ Some id) × (may_read_entry at (scalar_of old) (get s.store.live id) ≡ Ok tt)
-  reads = get_value_asks (sees s m.ns f) m.left to d subscript skip m.goes
+  reads = get_value_requires (sees s m.ns f) m.left to d subscript skip m.goes
 
   pub read_inside : subscript < length f.position.values
   read_inside = slice_get_within f.position.values subscript reads.1 reads.4

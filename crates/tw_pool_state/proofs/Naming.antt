@@ -1,6 +1,6 @@
 -- RULE and PUT: consequences of the theorem, if a task is at one.
 use Rattle.std.proofs.Common.{◌≡◌, ◌==◌, ℤ, Bool, true, false, List, Some, Result, Ok, Err, refl, sym, ap, subst, ◌∙◌, length, slice_get}
-use Rattle.tw_pool_state.proofs.PartNames.{Action, Actor, ActorCounts, AllYes, AreParts, ArgumentNotClosed, Call, Called, Cause, Context, FrameView, FreedDatum, HandedOver, Held, Notices, Parts, Procedure, Trap, TypedProgram, Typing, WrongCall, WrongRegister, WrongType, all_pass, asked_at, asks_callee, asks_priority, bare_frame, called, context_of, get, handed_over, is_closed_if_asked, is_control, is_live, is_of_type, mapped, must_then, ok_first, priority_at, put_called, same_Some, state_of, there_then, typings_of, values_suit, yes_after}
+use Rattle.tw_pool_state.proofs.PartNames.{Action, Actor, ActorCounts, AllYes, AreParts, ArgumentNotClosed, Call, Called, Cause, Context, FrameView, FreedDatum, MovedArgs, Held, Notices, Parts, Procedure, Trap, TypedProgram, Typing, WrongCall, WrongRegister, WrongType, all_pass, asked_at, requires_callee, requires_priority, bare_frame, called, context_of, get, moved_args, is_closed_if_required, is_control, is_live, is_of_type, mapped, must_then, ok_first, priority_at, put_called, same_Some, state_of, there_then, typings_of, values_suit, yes_after}
 use Rattle.tw_types.specs.declared.actor.Kind.{Kind}
 use Rattle.std.specs.declared.option.Option.{Option}
 use Rattle.tw_code.specs.declared.instr.Instr.TheVariants as instr
@@ -23,8 +23,8 @@ pub record IsNamed (program : List Procedure) (kind : Kind) (c : Context) (actio
   pub values : values_suit c.position.values procedure.params action.args ≡ true
   pub priority : ℤ
   pub priority_is : priority_at c.position action.priority ≡ Ok priority
-  pub given : HandedOver
-  pub handed : handed_over c.position.values c.rights procedure.params action.args ≡ Ok given
+  pub given : MovedArgs
+  pub handed : moved_args c.position.values c.rights procedure.params action.args ≡ Ok given
   pub goes : called program kind c action ≡ Ok (record {
     task = record { kind = procedure.kind; procedure = action.procedure; priority = priority; target = action.target; args = given.args };
     params = procedure.params;
@@ -42,7 +42,7 @@ module _ (verified : TypedProgram) (layout : ActorCounts) (old : Parts) (notices
   abbrev typing : Typing
   typing = typing_at (typings_of verified) f.procedure f.position.place
 
-  named : (waits : Bool) → AllYes (asks_callee waits p.registers (slice_get verified.program action.procedure) action.args typing) → (call : Called) → called verified.program p.kind context action ≡ Ok call → IsNamed verified.program p.kind context action f.held
+  named : (waits : Bool) → AllYes (requires_callee waits p.registers (slice_get verified.program action.procedure) action.args typing) → (call : Called) → called verified.program p.kind context action ≡ Ok call → IsNamed verified.program p.kind context action f.held
   named waits met call ok =
       let callee = callee_met waits p.registers (slice_get verified.program action.procedure) action.args typing met in
       let known = there_then (slice_get verified.program action.procedure) WrongCall _ call ok in
@@ -50,7 +50,7 @@ module _ (verified : TypedProgram) (layout : ActorCounts) (old : Parts) (notices
       let control = must_then (is_control p.kind) WrongCall _ call count.1 in
       let values = must_then (values_suit f.position.values known.0.params action.args) WrongRegister _ call control.1 in
       let number = ok_first (priority_at f.position action.priority) _ call values.1 in
-      let given = ok_first (handed_over f.position.values context.rights known.0.params action.args) _ call number.2 in
+      let given = ok_first (moved_args f.position.values context.rights known.0.params action.args) _ call number.2 in
       let live = must_then (all_pass is_live old.store.store.live known.0.params given.0.args) FreedDatum _ call given.2 in
       let typed = must_then (all_pass is_of_type old.store.store.live known.0.params given.0.args) WrongType _ call live.1 in
       let same : callee.procedure ≡ known.0 = same_Some callee.procedure known.0 (sym callee.is ∙ known.1) in
@@ -80,7 +80,7 @@ module _ (verified : TypedProgram) (layout : ActorCounts) (old : Parts) (notices
     rules = by (called verified.program p.kind context action) refl
       where
         by : (o : Result Called Cause) → called verified.program p.kind context action ≡ o → IsNamed verified.program p.kind context action f.held
-        by (Ok call) ok = named true (yes_after (asks_priority p.registers action.priority) _ (asked_at verified.program (typings_of verified) h.runnable.is h.runnable.right f.procedure p here f.position.place (instr.Rule action) at).1) call ok
+        by (Ok call) ok = named true (yes_after (requires_priority p.registers action.priority) _ (asked_at verified.program (typings_of verified) h.runnable.is h.runnable.right f.procedure p here f.position.place (instr.Rule action) at).1) call ok
         by (Err why) err = absurd ((safe verified.program (typings_of verified) h.runnable.is h.runnable.right layout (state_of old notices) (held verified layout old notices h)).no_trap (Call actor) why (rule_trapped why err))
 
   -- ---- PUT
@@ -101,9 +101,9 @@ module _ (verified : TypedProgram) (layout : ActorCounts) (old : Parts) (notices
         by : (o : Result Called Cause) → put_called verified.program p.kind context action ≡ o → IsPut
         by (Ok call) ok =
             let outer = ok_first (called verified.program p.kind context action) _ call ok in
-            let closed = must_then (all_pass is_closed_if_asked old.store.store.live outer.0.params outer.0.task.args) ArgumentNotClosed _ call outer.2 in
+            let closed = must_then (all_pass is_closed_if_required old.store.store.live outer.0.params outer.0.task.args) ArgumentNotClosed _ call outer.2 in
             record {
-              is_named = named false (yes_after (asks_priority p.registers action.priority) _ (asked_at verified.program (typings_of verified) h.runnable.is h.runnable.right f.procedure p here f.position.place (instr.Put action) at).1) outer.0 outer.1;
+              is_named = named false (yes_after (requires_priority p.registers action.priority) _ (asked_at verified.program (typings_of verified) h.runnable.is h.runnable.right f.procedure p here f.position.place (instr.Put action) at).1) outer.0 outer.1;
               is_closed = ok ∙ sym closed.1 ∙ sym outer.1;
             }
         by (Err why) err = absurd ((safe verified.program (typings_of verified) h.runnable.is h.runnable.right layout (state_of old notices) (held verified layout old notices h)).no_trap (Call actor) why (put_trapped why err))

@@ -1,6 +1,6 @@
 -- RULE: on the parts.
 use Rattle.std.proofs.Common.{map as each, ◌≡◌, ◌+◌, ◌∙◌, List, Option, Some, refl, sym, ap, subst, slice_get}
-use Rattle.tw_pool_state.proofs.PartNames.{Action, Actor, ActorCounts, AreParts, Arg, Call, Completed, FrameFits, FrameView, Goes, Held, MayBeAt, Notices, Parts, Procedure, Right, RuleOf, RightsFit, Served, TypedProgram, Value, Went, actor_cmp-IsAntisymmetric, actor_cmp_total, at_next_place, bare_frame, bare_rule, bare_task, context_of, get, gone_after, gone_on, insert, insert_mapped, mapped, named_values, nat_cmp-IsAntisymmetric, nat_cmp_total, new_rule, number_in_kind, state_of, typed_after, typings_of, with_frame, with_rule}
+use Rattle.tw_pool_state.proofs.PartNames.{Action, Actor, ActorCounts, AreParts, Arg, Call, Completed, FrameFits, FrameView, Succeeds, Held, MayBeAt, Notices, Parts, Procedure, Right, RuleOf, RightsFit, Served, TypedProgram, Value, Went, actor_cmp-IsAntisymmetric, actor_cmp_total, at_next_place, bare_frame, bare_rule, bare_task, context_of, get, frame_after_call, frame_at_next, insert, insert_mapped, mapped, named_values, nat_cmp-IsAntisymmetric, nat_cmp_total, new_rule, number_in_kind, state_of, typed_after, typings_of, with_frame, with_rule}
 use Rattle.tw_rights.specs.Bundled.{bundled}
 use Rattle.tw_code.specs.declared.instr.Instr.TheVariants as instr
 use Rattle.tw_code.specs.machine.Machine.{step}
@@ -19,7 +19,7 @@ module _ (verified : TypedProgram) (layout : ActorCounts) (old : Parts) (notices
   pub rule_named : IsNamed verified.program p.kind (context_of (state_of old notices) (bare_frame f)) action f.held
   rule_named = rules verified layout old notices h actor f p action runs here at
 
-  rule_steps : step verified.program layout (Call actor) (state_of old notices) ≡ Went (with_frame (with_rule (state_of old notices) (new_rule (number_in_kind actor) rule_named.procedure.params (record { kind = rule_named.procedure.kind; procedure = action.procedure; priority = rule_named.priority; target = action.target; args = rule_named.given.args }))) actor (gone_after (bare_frame f) rule_named.given.rights))
+  rule_steps : step verified.program layout (Call actor) (state_of old notices) ≡ Went (with_frame (with_rule (state_of old notices) (new_rule (number_in_kind actor) rule_named.procedure.params (record { kind = rule_named.procedure.kind; procedure = action.procedure; priority = rule_named.priority; target = action.target; args = rule_named.given.args }))) actor (frame_after_call (bare_frame f) rule_named.given.rights))
   unfolding step
   rule_steps =
       let t = seen bare_frame old.running_tasks.tasks actor (Some f) runs in
@@ -29,7 +29,7 @@ module _ (verified : TypedProgram) (layout : ActorCounts) (old : Parts) (notices
   -- it may run from the place after it
   pub rule_fits : MayBeAt f.program.program f.procedure (at_next_place f.position)
   rule_fits = subst (λ (v : TypedProgram). MayBeAt v.program f.procedure (at_next_place f.position)) (sym (h.rights_fit.frames actor f runs).program)
-      (position_then verified layout old notices h actor f runs (Call actor) _ rule_steps (gone_after (bare_frame f) rule_named.given.rights) (get_own (mapped bare_frame old.running_tasks.tasks) actor (gone_after (bare_frame f) rule_named.given.rights)))
+      (position_then verified layout old notices h actor f runs (Call actor) _ rule_steps (frame_after_call (bare_frame f) rule_named.given.rights) (get_own (mapped bare_frame old.running_tasks.tasks) actor (frame_after_call (bare_frame f) rule_named.given.rights)))
 
   module _ (vals : List Value) (are : each Some vals ≡ named_values f.position.values rule_named.procedure.params action.args)
       (args : List Arg) (file : List (Option Held)) (over : bundled f.held rule_named.procedure.params action.args vals ≡ Some (record { args = args; file = file })) where
@@ -40,34 +40,34 @@ module _ (verified : TypedProgram) (layout : ActorCounts) (old : Parts) (notices
     bare_is = ap (λ xs. new_rule (number_in_kind actor) rule_named.procedure.params (record { kind = rule_named.procedure.kind; procedure = action.procedure; priority = rule_named.priority; target = action.target; args = xs }))
         (bare_args verified layout old notices h actor f p action runs rule_named vals are args file over)
 
-    goes : step verified.program layout (Call actor) (state_of old notices) ≡ Went (with_frame (with_rule (state_of old notices) (bare_rule rule)) actor (bare_frame (gone_on f file)))
-    goes = rule_steps ∙ ap (λ k. Went (with_frame (with_rule (state_of old notices) k) actor (gone_after (bare_frame f) rule_named.given.rights))) (sym bare_is)
+    goes : step verified.program layout (Call actor) (state_of old notices) ≡ Went (with_frame (with_rule (state_of old notices) (bare_rule rule)) actor (bare_frame (frame_at_next f file)))
+    goes = rule_steps ∙ ap (λ k. Went (with_frame (with_rule (state_of old notices) k) actor (frame_after_call (bare_frame f) rule_named.given.rights))) (sym bare_is)
         ∙ ap (λ k. Went (with_frame (with_rule (state_of old notices) (bare_rule rule)) actor k)) (sym (frame_is verified layout old notices h actor f p action runs rule_named vals are args file over))
 
-    fits : FrameFits verified old.store.places actor (gone_on f file)
+    fits : FrameFits verified old.store.places actor (frame_at_next f file)
     fits = fits_after verified layout old notices h actor f p action runs rule_named vals are args file over
         (typed_after verified.program (typings_of verified) h.runnable.is h.runnable.right f.procedure p here f.position.place (f.position.place + 1) (instr.Rule action) Completed at refl).1
 
-    module _ (new : Parts) (ruled : new.rules.rules ≡ insert old.rules.rules old.rules.next rule) (next_rule : new.rules.next ≡ old.rules.next + 1) (running_tasks : new.running_tasks.tasks ≡ insert old.running_tasks.tasks actor (gone_on f file)) (layout_is : new.running_tasks.layout ≡ old.running_tasks.layout) (store : new.store ≡ old.store) (tasks : new.tasks ≡ old.tasks) (next_task : new.next_task ≡ old.next_task) (outputs : new.outputs ≡ old.outputs) where
-      same_state : state_of new notices ≡ with_frame (with_rule (state_of old notices) (bare_rule rule)) actor (bare_frame (gone_on f file))
+    module _ (new : Parts) (ruled : new.rules.rules ≡ insert old.rules.rules old.rules.next rule) (next_rule : new.rules.next ≡ old.rules.next + 1) (running_tasks : new.running_tasks.tasks ≡ insert old.running_tasks.tasks actor (frame_at_next f file)) (layout_is : new.running_tasks.layout ≡ old.running_tasks.layout) (store : new.store ≡ old.store) (tasks : new.tasks ≡ old.tasks) (next_task : new.next_task ≡ old.next_task) (outputs : new.outputs ≡ old.outputs) where
+      same_state : state_of new notices ≡ with_frame (with_rule (state_of old notices) (bare_rule rule)) actor (bare_frame (frame_at_next f file))
       same_state = λ i. record {
         store = (store i).store;
         rules = (ap (mapped bare_rule) ruled ∙ insert_mapped bare_rule nat_cmp_total nat_cmp-IsAntisymmetric old.rules.rules old.rules.next rule) i;
         next_rule = next_rule i;
         tasks = mapped bare_task (tasks i).tasks;
         next_task = next_task i;
-        frames = (ap (mapped bare_frame) running_tasks ∙ insert_mapped bare_frame actor_cmp_total actor_cmp-IsAntisymmetric old.running_tasks.tasks actor (gone_on f file)) i;
+        frames = (ap (mapped bare_frame) running_tasks ∙ insert_mapped bare_frame actor_cmp_total actor_cmp-IsAntisymmetric old.running_tasks.tasks actor (frame_at_next f file)) i;
         notices = notices;
         outputs = each (λ (right : Right). right.id) (outputs i);
       }
 
-      pub rule_goes : Goes verified layout (Call actor) old notices new
+      pub rule_goes : Succeeds verified layout (Call actor) old notices new
       rule_goes = goes_to verified layout old notices h (Call actor) new notices _ goes same_state (rw store h.queued) (rw store h.servers) (ap (λ (x : Served). x.queues) store ∙ sym (call_queues verified.program (state_of old notices) actor (bare_frame f) p (instr.Rule action) old.store.queues (seen bare_frame old.running_tasks.tasks actor (Some f) runs) here at)) layout_is fit_is
-          (λ other apart. ap (λ m. get m other) running_tasks ∙ get_other old.running_tasks.tasks actor (gone_on f file) other apart)
+          (λ other apart. ap (λ m. get m other) running_tasks ∙ get_other old.running_tasks.tasks actor (frame_at_next f file) other apart)
         where
           ruled_there : RightsFit verified old.store.places old.running_tasks.tasks old.tasks.tasks (insert old.rules.rules old.rules.next rule) old.outputs
           ruled_there = fit_ruled verified old.store.places old.running_tasks.tasks old.tasks.tasks old.rules.rules old.outputs h.rights_fit old.rules.next rule
               (args_match verified layout old notices h actor f p action runs rule_named vals are args file over)
 
           fit_is : RightsFit verified new.store.places new.running_tasks.tasks new.tasks.tasks new.rules.rules new.outputs
-          fit_is = rw (store, running_tasks, tasks, ruled, outputs) (fit_by_actor verified old.store.places old.running_tasks.tasks old.tasks.tasks (insert old.rules.rules old.rules.next rule) old.outputs ruled_there actor (gone_on f file) fits)
+          fit_is = rw (store, running_tasks, tasks, ruled, outputs) (fit_by_actor verified old.store.places old.running_tasks.tasks old.tasks.tasks (insert old.rules.rules old.rules.next rule) old.outputs ruled_there actor (frame_at_next f file) fits)

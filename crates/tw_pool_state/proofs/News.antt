@@ -1,5 +1,5 @@
 -- NEW: its requirements hold, and it is executed.
-use Rattle.tw_pool_state.proofs.PartNames.{◌==◌, Completed, Context, FrameView, Held, IsAt, IsDone, IsHere, MayDo, NestedScalar, Notices, Ok, Right, Served, WrongRegister, a_read, a_write, at_next_place, bare_file, created, data_instr, eq_by_cmp, get, get-insert, get_or-set_other, id_of, insert, is_none, map-set, must_be_empty, must_then, nat_cmp, nat_cmp_total, nat_tests, new_asks, not, ok_after, right_at, right_in, same_Some, sees, with_notices, writes as typed_writes}
+use Rattle.tw_pool_state.proofs.PartNames.{◌==◌, Completed, Context, FrameView, Held, IsAt, IsDone, IsHere, MayDo, NestedScalar, Notices, Ok, Right, Served, WrongRegister, a_read, a_write, at_next_place, bare_file, created, data_instr, eq_by_cmp, get, get-insert, get_or-set_other, id_of, insert, is_none, map-set, must_be_empty, must_then, nat_cmp, nat_cmp_total, nat_tests, new_requires, not, ok_after, right_at, right_in, same_Some, sees, with_notices, writes as typed_writes}
 use Rattle.tw_rights.specs.declared.held.Held.TheVariants as held
 use Rattle.tw_code.specs.declared.instr.DataInstr.TheVariants as on_data
 use Rattle.std.proofs.Common.{◌≡◌, ◌⊎◌, ◌∙◌, ◌<◌, ◌+◌, ℕ, true, false, List, [], Option, None, Some, refl, sym, ap, subst, arith, inl, inr, option_map, slice_index_or, slice_set, set}
@@ -9,7 +9,7 @@ use Rattle.tw_pool_state.proofs.Registers.{empty_at, set_own}
 
 module _ (write read : ℕ) (ty : NestedScalar) (s : Served) (f : FrameView) (m : MayDo (on_data.New write read ty) s f) where
   asks : (is_none (right_at (bare_file f.held) write) ≡ true) × (is_none (right_at (bare_file f.held) read) ≡ true) × (not (write == read) ≡ true)
-  asks = new_asks (sees s m.ns f) m.left write read ty m.goes
+  asks = new_requires (sees s m.ns f) m.left write read ty m.goes
 
   pub write_empty : slice_index_or f.held write None ≡ None
   write_empty = empty_at f.held write asks.0

@@ -41,30 +41,30 @@ pub use Rattle.tw_code.specs.declared.flow.Way.TheVariants.{Completed, Skipped}
 pub use Rattle.tw_code.specs.declared.instr.Action.{Action}
 pub use Rattle.tw_code.specs.declared.procedure.Procedure.{Procedure}
 pub use Rattle.tw_code.specs.accepting.Question.{passes}
-pub use Rattle.tw_code.specs.accepting.Typing.{a_member_read, a_read, a_write, after_data, asks_args, asks_callee, asks_data, asks_entry_of, asks_priority, asks_value, reads, reads_closed_by, reads_closed_container, reads_closed_container_by, reads_closed_map, reads_closed_scalar, reads_member_of, right_fits_param, rights_given, suits_mode, without_args, writes, writes_container_by, writes_map, writes_scalar, writes_sums}
+pub use Rattle.tw_code.specs.accepting.Typing.{a_member_read, a_read, a_write, after_data, requires_args, requires_callee, requires_data, requires_entry_of, requires_priority, requires_value, reads, reads_closed_by, reads_closed_container, reads_closed_container_by, reads_closed_map, reads_closed_scalar, reads_member_of, right_fits_param, rights_given, suits_mode, without_args, writes, writes_container_by, writes_map, writes_scalar, writes_sums}
 pub use Rattle.tw_code.specs.format.Program.{IsInstr, IsProcedure, IsProgram}
-pub use Rattle.tw_code.specs.machine.Arguments.{Called, HandedOver, all_pass, called, handed_over, has_type, is_closed_if_asked, is_live, is_of_type, params_in, params_of, priority_at, put_called, values_suit}
+pub use Rattle.tw_code.specs.machine.Arguments.{Called, MovedArgs, all_pass, called, moved_args, has_type, is_closed_if_required, is_live, is_of_type, params_in, params_of, priority_at, put_called, values_suit}
 pub use Rattle.tw_code.specs.machine.Data.{Context, after_insert, after_look, after_put, data_instr, datum_at, if_absent, suits, suits_entry, suits_subscript, sum_with}
 pub use Rattle.tw_code.specs.machine.Machine.{step}
 pub use Rattle.tw_code.specs.machine.Opening.{Opened, closed_scalar, main_params, nothing_opened, numbered, opened, opening, with_container, with_given, with_input, with_output}
 pub use Rattle.tw_code.specs.machine.Position.{Position, at_goal, at_next_place, int_at, int_in, must_have_type, of_type_at, with_result, with_value}
 pub use Rattle.tw_code.specs.machine.Rights.{RightType, Typing, first_rights, must_be_empty, right_at, right_of}
-pub use Rattle.tw_code.specs.machine.State.{State, after_context, context_of, frame_of, gone_after, new_rule, with_frame, with_rule, with_stage, with_task}
+pub use Rattle.tw_code.specs.machine.State.{State, after_context, context_of, frame_of, frame_after_call, new_rule, with_frame, with_rule, with_stage, with_task}
 pub use Rattle.tw_pool_state.specs.declared.parts.Parts.{Parts}
 pub use Rattle.tw_rights.specs.declared.arg.Arg.{Arg}
 pub use Rattle.tw_rights.specs.declared.arg.Arg.TheVariants.{Read, Val, Write}
 pub use Rattle.tw_rights.specs.declared.held.Held.{Held}
 pub use Rattle.tw_frame.specs.Drafts.{MaySet, MayStart, StartsAsMachine, started}
 pub use Rattle.tw_frame.specs.Jobs.{DoneView, DraftView, FrameView, JobView, MayBeAt, bare_frame, draft_of, job_of}
-pub use Rattle.tw_soundness.proofs.Conditions.{add_value_asks, copy_read_asks, copy_write_asks, drop_read_asks, drop_write_asks, get_asks, get_value_asks, insert_asks, insert_value_asks, look_asks, new_asks, size_asks, store_asks, subscript_asks}
+pub use Rattle.tw_soundness.proofs.Conditions.{add_value_requires, copy_read_requires, copy_write_requires, drop_read_requires, drop_write_requires, get_requires, get_value_requires, insert_requires, insert_value_requires, look_requires, new_requires, size_requires, store_requires, subscript_requires}
 pub use Rattle.tw_soundness.proofs.Running.{asked_at, position_there, steps_leave, typed_after, typed_at_start}
 pub use Rattle.tw_soundness.proofs.Values.{AllYes, passed, yes_after}
-pub use Rattle.tw_pool_state.specs.Coming.{Begins, BeginsOrNone, begun, come, gone_on, lent_as}
+pub use Rattle.tw_pool_state.specs.Coming.{Begins, BeginsOrNone, begun, frame_after, frame_at_next, issued_as}
 pub use Rattle.tw_pool_state.specs.Copies.{named_values}
-pub use Rattle.tw_pool_state.specs.Data.{HasRoom, IsAnswer, IsDone, IsLentAnswer, IsLentAfter, IsLive, IsRefused, AreNotified, MayDo, sees}
-pub use Rattle.tw_pool_state.specs.Events.{Goes, IsLent, IsOwed, IsSmall, Makes, MakesAfter, IsAtInstr, Untouched, with_done}
+pub use Rattle.tw_pool_state.specs.Data.{HasRoom, IsAnswer, IsDone, IsIssuedAnswer, IsIssuedAfter, IsLive, IsOutOfMemory, AreNotified, MayDo, sees}
+pub use Rattle.tw_pool_state.specs.Events.{Succeeds, IsIssued, IsOwed, IsSmall, Makes, MakesAfter, IsAtInstr, Untouched, with_done}
 pub use Rattle.tw_pool_state.specs.Fits.{AreAt, AreParts, ArePlaced, ArgMatches, ArgsMatch, FrameFits, IsAt, IsPlaced, IsReached, RightsFit, kinds_in, right_in}
-pub use Rattle.tw_pool_state.specs.Memory.{AsksOpen, HasThatMany, IsAbsent, IsTextAt, IsValueAbsent, TakesMemory}
+pub use Rattle.tw_pool_state.specs.Memory.{IsAskOfOpen, HasThatMany, IsAbsent, IsTextAt, IsValueAbsent, TakesMemory}
 pub use Rattle.tw_pool_state.specs.Notes.{AreApart, AreQueued, is_among, is_queued, queue_at}
 pub use Rattle.tw_pool_state.specs.OpenedParts.{Adds, AreBefore, AreForAll, IsMade, MainWaits, MayAdd, OpenedParts}
 pub use Rattle.tw_pool_state.specs.Parts.{state_of}

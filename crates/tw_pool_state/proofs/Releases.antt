@@ -1,6 +1,6 @@
 -- An engine releases a rule: on the parts.
 use Rattle.std.proofs.Common.{map, ◌≡◌, ◌≤◌, ◌+◌, ℕ, true, Option, Some, None, refl, sym, ap, subst, ◌∙◌, slice_get, option_map, arith}
-use Rattle.tw_pool_state.proofs.PartNames.{ActorCounts, AreParts, Arg, Goes, Notices, Parts, Procedure, Release, Right, Rule, RightsFit, TaskOf, TypedProgram, Went, bare_arg, bare_frame, bare_rule, bare_task, entries, get, insert, insert_mapped, is_releasable, mapped, nat_cmp-IsAntisymmetric, nat_cmp_total, next_release, remove, remove_mapped, state_of, task_from, with_task, RunningView}
+use Rattle.tw_pool_state.proofs.PartNames.{ActorCounts, AreParts, Arg, Succeeds, Notices, Parts, Procedure, Release, Right, Rule, RightsFit, TaskOf, TypedProgram, Went, bare_arg, bare_frame, bare_rule, bare_task, entries, get, insert, insert_mapped, is_releasable, mapped, nat_cmp-IsAntisymmetric, nat_cmp_total, next_release, remove, remove_mapped, state_of, task_from, with_task, RunningView}
 use Rattle.tw_types.specs.declared.actor.Actor.TheVariants.{Engine}
 use Rattle.tw_types.specs.declared.actor.Kind.{Kind}
 use Rattle.tw_code.specs.machine.Machine.{step}
@@ -78,7 +78,7 @@ module _ (verified : TypedProgram) (layout : ActorCounts) (old : Parts) (notices
         outputs = map (λ (right : Right). right.id) (outputs i);
       }
 
-      pub releases : Goes verified layout (Release engine number) old notices new
+      pub releases : Succeeds verified layout (Release engine number) old notices new
       releases = goes_to verified layout old notices h (Release engine number) new notices _ goes same_state (rw store h.queued) (rw store h.servers) (rw store refl) (ap (λ (r : RunningView). r.layout) running_tasks) fit_is (λ actor other. ap (λ (r : RunningView). get r.tasks actor) running_tasks)
         where
           fit_is : RightsFit verified new.store.places new.running_tasks.tasks new.tasks.tasks new.rules.rules new.outputs

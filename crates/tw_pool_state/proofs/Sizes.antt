@@ -1,5 +1,5 @@
 -- SIZE and SUBAT: their requirements hold, and they are executed.
-use Rattle.tw_pool_state.proofs.PartNames.{◌^◌, Completed, Context, Datum, EmptyRegister, FrameView, FreedDatum, HasThatMany, IsDone, IsHere, MapKind, MayDo, MaySet, NestedScalar, NoMap, Notices, Ok, Position, Right, RightType, Scalar, Served, Skipped, Store, Subscript, Sums, Values, WrongType, at_goal, at_next_place, bare_file, bare_frame, data_instr, first_so, get, has_subscripts_by, int_at, is_closed_mode, is_scalar, kind_at, may_read_members, may_read_subscripts_by, must_have_type, must_then, not, ok_after, ok_first, pos, reads_closed_by, reads_closed_container, right_at, scalar_of, sees, size_asks, size_at, subscript_after, subscript_asks, subscripts_at, subscripts_of, there_then, with_notices, with_result, with_value, writes as typed_writes, ℤ}
+use Rattle.tw_pool_state.proofs.PartNames.{◌^◌, Completed, Context, Datum, EmptyRegister, FrameView, FreedDatum, HasThatMany, IsDone, IsHere, MapKind, MayDo, MaySet, NestedScalar, NoMap, Notices, Ok, Position, Right, RightType, Scalar, Served, Skipped, Store, Subscript, Sums, Values, WrongType, at_goal, at_next_place, bare_file, bare_frame, data_instr, first_so, get, has_subscripts_by, int_at, is_closed_mode, is_scalar, kind_at, may_read_members, may_read_subscripts_by, must_have_type, must_then, not, ok_after, ok_first, pos, reads_closed_by, reads_closed_container, right_at, scalar_of, sees, size_requires, size_at, subscript_after, subscript_requires, subscripts_at, subscripts_of, there_then, with_notices, with_result, with_value, writes as typed_writes, ℤ}
 use Rattle.tw_types.specs.declared.data_type.Scalar.TheVariants as scalar
 use Rattle.tw_types.specs.declared.value.Value.TheVariants as value
 use Rattle.tw_types.proofs.Subscripts.{content_kind}
@@ -39,7 +39,7 @@ module _ (to container : ℕ) (s : Served) (f : FrameView) (m : MayDo (on_data.S
   size_right = kind_passed f.held m.typed.typing m.typed.kinds container false reads_closed_container closed_container_reads m.typed.asked.0
 
   size_is : (id : ℕ) × (right_at (bare_file f.held) container ≡ Some id) × (may_read_members (get s.store.live id) ≡ Ok tt)
-  size_is = size_asks (sees s m.ns f) m.left to container m.goes
+  size_is = size_requires (sees s m.ns f) m.left to container m.goes
 
   pub size_fits : (n : ℤ) → MaySet f.position.values to (value.Int n)
   size_fits n = may_set_kind f.position to (value.Int n) (ok_after (must_have_type f.position to scalar.Int) _ m.left m.goes).0
@@ -82,7 +82,7 @@ module _ (by : Scalar) (to container index skip : ℕ) (s : Served) (f : FrameVi
   subscript_right = kind_passed f.held m.typed.typing m.typed.kinds container false (reads_closed_by by) (λ t e. closed_reads t.mode (first_so (is_closed_mode t.mode) (has_subscripts_by by t.ty) e)) m.typed.asked.0
 
   subscript_is : (count : ℤ) × (id : ℕ) × (int_at f.position index ≡ Ok count) × (right_at (bare_file f.held) container ≡ Some id) × (may_read_subscripts_by by (get s.store.live id) ≡ Ok tt)
-  subscript_is = subscript_asks (sees s m.ns f) m.left by to container index skip m.goes
+  subscript_is = subscript_requires (sees s m.ns f) m.left by to container index skip m.goes
 
   pub subscript_int : (n : ℤ) × (slice_get f.position.values index ≡ Some (value.Int n))
   subscript_int = (subscript_is.0, int_is f.position index subscript_is.0 subscript_is.2)

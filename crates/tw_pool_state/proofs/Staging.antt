@@ -1,6 +1,6 @@
 -- An engine asks: on the parts.
 use Rattle.std.proofs.Common.{map, length, ◌≡◌, ℕ, zero, suc, true, false, if◌then◌else◌, List, [], ◌∷◌, Some, None, refl, sym, ap, subst, ◌∙◌, slice_get, option_map}
-use Rattle.tw_pool_state.proofs.PartNames.{ActorCounts, AreParts, AreQueued, Arg, ArgMatches, ArgsMatch, Ask, AsksOpen, Datum, Goes, IsAt, Mode, Notices, Param, Parts, Places, Read, Right, RightArg, Rule, RightsFit, Store, TypedProgram, Val, Went, Write, at_stage, bare_arg, bare_frame, bare_rule, bare_task, closed_by, entries, get, insert, is_closed, is_closed_mode, is_settled, is_val, mapped, next_ask, params_in, params_of, right_of, same_Some, state_of, subscribed, typings_of, with_stage, RunningView}
+use Rattle.tw_pool_state.proofs.PartNames.{ActorCounts, AreParts, AreQueued, Arg, ArgMatches, ArgsMatch, Ask, IsAskOfOpen, Datum, Succeeds, IsAt, Mode, Notices, Param, Parts, Places, Read, Right, RightArg, Rule, RightsFit, Store, TypedProgram, Val, Went, Write, at_stage, bare_arg, bare_frame, bare_rule, bare_task, closed_by, entries, get, insert, is_closed, is_closed_mode, is_settled, is_val, mapped, next_ask, params_in, params_of, right_of, same_Some, state_of, subscribed, typings_of, with_stage, RunningView}
 use Rattle.tw_types.specs.declared.actor.Actor.TheVariants.{Engine}
 use Rattle.tw_types.specs.declared.param.Mode.TheVariants as mode
 use Rattle.tw_types.specs.declared.stage.Stage.{Stage}
@@ -98,7 +98,7 @@ module _ (verified : TypedProgram) (layout : ActorCounts) (old : Parts) (notices
   live = asked_is_there verified.program (typings_of verified) (state_of old notices) held_there.types held_there.counts number found.rule parameter reads.right.id Unasked pending found.has refl arg_there
 
   -- if it is open, it is open in the state
-  pub asks_open : closed_by (get old.store.store.live reads.right.id) ≡ false → (ns : Notices) → AsksOpen (state_of old ns) number parameter
+  pub asks_open : closed_by (get old.store.store.live reads.right.id) ≡ false → (ns : Notices) → IsAskOfOpen (state_of old ns) number parameter
   asks_open e ns = record { rule = found.rule; pends = pending; id = reads.right.id; asks = arg_there; x = live.0; live = live.1; not_closed = sym (ap closed_by live.1) ∙ e }
 
   module _ (free : get old.running_tasks.tasks (Engine engine) ≡ None) where
@@ -132,7 +132,7 @@ module _ (verified : TypedProgram) (layout : ActorCounts) (old : Parts) (notices
         outputs = map (λ (right : Right). right.id) (outputs i);
       }
 
-      pub asks : Goes verified layout (Ask engine number parameter) old notices new
+      pub asks : Succeeds verified layout (Ask engine number parameter) old notices new
       asks = goes_to verified layout old notices h (Ask engine number parameter) new notices _ (goes ∙ ap Went leads) same_state
           (subst (λ qs. AreQueued qs notices) (sym queues) h.queued) (ap length queues ∙ h.servers) queues (ap (λ (r : RunningView). r.layout) running_tasks) fit_is (λ actor other. ap (λ (r : RunningView). get r.tasks actor) running_tasks)
         where

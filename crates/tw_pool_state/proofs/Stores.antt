@@ -1,5 +1,5 @@
 -- STORE: its requirements hold, and it is executed.
-use Rattle.tw_pool_state.proofs.PartNames.{Context, Datum, EmptyRegister, FrameView, FreedDatum, IsDone, IsHere, IsLeft, MayDo, Notices, Ok, Right, Served, Value, WrongRegister, at_next_place, bare_file, data_instr, datum_at, first_so, get, is_scalar, is_write, kind_at, may_store, must_then, notices_after, notices_of_stored, ok_after, right_at, same_Some, sees, set_to, slice_get_within, store_asks, stored, suits, there_then, with_notices, writes_scalar}
+use Rattle.tw_pool_state.proofs.PartNames.{Context, Datum, EmptyRegister, FrameView, FreedDatum, IsDone, IsHere, IsLeft, MayDo, Notices, Ok, Right, Served, Value, WrongRegister, at_next_place, bare_file, data_instr, datum_at, first_so, get, is_scalar, is_write, kind_at, may_store, must_then, notices_after, notices_of_stored, ok_after, right_at, same_Some, sees, set_to, slice_get_within, store_requires, stored, suits, there_then, with_notices, writes_scalar}
 use Rattle.tw_rights.specs.declared.held.Held.TheVariants as held
 use Rattle.tw_code.specs.declared.instr.DataInstr.TheVariants as on_data
 use Rattle.std.proofs.Common.{◌≡◌, ◌∙◌, ◌<◌, ◌+◌, ℕ, true, None, Some, refl, sym, ap, slice_get, slice_index_or, slice_set, length}
@@ -11,7 +11,7 @@ module _ (datum from : ℕ) (s : Served) (f : FrameView) (m : MayDo (on_data.Sto
   store_right = kind_passed f.held m.typed.typing m.typed.kinds datum true writes_scalar (λ t e. first_so (is_write t.mode) (is_scalar t.ty) e) m.typed.asked.0
 
   asks : (x : Value) × (id : ℕ) × (slice_get f.position.values from ≡ Some x) × (right_at (bare_file f.held) datum ≡ Some id) × (may_store x (get s.store.live id) ≡ Ok tt)
-  asks = store_asks (sees s m.ns f) m.left datum from m.goes
+  asks = store_requires (sees s m.ns f) m.left datum from m.goes
 
   pub store_declared : from < length f.position.values
   store_declared = slice_get_within f.position.values from asks.0 asks.2

@@ -1,6 +1,6 @@
 -- An actor takes a task: on the parts.
 use Rattle.std.proofs.Common.{map as each, ◌≡◌, ◌-◌, ℕ, zero, suc, true, List, [], ◌∷◌, ◌++◌, Option, Some, None, Result, Ok, Err, refl, sym, ap, subst, ◌∙◌, slice_get, option_map, length, replicate, option_to_list}
-use Rattle.tw_pool_state.proofs.PartNames.{Actor, ActorCounts, AreParts, ArePlaced, Arg, ArgMatches, ArgsMatch, Begins, Cause, FrameFits, FrameView, Goes, JobView, MayBeAt, MayStart, Notices, Param, Parts, Places, Procedure, Read, Right, RightType, TasksByActor, RightsFit, StartsAsMachine, Take, TaskOf, TasksOf, Trap, TypedProgram, Val, Value, Went, Write, actor_cmp-IsAntisymmetric, actor_cmp_total, bare_arg, bare_file, bare_frame, bare_rule, bare_task, best, entry_by, first_rights, frame_of, get, insert, insert_mapped, is_in, is_write, kinds_in, mapped, nat_cmp-IsAntisymmetric, nat_cmp_total, params_in, remove, remove_mapped, right_of, rights_given, started, state_of, typed_at_start, typings_of, with_frame, with_running}
+use Rattle.tw_pool_state.proofs.PartNames.{Actor, ActorCounts, AreParts, ArePlaced, Arg, ArgMatches, ArgsMatch, Begins, Cause, FrameFits, FrameView, Succeeds, JobView, MayBeAt, MayStart, Notices, Param, Parts, Places, Procedure, Read, Right, RightType, TasksByActor, RightsFit, StartsAsMachine, Take, TaskOf, TasksOf, Trap, TypedProgram, Val, Value, Went, Write, actor_cmp-IsAntisymmetric, actor_cmp_total, bare_arg, bare_file, bare_frame, bare_rule, bare_task, best, entry_by, first_rights, frame_of, get, insert, insert_mapped, is_in, is_write, kinds_in, mapped, nat_cmp-IsAntisymmetric, nat_cmp_total, params_in, remove, remove_mapped, right_of, rights_given, started, state_of, typed_at_start, typings_of, with_frame, with_running}
 use Rattle.tw_types.proofs.Best.{best_waits}
 use Rattle.tw_code.specs.machine.Machine.{step}
 use Rattle.tw_soundness.proofs.Safe.{safe}
@@ -133,7 +133,7 @@ module _ (verified : TypedProgram) (layout : ActorCounts) (old : Parts) (notices
         outputs = each (λ (right : Right). right.id) (outputs i);
       }
 
-      pub takes : Goes verified layout (Take actor) old notices new
+      pub takes : Succeeds verified layout (Take actor) old notices new
       takes = goes_to verified layout old notices h (Take actor) new notices _ goes same_state (rw store h.queued) (rw store h.servers) (rw store refl) layout_is fit_is
           (λ other apart. ap (λ m. get m other) running_tasks ∙ get_other old.running_tasks.tasks actor (record begun { event_no = event_no }) other apart)
         where

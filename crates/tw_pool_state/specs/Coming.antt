@@ -59,13 +59,13 @@ IsBegun verified actor event_no old waiting new left (Err e) = IsSome (best acto
 -- ---- it moves on
 
 -- returns the frame after a job
-abbrev pub come : FrameView → DoneView → FrameView
-come f done = record f { position = done.after; spent = f.spent + done.steps }
+abbrev pub frame_after : FrameView → DoneView → FrameView
+frame_after f done = record f { position = done.after; spent = f.spent + done.steps }
 
 -- returns the frame at the next place, with these rights
-abbrev pub gone_on : FrameView → List (Option Held) → FrameView
-gone_on f file = record f { held = file; position = at_next_place f.position; spent = f.spent + 1 }
+abbrev pub frame_at_next : FrameView → List (Option Held) → FrameView
+frame_at_next f file = record f { held = file; position = at_next_place f.position; spent = f.spent + 1 }
 
 -- returns the frame, issued under this number
-abbrev pub lent_as : ℕ → FrameView → FrameView
-lent_as event_no f = record f { event_no = event_no }
+abbrev pub issued_as : ℕ → FrameView → FrameView
+issued_as event_no f = record f { event_no = event_no }

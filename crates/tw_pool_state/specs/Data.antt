@@ -17,13 +17,13 @@ use Rattle.tw_store.specs.Served.{IsUnchanged, Served, queued}
 use Rattle.tw_code.specs.declared.flow.Way.{Way}
 use Rattle.tw_code.specs.declared.instr.DataInstr.{DataInstr}
 use Rattle.tw_code.specs.accepting.Flow.{data_flow, onward}
-use Rattle.tw_code.specs.accepting.Typing.{after_data, asks_data}
+use Rattle.tw_code.specs.accepting.Typing.{after_data, requires_data}
 use Rattle.tw_code.specs.format.Program.{IsDataInstr}
 use Rattle.tw_code.specs.machine.Data.{Context, data_instr}
 use Rattle.tw_code.specs.machine.Rights.{Typing}
 use Rattle.tw_soundness.proofs.Values.{AllYes}
 use Rattle.tw_frame.specs.Jobs.{DoneView, DraftView, FrameView, JobView, MayBeAt, draft_of, job_of}
-use Rattle.tw_pool_state.specs.Coming.{come, lent_as}
+use Rattle.tw_pool_state.specs.Coming.{frame_after, issued_as}
 use Rattle.tw_pool_state.specs.Fits.{ArePlaced, IsAt, kinds_in, right_in}
 use Rattle.tw_pool_state.specs.Memory.{TakesMemory}
 use Rattle.tw_pool_state.specs.Queued.{notices_made}
@@ -51,7 +51,7 @@ pub record IsTypedFor (d : DataInstr) (f : FrameView) : Type 0 where
   pub registers : List Scalar
   pub typing : Typing
   pub kinds : kinds_of f.held ≡ kinds_in typing
-  pub asked : AllYes (asks_data registers d typing)
+  pub asked : AllYes (requires_data registers d typing)
 
 -- ---- effects
 
@@ -73,7 +73,7 @@ pub record IsDone (d : DataInstr) (old new : Served) (f g : FrameView) : Type 0 
   -- the typing continues as the definition says
   pub way : Way
   pub onwards : onward way f.position.place (data_flow d) ≡ Some g.position.place
-  pub kinds : (registers : List Scalar) (typing : Typing) → kinds_of f.held ≡ kinds_in typing → AllYes (asks_data registers d typing) → kinds_of g.held ≡ kinds_in (after_data way d typing)
+  pub kinds : (registers : List Scalar) (typing : Typing) → kinds_of f.held ≡ kinds_in typing → AllYes (requires_data registers d typing) → kinds_of g.held ≡ kinds_in (after_data way d typing)
   -- and one more instruction is spent
   pub rest : g ≡ record f { position = g.position; held = g.held; spent = f.spent + 1 }
 
@@ -95,29 +95,29 @@ pub record MayDo (d : DataInstr) (s : Served) (f : FrameView) : Type 0 where
 
 -- it was executed after the job, and the draft is of the values then
 pub record IsDoneAfter (d : DataInstr) (old new : Served) (f g : FrameView) (done : DoneView) (draft : DraftView) : Type 0 where
-  pub is_done : IsDone d old new (come f done) g
+  pub is_done : IsDone d old new (frame_after f done) g
   pub is_draft : draft ≡ draft_of g
 
 -- an allocation failed, where one may be needed, and nothing has changed
-pub record IsRefused (d : DataInstr) (old new : Served) (f g : FrameView) (done back : DoneView) : Type 0 where
-  pub memory : TakesMemory d old (come f done)
+pub record IsOutOfMemory (d : DataInstr) (old new : Served) (f g : FrameView) (done back : DoneView) : Type 0 where
+  pub memory : TakesMemory d old (frame_after f done)
   pub store : IsUnchanged old new
   pub frame : g ≡ f
   pub is_back : back ≡ done
 
 abbrev pub IsAnswer : DataInstr → Served → Served → FrameView → FrameView → DoneView → Result DraftView DoneView → Type 0
 IsAnswer d old new f g done (Ok draft) = IsDoneAfter d old new f g done draft
-IsAnswer d old new f g done (Err back) = IsRefused d old new f g done back
+IsAnswer d old new f g done (Err back) = IsOutOfMemory d old new f g done back
 
 -- ---- and issued then
 
 -- it was executed after the job, and the task's next job is issued under this number
-pub record IsLentAfter (d : DataInstr) (old new : Served) (f g : FrameView) (event_no : ℕ) (done : DoneView) (job : JobView) : Type 0 where
+pub record IsIssuedAfter (d : DataInstr) (old new : Served) (f g : FrameView) (event_no : ℕ) (done : DoneView) (job : JobView) : Type 0 where
   pub at : FrameView
-  pub is_done : IsDone d old new (come f done) at
-  pub is_lent : g ≡ lent_as event_no at
+  pub is_done : IsDone d old new (frame_after f done) at
+  pub is_issued : g ≡ issued_as event_no at
   pub is_job : job ≡ job_of g
 
-abbrev pub IsLentAnswer : DataInstr → Served → Served → FrameView → FrameView → ℕ → DoneView → Result JobView DoneView → Type 0
-IsLentAnswer d old new f g event_no done (Ok job) = IsLentAfter d old new f g event_no done job
-IsLentAnswer d old new f g event_no done (Err back) = IsRefused d old new f g done back
+abbrev pub IsIssuedAnswer : DataInstr → Served → Served → FrameView → FrameView → ℕ → DoneView → Result JobView DoneView → Type 0
+IsIssuedAnswer d old new f g event_no done (Ok job) = IsIssuedAfter d old new f g event_no done job
+IsIssuedAnswer d old new f g event_no done (Err back) = IsOutOfMemory d old new f g done back

@@ -17,7 +17,7 @@ use Rattle.tw_code.specs.machine.Machine.{step}
 use Rattle.tw_code.specs.machine.State.{State}
 use Rattle.tw_verify.specs.Typed.{TypedProgram}
 use Rattle.tw_frame.specs.Jobs.{DoneView, FrameView, JobView, job_of}
-use Rattle.tw_pool_state.specs.Coming.{come}
+use Rattle.tw_pool_state.specs.Coming.{frame_after}
 use Rattle.tw_pool_state.specs.Fits.{AreParts}
 use Rattle.tw_pool_state.specs.Parts.{state_of}
 use Rattle.tw_pool_state.specs.Queued.{queues_after}
@@ -27,7 +27,7 @@ use Rattle.tw_pool_state.specs.declared.parts.Parts.{Parts}
 -- ---- events
 
 -- the event succeeds, the results are parts again, the queues have its notices, and no other actor's task has changed
-pub record Goes (verified : TypedProgram) (layout : ActorCounts) (event : Event) (old : Parts) (notices : Notices) (new : Parts) : Type 0 where
+pub record Succeeds (verified : TypedProgram) (layout : ActorCounts) (event : Event) (old : Parts) (notices : Notices) (new : Parts) : Type 0 where
   pub left : Notices
   pub step_is : step verified.program layout event (state_of old notices) ≡ Went (state_of new left)
   pub parts : AreParts verified layout new left
@@ -36,7 +36,7 @@ pub record Goes (verified : TypedProgram) (layout : ActorCounts) (event : Event)
 
 -- holds if it does so for any set of notices that has those in the queues
 abbrev pub Makes : TypedProgram → ActorCounts → Event → Parts → Parts → Type 0
-Makes verified layout event old new = (notices : Notices) → AreParts verified layout old notices → Goes verified layout event old notices new
+Makes verified layout event old new = (notices : Notices) → AreParts verified layout old notices → Succeeds verified layout event old notices new
 
 -- only reserved memory has changed
 pub record Untouched (old new : Parts) : Type 0 where
@@ -58,7 +58,7 @@ IsTried due Made Same (Err e) = IsSome due × Same
 
 -- returns the parts after the job
 abbrev pub with_done : Parts → Actor → FrameView → DoneView → Parts
-with_done p actor f done = record p { running_tasks = with_running p.running_tasks actor (come f done) }
+with_done p actor f done = record p { running_tasks = with_running p.running_tasks actor (frame_after f done) }
 
 -- the `Done` is of the job that was issued last for the actor's task
 pub record IsOwed (p : Parts) (actor : Actor) (f : FrameView) (done : DoneView) : Type 0 where
@@ -88,7 +88,7 @@ MakesAfter event old actor done new = (layout : ActorCounts) (f : FrameView) →
 -- ---- jobs
 
 -- the job is the actor's, issued under this number
-pub record IsLent (p : Parts) (actor : Actor) (event_no : ℕ) (job : JobView) : Type 0 where
+pub record IsIssued (p : Parts) (actor : Actor) (event_no : ℕ) (job : JobView) : Type 0 where
   pub f : FrameView
   pub is_running : get p.running_tasks.tasks actor ≡ Some f
   pub number : f.event_no ≡ event_no

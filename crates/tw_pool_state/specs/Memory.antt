@@ -103,7 +103,7 @@ pub record IsAtAllocating (program : List Procedure) (s : State) (actor : Actor)
   pub takes : InstrTakes here s.store frame
 
 -- the rule's parameter is an open datum, which gets a subscriber
-pub record AsksOpen (s : State) (number parameter : ℕ) : Type 0 where
+pub record IsAskOfOpen (s : State) (number parameter : ℕ) : Type 0 where
   pub rule : Rule
   pub pends : get s.rules number ≡ Some rule
   pub id : ℕ
@@ -118,6 +118,6 @@ EventTakes program s (event.Take actor) = TakesTexts program (best actor s.tasks
 EventTakes program s (event.Local actor steps) = ⊥
 EventTakes program s (event.Call actor) = IsAtAllocating program s actor
 EventTakes program s (event.End actor) = ⊥
-EventTakes program s (event.Ask engine rule parameter) = AsksOpen s rule parameter
+EventTakes program s (event.Ask engine rule parameter) = IsAskOfOpen s rule parameter
 EventTakes program s (event.Deliver server datum rule parameter) = ⊥
 EventTakes program s (event.Release engine rule) = Unit {0}

@@ -5,8 +5,8 @@ ghost use Rattle.tw_types.specs.declared.event.Event.TheVariants as event;
 ghost use Rattle.tw_types.specs.Layout.{ActorCounts};
 ghost use Rattle.tw_types.specs.Notices.{Notices};
 ghost use Rattle.tw_frame.specs.Jobs.{FrameView};
-ghost use Rattle.tw_pool_state.specs.Coming.{lent_as};
-ghost use Rattle.tw_pool_state.specs.Events.{IsLent, IsOwed, IsSmall, Makes, with_done};
+ghost use Rattle.tw_pool_state.specs.Coming.{issued_as};
+ghost use Rattle.tw_pool_state.specs.Events.{IsIssued, IsOwed, IsSmall, Makes, with_done};
 ghost use Rattle.tw_pool_state.specs.Fits.{AreParts};
 ghost use Rattle.tw_pool_state.specs.Parts.{state_of};
 
@@ -31,12 +31,12 @@ impl<'a> Parts<'a> {
         }
     }
 
-    /// Completes the job of the actor's task, and issues the next one. `event_no` is the number of its actor's events.
+    /// Completes the job of the actor's task in the pool, and issues the next one. `event_no` is the number of its actor's events.
     pub fn advance(&mut self, actor: Actor, event_no: u64, done: Done<'a>) -> Job<'a>
         requires fits_place { (layout : ActorCounts) × (notices : Notices) × (f : FrameView) × AreParts done.before.program layout self.old notices
             × IsSmall (state_of self.old notices) × IsOwed self.old actor f done }
-        ensures came { (f : FrameView) → IsOwed self.old actor f done.entry → self.new ≡ with_done self.old actor (lent_as event_no f) done.entry }
-        ensures lent { IsLent self.new actor event_no result }
+        ensures came { (f : FrameView) → IsOwed self.old actor f done.entry → self.new ≡ with_done self.old actor (issued_as event_no f) done.entry }
+        ensures lent { IsIssued self.new actor event_no result }
     {
         self.running_tasks.advance(actor, event_no, done)
     }

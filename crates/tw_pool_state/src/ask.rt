@@ -10,7 +10,7 @@ ghost use Rattle.tw_types.specs.Rule.{next_ask};
 ghost use Rattle.tw_verify.specs.Typed.{TypedProgram};
 ghost use Rattle.tw_pool_state.specs.Events.{IsTried, Makes, Untouched};
 ghost use Rattle.tw_pool_state.specs.Fits.{AreParts};
-ghost use Rattle.tw_pool_state.specs.Memory.{AsksOpen};
+ghost use Rattle.tw_pool_state.specs.Memory.{IsAskOfOpen};
 ghost use Rattle.tw_pool_state.specs.Parts.{state_of};
 
 use crate::parts::Parts;
@@ -19,14 +19,15 @@ use tw_store::AskResult;
 use tw_types::RuleNo;
 
 impl<'a> Parts<'a> {
-    /// Asks for the next unasked parameter of an engine without a task. Returns the rule and the parameter, or `None` if there is none.
+    /// Asks in the pool for the next unasked parameter of an engine without a task. Returns the rule and the parameter, or `None`
+    /// if there is none.
     pub fn ask(&mut self, engine: u8) -> Result<Option<(RuleNo, u8)>, AllocError>
         requires free { get self.old.running_tasks.tasks (Engine engine) ≡ None }
         requires parts { (verified : TypedProgram) × (layout : ActorCounts) × (notices : Notices) × AreParts verified layout self.old notices }
         ensures asked { IsTried (next_ask engine self.old.rules.rules)
             (λ (q : ℕ × ℕ). (verified : TypedProgram) (layout : ActorCounts) → Makes verified layout (Ask engine q.0 q.1) self.old self.new)
             (Untouched self.old self.new) result }
-        ensures memory { OnErr result ((q : ℕ × ℕ) (notices : Notices) → next_ask engine self.old.rules.rules ≡ Some q → AsksOpen (state_of self.old notices) q.0 q.1) }
+        ensures memory { OnErr result ((q : ℕ × ℕ) (notices : Notices) → next_ask engine self.old.rules.rules ≡ Some q → IsAskOfOpen (state_of self.old notices) q.0 q.1) }
     {
         let Some(next) = self.rules.next_ask(engine) else {
             return Ok(None);

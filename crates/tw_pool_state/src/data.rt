@@ -2,7 +2,7 @@
 
 ghost use Rattle.std.specs.Prelude.{◌≡◌};
 ghost use Rattle.tw_frame.specs.Jobs.{job_of};
-ghost use Rattle.tw_pool_state.specs.Coming.{come};
+ghost use Rattle.tw_pool_state.specs.Coming.{frame_after};
 ghost use Rattle.tw_pool_state.specs.Data.{IsAnswer, MayDo};
 
 mod containers;
@@ -22,12 +22,12 @@ use tw_code::DataInstr;
 use tw_frame::{Done, Draft, Frame};
 use tw_store::Store;
 
-/// Completes a task's job, executes an instruction, and returns a draft of the values then. Returns the `Done` if an allocation
-/// fails. Has one row for each instruction.
+/// Completes a task's job, executes an instruction on data, and returns a draft of the values then. Returns the `Done` if an
+/// allocation fails. Has one row for each instruction.
 #[rattlefmt::skip]
 pub(crate) fn run_data<'a>(store: &mut Store, frame: &mut Frame<'a>, alloc: Global, done: Done<'a>, instr: &DataInstr) -> Result<Draft<'a>, Done<'a>>
     requires own { done.before ≡ job_of frame.old }
-    requires may { MayDo instr.now store.old (come frame.old done) }
+    requires may { MayDo instr.now store.old (frame_after frame.old done) }
     ensures { IsAnswer instr.now store.old store.new frame.old frame.new done.entry result }
 {
     match instr {

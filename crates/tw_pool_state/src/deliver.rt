@@ -13,7 +13,7 @@ use crate::parts::Parts;
 use tw_types::Notice;
 
 impl<'a> Parts<'a> {
-    /// Delivers the oldest notice of a server, if there is one: makes its parameter ready.
+    /// Delivers the oldest notice of a server of the pool, if there is one: makes its parameter ready.
     pub fn deliver(&mut self, server: u8) -> Option<Notice>
         requires server { server < length self.old.store.queues }
         requires parts { (verified : TypedProgram) × (layout : ActorCounts) × (notices : Notices) × AreParts verified layout self.old notices }

@@ -10,7 +10,7 @@ use tw_frame::Done;
 use tw_types::Actor;
 
 impl<'a> Parts<'a> {
-    /// Ends the actor's task, which is at RET after the job of `done`.
+    /// Ends the actor's task in the pool, which is at RET after the job of `done`.
     pub fn end(&mut self, alloc: Global, actor: Actor, done: Done<'a>)
         requires fits_place { IsAtInstr self.old actor done instr.Ret }
         ensures { MakesAfter (event.End actor) self.old actor done.entry self.new }

@@ -21,7 +21,8 @@ use tw_rights::{ReadRight, WriteRight};
 use tw_store::{Inserted, Store};
 use tw_types::{AsValue, DataType, Input, Value};
 
-/// Adds the data of an input of the type: a closed datum, and then those of its members, if it is a container. Returns a right on the first.
+/// Adds the data of an input to the pool's store: a closed datum, and then those of its members, if it is a container. Returns a
+/// right on the first.
 pub(crate) fn add_input(
     alloc: Global,
     store: &mut Store,
@@ -44,7 +45,7 @@ pub(crate) fn add_input(
     }
 }
 
-/// Adds a closed scalar.
+/// Adds a closed scalar of an input to the pool's store.
 fn add_scalar(alloc: Global, store: &mut Store, value: Value) -> Result<ReadRight, AllocError>
     requires room { store.old.store.next < 2 ^ 63 }
     requires live { AreAllLive store.old }
@@ -58,7 +59,7 @@ fn add_scalar(alloc: Global, store: &mut Store, value: Value) -> Result<ReadRigh
     }
 }
 
-/// Adds a closed scalar with a copy of the value.
+/// Adds a closed scalar with a copy of an input's value to the pool's store.
 fn add_value<V: AsValue>(
     alloc: Global,
     store: &mut Store,
@@ -74,7 +75,7 @@ fn add_value<V: AsValue>(
     add_scalar(alloc, store, own)
 }
 
-/// Adds a closed scalar, and inserts it into an open container.
+/// Adds a closed scalar to the pool's store, and inserts it into an input's open container.
 fn add_member<K: AsValue, V: AsValue>(
     alloc: Global,
     store: &mut Store,
@@ -103,7 +104,7 @@ fn add_member<K: AsValue, V: AsValue>(
     }
 }
 
-/// Adds a map, or a container with its members, as the type says; it is closed.
+/// Adds an input's map, or container with its members, to the pool's store, as the type says; it is closed.
 fn add_members<K: AsValue, V: AsValue>(
     alloc: Global,
     store: &mut Store,
@@ -123,7 +124,7 @@ fn add_members<K: AsValue, V: AsValue>(
     }
 }
 
-/// Adds a closed map.
+/// Adds a closed map of an input to the pool's store.
 fn add_map<K: AsValue, V: AsValue>(
     alloc: Global,
     store: &mut Store,
@@ -140,7 +141,7 @@ fn add_map<K: AsValue, V: AsValue>(
     store.create_map(alloc, ty, values)
 }
 
-/// Adds a container and its members, and closes it.
+/// Adds an input's container and its members to the pool's store, and closes it.
 fn add_container<K: AsValue, V: AsValue>(
     alloc: Global,
     store: &mut Store,
@@ -165,7 +166,7 @@ fn add_container<K: AsValue, V: AsValue>(
     }
 }
 
-/// Spends both rights, after a failed allocation.
+/// Spends the rights on an input's container and on a member, after a failed allocation.
 fn spend_both(write: WriteRight, read: ReadRight) -> Result<ReadRight, AllocError>
     ensures { IsErr result }
 {

@@ -59,7 +59,7 @@ impl Model for Opened {
 }
 
 impl Opened {
-    /// Makes the state before the first parameter, with memory for all parameters.
+    /// Makes the pool's data before main's first parameter, with memory for all parameters.
     fn new(alloc: Global, servers: u8) -> Result<Opened, AllocError>
         requires { 0 < servers }
         ensures { IfOk result (λ o. IsMade servers [] o nothing_opened) }
@@ -79,7 +79,7 @@ impl Opened {
         })
     }
 
-    /// Makes the data of these parameters, with the inputs for those that take one.
+    /// Makes the pool's data of main's parameters, with the inputs for those that take one.
     fn of(
         alloc: Global,
         servers: u8,
@@ -100,7 +100,7 @@ impl Opened {
         }
     }
 
-    /// Adds the data of each of the parameters. There must be none yet.
+    /// Adds to the pool the data of each of main's parameters. There must be none yet.
     fn add_all(
         &mut self,
         alloc: Global,
@@ -125,7 +125,7 @@ impl Opened {
         Ok(())
     }
 
-    /// Makes an output: main gets the write right, and the host the read right.
+    /// Makes the datum of an output in the pool: main gets the write right, and the host the read right.
     fn add_output(&mut self, alloc: Global, param: Param) -> Result<(), AllocError>
         requires mode { is_write param.mode ≡ true }
         requires room { MayAdd self.old }
@@ -142,7 +142,7 @@ impl Opened {
         Ok(())
     }
 
-    /// Makes the data of an input: main gets the read right.
+    /// Makes the data of an input in the pool: main gets the read right.
     fn add_given(&mut self, alloc: Global, param: Param, input: &Input) -> Result<(), AllocError>
         requires read { is_write param.mode ≡ false }
         requires right { is_val param.mode ≡ false }
@@ -157,7 +157,7 @@ impl Opened {
         Ok(())
     }
 
-    /// Spends every right.
+    /// Spends every right of the data that were made for main's parameters.
     fn shut(self) {
         let Opened {
             store: _store,
@@ -186,7 +186,7 @@ fn queues_for_main(alloc: Global) -> Result<TaskQueues, AllocError>
 }
 
 impl<'a> Parts<'a> {
-    /// Opens a program with these inputs: makes their data, and main's task, which waits.
+    /// Opens the parts of a pool for a program with these inputs: makes their data, and main's task, which waits.
     pub fn open(
         alloc: Global,
         verified: &Verified,
@@ -211,7 +211,7 @@ impl<'a> Parts<'a> {
         Ok(Parts::begun(alloc, running_tasks, queues, opened))
     }
 
-    /// Makes the parts in which main waits with its data, and no task runs.
+    /// Makes the parts of a pool in which main waits with its data, and no task runs.
     fn begun(
         alloc: Global,
         running_tasks: RunningTasks<'a>,

@@ -20,7 +20,7 @@ pub(crate) struct ActionOperands<'a> {
     pub(crate) vals: Vec<Value>,
 }
 
-/// Returns the constant, or the integer in its register after the job.
+/// Returns the priority of a RULE or PUT in the pool: the constant, or the integer in its register after the job.
 pub(crate) fn priority_of(done: &Done<'_>, priority: Priority) -> i64
     requires { (n : ℤ) × (priority_at done.now.after priority ≡ Ok n) }
     ensures { priority_at done.now.after priority ≡ Ok result }
@@ -31,7 +31,7 @@ pub(crate) fn priority_of(done: &Done<'_>, priority: Priority) -> i64
     }
 }
 
-/// Copies the values in the registers that are named for value parameters, as they are after the job.
+/// Copies the values of an action's arguments: those in the registers named for value parameters, as they are after the job.
 #[inline(always)]
 pub(crate) fn values_of(
     alloc: Global,
@@ -53,7 +53,7 @@ pub(crate) fn values_of(
     Ok(vals)
 }
 
-/// Returns the operands of the action at which a task is after the job.
+/// Returns the operands of the RULE or PUT at which a task is after the job.
 #[inline(always)]
 pub(crate) fn action_operands<'a>(
     alloc: Global,

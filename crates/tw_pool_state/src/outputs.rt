@@ -25,7 +25,7 @@ impl Model for Outputs {
     ghost invariant = { λ o. o.ids.items ≡ each (λ (r : Right). r.id) o.rights.items };
 }
 
-/// Spends the rights.
+/// Spends the host's rights on the outputs.
 fn spend_all(mut rights: Vec<ReadRight>) {
     while let Some(right) = rights.pop() {
         let _id = right.spend();
@@ -34,7 +34,7 @@ fn spend_all(mut rights: Vec<ReadRight>) {
 }
 
 impl Outputs {
-    /// Makes outputs of these rights, with the ids of their data.
+    /// Makes the pool's outputs of the host's rights, with the ids of their data.
     pub fn new(rights: Vec<ReadRight>, ids: Vec<DatumId>) -> Outputs
         requires { ids.items ≡ each (λ (r : Right). r.id) rights.items }
         ensures { result ≡ rights.items }
@@ -42,7 +42,7 @@ impl Outputs {
         Outputs { rights, ids }
     }
 
-    /// Spends the rights, and returns the ids of their data.
+    /// Spends the host's rights on the outputs, and returns the ids of their data.
     pub fn shut(self) -> Vec<DatumId>
         ensures { result.items ≡ each (λ (r : Right). r.id) self }
     {

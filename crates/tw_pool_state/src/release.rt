@@ -17,7 +17,7 @@ use tw_queue::Task;
 use tw_types::{RuleNo, TaskNo};
 use tw_verify::Verified;
 
-/// Returns the procedure of a number.
+/// Returns the procedure of a rule's task by its number, in the verified program.
 pub(crate) fn procedure_at(procedures: &[Procedure], number: u8) -> &Procedure
     requires { IsSome (slice_get procedures.now number) }
     ensures { slice_get procedures.now number ≡ Some result.now }
@@ -26,7 +26,7 @@ pub(crate) fn procedure_at(procedures: &[Procedure], number: u8) -> &Procedure
 }
 
 impl<'a> Parts<'a> {
-    /// Releases the next rule of an engine without a task. Returns its number, or `None` if none can be released.
+    /// Releases in the pool the next rule of an engine without a task. Returns its number, or `None` if none can be released.
     pub fn release(&mut self, verified: &Verified, engine: u8) -> Result<Option<RuleNo>, AllocError>
         requires free { get self.old.running_tasks.tasks (Engine engine) ≡ None }
         requires number { self.old.next_task < 2 ^ 63 }

@@ -3,7 +3,7 @@
 ghost use Rattle.std.specs.Prelude.{◌≡◌, IfErr, IfOk, OnOk, OnErr};
 ghost use Rattle.tw_types.specs.declared.event.Event.TheVariants as event;
 ghost use Rattle.tw_code.specs.declared.instr.Instr.TheVariants as instr;
-ghost use Rattle.tw_pool_state.specs.Events.{IsLent, MakesAfter, IsAtInstr, Untouched};
+ghost use Rattle.tw_pool_state.specs.Events.{IsIssued, MakesAfter, IsAtInstr, Untouched};
 
 use crate::operands::action_operands;
 use crate::parts::Parts;
@@ -14,8 +14,8 @@ use tw_rules::PlannedTask;
 use tw_types::Actor;
 
 impl<'a> Parts<'a> {
-    /// Completes the actor's job, executes this RULE, at which the task then is, and issues the next job. `event_no` is the number of
-    /// its actor's events. Returns the `Done` if an allocation fails.
+    /// Completes the actor's job in the pool, executes this RULE, at which the task then is, and issues the next job. `event_no`
+    /// is the number of its actor's events. Returns the `Done` if an allocation fails.
     pub(crate) fn rule(
         &mut self,
         alloc: Global,
@@ -26,7 +26,7 @@ impl<'a> Parts<'a> {
     ) -> Result<Job<'a>, Done<'a>>
         requires fits_place { IsAtInstr self.old actor done (instr.Rule action.now) }
         ensures rule { OnOk result (MakesAfter (event.Call actor) self.old actor done.entry self.new) }
-        ensures lent { IfOk result (λ job. IsLent self.new actor event_no job) }
+        ensures lent { IfOk result (λ job. IsIssued self.new actor event_no job) }
         ensures refused { OnErr result (Untouched self.old self.new) }
         ensures back { IfErr result (λ back. back ≡ done.entry) }
     {

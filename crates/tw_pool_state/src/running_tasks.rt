@@ -14,8 +14,8 @@ ghost use Rattle.tw_frame.specs.Drafts.{MayStart};
 ghost use Rattle.tw_code.specs.machine.Position.{at_next_place};
 ghost use Rattle.tw_frame.specs.Jobs.{FrameView, MayBeAt, job_of};
 ghost use Rattle.tw_pool_state.specs.RunningTasks.{HasSlot, with_running};
-ghost use Rattle.tw_pool_state.specs.Coming.{IsBegun, MayBegin, come, gone_on, lent_as};
-ghost use Rattle.tw_pool_state.specs.Data.{IsLentAnswer, MayDo};
+ghost use Rattle.tw_pool_state.specs.Coming.{IsBegun, MayBegin, frame_after, frame_at_next, issued_as};
+ghost use Rattle.tw_pool_state.specs.Data.{IsIssuedAnswer, MayDo};
 ghost use Rattle.tw_pool_state.specs.Memory.{TakesTexts};
 
 use crate::data::run_data;
@@ -63,7 +63,7 @@ impl<'a> Model for RunningTasks<'a> {
 }
 
 impl<'a> RunningTasks<'a> {
-    /// Makes empty slots, with memory for a task in each that is of an engine or a worker of the layout.
+    /// Makes empty slots for running tasks, with memory for a task in each that is of an engine or a worker of the layout.
     pub fn new(alloc: Global, layout: Layout) -> Result<RunningTasks<'a>, AllocError>
         ensures { IfOk result (λ running_tasks. running_tasks ≡ record { layout = layout; tasks = map.empty }) }
     {
@@ -80,7 +80,7 @@ impl<'a> RunningTasks<'a> {
         })
     }
 
-    /// Spends every right of every task.
+    /// Spends every right of every running task.
     pub fn shut(self) {
         let RunningTasks {
             layout: _,
@@ -92,14 +92,14 @@ impl<'a> RunningTasks<'a> {
         drop_frame_buffers(frame_buffers);
     }
 
-    /// Returns the number of running tasks.
+    /// Returns the number of tasks that run in the pool.
     pub fn running(&self) -> usize
         ensures { result ≡ len self.now.tasks }
     {
         self.taken
     }
 
-    /// Returns the task of an actor, if it has one.
+    /// Returns the frame of the task that an actor runs, if it has one.
     pub fn get(&self, actor: Actor) -> Option<&Frame<'a>>
         requires { HasSlot actor }
         ensures { option_copied result ≡ get self.now.tasks actor }
@@ -107,7 +107,7 @@ impl<'a> RunningTasks<'a> {
         self.frames[actor.place()].as_ref()
     }
 
-    /// Starts the best task of an actor without one, if there is one, and issues its job.
+    /// Starts the best queued task of an actor without one, if there is one, and issues its job.
     pub(crate) fn start(
         &mut self,
         alloc: Global,
@@ -148,7 +148,7 @@ impl<'a> RunningTasks<'a> {
         Ok(Some(job))
     }
 
-    /// Ends the actor's task. Its memory, and that of its last `Done`, is for the next one.
+    /// Ends the task that an actor runs. Its memory, and that of its last `Done`, is for the next one.
     pub(crate) fn end(&mut self, alloc: Global, actor: Actor, done: Done<'a>)
         requires task_slot { HasSlot actor }
         requires is_running { IsSome (get self.old.tasks actor) }
@@ -162,12 +162,12 @@ impl<'a> RunningTasks<'a> {
         put_buffers(&mut self.frame_buffers, number, frame.end(alloc, done));
     }
 
-    /// Completes the actor's job, which `done` must be of, and issues the next one.
+    /// Completes the job of the task that an actor runs, which `done` must be of, and issues the next one.
     pub(crate) fn advance(&mut self, actor: Actor, event_no: u64, done: Done<'a>) -> Job<'a>
         requires task_slot { HasSlot actor }
         requires is_running { (f : FrameView) × (get self.old.tasks actor ≡ Some f) × (done.before ≡ job_of f) × (f.spent < 2 ^ 63) }
         ensures { (f : FrameView) → get self.old.tasks actor ≡ Some f
-            → (self.new ≡ with_running self.old actor (lent_as event_no (come f done.entry))) × (result ≡ job_of (lent_as event_no (come f done.entry))) }
+            → (self.new ≡ with_running self.old actor (issued_as event_no (frame_after f done.entry))) × (result ≡ job_of (issued_as event_no (frame_after f done.entry))) }
     {
         let _steps = done.steps();
         let number = actor.place();
@@ -181,7 +181,8 @@ impl<'a> RunningTasks<'a> {
         }
     }
 
-    /// Completes the actor's job, moves arguments out of its registers, moves to the next place, and issues the next job.
+    /// Completes the actor's job for RULE or PUT, moves arguments out of its registers, moves to the next place, and issues the
+    /// next job.
     #[inline(always)]
     pub(crate) fn take_args(
         &mut self,
@@ -200,7 +201,7 @@ impl<'a> RunningTasks<'a> {
             × MayBeAt f.program.program f.procedure (at_next_place done.after) }
         ensures { (f : FrameView) → get self.old.tasks actor ≡ Some f → (file : List (Option Held))
             × (bundled f.held asked.entry.callee.now.params args.now asked.entry.vals.items ≡ Some (record { args = result.0; file = file }))
-            × (self.new ≡ with_running self.old actor (lent_as event_no (gone_on (come f done.entry) file))) × (result.1 ≡ job_of (lent_as event_no (gone_on (come f done.entry) file))) }
+            × (self.new ≡ with_running self.old actor (issued_as event_no (frame_at_next (frame_after f done.entry) file))) × (result.1 ≡ job_of (issued_as event_no (frame_at_next (frame_after f done.entry) file))) }
     {
         let ActionOperands {
             callee,
@@ -231,9 +232,9 @@ impl<'a> RunningTasks<'a> {
         instr: &DataInstr,
     ) -> Result<Job<'a>, Done<'a>>
         requires task_slot { HasSlot actor }
-        requires is_running { (f : FrameView) × (get self.old.tasks actor ≡ Some f) × (done.before ≡ job_of f) × MayDo instr.now store.old (come f done) }
+        requires is_running { (f : FrameView) × (get self.old.tasks actor ≡ Some f) × (done.before ≡ job_of f) × MayDo instr.now store.old (frame_after f done) }
         ensures { (f : FrameView) → get self.old.tasks actor ≡ Some f → (g : FrameView) × (self.new ≡ with_running self.old actor g)
-            × IsLentAnswer instr.now store.old store.new f g event_no done.entry result }
+            × IsIssuedAnswer instr.now store.old store.new f g event_no done.entry result }
     {
         let number = actor.place();
         let place = &mut self.frames[number];

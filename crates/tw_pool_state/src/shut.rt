@@ -20,7 +20,7 @@ pub struct Remains {
 }
 
 impl<'a> Parts<'a> {
-    /// Spends every right. Allocates nothing.
+    /// Spends every right in the parts of a pool, and returns what its run leaves. Allocates nothing.
     pub fn shut(self) -> Remains
         ensures store { result.store ≡ self.entry.store }
         ensures outputs { result.outputs.items ≡ each (λ (r : Right). r.id) self.entry.outputs }

@@ -9,7 +9,7 @@ ghost use Rattle.tw_types.specs.Notices.{Notices};
 ghost use Rattle.tw_types.specs.Task.{TaskOf, best};
 ghost use Rattle.tw_rights.specs.declared.arg.Arg.{Arg};
 ghost use Rattle.tw_frame.specs.Jobs.{JobView};
-ghost use Rattle.tw_pool_state.specs.Events.{IsLent, IsTaken, Makes, Untouched};
+ghost use Rattle.tw_pool_state.specs.Events.{IsIssued, IsTaken, Makes, Untouched};
 ghost use Rattle.tw_pool_state.specs.Fits.{AreParts};
 ghost use Rattle.tw_pool_state.specs.Memory.{TakesTexts};
 
@@ -20,8 +20,8 @@ use tw_types::Actor;
 use tw_verify::Verified;
 
 impl<'a> Parts<'a> {
-    /// Starts the best task of an actor without one, if there is one, and issues its job. `event_no` is the number of its actor's
-    /// events.
+    /// Starts in the pool the best task of an actor without one, if there is one, and issues its job. `event_no` is the number of
+    /// its actor's events.
     pub fn take(
         &mut self,
         verified: &'a Verified,
@@ -32,7 +32,7 @@ impl<'a> Parts<'a> {
         requires free { get self.old.running_tasks.tasks actor ≡ None }
         requires parts { (layout : ActorCounts) × (notices : Notices) × AreParts verified.now layout self.old notices × (is_in layout actor ≡ true) }
         ensures taken { IsTaken (best actor self.old.tasks.tasks)
-            (λ (e : ℕ × TaskOf Arg) (job : JobView). IsLent self.new actor event_no job
+            (λ (e : ℕ × TaskOf Arg) (job : JobView). IsIssued self.new actor event_no job
             × ((layout : ActorCounts) → is_in layout actor ≡ true → Makes verified.now layout (event.Take actor) self.old self.new))
             (Untouched self.old self.new) result }
         ensures memory { OnErr result (TakesTexts verified.now.program (best actor self.old.tasks.tasks)) }

@@ -10,7 +10,7 @@ use tw_types::Layout;
 /// The number of slots.
 const COUNT: usize = 24;
 
-/// Makes empty slots.
+/// Makes slots for running tasks, all empty.
 pub(crate) fn empty_slots<'a>(alloc: Global) -> Result<Vec<Option<Frame<'a>>>, AllocError>
     ensures { IfOk result (λ frames. frames.items ≡ replicate 24 None) }
 {
@@ -21,7 +21,7 @@ pub(crate) fn empty_slots<'a>(alloc: Global) -> Result<Vec<Option<Frame<'a>>>, A
     Ok(frames)
 }
 
-/// Takes the task out of a slot.
+/// Takes the running task out of an actor's slot.
 pub(crate) fn take_task<'a>(
     frames: &mut Vec<Option<Frame<'a>>>,
     task_slot: usize,
@@ -34,7 +34,7 @@ pub(crate) fn take_task<'a>(
     place.take()
 }
 
-/// Puts a task into an empty slot.
+/// Puts a running task into an actor's empty slot.
 pub(crate) fn put_task<'a>(frames: &mut Vec<Option<Frame<'a>>>, task_slot: usize, frame: Frame<'a>)
     requires inside { task_slot < length frames.old.items }
     requires empty { slice_index_or frames.old.items task_slot None ≡ None }
@@ -47,7 +47,7 @@ pub(crate) fn put_task<'a>(frames: &mut Vec<Option<Frame<'a>>>, task_slot: usize
     }
 }
 
-/// Spends every right of every task.
+/// Spends every right of every task in the actors' slots.
 pub(crate) fn shut_tasks<'a>(mut frames: Vec<Option<Frame<'a>>>) {
     while let Some(task_slot) = frames.pop() {
         if let Some(frame) = task_slot {
@@ -57,7 +57,7 @@ pub(crate) fn shut_tasks<'a>(mut frames: Vec<Option<Frame<'a>>>) {
     frames.destroy_empty();
 }
 
-/// Takes the memory that is there.
+/// Takes the memory for a task out of an actor's slot.
 pub(crate) fn take_buffers<'a>(
     frame_buffers: &mut Vec<Option<FrameBuffers<'a>>>,
     task_slot: usize,
@@ -73,7 +73,7 @@ pub(crate) fn take_buffers<'a>(
     }
 }
 
-/// Puts memory there, and frees what was there.
+/// Puts the memory for a task into an actor's slot, and frees what was there.
 pub(crate) fn put_buffers<'a>(
     frame_buffers: &mut Vec<Option<FrameBuffers<'a>>>,
     task_slot: usize,
@@ -137,7 +137,7 @@ pub(crate) fn all_frame_buffers<'a>(
     Ok(frame_buffers)
 }
 
-/// Frees their memory.
+/// Frees the memory for tasks in the actors' slots.
 pub(crate) fn drop_frame_buffers<'a>(mut frame_buffers: Vec<Option<FrameBuffers<'a>>>) {
     while let Some(room) = frame_buffers.pop() {
         if let Some(room) = room {

@@ -11,7 +11,7 @@ use crate::parts::Parts;
 use tw_types::{Actor, Kind};
 
 impl<'a> Parts<'a> {
-    /// Returns whether a notice waits for a server.
+    /// Returns whether the pool has work for a server: a notice to deliver.
     fn has_notice(&self, server: u8) -> bool
         requires { server < length self.now.store.queues }
         ensures { result ≡ false → queue_at self.now.store.queues server ≡ [] }
@@ -19,14 +19,15 @@ impl<'a> Parts<'a> {
         self.store.oldest_notice(server).is_some()
     }
 
-    /// Returns whether an engine has a rule to release.
+    /// Returns whether the pool has work for an engine: a rule to release.
     fn has_release(&self, engine: u8) -> bool
         ensures { result ≡ false → next_release engine self.now.rules.rules ≡ None }
     {
         self.rules.next_release(engine).is_some()
     }
 
-    /// Returns whether work waits that others made for this actor alone. Asks aren't counted: an engine makes its rules itself.
+    /// Returns whether the pool has work that others made for this actor alone. Asks aren't counted: an engine makes its rules
+    /// itself.
     pub fn has_own_work(&self, actor: Actor) -> bool
         requires { (server : ℕ) → actor ≡ Server server → server < length self.now.store.queues }
         ensures { result ≡ false → HasNoWork actor self.now }
@@ -38,7 +39,7 @@ impl<'a> Parts<'a> {
         }
     }
 
-    /// Returns whether a task of this kind waits that has no target.
+    /// Returns whether a task of this kind without a target waits in the pool's queues.
     pub fn has_untargeted(&self, kind: Kind) -> bool
         ensures { result ≡ false → HaveTargets kind self.now.tasks.tasks }
     {

@@ -18,7 +18,7 @@ use Rattle.tw_queue.specs.declared.rank.Rank.{Rank}
 use Rattle.tw_queue.specs.declared.waiting.Waiting.{Waiting}
 use Rattle.tw_queue.specs.Ranks.{rank_cmp}
 use Rattle.tw_queue.specs.QueuesByTarget.{IsBest, IsOwnQueue}
-use Rattle.tw_queue.specs.Queues.{IsTarget, handed_out, queue_of}
+use Rattle.tw_queue.specs.Queues.{IsTarget, taken_task, queue_of}
 use Rattle.tw_queue.specs.RankIndex.{Ranking, IsRankBest}
 use Rattle.tw_queue.specs.Indexed.{IsIndex, IsEntryAt, rank_of, task_in}
 use Rattle.tw_queue.proofs.Bests.{IsAhead, best_is, best_none}
@@ -136,5 +136,5 @@ module _ (entry : Entries) (ranks : Ranking) (is : IsIndex entry ranks) (tasks :
 
 -- the task of the best rank is handed out
 pub handed_best : (entry : Entries) (tasks : TasksOf Arg) (actor : Actor) (rank : Rank) → (t : IsBestTask actor entry tasks rank)
-    → option_map handed_out (best actor tasks) ≡ Some t.waiting.task
-handed_best entry tasks actor rank t = ap (option_map handed_out) t.best_is
+    → option_map taken_task (best actor tasks) ≡ Some t.waiting.task
+handed_best entry tasks actor rank t = ap (option_map taken_task) t.best_is

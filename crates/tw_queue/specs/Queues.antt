@@ -36,8 +36,8 @@ waiting kind priority target task =
     record { kind = kind; procedure = task.procedure; priority = priority; target = target; args = task.args }
 
 -- returns a waiting task, with its number, as it is taken
-abbrev pub handed_out : ℕ × TaskOf Arg → Task
-handed_out e = record { no = e.0; procedure = e.1.procedure; args = e.1.args }
+abbrev pub taken_task : ℕ × TaskOf Arg → Task
+taken_task e = record { no = e.0; procedure = e.1.procedure; args = e.1.args }
 
 -- returns the tasks without this one
 abbrev pub without : {A : Type 0} → Option (ℕ × TaskOf A) → TasksOf A → TasksOf A

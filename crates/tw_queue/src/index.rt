@@ -19,7 +19,7 @@ pub struct RankIndex {
 }
 
 impl RankIndex {
-    /// Makes an index without ranks.
+    /// Makes an index of queued tasks' ranks, by kind, without any.
     pub fn new(alloc: Global) -> Result<RankIndex, AllocError>
         ensures { IfOk result (λ index. (kind : Kind) (queue : ℕ) → ranks_of index kind queue ≡ []) }
     {
@@ -28,7 +28,7 @@ impl RankIndex {
         Ok(RankIndex { control, leaf })
     }
 
-    /// Reserves memory for the rank of one task of this kind and target.
+    /// Reserves memory in the index for the rank of one task of this kind and target.
     pub fn reserve(&mut self, kind: Kind, target: Option<u8>) -> Result<(), AllocError>
         requires { IsTarget target }
         ensures same { ranks_of self.new ≡ ranks_of self.old }
@@ -42,7 +42,7 @@ impl RankIndex {
         }
     }
 
-    /// Adds the rank of a task.
+    /// Adds the rank of a queued task to the index of its kind.
     pub fn push(&mut self, kind: Kind, target: Option<u8>, rank: Rank) -> Result<(), AllocError>
         requires { IsTarget target }
         ensures pushed { OnOk result (IsRankAdded kind (queue_of target) rank (ranks_of self.old) (ranks_of self.new)) }
@@ -56,7 +56,7 @@ impl RankIndex {
         }
     }
 
-    /// Returns the best rank among tasks that the actor may take.
+    /// Returns the best rank in the index among tasks that the actor may take.
     pub fn best(&self, actor: Actor) -> Option<Rank>
         ensures { IsRankBest actor (ranks_of self.now) result }
     {
@@ -67,7 +67,7 @@ impl RankIndex {
         }
     }
 
-    /// Removes and returns the best rank among tasks that the actor may take.
+    /// Removes from the index and returns the best rank among tasks that the actor may take.
     pub fn take(&mut self, actor: Actor) -> Option<Rank>
         ensures best { IsRankBest actor (ranks_of self.old) result }
         ensures taken { IfSome result (λ rank. IsRankRemoved rank (ranks_of self.old) (ranks_of self.new)) }
@@ -81,7 +81,7 @@ impl RankIndex {
         }
     }
 
-    /// Returns whether there is a rank for this actor alone.
+    /// Returns whether the index has a rank for this actor alone.
     pub fn has_targeted(&self, actor: Actor) -> bool
         ensures { result ≡ false → HasNoRank actor (ranks_of self.now) }
     {
@@ -92,7 +92,7 @@ impl RankIndex {
         }
     }
 
-    /// Returns whether there is a rank of this kind without a target.
+    /// Returns whether the index has a rank of this kind without a target.
     pub fn has_untargeted(&self, kind: Kind) -> bool
         ensures { result ≡ false → ranks_of self.now kind 16 ≡ [] }
     {

@@ -5,7 +5,7 @@ ghost use Rattle.std.specs.FinMap as map;
 ghost use Rattle.std.specs.FinMap.{get};
 ghost use Rattle.std.specs.Option.{option_copied};
 ghost use Rattle.tw_types.specs.Task.{best};
-ghost use Rattle.tw_queue.specs.Queues.{IsRoomKept, IsTarget, handed_out, room_for, waiting, without};
+ghost use Rattle.tw_queue.specs.Queues.{IsRoomKept, IsTarget, taken_task, room_for, waiting, without};
 ghost use Rattle.tw_queue.specs.Targets.{HaveTargets, IsNoTarget};
 
 use crate::index::RankIndex;
@@ -49,7 +49,7 @@ impl Model for TaskQueues {
 }
 
 impl TaskQueues {
-    /// Makes queues without tasks.
+    /// Makes the pool's queues without tasks.
     pub fn new(alloc: Global) -> Result<TaskQueues, AllocError>
         ensures { IfOk result (λ queues. queues.tasks ≡ map.empty) }
     {
@@ -60,14 +60,14 @@ impl TaskQueues {
         })
     }
 
-    /// Returns the number of tasks.
+    /// Returns the number of tasks in the pool's queues.
     pub fn len(&self) -> usize
         ensures { result ≡ map.len self.now.tasks }
     {
         self.tasks.len()
     }
 
-    /// Reserves memory for one task of this kind and target.
+    /// Reserves memory in the pool's queues for one task of this kind and target.
     #[inline(always)]
     pub fn reserve(&mut self, kind: Kind, target: Option<u8>) -> Result<(), AllocError>
         requires { IsTarget target }
@@ -80,7 +80,7 @@ impl TaskQueues {
         self.index.reserve(kind, target)
     }
 
-    /// Adds a task. Returns it if an allocation fails.
+    /// Adds a task to the pool's queues. Returns it if an allocation fails.
     #[inline(always)]
     pub fn put(
         &mut self,
@@ -119,9 +119,9 @@ impl TaskQueues {
         Ok(())
     }
 
-    /// Returns the task that the actor takes next, if there is one.
+    /// Returns the queued task that the actor takes next, if there is one.
     pub fn best(&self, actor: Actor) -> Option<&Task>
-        ensures { option_copied result ≡ option_map handed_out (best actor self.now.tasks) }
+        ensures { option_copied result ≡ option_map taken_task (best actor self.now.tasks) }
     {
         let rank = self.index.best(actor)?;
         let Some(waiting) = self.tasks.get(rank.slot) else {
@@ -130,9 +130,9 @@ impl TaskQueues {
         Some(&waiting.task)
     }
 
-    /// Takes the task that `best` returns.
+    /// Takes the task that `best` returns out of the pool's queues.
     pub fn take(&mut self, actor: Actor) -> Option<Task>
-        ensures taken { result ≡ option_map handed_out (best actor self.old.tasks) }
+        ensures taken { result ≡ option_map taken_task (best actor self.old.tasks) }
         ensures rest { self.new.tasks ≡ without (best actor self.old.tasks) self.old.tasks }
         ensures room { IsRoomKept self.old self.new }
     {
@@ -153,14 +153,14 @@ impl TaskQueues {
         self.index.has_targeted(actor)
     }
 
-    /// Returns whether a task of this kind waits that has no target.
+    /// Returns whether a task of this kind without a target is in the pool's queues.
     pub fn has_untargeted(&self, kind: Kind) -> bool
         ensures { result ≡ false → HaveTargets kind self.now.tasks }
     {
         self.index.has_untargeted(kind)
     }
 
-    /// Spends every right of every task.
+    /// Spends every right of every queued task.
     pub fn shut(self) {
         let TaskQueues { tasks, index: _ } = self;
         tasks.shut();

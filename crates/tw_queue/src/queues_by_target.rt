@@ -32,7 +32,7 @@ impl QueuesByTarget {
 
     const COUNT: usize = 17;
 
-    /// Makes seventeen run queues without ranks.
+    /// Makes seventeen run queues without ranks: one for each target, and one for tasks without.
     pub fn new(alloc: Global) -> Result<QueuesByTarget, AllocError>
         ensures { IfOk result (λ by_target. by_target.queues ≡ replicate 17 []) }
     {
@@ -43,7 +43,7 @@ impl QueuesByTarget {
         Ok(QueuesByTarget { queues })
     }
 
-    /// Reserves memory for the rank of one task for this target.
+    /// Reserves memory in the run queue of this target for the rank of one task.
     #[inline(always)]
     pub fn reserve(&mut self, target: Option<u8>) -> Result<(), AllocError>
         requires { queue_of target < 17 }
@@ -56,7 +56,7 @@ impl QueuesByTarget {
         queue.reserve()
     }
 
-    /// Adds the rank of a task for this target.
+    /// Adds the rank of a task to the run queue of this target.
     #[inline(always)]
     pub fn push(&mut self, target: Option<u8>, rank: Rank) -> Result<(), AllocError>
         requires { queue_of target < 17 }
@@ -69,7 +69,7 @@ impl QueuesByTarget {
         queue.push(rank)
     }
 
-    /// Returns the first of the ranks that an actor of this number may take.
+    /// Returns the first rank of the two run queues from which an actor of this number takes.
     pub fn best(&self, number: u8) -> Option<Rank>
         ensures { IsBest number (ranks_at self.now.queues) result }
     {
@@ -77,7 +77,7 @@ impl QueuesByTarget {
         Some(rank)
     }
 
-    /// Takes the first of the ranks that an actor of this number may take.
+    /// Takes the first rank of the two run queues from which an actor of this number takes.
     pub fn take(&mut self, number: u8) -> Option<Rank>
         ensures best { IsBest number (ranks_at self.old.queues) result }
         ensures taken { IfSome result (λ rank. IsTaken rank (ranks_at self.old.queues) (ranks_at self.new.queues)) }
@@ -89,14 +89,14 @@ impl QueuesByTarget {
         queue.pop()
     }
 
-    /// Returns whether there is a rank for this target alone.
+    /// Returns whether the run queue of this target has a rank.
     pub fn has_targeted(&self, number: u8) -> bool
         ensures { result ≡ false → ranks_at self.now.queues number ≡ [] }
     {
         self.first(usize::from(number)).is_some()
     }
 
-    /// Returns whether there is a rank without a target.
+    /// Returns whether the run queue of tasks without a target has a rank.
     pub fn has_untargeted(&self) -> bool
         ensures { result ≡ false → ranks_at self.now.queues 16 ≡ [] }
     {
@@ -123,7 +123,7 @@ impl QueuesByTarget {
         }
     }
 
-    /// Returns the first rank of a run queue.
+    /// Returns the first rank of the run queue at an index.
     fn first(&self, index: usize) -> Option<Rank>
         ensures { IsFirstAt index self.now.queues result }
     {
@@ -136,6 +136,7 @@ impl QueuesByTarget {
     }
 }
 
+/// Returns the index of the run queue for a target: its number, or the last one without a target.
 fn queue_of(target: Option<u8>) -> usize
     ensures { result ≡ queue_of target }
 {

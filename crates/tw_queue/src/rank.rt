@@ -24,6 +24,7 @@ impl Ord for Rank {
 
     ghost matches_eq = { Prim.search (comparing, rules) };
 
+    /// Compares ranks of queued tasks: the greatest has the greatest priority, then the lowest number.
     fn cmp(&self, other: &Rank) -> Ordering {
         let by_slot = other.slot.cmp(&self.slot);
         let by_number = other.number.cmp(&self.number).then(by_slot);
@@ -42,6 +43,7 @@ impl PartialOrd for Rank {
 
     ghost laws = { partial_order_from_own_ties (Prim.search (comparing, rules) depth 9) (Prim.search (comparing, rules) depth 9) };
 
+    /// Compares ranks of queued tasks like `cmp`: by priority, number and slot.
     fn partial_cmp(&self, other: &Rank) -> Option<Ordering> {
         Some(self.cmp(other))
     }

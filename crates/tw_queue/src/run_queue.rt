@@ -49,7 +49,7 @@ impl RunQueue {
         }
     }
 
-    /// Reserves memory for one rank.
+    /// Reserves memory for one rank in a run queue.
     pub fn reserve(&mut self) -> Result<(), AllocError>
         ensures same { self.new.ranks ≡ self.old.ranks }
         ensures room { OnOk result (self.new.has_room ≡ true) }
@@ -60,7 +60,7 @@ impl RunQueue {
         self.rest.reserve(1)
     }
 
-    /// Adds a rank.
+    /// Adds a rank to a run queue.
     pub fn push(&mut self, rank: Rank) -> Result<(), AllocError>
         ensures pushed { OnOk result (IsPermutation (rank ∷ self.old.ranks) self.new.ranks) }
         ensures refused { OnErr result (self.new.ranks ≡ self.old.ranks) }
@@ -75,7 +75,7 @@ impl RunQueue {
         Ok(())
     }
 
-    /// Returns the first rank: the greatest.
+    /// Returns the first rank of a run queue: the greatest.
     pub fn first(&self) -> Option<Rank>
         ensures { IsFirst self.now.ranks result }
     {
@@ -86,7 +86,7 @@ impl RunQueue {
         }
     }
 
-    /// Takes the first rank.
+    /// Takes the first rank out of a run queue.
     pub fn pop(&mut self) -> Option<Rank>
         ensures first { IsFirst self.old.ranks result }
         ensures popped { IfSome result (λ rank. IsPermutation self.old.ranks (rank ∷ self.new.ranks)) }
@@ -101,7 +101,7 @@ impl RunQueue {
     }
 }
 
-/// Returns whether a rank is after all ranks of a run.
+/// Returns whether a rank comes after all ranks of a sorted run of a run queue.
 fn is_next(run: &VecDeque<Rank>, rank: Rank) -> bool
     requires { IsInOrder run.now.items }
     ensures { result ≡ true → IsInOrder (run.now.items ++ rank ∷ []) }
@@ -112,7 +112,7 @@ fn is_next(run: &VecDeque<Rank>, rank: Rank) -> bool
     }
 }
 
-/// Returns whether the first rank of a run is greater than all of the rest.
+/// Returns whether the first rank of a run queue's sorted run is greater than all of the rest.
 fn is_in_front(run: &VecDeque<Rank>, rest: &BinaryHeap<Rank>) -> bool
     requires run { IsInOrder run.now.items }
     requires rest { IsHeap rank_cmp (heap_items rest.now) }

@@ -38,7 +38,7 @@ impl Model for Slots {
 }
 
 impl Slots {
-    /// Makes slots without tasks.
+    /// Makes slots for queued tasks without any.
     pub fn new(alloc: Global) -> Slots
         ensures { result.slots ≡ [] }
     {
@@ -49,14 +49,14 @@ impl Slots {
         }
     }
 
-    /// Returns the number of tasks.
+    /// Returns the number of queued tasks in slots.
     pub fn len(&self) -> usize
         ensures { result ≡ count_by is_some self.now.slots }
     {
         self.len
     }
 
-    /// Reserves memory for one task.
+    /// Reserves memory for one queued task in a slot.
     pub fn reserve(&mut self) -> Result<(), AllocError>
         ensures same { self.new.slots ≡ self.old.slots }
         ensures next { self.new.next ≡ self.old.next }
@@ -71,7 +71,7 @@ impl Slots {
         }
     }
 
-    /// Returns the index of the slot that is filled next.
+    /// Returns the index of the slot into which the next queued task is put.
     pub fn next(&self) -> usize
         ensures next { result ≡ self.now.next }
         ensures free { slot_at self.now.slots result ≡ None }
@@ -79,7 +79,7 @@ impl Slots {
         self.free
     }
 
-    /// Fills the slot that `next` returns.
+    /// Puts a queued task into the slot that `next` returns.
     pub fn fill(&mut self, waiting: Waiting)
         requires { self.old.has_room ≡ true }
         ensures { IsChangedAt self.old.next (Some waiting) self.old.slots self.new.slots }
@@ -97,7 +97,7 @@ impl Slots {
         }
     }
 
-    /// Returns the task in a slot, if there is one.
+    /// Returns the queued task in a slot, if there is one.
     pub fn get(&self, slot: usize) -> Option<&Waiting>
         ensures { option_copied result ≡ slot_at self.now.slots slot }
     {
@@ -107,7 +107,7 @@ impl Slots {
         }
     }
 
-    /// Takes the task out of a slot, which is then the next to be filled.
+    /// Takes the queued task out of a slot, which is then the next to be filled.
     pub fn take(&mut self, slot: usize) -> Waiting
         requires { IsSome (slot_at self.old.slots slot) }
         ensures taken { slot_at self.old.slots slot ≡ Some result }
@@ -124,7 +124,7 @@ impl Slots {
         }
     }
 
-    /// Spends every right of every task.
+    /// Spends every right of every task in slots.
     pub fn shut(self) {
         let Slots {
             mut slots,

@@ -12,7 +12,7 @@ pub struct Waiting {
 }
 
 impl Waiting {
-    /// Spends every right of the task.
+    /// Spends every right of a queued task.
     pub fn spend(self) {
         let Waiting {
             kind: _,

@@ -15,8 +15,8 @@ use Rattle.tw_types.proofs.Totals.{part, part-le-total, total-insert, total-remo
 use Rattle.tw_rights.specs.declared.arg.Arg.{Arg}
 use Rattle.tw_rules.specs.declared.agenda.Agenda.{Agenda}
 use Rattle.tw_rules.specs.Numbers.{IsLeast, Rises, from_first}
-use Rattle.tw_rules.specs.Indexed.{Rules, wants, is_wanting, AreAsks, IsFirstWanting, AreReleases, IsLeastPending, IsTrimmed, IsAgenda, IsIndexed, open_count}
-use Rattle.tw_rules.specs.Agendas.{HasAsked, HasReleased, HasMoved}
+use Rattle.tw_rules.specs.Indexed.{Rules, is_some_unasked, is_askable, AreAsks, IsFirstAskable, AreReleases, IsLeastPending, IsTrimmed, IsAgenda, IsIndexed, open_count}
+use Rattle.tw_rules.specs.Agendas.{HasOneMoreAsk, HasReleased, HasMoved}
 use Rattle.tw_types.proofs.Numbers.{nat_apart, nat_is, same_or_apart}
 use Rattle.tw_types.proofs.Elements.{appended_cases, appended_last, appended_old, contains_cases, contains_here, contains_later, contains_none, first_there, get_set_other, get_set_same}
 
@@ -124,10 +124,10 @@ module _ (n : ℕ) (was now : Option R) (old new : Rules) (changed : Changed n w
     ];
   }
 
-  first_kept : (asks : List ℕ) → IsFirstWanting old asks → (slice_get asks 0 ≡ Some n → ⊥) → IsFirstWanting new asks
+  first_kept : (asks : List ℕ) → IsFirstAskable old asks → (slice_get asks 0 ≡ Some n → ⊥) → IsFirstAskable new asks
   first_kept asks wanting other q e = elim (same_or_apart q n) [
     | inl same ↦ absurd (other (subst (λ p. slice_get asks 0 ≡ Some p) same e))
-    | inr apart ↦ ap wants (changed.others q apart) ∙ wanting q e
+    | inr apart ↦ ap is_some_unasked (changed.others q apart) ∙ wanting q e
   ]
 
   -- ---- releasing
@@ -245,17 +245,17 @@ module _ (n : ℕ) (was now : Option R) (old new : Rules) (changed : Changed n w
     only : (other : R) → now ≡ Some other → rule ≡ other
     only other e = unsome (sym is ∙ e)
 
-    first_pushed : IsFirstWanting old agenda.asks.numbers → has_unasked rule ≡ true → ((q : ℕ) → Contains agenda.asks.numbers q → q < n) → IsFirstWanting new (agenda.asks.numbers ++ n ∷ [])
+    first_pushed : IsFirstAskable old agenda.asks.numbers → has_unasked rule ≡ true → ((q : ℕ) → Contains agenda.asks.numbers q → q < n) → IsFirstAskable new (agenda.asks.numbers ++ n ∷ [])
     first_pushed wanting has below q e = elim (appended_first agenda.asks.numbers n q e) [
-      | inl head ↦ let low : q < n = below q (first_there q agenda.asks.numbers head) in ap wants (changed.others q (λ same. absurd (omega arith))) ∙ wanting q head
-      | inr same ↦ ap wants (ap (get new) (sym same) ∙ changed.here ∙ is) ∙ has
+      | inl head ↦ let low : q < n = below q (first_there q agenda.asks.numbers head) in ap is_some_unasked (changed.others q (λ same. absurd (omega arith))) ∙ wanting q head
+      | inr same ↦ ap is_some_unasked (ap (get new) (sym same) ∙ changed.here ∙ is) ∙ has
     ]
 
     -- a new rule with an unasked parameter
-    pub added_asked : was ≡ None → n ≡ next → n < more → has_unasked rule ≡ true → is_releasable rule ≡ false → HasAsked n agenda after → IsAgenda engine new more after
+    pub added_asked : was ≡ None → n ≡ next → n < more → has_unasked rule ≡ true → is_releasable rule ≡ false → HasOneMoreAsk n agenda after → IsAgenda engine new more after
     added_asked none at low has cannot does = record {
       asks = subst (AreAsks engine new more) (sym does.asks) pushed;
-      asked = subst (IsFirstWanting new) (sym does.asks) (first_pushed old_is.asked has (λ q c. subst (λ k. q < k) (sym at) (old_is.asks.below q c)));
+      asked = subst (IsFirstAskable new) (sym does.asks) (first_pushed old_is.asked has (λ q c. subst (λ k. q < k) (sym at) (old_is.asks.below q c)));
       releases = subst (AreReleases engine new more) (sym does.releases) (releases_changed agenda.releases.numbers old_is.releases
           (λ other e mine can. let no : is_releasable rule ≡ true = subst (λ x. is_releasable x ≡ true) (sym (only other e)) can in absurd cc)
           (λ other e c. let under : n < next = old_is.releases.below n c in absurd (omega arith)));
@@ -289,7 +289,7 @@ module _ (n : ℕ) (was now : Option R) (old new : Rules) (changed : Changed n w
       asks = subst (AreAsks engine new more) (sym does.asks) (asks_changed agenda.asks.numbers old_is.asks
           (λ other e mine has. let no : has_unasked rule ≡ true = subst (λ x. has_unasked x ≡ true) (sym (only other e)) has in absurd cc)
           (λ other e c. let under : n < next = old_is.asks.below n c in absurd (omega arith)));
-      asked = subst (IsFirstWanting new) (sym does.asks) (first_kept agenda.asks.numbers old_is.asked
+      asked = subst (IsFirstAskable new) (sym does.asks) (first_kept agenda.asks.numbers old_is.asked
           (λ e. let under : n < next = old_is.asks.below n (first_there n agenda.asks.numbers e) in omega arith));
       releases = releases_pushed agenda.releases.numbers after.releases.numbers rule old_is.releases low is own can does.releases;
       released = least_pushed agenda.releases.numbers after.releases.numbers old_is.released (ap is_some is) does.releases;
@@ -304,7 +304,7 @@ module _ (n : ℕ) (was now : Option R) (old new : Rules) (changed : Changed n w
 
     -- a parameter is at another stage
     module _ (rule_was : R) (was_is : was ≡ Some rule_was) (own_was : rule_was.engine ≡ engine) (held : is_releasable rule_was ≡ false) (less : has_unasked rule ≡ true → has_unasked rule_was ≡ true)
-        (trimmed : after.asks.numbers ≡ from_first (is_wanting new) agenda.asks.numbers) where
+        (trimmed : after.asks.numbers ≡ from_first (is_askable new) agenda.asks.numbers) where
       there_before : get old n ≡ Some rule_was
       there_before = changed.before ∙ was_is
 
@@ -313,16 +313,16 @@ module _ (n : ℕ) (was now : Option R) (old new : Rules) (changed : Changed n w
           (λ other e mine has. old_is.asks.complete n rule_was there_before own_was (less (subst (λ x. has_unasked x ≡ true) (sym (only other e)) has)))
           (λ other e c. ap (λ x. x.engine) (sym (only other e)) ∙ own)))
         where
-          asks_trimmed : AreAsks engine new more agenda.asks.numbers → AreAsks engine new more (from_first (is_wanting new) agenda.asks.numbers)
+          asks_trimmed : AreAsks engine new more agenda.asks.numbers → AreAsks engine new more (from_first (is_askable new) agenda.asks.numbers)
           asks_trimmed are = record {
-            rises = trimmed_rises (is_wanting new) agenda.asks.numbers are.rises;
-            below = λ q c. are.below q (trimmed_old (is_wanting new) agenda.asks.numbers q c);
-            complete = λ q other e mine has. trimmed_kept (is_wanting new) agenda.asks.numbers q (ap wants e ∙ has) (are.complete q other e mine has);
-            own = λ q other e c. are.own q other e (trimmed_old (is_wanting new) agenda.asks.numbers q c);
+            rises = trimmed_rises (is_askable new) agenda.asks.numbers are.rises;
+            below = λ q c. are.below q (trimmed_old (is_askable new) agenda.asks.numbers q c);
+            complete = λ q other e mine has. trimmed_kept (is_askable new) agenda.asks.numbers q (ap is_some_unasked e ∙ has) (are.complete q other e mine has);
+            own = λ q other e c. are.own q other e (trimmed_old (is_askable new) agenda.asks.numbers q c);
           }
 
-      staged_asked : IsFirstWanting new after.asks.numbers
-      staged_asked q e = trimmed_first (is_wanting new) agenda.asks.numbers q (subst (λ xs. slice_get xs 0 ≡ Some q) trimmed e)
+      staged_asked : IsFirstAskable new after.asks.numbers
+      staged_asked q e = trimmed_first (is_askable new) agenda.asks.numbers q (subst (λ xs. slice_get xs 0 ≡ Some q) trimmed e)
 
       not_in : Contains agenda.releases.numbers n → ⊥
       not_in c = let can = (old_is.releases.own n rule_was there_before c).1 in cc
@@ -367,8 +367,8 @@ module _ (n : ℕ) (was now : Option R) (old new : Rules) (changed : Changed n w
       → after.asks ≡ agenda.asks → IsTrimmed new agenda.releases.numbers after.releases.numbers → after.releases.promised ≡ agenda.releases.promised → IsAgenda engine new more after
   gone_agenda gone rule is own can idle agenda after old_is asks trimmed promised = record {
     asks = subst (λ x. AreAsks engine new more x.numbers) (sym asks) (asks_changed agenda.asks.numbers old_is.asks (λ other e mine has. nothing other e) (λ other e c. nothing other e));
-    asked = subst (λ x. IsFirstWanting new x.numbers) (sym asks) (first_kept agenda.asks.numbers old_is.asked
-        (λ e. let has : is_wanting old n ≡ true = old_is.asked n e in let none : is_wanting old n ≡ false = ap wants there ∙ idle in cc));
+    asked = subst (λ x. IsFirstAskable new x.numbers) (sym asks) (first_kept agenda.asks.numbers old_is.asked
+        (λ e. let has : is_askable old n ≡ true = old_is.asked n e in let none : is_askable old n ≡ false = ap is_some_unasked there ∙ idle in cc));
     releases = record {
       below = λ q c. let low : q < next = old_is.releases.below q (trimmed.sound q c) in omega arith;
       complete = λ q other e mine can'. elim (same_or_apart q n) [

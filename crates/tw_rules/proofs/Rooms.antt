@@ -3,7 +3,7 @@ use Rattle.std.proofs.Common.{[], ◌≡◌, ◌≤◌, ◌<◌, inl, inr, ℕ, 
 use Rattle.std.specs.Prelude.{Some, slice_get}
 use Rattle.std.proofs.lemmas.Bool.{and_from, and_parts}
 use Rattle.tw_rules.specs.declared.agenda.Agenda.{Agenda}
-use Rattle.tw_rules.specs.Indexed.{agenda_room, has_place, rooms_of, Rules, AreAsks, AreReleases, IsFirstWanting, IsLeastPending, IsAgenda, IsIndexed}
+use Rattle.tw_rules.specs.Indexed.{agenda_room, has_place, rooms_of, Rules, AreAsks, AreReleases, IsFirstAskable, IsLeastPending, IsAgenda, IsIndexed}
 use Rattle.tw_rules.specs.Agendas.{IsSameAgenda}
 use Rattle.tw_types.proofs.Came.{unsome}
 use Rattle.tw_types.proofs.Numbers.{lt_test, same_or_apart, test_lt}
@@ -65,7 +65,7 @@ place_capacity spare len capacity h = test_lt _ _ (and_parts (nat_lt 0 spare) _ 
 pub same_agenda : (engine : ℕ) (rules : Rules) (next : ℕ) (old new : Agenda) → IsSameAgenda old new → IsAgenda engine rules next old → IsAgenda engine rules next new
 same_agenda engine rules next old new same is = record {
   asks = subst (AreAsks engine rules next) (sym same.asks) is.asks;
-  asked = subst (IsFirstWanting rules) (sym same.asks) is.asked;
+  asked = subst (IsFirstAskable rules) (sym same.asks) is.asked;
   releases = subst (AreReleases engine rules next) (sym same.releases) is.releases;
   released = subst (IsLeastPending rules) (sym same.releases) is.released;
   promised = is.promised ∙ sym same.promised;

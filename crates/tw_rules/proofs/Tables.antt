@@ -15,8 +15,8 @@ use Rattle.tw_rules.specs.declared.planned.PlannedTask.{PlannedTask}
 use Rattle.tw_rules.specs.declared.agenda.Agenda.{Agenda}
 use Rattle.tw_rules.specs.Numbers.{IsLeast, Rises, from_first}
 use Rattle.tw_rules.specs.Table.{new_rule, stage_at, staged}
-use Rattle.tw_rules.specs.Indexed.{Rules, is_wanting, wants, open_count, AreAsks, AreReleases, IsFirstWanting, IsLeastPending, IsTrimmed, IsAgenda, IsIndexed}
-use Rattle.tw_rules.specs.Agendas.{HasAsked, HasReleased, HasMoved}
+use Rattle.tw_rules.specs.Indexed.{Rules, is_askable, is_some_unasked, open_count, AreAsks, AreReleases, IsFirstAskable, IsLeastPending, IsTrimmed, IsAgenda, IsIndexed}
+use Rattle.tw_rules.specs.Agendas.{HasOneMoreAsk, HasReleased, HasMoved}
 use Rattle.tw_types.proofs.Came.{unsome}
 use Rattle.tw_types.proofs.Numbers.{same_or_apart}
 use Rattle.tw_types.proofs.Elements.{contains_cases, contains_none, first_there, none_past}
@@ -39,7 +39,7 @@ none_in : (xs : List ℕ) (y : ℕ) → slice_get xs 0 ≡ None → Contains xs 
 none_in [] y e c = contains_none y c
 none_in (x ∷ xs) y e c = cc
 
-some_of : (o : Option R) → wants o ≡ true → (rule : R) × (o ≡ Some rule) × (has_unasked rule ≡ true)
+some_of : (o : Option R) → is_some_unasked o ≡ true → (rule : R) × (o ≡ Some rule) × (has_unasked rule ≡ true)
 some_of None h = cc
 some_of (Some rule) h = (rule, refl, h)
 
@@ -134,7 +134,7 @@ module _ (rules : Rules) (next : ℕ) (agendas : List Agenda) (is : IsIndexed ru
       other_agenda next None (Some rule) rules (insert rules next rule) added e next (next + 1) (omega arith) other old
       (λ x none mine. cc) (λ x some mine. let one : rule ≡ x = unsome some in apart (sym mine ∙ ap (λ y. y.engine) (sym one) ∙ own)) (λ none. omega arith)
 
-  pub index_asked : has_unasked rule ≡ true → is_releasable rule ≡ false → HasAsked next agenda after → IsIndexed (insert rules next rule) (next + 1) (slice_set agendas engine after)
+  pub index_asked : has_unasked rule ≡ true → is_releasable rule ≡ false → HasOneMoreAsk next agenda after → IsIndexed (insert rules next rule) (next + 1) (slice_set agendas engine after)
   index_asked has cannot does = all_agendas rules (insert rules next rule) next (next + 1) agendas engine after is low
       (added_asked next None (Some rule) rules (insert rules next rule) added engine next (next + 1) (omega arith) rule refl own agenda after (is.each_engine engine agenda at) refl refl (omega arith) has cannot does)
       added_others added_known
@@ -147,7 +147,7 @@ module _ (rules : Rules) (next : ℕ) (agendas : List Agenda) (is : IsIndexed ru
 -- a new rule
 pub index_added : (rules : Rules) (next : ℕ) (agendas : List Agenda) → IsIndexed rules next agendas → (engine : ℕ) → engine < 4 → (params : List Param) (action : PlannedTask) (args : List Arg) (agenda after : Agenda)
     → slice_get agendas engine ≡ Some agenda → (can : Bool) → can ≡ is_releasable (new_rule engine params action args)
-    → (can ≡ true → HasReleased next agenda after) → (can ≡ false → HasAsked next agenda after)
+    → (can ≡ true → HasReleased next agenda after) → (can ≡ false → HasOneMoreAsk next agenda after)
     → IsIndexed (insert rules next (new_rule engine params action args)) (next + 1) (slice_set agendas engine after)
 index_added rules next agendas is engine low params action args agenda after at true can released asked =
     index_released rules next agendas is engine low (new_rule engine params action args) refl agenda after at (settled_idle (map (λ p. first_stage p.mode) params) (sym can)) (sym can) (released refl)
@@ -228,14 +228,14 @@ module _ (rules : Rules) (next : ℕ) (agendas : List Agenda) (is : IsIndexed ru
     pub index_promised : 0 < agenda.releases.promised
     index_promised = promised_before number (Some was) (Some now) rules new changes engine next next (omega arith) was refl own held agenda (is.each_engine engine agenda at)
 
-    pub index_staged : (after : Agenda) → after.asks.numbers ≡ from_first (is_wanting (staged rules number parameter stage)) agenda.asks.numbers
+    pub index_staged : (after : Agenda) → after.asks.numbers ≡ from_first (is_askable (staged rules number parameter stage)) agenda.asks.numbers
         → (can ≡ true → HasMoved number agenda.releases after.releases) → (can ≡ false → after.releases ≡ agenda.releases)
         → IsIndexed (staged rules number parameter stage) next (slice_set agendas engine after)
     index_staged after asks moved stays = subst (λ m. IsIndexed m next (slice_set agendas engine after)) (sym whole)
         (all_agendas rules new next next agendas engine after is staged_engine (by can refl) staged_others staged_known)
       where
-        trimmed : after.asks.numbers ≡ from_first (is_wanting new) agenda.asks.numbers
-        trimmed = asks ∙ ap (λ m. from_first (is_wanting m) agenda.asks.numbers) whole
+        trimmed : after.asks.numbers ≡ from_first (is_askable new) agenda.asks.numbers
+        trimmed = asks ∙ ap (λ m. from_first (is_askable m) agenda.asks.numbers) whole
 
         by : (b : Bool) → can ≡ b → IsAgenda engine new next after
         by true is_can = staged_released number (Some was) (Some now) rules new changes engine next next (omega arith) now refl own agenda after (is.each_engine engine agenda at) was refl own held less trimmed
@@ -262,11 +262,11 @@ module _ (rules : Rules) (next : ℕ) (agendas : List Agenda) (is : IsIndexed ru
   pub promised_at : (res : Agenda) → 0 < (get_or agendas k res).releases.promised
   promised_at res = index_promised rules next agendas is number parameter stage asked unsettled k can engine_staged can_staged (get_or agendas k res) (there_at res)
 
-  pub index_at : (res new : Agenda) → new.asks.numbers ≡ from_first (is_wanting after) (get_or agendas k res).asks.numbers
+  pub index_at : (res new : Agenda) → new.asks.numbers ≡ from_first (is_askable after) (get_or agendas k res).asks.numbers
       → (can ≡ true → HasMoved number (get_or agendas k res).releases new.releases) → (can ≡ false → new.releases ≡ (get_or agendas k res).releases) → IsIndexed after next (slice_set agendas k new)
   index_at res new asks moved stays = subst (λ (m : Rules). IsIndexed m next (slice_set agendas k new)) (sym is_staged)
       (index_staged rules next agendas is number parameter stage asked unsettled k can engine_staged can_staged (get_or agendas k res) (there_at res) new
-      (asks ∙ ap (λ (m : Rules). from_first (is_wanting m) (get_or agendas k res).asks.numbers) is_staged) moved stays)
+      (asks ∙ ap (λ (m : Rules). from_first (is_askable m) (get_or agendas k res).asks.numbers) is_staged) moved stays)
 
 -- ---- a rule is released
 
@@ -312,7 +312,7 @@ module _ (rules : Rules) (next : ℕ) (agendas : List Agenda) (is : IsIndexed ru
 pub empty_agenda : (engine : ℕ) (agenda : Agenda) → agenda.asks.numbers ≡ [] → agenda.releases.numbers ≡ [] → agenda.releases.promised ≡ 0 → IsAgenda engine empty 1 agenda
 empty_agenda engine agenda asks releases promised = record {
   asks = subst (AreAsks engine empty 1) (sym asks) (record { rises = tt; below = λ q c. absurd (contains_none q c); complete = λ q rule e own has. absurd (nothing q rule e); own = λ q rule e c. absurd (nothing q rule e) });
-  asked = subst (IsFirstWanting empty) (sym asks) (λ q e. cc);
+  asked = subst (IsFirstAskable empty) (sym asks) (λ q e. cc);
   releases = subst (AreReleases engine empty 1) (sym releases) (record { below = λ q c. absurd (contains_none q c); complete = λ q rule e own can. absurd (nothing q rule e); own = λ q rule e c. absurd (nothing q rule e) });
   released = subst (IsLeastPending empty) (sym releases) (λ q least. absurd (contains_none q least.there));
   promised = total-empty nat_cmp (open_count engine) ∙ sym promised;

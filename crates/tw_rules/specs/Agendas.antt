@@ -11,7 +11,7 @@ pub record IsSameAgenda (old new : Agenda) : Type 0 where
   pub promised : new.releases.promised ≡ old.releases.promised
 
 -- one more ask, whose release is promised
-pub record HasAsked (number : ℕ) (old new : Agenda) : Type 0 where
+pub record HasOneMoreAsk (number : ℕ) (old new : Agenda) : Type 0 where
   pub asks : new.asks.numbers ≡ old.asks.numbers ++ number ∷ []
   pub releases : new.releases.numbers ≡ old.releases.numbers
   pub promised : new.releases.promised ≡ old.releases.promised + 1

@@ -17,13 +17,14 @@ Rules = RulesOf Arg
 
 -- ---- asking
 
-abbrev pub wants : Option (RuleOf Arg) → Bool
-wants None = false
-wants (Some rule) = has_unasked rule
+-- returns whether there is a rule, and it has an unasked parameter
+abbrev pub is_some_unasked : Option (RuleOf Arg) → Bool
+is_some_unasked None = false
+is_some_unasked (Some rule) = has_unasked rule
 
 -- returns whether the rule of the number has an unasked parameter
-abbrev pub is_wanting : Rules → ℕ → Bool
-is_wanting rules number = wants (map.get rules number)
+abbrev pub is_askable : Rules → ℕ → Bool
+is_askable rules number = is_some_unasked (map.get rules number)
 
 -- each rule of the engine with an unasked parameter, in order, and no rule of another engine
 pub record AreAsks (engine : ℕ) (rules : Rules) (next : ℕ) (asks : List ℕ) : Type 0 where
@@ -33,8 +34,8 @@ pub record AreAsks (engine : ℕ) (rules : Rules) (next : ℕ) (asks : List ℕ)
   pub own : (number : ℕ) (rule : RuleOf Arg) → map.get rules number ≡ Some rule → Contains asks number → rule.engine ≡ engine
 
 -- holds if the first one has an unasked parameter
-abbrev pub IsFirstWanting : Rules → List ℕ → Type 0
-IsFirstWanting rules asks = (number : ℕ) → slice_get asks 0 ≡ Some number → is_wanting rules number ≡ true
+abbrev pub IsFirstAskable : Rules → List ℕ → Type 0
+IsFirstAskable rules asks = (number : ℕ) → slice_get asks 0 ≡ Some number → is_askable rules number ≡ true
 
 -- ---- releasing
 
@@ -65,7 +66,7 @@ pub record IsTrimmed (rules : Rules) (old new : List ℕ) : Type 0 where
 
 pub record IsAgenda (engine : ℕ) (rules : Rules) (next : ℕ) (agenda : Agenda) : Type 0 where
   pub asks : AreAsks engine rules next agenda.asks.numbers
-  pub asked : IsFirstWanting rules agenda.asks.numbers
+  pub asked : IsFirstAskable rules agenda.asks.numbers
   pub releases : AreReleases engine rules next agenda.releases.numbers
   pub released : IsLeastPending rules agenda.releases.numbers
   pub promised : total (open_count engine) rules ≡ agenda.releases.promised

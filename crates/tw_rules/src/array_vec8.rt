@@ -22,7 +22,7 @@ impl<T> Model for ArrayVec8<T> {
 }
 
 impl<T: Copy> ArrayVec8<T> {
-    /// Makes an empty list. `blank` fills the free slots.
+    /// Makes an empty list for at most eight items in an array. `blank` fills the free slots.
     pub fn new(blank: T) -> ArrayVec8<T>
         ensures { result ≡ [] }
     {
@@ -32,7 +32,7 @@ impl<T: Copy> ArrayVec8<T> {
         }
     }
 
-    /// Returns the items in order.
+    /// Returns the items of a list of at most eight, in order.
     pub fn as_slice(&self) -> &[T]
         ensures items { result.now ≡ self.now }
         ensures few { length result.now ≤ 8 }
@@ -40,7 +40,7 @@ impl<T: Copy> ArrayVec8<T> {
         &self.places[..self.len]
     }
 
-    /// Appends an item.
+    /// Appends an item to a list of at most eight.
     pub fn push(&mut self, item: T)
         requires { length self.old < 8 }
         ensures { self.new ≡ self.old ++ item ∷ [] }
@@ -49,7 +49,7 @@ impl<T: Copy> ArrayVec8<T> {
         self.len += 1;
     }
 
-    /// Replaces the item at an index. Does nothing past the last one.
+    /// Replaces the item at an index of a list of at most eight. Does nothing past the last one.
     pub fn set(&mut self, place: usize, item: T)
         ensures { self.new ≡ slice_set self.old place item }
     {

@@ -26,7 +26,7 @@ impl Model for Asks {
 }
 
 impl Asks {
-    /// Makes a list without parameters.
+    /// Makes an engine's list of rules to ask for, without any.
     pub fn new(alloc: Global) -> Asks
         ensures { result.numbers ≡ [] }
     {
@@ -35,7 +35,7 @@ impl Asks {
         }
     }
 
-    /// Reserves memory for one number.
+    /// Reserves memory for the number of one more rule to ask for.
     pub fn reserve(&mut self) -> Result<(), AllocError>
         ensures same { self.new.numbers ≡ self.old.numbers }
         ensures room { OnOk result (self.new.has_room ≡ true) }
@@ -45,7 +45,7 @@ impl Asks {
         self.numbers.reserve(1)
     }
 
-    /// Appends a number.
+    /// Appends the number of a rule to ask for.
     pub fn push(&mut self, number: u64)
         requires { self.old.has_room ≡ true }
         ensures { self.new.numbers ≡ self.old.numbers ++ number ∷ [] }
@@ -56,14 +56,14 @@ impl Asks {
         }
     }
 
-    /// Returns the first number.
+    /// Returns the first number of an engine's rules to ask for.
     pub fn first(&self) -> Option<u64>
         ensures { result ≡ slice_get self.now.numbers 0 }
     {
         self.numbers.front().copied()
     }
 
-    /// Drops the first number.
+    /// Drops the first number of an engine's rules to ask for.
     pub fn drop_first(&mut self)
         ensures rest { self.new.numbers ≡ drop 1 self.old.numbers }
         ensures room { self.old.has_room ≡ true → self.new.has_room ≡ true }

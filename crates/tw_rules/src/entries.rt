@@ -7,15 +7,15 @@ ghost use Rattle.std.specs.HashMap.{hash_map_len, spare};
 ghost use Rattle.tw_types.specs.Rule.{is_releasable};
 ghost use Rattle.tw_rules.specs.Table.{staged};
 ghost use Rattle.tw_rules.specs.Entries.{entry_of, rule_in, rules_in};
-ghost use Rattle.tw_rules.specs.Indexed.{is_wanting};
+ghost use Rattle.tw_rules.specs.Indexed.{is_askable};
 
 use crate::pending::Pending;
 use std::collections::HashMap;
 use tw_types::Stage;
 
-/// Returns whether the rule is in the map and has an unasked parameter.
+/// Returns whether a rule of this number is in the map of pending rules and has an unasked parameter.
 pub fn has_unasked(rules: &HashMap<u64, Pending>, number: u64) -> bool
-    ensures { result ≡ is_wanting (rules_in rules.now.entries) number }
+    ensures { result ≡ is_askable (rules_in rules.now.entries) number }
 {
     match rules.get(&number) {
         Some(pending) => pending.has_unasked(),
@@ -23,21 +23,21 @@ pub fn has_unasked(rules: &HashMap<u64, Pending>, number: u64) -> bool
     }
 }
 
-/// Returns whether the rule of this number is pending.
+/// Returns whether a rule of this number is in the map of pending rules.
 pub fn is_pending(rules: &HashMap<u64, Pending>, number: u64) -> bool
     ensures { result ≡ is_some (get (rules_in rules.now.entries) number) }
 {
     rules.contains_key(&number)
 }
 
-/// Returns the pending rule of this number.
+/// Returns the rule of this number in the map of pending rules.
 pub fn find(rules: &HashMap<u64, Pending>, number: u64) -> Option<&Pending>
     ensures { option_map rule_in (option_copied result) ≡ get (rules_in rules.now.entries) number }
 {
     rules.get(&number)
 }
 
-/// Returns a rule that is in the map.
+/// Returns a rule of which is known that it is in the map of pending rules.
 pub fn pending(rules: &HashMap<u64, Pending>, number: u64) -> &Pending
     requires { IsSome (get (rules_in rules.now.entries) number) }
     ensures { get (rules_in rules.now.entries) number ≡ Some (rule_in result.now) }
@@ -48,7 +48,8 @@ pub fn pending(rules: &HashMap<u64, Pending>, number: u64) -> &Pending
     }
 }
 
-/// Changes the stage of a rule's parameter. Returns the rule's engine, and whether the rule is releasable now.
+/// Changes the stage of a parameter in the map of pending rules. Returns the rule's engine, and whether the rule is releasable
+/// now.
 pub fn set_stage(
     rules: &mut HashMap<u64, Pending>,
     number: u64,
@@ -71,14 +72,14 @@ pub fn set_stage(
     }
 }
 
-/// Returns any number of the map, if it isn't empty.
+/// Returns any number in the map of pending rules, if it isn't empty.
 pub fn first_number(rules: &HashMap<u64, Pending>) -> Option<u64>
     ensures { MatchOption result (rules.now.entries ≡ []) (λ number. IsSome (entry_of rules.now.entries number)) }
 {
     rules.keys().next().copied()
 }
 
-/// Returns a number of the map, if it isn't empty: the least one from `from` on below `next`, else any.
+/// Returns a number in the map of pending rules, if it isn't empty: the least one from `from` on below `next`, else any.
 pub fn number_from(rules: &HashMap<u64, Pending>, from: u64, next: u64) -> Option<u64>
     ensures { MatchOption result (rules.now.entries ≡ []) (λ number. IsSome (entry_of rules.now.entries number)) }
 {
@@ -91,7 +92,7 @@ pub fn number_from(rules: &HashMap<u64, Pending>, from: u64, next: u64) -> Optio
     Some(first)
 }
 
-/// Adds a rule for which memory is reserved.
+/// Adds a rule to the map of pending rules, for which memory is reserved.
 pub fn put(rules: &mut HashMap<u64, Pending>, number: u64, rule: Pending)
     requires room { 0 < spare rules.old }
     requires new { get (rules_in rules.old.entries) number ≡ None }
@@ -105,7 +106,7 @@ pub fn put(rules: &mut HashMap<u64, Pending>, number: u64, rule: Pending)
     }
 }
 
-/// Takes out a rule that is in the map.
+/// Takes a rule out of the map of pending rules, in which it is.
 pub fn take(rules: &mut HashMap<u64, Pending>, number: u64) -> Pending
     requires { IsSome (get (rules_in rules.old.entries) number) }
     ensures taken { get (rules_in rules.old.entries) number ≡ Some (rule_in result) }

@@ -20,28 +20,28 @@ pub struct Pending {
 }
 
 impl Pending {
-    /// Returns the first unasked parameter.
+    /// Returns the first unasked parameter of a pending rule of the pool.
     pub fn first_unasked(&self) -> Option<u8>
         ensures { result ≡ first_unasked 0 self.now.stages }
     {
         Stage::first_unasked(self.stages.as_slice())
     }
 
-    /// Returns whether a parameter is unasked.
+    /// Returns whether a parameter of a pending rule of the pool is unasked.
     pub fn has_unasked(&self) -> bool
         ensures { result ≡ has_unasked (rule_in self.now) }
     {
         Stage::any_unasked(self.stages.as_slice())
     }
 
-    /// Returns whether all parameters are settled.
+    /// Returns whether all parameters of a pending rule of the pool are settled.
     pub fn is_releasable(&self) -> bool
         ensures { result ≡ is_releasable (rule_in self.now) }
     {
         Stage::all_settled(self.stages.as_slice())
     }
 
-    /// Ends the rule with its rights, and returns it without rights.
+    /// Ends a pending rule with its rights, and returns it without rights.
     pub fn spend(self, number: u64) -> ErasedRule
         ensures { result ≡ erasure (number, rule_in self) }
     {
@@ -63,7 +63,7 @@ impl Pending {
     }
 }
 
-/// Returns the stage of each parameter in a new rule.
+/// Returns the stage of each parameter in a new pending rule, in a list of at most eight.
 pub fn first_stages(params: &[Param]) -> ArrayVec8<Stage>
     requires { length params.now ≤ 8 }
     ensures { result ≡ map (λ p. first_stage p.mode) params.now }
@@ -75,6 +75,7 @@ pub fn first_stages(params: &[Param]) -> ArrayVec8<Stage>
     stages
 }
 
+/// Returns the arguments of a pending rule without rights: only the ids of their data.
 fn erased_args(args: &Bundle) -> ArrayVec8<ErasedArg>
     ensures { result ≡ map erased_arg args.now }
 {
@@ -88,6 +89,7 @@ fn erased_args(args: &Bundle) -> ArrayVec8<ErasedArg>
     plain
 }
 
+/// Returns an argument of a pending rule without its right: only the id of the datum.
 fn erased_arg(arg: &Arg) -> ErasedArg
     ensures { result ≡ erased_arg arg.now }
 {

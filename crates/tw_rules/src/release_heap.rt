@@ -33,7 +33,7 @@ impl Model for Releases {
 }
 
 impl Releases {
-    /// Makes a heap without rules.
+    /// Makes a heap of releasable rules without any.
     pub fn new(alloc: Global) -> Releases
         ensures numbers { result.numbers ≡ [] }
         ensures promised { result.promised ≡ 0 }
@@ -44,7 +44,7 @@ impl Releases {
         }
     }
 
-    /// Reserves memory for one number more than are promised.
+    /// Reserves memory in the heap of releasable rules for one number more than are promised.
     pub fn reserve(&mut self) -> Result<(), AllocError>
         ensures numbers { self.new.numbers ≡ self.old.numbers }
         ensures promised { self.new.promised ≡ self.old.promised }
@@ -61,7 +61,7 @@ impl Releases {
         self.heap.reserve(wanted)
     }
 
-    /// Promises the memory that was reserved.
+    /// Promises the memory in the heap of releasable rules that was reserved.
     pub fn promise(&mut self)
         requires { self.old.has_room ≡ true }
         ensures numbers { self.new.numbers ≡ self.old.numbers }
@@ -71,7 +71,7 @@ impl Releases {
         self.promised += 1;
     }
 
-    /// Adds a number for which memory was reserved.
+    /// Adds a number to the heap of releasable rules, for which memory was reserved.
     pub fn push(&mut self, number: u64)
         requires { self.old.has_room ≡ true }
         ensures numbers { IsPermutation (number ∷ self.old.numbers) self.new.numbers }
@@ -83,7 +83,7 @@ impl Releases {
         }
     }
 
-    /// Adds a number for which memory was promised.
+    /// Adds a number to the heap of releasable rules, for which memory was promised.
     pub fn push_promised(&mut self, number: u64)
         requires { 0 < self.old.promised }
         ensures numbers { IsPermutation (number ∷ self.old.numbers) self.new.numbers }
@@ -97,7 +97,7 @@ impl Releases {
         }
     }
 
-    /// Returns the least number.
+    /// Returns the least number in the heap of releasable rules.
     pub fn first(&self) -> Option<u64>
         ensures { MatchOption result (self.now.numbers ≡ []) (IsLeast self.now.numbers) }
     {
@@ -105,7 +105,7 @@ impl Releases {
         Some(least)
     }
 
-    /// Drops the least number.
+    /// Drops the least number in the heap of releasable rules.
     pub fn drop_first(&mut self)
         ensures rest { IsWithoutLeast self.old.numbers self.new.numbers }
         ensures none { self.old.numbers ≡ [] → self.new.numbers ≡ [] }

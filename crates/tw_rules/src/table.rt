@@ -56,7 +56,7 @@ impl Model for RuleTable {
 }
 
 impl RuleTable {
-    /// Makes a table without rules; the first will be rule 1.
+    /// Makes the pool's table without rules; the first will be rule 1.
     pub fn new(alloc: Global) -> RuleTable
         ensures rules { result.rules ≡ map.empty }
         ensures next { result.next ≡ 1 }
@@ -74,14 +74,14 @@ impl RuleTable {
         }
     }
 
-    /// Returns the number of pending rules.
+    /// Returns the number of pending rules in the pool's table.
     pub fn pending(&self) -> usize
         ensures { result ≡ map.len self.now.rules }
     {
         self.rules.len()
     }
 
-    /// Reserves memory for one rule of an engine, for any procedure.
+    /// Reserves memory in the pool's table for one rule of an engine, for any procedure.
     pub fn reserve(&mut self, engine: u8) -> Result<(), AllocError>
         requires { engine < 4 }
         ensures rules { self.new.rules ≡ self.old.rules }
@@ -149,7 +149,7 @@ impl RuleTable {
         Some((RuleNo::new(number), parameter))
     }
 
-    /// Returns the argument of a rule's parameter.
+    /// Returns the argument of a parameter of a rule in the pool's table.
     pub fn arg(&self, rule: RuleNo, parameter: u8) -> Option<&Arg>
         ensures { option_copied result ≡ arg_at self.now.rules rule parameter }
     {
@@ -157,7 +157,7 @@ impl RuleTable {
         rule.args.get(usize::from(parameter))
     }
 
-    /// Returns the read right that is the argument of a rule's parameter.
+    /// Returns the read right that is the argument of a parameter for which an engine asks.
     pub fn asked_right(&self, rule: RuleNo, parameter: u8) -> &ReadRight
         requires { IsSome (right_at self.now.rules rule parameter) }
         ensures { right_at self.now.rules rule parameter ≡ Some result.now }
@@ -171,7 +171,7 @@ impl RuleTable {
         right
     }
 
-    /// Returns whether a pending rule can be released, or `None` if it isn't pending.
+    /// Returns whether a pending rule of the pool's table can be released, or `None` if it isn't pending.
     pub fn is_releasable(&self, rule: RuleNo) -> Option<bool>
         ensures { result ≡ option_map is_releasable (get self.now.rules rule) }
     {
@@ -179,7 +179,7 @@ impl RuleTable {
         Some(rule.is_releasable())
     }
 
-    /// Returns the number of the rule that is added next.
+    /// Returns the number of the rule that is added next to the pool's table.
     pub fn next(&self) -> RuleNo
         ensures { result ≡ self.now.next }
     {
@@ -215,7 +215,7 @@ impl RuleTable {
         Some(RuleNo::new(number))
     }
 
-    /// Returns the task that a rule becomes.
+    /// Returns the task that a rule of the pool's table becomes, without its arguments.
     pub fn action(&self, rule: RuleNo) -> PlannedTask
         requires { IsSome (get self.now.rules rule) }
         ensures { option_map action_of (get self.now.rules rule) ≡ Some result }
@@ -223,7 +223,7 @@ impl RuleTable {
         pending(&self.rules, rule.number()).action
     }
 
-    /// Takes out a rule that can be released, and returns its arguments.
+    /// Takes a rule that can be released out of the pool's table, and returns its arguments.
     pub fn release(&mut self, rule: RuleNo) -> Bundle
         requires { option_map is_releasable (get self.old.rules rule) ≡ Some true }
         ensures args { option_map (λ rule. rule.args) (get self.old.rules rule) ≡ Some result }
@@ -263,7 +263,7 @@ impl RuleTable {
         erasure
     }
 
-    /// Spends every right, and returns the rules that were pending, by rising number. Allocates nothing.
+    /// Spends every right in the pool's table, and returns the rules that were pending, by rising number. Allocates nothing.
     pub fn shut(self) -> Vec<ErasedRule>
         ensures { result.items ≡ each erasure (map.entries self.rules) }
     {
@@ -272,7 +272,7 @@ impl RuleTable {
         erasure
     }
 
-    /// Changes the stage of a parameter to one after `Unasked`.
+    /// Changes the stage of a parameter of a rule in the pool's table to one after `Unasked`.
     fn set_stage(&mut self, rule: RuleNo, parameter: u8, stage: Stage)
         requires open { option_map is_settled (stage_at self.old.rules rule parameter) ≡ Some false }
         requires asked { is_unasked stage ≡ false }
@@ -287,7 +287,7 @@ impl RuleTable {
     }
 }
 
-/// Returns the right of an argument, if it is a read right.
+/// Returns the right of an argument of a rule, if it is a read right.
 fn read_right(arg: &Arg) -> Option<&ReadRight>
     ensures { option_copied result ≡ read_right arg.now }
 {

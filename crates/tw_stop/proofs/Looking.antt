@@ -2,7 +2,7 @@
 use Rattle.std.proofs.Common.{◌≡◌, ◌+◌, ℕ, zero, suc, Bool, true, false, List, [], ◌∷◌, ◌++◌, append_assoc, refl, sym, ap, subst, ◌∙◌}
 use Rattle.std.proofs.lemmas.List.{replicate-append-replicate, replicate_more}
 use Rattle.tw_stop.specs.declared.signal.Never.{Never}
-use Rattle.tw_stop.specs.Looks.{Looked, looks, never_says, noes}
+use Rattle.tw_stop.specs.Looks.{Looked, looks, always_no, noes}
 
 module _ {S : Type 0} (says : S → Bool → S → Type 0) where
   pub joined : (p q r : S) (xs ys : List Bool) → Looked says p q xs → Looked says q r ys → Looked says p r (xs ++ ys)
@@ -32,5 +32,5 @@ module _ {S : Type 0} (says : S → Bool → S → Type 0) where
 differ : true ≡ false → ⊥
 differ e = cc
 
-pub never_stops : (p q : Never) (count : ℕ) → Looked never_says p q (looks count true) → ⊥
-never_stops p q count is = never_yes never_says (λ a b yes. differ yes) p q count is
+pub never_stops : (p q : Never) (count : ℕ) → Looked always_no p q (looks count true) → ⊥
+never_stops p q count is = never_yes always_no (λ a b yes. differ yes) p q count is

@@ -12,8 +12,8 @@ abbrev pub HasLooked : {S : Type 0} → (S → Bool → S → Type 0) → S → 
 HasLooked says old new = (answers : List Bool) × Looked says old new answers
 
 -- a look at the signal that never stops a run
-abbrev pub never_says : Never → Bool → Never → Type 0
-never_says old answer new = answer ≡ false
+abbrev pub always_no : Never → Bool → Never → Type 0
+always_no old answer new = answer ≡ false
 
 -- returns so many answers "no"
 abbrev pub noes : ℕ → List Bool

@@ -1,7 +1,7 @@
 //! The interface between a run and what may stop it.
 
 ghost use Rattle.std.specs.Prelude.{Bool};
-ghost use Rattle.tw_stop.specs.Looks.{never_says};
+ghost use Rattle.tw_stop.specs.Looks.{always_no};
 
 /// A signal that may stop a run. Each look is a step of the signal, so that a run's contract can list the answers.
 pub trait StopSignal {
@@ -18,7 +18,7 @@ pub trait StopSignal {
 pub struct Never;
 
 impl StopSignal for Never {
-    ghost says = { never_says };
+    ghost says = { always_no };
 
     #[inline(always)]
     fn is_raised(&mut self) -> bool {

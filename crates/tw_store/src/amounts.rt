@@ -19,7 +19,7 @@ pub struct Amounts {
     pub bytes: u64,
 }
 
-/// Returns how many bytes a value has, if there is one.
+/// Returns how many bytes a value or a subscript in the store has, if it is a text.
 fn text_bytes(value: Option<&Value>) -> u64
     ensures { result ≡ text_bytes_if (option_copied value.entry) }
 {
@@ -29,7 +29,7 @@ fn text_bytes(value: Option<&Value>) -> u64
     }
 }
 
-/// Returns how many bytes the value at a map's subscript has.
+/// Returns how many bytes the value at a map's subscript has, if it is a text.
 fn value_bytes(entry: Option<&(Value, Value)>) -> u64
     ensures { result ≡ text_bytes_if (option_map (λ e. e.1) (option_copied entry.entry)) }
 {
@@ -52,7 +52,7 @@ fn datum_bytes(datum: &Datum) -> u64
     bytes
 }
 
-/// Sums up the data in slots.
+/// Sums up the data in the store's slots: their members and bytes of texts.
 pub fn amounts_in(slab: &Slab<Slot>) -> Amounts
     requires { AreApart slab.now.slots }
     ensures { result ≡ amounts_in_is (live_of slab.now.slots) }

@@ -16,7 +16,7 @@ use slab::Slab;
 use std::alloc::{AllocError, Global};
 use tw_types::{Subscriber, Value, ValueRef};
 
-/// Sets the scalar at a place, which closes it.
+/// Sets the scalar at a place of the store, which closes it.
 pub fn set_at(slab: &mut Slab<Slot>, place: usize, value: Value)
     requires seated { (next : ℕ) × AreSeated slab.old.slots next }
     requires there { IsSome (slot_at slab.old.slots place) }
@@ -32,7 +32,7 @@ pub fn set_at(slab: &mut Slab<Slot>, place: usize, value: Value)
     free_unheld(slab, place);
 }
 
-/// Takes one write of the container at a place. The last one closes it.
+/// Takes one write of the container at a place of the store. The last one closes it.
 pub fn drop_write_at(slab: &mut Slab<Slot>, place: usize)
     requires seated { (next : ℕ) × AreSeated slab.old.slots next }
     requires there { IsSome (slot_at slab.old.slots place) }
@@ -47,7 +47,8 @@ pub fn drop_write_at(slab: &mut Slab<Slot>, place: usize)
     free_unheld(slab, place);
 }
 
-/// Inserts a member into the container at a place, at a copy of the subscript, unless that is taken. Returns whether it inserted it.
+/// Inserts a member into the container at a place of the store, at a copy of the subscript, unless that is taken. Returns whether
+/// it inserted it.
 pub fn insert_at(
     slab: &mut Slab<Slot>,
     alloc: Global,
@@ -68,7 +69,7 @@ pub fn insert_at(
     slot.datum.add_absent(subscript, member)
 }
 
-/// Puts a value into the map at a place.
+/// Puts a value into the map at a place of the store.
 pub fn put_at(
     slab: &mut Slab<Slot>,
     place: usize,
@@ -87,7 +88,7 @@ pub fn put_at(
     slot.datum.put_value(subscript, value)
 }
 
-/// Adds a read.
+/// Adds a read to the datum at a place of the store.
 pub fn add_read_at(slab: &mut Slab<Slot>, place: usize)
     requires there { IsSome (slot_at slab.old.slots place) }
     requires room { IfSome (slot_at slab.old.slots place) (λ e. e.datum.datum.reads < 2 ^ 63) }
@@ -100,7 +101,7 @@ pub fn add_read_at(slab: &mut Slab<Slot>, place: usize)
     slot.datum.add_read();
 }
 
-/// Adds a write.
+/// Adds a write to the datum at a place of the store.
 pub fn add_write_at(slab: &mut Slab<Slot>, place: usize)
     requires there { IsSome (slot_at slab.old.slots place) }
     requires room { IfSome (slot_at slab.old.slots place) (λ e. e.datum.datum.writes < 2 ^ 63) }
@@ -113,7 +114,7 @@ pub fn add_write_at(slab: &mut Slab<Slot>, place: usize)
     slot.datum.add_write();
 }
 
-/// Adds a subscriber.
+/// Adds a subscriber to the datum at a place of the store.
 pub fn subscribe_at(
     slab: &mut Slab<Slot>,
     place: usize,

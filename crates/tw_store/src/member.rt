@@ -12,6 +12,7 @@ pub struct Member {
 impl tw_datum::Member for Member {
     ghost id = { λ it. it.id };
 
+    /// Returns the id of the member, which the store keeps with its place.
     fn id(&self) -> DatumId {
         self.id
     }

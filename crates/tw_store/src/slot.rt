@@ -15,7 +15,7 @@ pub struct Slot {
     pub datum: Datum,
 }
 
-/// Returns the datum at a place.
+/// Returns the datum in the store's slot at a place.
 pub fn datum_at(slab: &Slab<Slot>, place: usize) -> &Datum
     requires { IsSome (slot_at slab.now.slots place) }
     ensures { IfSome (slot_at slab.now.slots place) (λ e. result.now ≡ e.datum) }
@@ -26,7 +26,7 @@ pub fn datum_at(slab: &Slab<Slot>, place: usize) -> &Datum
     &slot.datum
 }
 
-/// Returns the datum of a member, if it is live.
+/// Returns the datum of a member by its place in the store, if it is live.
 pub fn member_at(slab: &Slab<Slot>, member: Member) -> Option<&Datum>
     ensures found { IfSome result (λ datum. IsSlotOf slab.now.slots member datum.now) }
     ensures absent { IfNone result ((e : Meaning) → slot_at slab.now.slots member.place ≡ Some e → e.id ≢ member.id) }
@@ -39,7 +39,7 @@ pub fn member_at(slab: &Slab<Slot>, member: Member) -> Option<&Datum>
     }
 }
 
-/// Searches the place of the datum of an id. Takes time linear in the number of places.
+/// Searches the store's slots for the place of the datum of an id. Takes time linear in the number of places.
 pub fn place_of(slab: &Slab<Slot>, id: DatumId) -> Option<usize>
     ensures found { IfSome result (λ place. IsAtPlace slab.now.slots id place) }
     ensures absent { IfNone result ((place : ℕ) (e : Meaning) → slot_at slab.now.slots place ≡ Some e → e.id ≢ id) }

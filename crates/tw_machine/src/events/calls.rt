@@ -13,8 +13,8 @@ ghost use Rattle.tw_instr.specs.Attempts.{Changes};
 ghost use Rattle.tw_instr.specs.Contexts.{context};
 ghost use Rattle.tw_instr.specs.Memory.{takes_memory};
 ghost use Rattle.tw_instr.specs.Room.{HasRoom};
-ghost use Rattle.tw_machine.specs.Events.{CallComes, HaveRoom, TablesCome, with_frames, with_tables};
-ghost use Rattle.tw_machine.specs.Memory.{MayWant};
+ghost use Rattle.tw_machine.specs.Events.{CallLeaves, HaveRoom, LeavesTables, with_frames, with_tables};
+ghost use Rattle.tw_machine.specs.Memory.{MayAllocate};
 ghost use Rattle.tw_machine.specs.Parts.{frames_of};
 
 use crate::rule::Rule;
@@ -33,7 +33,7 @@ struct Caller<'a> {
     actor: Actor,
 }
 
-/// Executes a RULE of the frame's task.
+/// Executes a RULE of the frame's task: adds it to the reference machine's rules.
 fn make_rule(
     alloc: Global,
     caller: Caller,
@@ -45,7 +45,7 @@ fn make_rule(
     requires place { frame.old.position.place < 2 ^ 63 }
     requires spent { frame.old.spent < 2 ^ 63 }
     requires room { HaveRoom tables.old }
-    ensures { (procedure : AProcedure) → procedure.kind ≡ caller.entry.kind → CallComes caller.entry.program.now caller.entry.actor procedure (RULE action.now) tables.old frame.old result tables.new frame.new }
+    ensures { (procedure : AProcedure) → procedure.kind ≡ caller.entry.kind → CallLeaves caller.entry.program.now caller.entry.actor procedure (RULE action.now) tables.old frame.old result tables.new frame.new }
 {
     let Named {
         task,
@@ -65,7 +65,7 @@ fn make_rule(
     Ok(())
 }
 
-/// Executes a PUT of the frame's task.
+/// Executes a PUT of the frame's task: adds a waiting task to the reference machine's.
 fn put_task(
     alloc: Global,
     caller: Caller,
@@ -77,7 +77,7 @@ fn put_task(
     requires place { frame.old.position.place < 2 ^ 63 }
     requires spent { frame.old.spent < 2 ^ 63 }
     requires room { HaveRoom tables.old }
-    ensures { (procedure : AProcedure) → procedure.kind ≡ caller.entry.kind → CallComes caller.entry.program.now caller.entry.actor procedure (PUT action.now) tables.old frame.old result tables.new frame.new }
+    ensures { (procedure : AProcedure) → procedure.kind ≡ caller.entry.kind → CallLeaves caller.entry.program.now caller.entry.actor procedure (PUT action.now) tables.old frame.old result tables.new frame.new }
 {
     let Named {
         task,
@@ -96,7 +96,7 @@ fn put_task(
     Ok(())
 }
 
-/// Executes an instruction on data of the frame's task.
+/// Executes an instruction on data of the frame's task, in the reference machine.
 fn do_data(
     alloc: Global,
     on_data: DataInstr,
@@ -106,7 +106,7 @@ fn do_data(
     requires place { frame.old.position.place < 2 ^ 63 }
     requires spent { frame.old.spent < 2 ^ 63 }
     requires room { HasRoom tables.old.store }
-    ensures comes { (program : List AProcedure) (actor : AnActor) (procedure : AProcedure) → CallComes program actor procedure (DATA on_data) tables.old frame.old result tables.new frame.new }
+    ensures comes { (program : List AProcedure) (actor : AnActor) (procedure : AProcedure) → CallLeaves program actor procedure (DATA on_data) tables.old frame.old result tables.new frame.new }
     ensures memory { result ≡ Err Stopped.NoMemory → (takes_memory on_data ≡ true) × IsOk (data_instr on_data (context tables.old.store tables.old.notices frame.old)) }
 {
     data_instr(
@@ -120,6 +120,7 @@ fn do_data(
     Ok(())
 }
 
+/// Executes the instruction at a frame's place in the reference machine, if it is on data, RULE or PUT.
 fn call_of(
     alloc: Global,
     program: &[Procedure],
@@ -130,8 +131,8 @@ fn call_of(
     requires program { IsProgram program.now }
     requires spent { frame.old.spent < 2 ^ 63 }
     requires room { HaveRoom tables.old }
-    ensures comes { TablesCome (call_event program.now actor) actor tables.old frame.old result tables.new frame.new }
-    ensures memory { result ≡ Err Stopped.NoMemory → (s : Meaning) → get s.frames actor ≡ Some frame.old → MayWant program.now actor (with_tables s tables.old) }
+    ensures comes { LeavesTables (call_event program.now actor) actor tables.old frame.old result tables.new frame.new }
+    ensures memory { result ≡ Err Stopped.NoMemory → (s : Meaning) → get s.frames actor ≡ Some frame.old → MayAllocate program.now actor (with_tables s tables.old) }
 {
     let procedure = procedure_of(program, frame.procedure())?;
     let caller = Caller {
@@ -147,7 +148,7 @@ fn call_of(
     }
 }
 
-/// Executes one instruction of the actor's task that is neither local nor RET.
+/// Executes in the reference machine one instruction of the actor's task that is neither local nor RET.
 pub fn call(
     alloc: Global,
     program: &[Procedure],
@@ -159,7 +160,7 @@ pub fn call(
     requires spent { IfSome (get (frames_of frames.old.entries) actor) (λ frame. frame.spent < 2 ^ 63) }
     requires room { HaveRoom tables.old }
     ensures comes { (s : Meaning) → let old = with_frames (with_tables s tables.old) (frames_of frames.old.entries) in Changes (call_event program.now actor old) old result (with_frames (with_tables s tables.new) (frames_of frames.new.entries)) }
-    ensures memory { result ≡ Err Stopped.NoMemory → (s : Meaning) → MayWant program.now actor (with_frames (with_tables s tables.old) (frames_of frames.old.entries)) }
+    ensures memory { result ≡ Err Stopped.NoMemory → (s : Meaning) → MayAllocate program.now actor (with_frames (with_tables s tables.old) (frames_of frames.old.entries)) }
 {
     let Some(frame) = frames.get_mut(&actor) else {
         return Err(Stopped::NotEnabled);

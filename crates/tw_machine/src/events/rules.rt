@@ -8,7 +8,7 @@ ghost use Rattle.tw_code.specs.machine.Machine.{ask_event, deliver_event, own_ru
 ghost use Rattle.tw_code.specs.machine.State.{State as Meaning};
 ghost use Rattle.tw_instr.specs.Attempts.{Changes, unless_barred};
 ghost use Rattle.tw_machine.specs.Events.{TablesChange, with_frames, with_tables};
-ghost use Rattle.tw_machine.specs.Memory.{AsksOpen, Goes};
+ghost use Rattle.tw_machine.specs.Memory.{IsAskOfOpen, Succeeds};
 ghost use Rattle.tw_machine.specs.Parts.{frames_of};
 
 use crate::rule::Rule;
@@ -19,7 +19,7 @@ use tw_code::Procedure;
 use tw_instr::{Barred, Frame, Notices, Stopped, procedure_of};
 use tw_types::{Actor, Cause, DatumId, Layout, Notice, RuleNo, Stage, Subscriber};
 
-/// Returns the rule of the number, if the engine holds it and runs no task.
+/// Returns the rule of the number for an event Ask or Release, if the engine holds it and runs no task.
 fn own_rule<'a>(
     tables: &'a Tables,
     frames: &BTreeMap<Actor, Frame>,
@@ -40,7 +40,7 @@ fn own_rule<'a>(
     Some(rule)
 }
 
-/// Asks for a parameter of a rule. It becomes ready if its datum is closed, else the rule waits for the datum.
+/// Makes the reference machine's event Ask: a parameter of a rule becomes ready if its datum is closed, else it waits.
 pub fn ask(
     tables: &mut Tables,
     frames: &BTreeMap<Actor, Frame>,
@@ -49,7 +49,7 @@ pub fn ask(
     parameter: u8,
 ) -> Result<(), Stopped>
     ensures asks { TablesChange (ask_event engine number parameter) (frames_of frames.now.entries) tables.old result tables.new }
-    ensures memory { result ≡ Err Stopped.NoMemory → (s : Meaning) → AsksOpen engine number parameter (with_frames (with_tables s tables.old) (frames_of frames.now.entries)) }
+    ensures memory { result ≡ Err Stopped.NoMemory → (s : Meaning) → IsAskOfOpen engine number parameter (with_frames (with_tables s tables.old) (frames_of frames.now.entries)) }
 {
     let Some(rule) = own_rule(tables, frames, engine, number) else {
         return Err(Stopped::NotEnabled);
@@ -73,7 +73,7 @@ pub fn ask(
     Ok(())
 }
 
-/// Returns whether the server is in the layout and delivers the notices of a datum.
+/// Returns whether the server is in the layout and delivers the notices of a datum, for an event Deliver.
 fn is_of_server(layout: Layout, server: u8, id: DatumId) -> bool
     ensures { result ≡ (nat_lt server layout.servers && (server_of layout.servers id == server)) }
 {
@@ -81,7 +81,7 @@ fn is_of_server(layout: Layout, server: u8, id: DatumId) -> bool
     server < servers && id.number() % u64::from(servers) == u64::from(server)
 }
 
-/// Delivers a notice. Its parameter becomes ready, if the rule is still pending.
+/// Makes the reference machine's event Deliver: the notice's parameter becomes ready, if the rule is still pending.
 pub fn deliver(
     layout: Layout,
     tables: &mut Tables,
@@ -102,7 +102,7 @@ pub fn deliver(
     Ok(())
 }
 
-/// Releases a rule, which becomes a task.
+/// Makes the reference machine's event Release: a rule becomes a waiting task.
 pub fn release(
     alloc: Global,
     program: &[Procedure],
@@ -113,7 +113,7 @@ pub fn release(
 ) -> Result<(), Stopped>
     requires { tables.old.tasks.next < 2 ^ 63 }
     ensures releases { TablesChange (release_event program.now engine number) (frames_of frames.now.entries) tables.old result tables.new }
-    ensures memory { result ≡ Err Stopped.NoMemory → (s : Meaning) → Goes (release_event program.now engine number (with_frames (with_tables s tables.old) (frames_of frames.now.entries))) }
+    ensures memory { result ≡ Err Stopped.NoMemory → (s : Meaning) → Succeeds (release_event program.now engine number (with_frames (with_tables s tables.old) (frames_of frames.now.entries))) }
 {
     let Some(rule) = own_rule(tables, frames, engine, number) else {
         return Err(Stopped::NotEnabled);

@@ -7,8 +7,8 @@ ghost use Rattle.tw_types.specs.Outcome.{Went};
 ghost use Rattle.tw_code.specs.machine.Machine.{end_event, local_event, local_step, running_instr_of, take_event};
 ghost use Rattle.tw_code.specs.machine.State.{State as Meaning};
 ghost use Rattle.tw_instr.specs.Attempts.{Changes, IsStopped, barred_by, unless_barred};
-ghost use Rattle.tw_machine.specs.Events.{FrameComes, FramesCome, IsLocalAt, instr_of, with_frames, with_tasks};
-ghost use Rattle.tw_machine.specs.Memory.{HasCome, IsEnabled, IsLocal};
+ghost use Rattle.tw_machine.specs.Events.{LeavesFrame, LeavesFrames, IsLocalAt, instr_of, with_frames, with_tasks};
+ghost use Rattle.tw_machine.specs.Memory.{NextIs, IsEnabled, IsLocal};
 ghost use Rattle.tw_machine.specs.Parts.{frames_of};
 
 use crate::tasks::Tasks;
@@ -18,7 +18,7 @@ use tw_code::{Instr, Procedure};
 use tw_instr::{Barred, Frame, Position, Stopped, instr_at, local_steps, procedure_of};
 use tw_types::{Actor, Cause, Layout};
 
-/// Lets the actor take a task.
+/// Makes the reference machine's event Take: the actor takes a waiting task, which gets a frame.
 pub fn take(
     alloc: Global,
     program: &[Procedure],
@@ -42,7 +42,7 @@ pub fn take(
     Ok(())
 }
 
-/// Executes this many local instructions of the actor's task.
+/// Makes the reference machine's event Local: this many local instructions of the actor's task.
 pub fn local(
     alloc: Global,
     program: &[Procedure],
@@ -52,8 +52,8 @@ pub fn local(
 ) -> Result<(), Stopped>
     requires steps { steps < 2 ^ 63 }
     requires spent { IfSome (get (frames_of frames.old.entries) actor) (λ frame. frame.spent < 2 ^ 63) }
-    ensures goes { FramesCome (local_event program.now actor steps) (frames_of frames.old.entries) result (frames_of frames.new.entries) }
-    ensures memory { result ≡ Err Stopped.NoMemory → (s : Meaning) → HasCome IsLocal (running_instr_of program.now actor (with_frames s (frames_of frames.old.entries))) }
+    ensures goes { LeavesFrames (local_event program.now actor steps) (frames_of frames.old.entries) result (frames_of frames.new.entries) }
+    ensures memory { result ≡ Err Stopped.NoMemory → (s : Meaning) → NextIs IsLocal (running_instr_of program.now actor (with_frames s (frames_of frames.old.entries))) }
 {
     let Some(frame) = frames.get_mut(&actor) else {
         return Err(Stopped::NotEnabled);
@@ -61,6 +61,7 @@ pub fn local(
     local_of(alloc, program, frame, steps)
 }
 
+/// Executes this many local instructions of a frame in the reference machine, at least one.
 fn local_of(
     alloc: Global,
     program: &[Procedure],
@@ -69,8 +70,8 @@ fn local_of(
 ) -> Result<(), Stopped>
     requires steps { steps < 2 ^ 63 }
     requires spent { frame.old.spent < 2 ^ 63 }
-    ensures goes { FrameComes (λ actor. local_event program.now actor steps) frame.old result frame.new }
-    ensures memory { result ≡ Err Stopped.NoMemory → (s : Meaning) (actor : AnActor) → get s.frames actor ≡ Some frame.old → HasCome IsLocal (running_instr_of program.now actor s) }
+    ensures goes { LeavesFrame (λ actor. local_event program.now actor steps) frame.old result frame.new }
+    ensures memory { result ≡ Err Stopped.NoMemory → (s : Meaning) (actor : AnActor) → get s.frames actor ≡ Some frame.old → NextIs IsLocal (running_instr_of program.now actor s) }
 {
     if steps == 0 {
         return Err(Stopped::NotEnabled);
@@ -84,7 +85,7 @@ fn local_of(
     Ok(())
 }
 
-/// Fails unless there is a local instruction at the place.
+/// Fails unless there is a local instruction at the place, so that an event Local is enabled.
 fn must_be_local(code: &[Instr], position: &Position) -> Result<(), Barred>
     ensures { MatchResult result (λ _. IsLocalAt code.now position.now.place) (λ why. IsStopped (local_step code.now position.now) (barred_by why)) }
 {
@@ -94,7 +95,7 @@ fn must_be_local(code: &[Instr], position: &Position) -> Result<(), Barred>
     Ok(())
 }
 
-/// Returns the instruction at the place of a frame.
+/// Returns the instruction at the place of a frame of the reference machine.
 fn instr_of<'a>(program: &'a [Procedure], frame: &Frame) -> Result<&'a Instr, Cause>
     ensures gives { MatchResult result (λ instr. instr_of program.now frame.now ≡ Ok instr.now) (λ cause. instr_of program.now frame.now ≡ Err cause) }
     ensures inside { OnOk result (frame.now.position.place < 2 ^ 63) }
@@ -103,7 +104,7 @@ fn instr_of<'a>(program: &'a [Procedure], frame: &Frame) -> Result<&'a Instr, Ca
     instr_at(procedure.code.as_slice(), frame.place())
 }
 
-/// Fails unless the actor's task can end.
+/// Fails unless the actor's task is at RET in the reference machine, and without rights.
 fn may_end(program: &[Procedure], frame: &Frame) -> Result<(), Barred>
     ensures { (s : Meaning) (actor : AnActor) → get s.frames actor ≡ Some frame.now → MatchResult result (λ _. end_event program.now actor s ≡ Went (with_frames s (remove s.frames actor))) (λ why. IsStopped (end_event program.now actor s) (barred_by why)) }
 {
@@ -117,13 +118,13 @@ fn may_end(program: &[Procedure], frame: &Frame) -> Result<(), Barred>
     Ok(())
 }
 
-/// Ends the actor's task.
+/// Makes the reference machine's event End: the actor's task ends.
 pub fn end(
     program: &[Procedure],
     frames: &mut BTreeMap<Actor, Frame>,
     actor: Actor,
 ) -> Result<(), Barred>
-    ensures { FramesCome (end_event program.now actor) (frames_of frames.old.entries) (unless_barred result) (frames_of frames.new.entries) }
+    ensures { LeavesFrames (end_event program.now actor) (frames_of frames.old.entries) (unless_barred result) (frames_of frames.new.entries) }
 {
     let Some(frame) = frames.get(&actor) else {
         return Err(Barred::NotEnabled);

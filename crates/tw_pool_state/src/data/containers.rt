@@ -3,7 +3,7 @@
 ghost use Rattle.std.specs.Prelude.{◌≡◌};
 ghost use Rattle.tw_code.specs.declared.instr.DataInstr.TheVariants as on_data;
 ghost use Rattle.tw_frame.specs.Jobs.{job_of};
-ghost use Rattle.tw_pool_state.specs.Coming.{come};
+ghost use Rattle.tw_pool_state.specs.Coming.{frame_after};
 ghost use Rattle.tw_pool_state.specs.Data.{IsAnswer, IsDoneAfter, MayDo};
 
 use crate::data::results::{copied_twice, number_at, set_result};
@@ -13,7 +13,7 @@ use tw_rights::Held;
 use tw_store::{Inserted, Store};
 use tw_types::{Scalar, Value};
 
-/// Executes INS: it is refused, and skips, if the subscript is taken.
+/// Executes INS by the pool's store: it is refused, and skips, if the subscript is taken.
 pub(crate) fn exec_insert<'a>(
     store: &mut Store,
     frame: &mut Frame<'a>,
@@ -26,7 +26,7 @@ pub(crate) fn exec_insert<'a>(
     skip: u16,
 ) -> Result<Draft<'a>, Done<'a>>
     requires own { done.before ≡ job_of frame.old }
-    requires may { MayDo (on_data.Insert by container subscript member skip) store.old (come frame.old done) }
+    requires may { MayDo (on_data.Insert by container subscript member skip) store.old (frame_after frame.old done) }
     ensures { IsAnswer (on_data.Insert by container subscript member skip) store.old store.new frame.old frame.new done.entry result }
 {
     let right = frame.take_read(member);
@@ -50,7 +50,7 @@ pub(crate) fn exec_insert<'a>(
     }
 }
 
-/// Executes LOOK: it is refused, and skips, if there is no member at the subscript.
+/// Executes LOOK by the pool's store: it is refused, and skips, if there is no member at the subscript.
 pub(crate) fn exec_look<'a>(
     store: &mut Store,
     frame: &mut Frame<'a>,
@@ -62,7 +62,7 @@ pub(crate) fn exec_look<'a>(
     skip: u16,
 ) -> Draft<'a>
     requires own { done.before ≡ job_of frame.old }
-    requires may { MayDo (on_data.Look by member container subscript skip) store.old (come frame.old done) }
+    requires may { MayDo (on_data.Look by member container subscript skip) store.old (frame_after frame.old done) }
     ensures { IsDoneAfter (on_data.Look by member container subscript skip) store.old store.new frame.old frame.new done.entry result }
 {
     let at = done.look(subscript);
@@ -81,7 +81,7 @@ pub(crate) fn exec_look<'a>(
     }
 }
 
-/// Executes SIZE.
+/// Executes SIZE by the pool's store.
 pub(crate) fn exec_size<'a>(
     store: &Store,
     frame: &mut Frame<'a>,
@@ -90,7 +90,7 @@ pub(crate) fn exec_size<'a>(
     container: u8,
 ) -> Draft<'a>
     requires own { done.before ≡ job_of frame.old }
-    requires may { MayDo (on_data.Size to container) store.now (come frame.old done) }
+    requires may { MayDo (on_data.Size to container) store.now (frame_after frame.old done) }
     ensures { IsDoneAfter (on_data.Size to container) store.now store.now frame.old frame.new done.entry result }
 {
     let size = store.size(frame.peek_read(container)) as i64;
@@ -99,7 +99,7 @@ pub(crate) fn exec_size<'a>(
     draft
 }
 
-/// Executes SUBAT: it is refused, and skips, if there is no subscript with that many smaller ones.
+/// Executes SUBAT by the pool's store: it is refused, and skips, if there is no subscript with that many smaller ones.
 pub(crate) fn exec_subscript_at<'a>(
     store: &Store,
     frame: &mut Frame<'a>,
@@ -112,7 +112,7 @@ pub(crate) fn exec_subscript_at<'a>(
     skip: u16,
 ) -> Result<Draft<'a>, Done<'a>>
     requires own { done.before ≡ job_of frame.old }
-    requires may { MayDo (on_data.SubscriptAt by to container index skip) store.now (come frame.old done) }
+    requires may { MayDo (on_data.SubscriptAt by to container index skip) store.now (frame_after frame.old done) }
     ensures { IsAnswer (on_data.SubscriptAt by to container index skip) store.now store.now frame.old frame.new done.entry result }
 {
     let count = number_at(&done, index);

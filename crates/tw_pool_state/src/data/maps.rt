@@ -3,7 +3,7 @@
 ghost use Rattle.std.specs.Prelude.{◌≡◌};
 ghost use Rattle.tw_code.specs.declared.instr.DataInstr.TheVariants as on_data;
 ghost use Rattle.tw_frame.specs.Jobs.{job_of};
-ghost use Rattle.tw_pool_state.specs.Coming.{come};
+ghost use Rattle.tw_pool_state.specs.Coming.{frame_after};
 ghost use Rattle.tw_pool_state.specs.Data.{IsAnswer, MayDo};
 
 use crate::data::results::{copied_twice, number_at, set_result};
@@ -12,7 +12,7 @@ use tw_code::compute::sum_with;
 use tw_frame::{Done, Draft, Frame};
 use tw_store::Store;
 
-/// Executes MINS: it is refused, and skips, if the subscript is taken.
+/// Executes MINS by the pool's store: it is refused, and skips, if the subscript is taken.
 pub(crate) fn exec_insert_value<'a>(
     store: &mut Store,
     frame: &mut Frame<'a>,
@@ -24,7 +24,7 @@ pub(crate) fn exec_insert_value<'a>(
     skip: u16,
 ) -> Result<Draft<'a>, Done<'a>>
     requires own { done.before ≡ job_of frame.old }
-    requires may { MayDo (on_data.InsertValue map subscript from skip) store.old (come frame.old done) }
+    requires may { MayDo (on_data.InsertValue map subscript from skip) store.old (frame_after frame.old done) }
     ensures { IsAnswer (on_data.InsertValue map subscript from skip) store.old store.new frame.old frame.new done.entry result }
 {
     let at = done.look(subscript);
@@ -47,7 +47,7 @@ pub(crate) fn exec_insert_value<'a>(
     }
 }
 
-/// Executes MADD: puts an integer, or the sum with the one that is there.
+/// Executes MADD by the pool's store: puts an integer, or the sum with the one that is there.
 pub(crate) fn exec_add_value<'a>(
     store: &mut Store,
     frame: &mut Frame<'a>,
@@ -58,7 +58,7 @@ pub(crate) fn exec_add_value<'a>(
     from: u8,
 ) -> Result<Draft<'a>, Done<'a>>
     requires own { done.before ≡ job_of frame.old }
-    requires may { MayDo (on_data.AddValue map subscript from) store.old (come frame.old done) }
+    requires may { MayDo (on_data.AddValue map subscript from) store.old (frame_after frame.old done) }
     ensures { IsAnswer (on_data.AddValue map subscript from) store.old store.new frame.old frame.new done.entry result }
 {
     let number = number_at(&done, from);
@@ -75,7 +75,7 @@ pub(crate) fn exec_add_value<'a>(
     }
 }
 
-/// Executes MGET: it is refused, and skips, if there is no value at the subscript.
+/// Executes MGET by the pool's store: it is refused, and skips, if there is no value at the subscript.
 pub(crate) fn exec_get_value<'a>(
     store: &Store,
     frame: &mut Frame<'a>,
@@ -87,7 +87,7 @@ pub(crate) fn exec_get_value<'a>(
     skip: u16,
 ) -> Result<Draft<'a>, Done<'a>>
     requires own { done.before ≡ job_of frame.old }
-    requires may { MayDo (on_data.GetValue to map subscript skip) store.now (come frame.old done) }
+    requires may { MayDo (on_data.GetValue to map subscript skip) store.now (frame_after frame.old done) }
     ensures { IsAnswer (on_data.GetValue to map subscript skip) store.now store.now frame.old frame.new done.entry result }
 {
     let at = done.look(subscript);

@@ -12,7 +12,7 @@ use std::alloc::{AllocError, Global};
 use tw_frame::{Done, Draft, Frame};
 use tw_types::{Value, ValueRef};
 
-/// Returns the integer in a register after the job, which must have one.
+/// Returns the integer in a register after the job, as an operand of an instruction on data.
 pub(crate) fn number_at(done: &Done<'_>, register: u8) -> i64
     requires { (n : ℤ) × (slice_get done.now.after.values register ≡ Some (value.Int n)) }
     ensures { slice_get done.now.after.values register ≡ Some (value.Int result) }
@@ -23,7 +23,7 @@ pub(crate) fn number_at(done: &Done<'_>, register: u8) -> i64
     }
 }
 
-/// Copies a value twice. Allocates only for a text.
+/// Copies a result of an instruction on data twice. Allocates only for a text.
 pub(crate) fn copied_twice(alloc: Global, value: &Value) -> Result<(Value, Value), AllocError>
     ensures first { IfOk result (λ copies. copies.0 ≡ value.now) }
     ensures second { IfOk result (λ copies. copies.1 ≡ copies.0) }
@@ -34,7 +34,8 @@ pub(crate) fn copied_twice(alloc: Global, value: &Value) -> Result<(Value, Value
     Ok((first, second))
 }
 
-/// Sets a register of the frame to a value, and that of its draft to a copy, and moves to the next place.
+/// Sets a register of the frame to the result of an instruction on data, and that of its draft to a copy, and moves to the next
+/// place.
 pub(crate) fn set_result<'a>(
     frame: &mut Frame<'a>,
     draft: &mut Draft<'a>,

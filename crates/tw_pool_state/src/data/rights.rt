@@ -3,7 +3,7 @@
 ghost use Rattle.std.specs.Prelude.{◌≡◌};
 ghost use Rattle.tw_code.specs.declared.instr.DataInstr.TheVariants as on_data;
 ghost use Rattle.tw_frame.specs.Jobs.{job_of};
-ghost use Rattle.tw_pool_state.specs.Coming.{come};
+ghost use Rattle.tw_pool_state.specs.Coming.{frame_after};
 ghost use Rattle.tw_pool_state.specs.Data.{IsAnswer, IsDoneAfter, MayDo};
 
 use std::alloc::Global;
@@ -12,7 +12,7 @@ use tw_rights::Held;
 use tw_store::Store;
 use tw_types::DataType;
 
-/// Executes NEW.
+/// Executes NEW by the pool's store.
 pub(crate) fn exec_new<'a>(
     store: &mut Store,
     frame: &mut Frame<'a>,
@@ -23,7 +23,7 @@ pub(crate) fn exec_new<'a>(
     ty: DataType,
 ) -> Result<Draft<'a>, Done<'a>>
     requires own { done.before ≡ job_of frame.old }
-    requires may { MayDo (on_data.New write read ty) store.old (come frame.old done) }
+    requires may { MayDo (on_data.New write read ty) store.old (frame_after frame.old done) }
     ensures { IsAnswer (on_data.New write read ty) store.old store.new frame.old frame.new done.entry result }
 {
     let Ok(rights) = store.create(alloc, ty) else {
@@ -37,7 +37,7 @@ pub(crate) fn exec_new<'a>(
     Ok(draft)
 }
 
-/// Executes DUPR.
+/// Executes DUPR by the pool's store.
 pub(crate) fn exec_copy_read<'a>(
     store: &mut Store,
     frame: &mut Frame<'a>,
@@ -46,7 +46,7 @@ pub(crate) fn exec_copy_read<'a>(
     from: u8,
 ) -> Draft<'a>
     requires own { done.before ≡ job_of frame.old }
-    requires may { MayDo (on_data.CopyRead to from) store.old (come frame.old done) }
+    requires may { MayDo (on_data.CopyRead to from) store.old (frame_after frame.old done) }
     ensures { IsDoneAfter (on_data.CopyRead to from) store.old store.new frame.old frame.new done.entry result }
 {
     let right = store.copy_read(frame.peek_read(from));
@@ -56,7 +56,7 @@ pub(crate) fn exec_copy_read<'a>(
     draft
 }
 
-/// Executes DUPW.
+/// Executes DUPW by the pool's store.
 pub(crate) fn exec_copy_write<'a>(
     store: &mut Store,
     frame: &mut Frame<'a>,
@@ -65,7 +65,7 @@ pub(crate) fn exec_copy_write<'a>(
     from: u8,
 ) -> Draft<'a>
     requires own { done.before ≡ job_of frame.old }
-    requires may { MayDo (on_data.CopyWrite to from) store.old (come frame.old done) }
+    requires may { MayDo (on_data.CopyWrite to from) store.old (frame_after frame.old done) }
     ensures { IsDoneAfter (on_data.CopyWrite to from) store.old store.new frame.old frame.new done.entry result }
 {
     let right = store.copy_write(frame.peek_write(from));
@@ -75,7 +75,7 @@ pub(crate) fn exec_copy_write<'a>(
     draft
 }
 
-/// Executes DROPR.
+/// Executes DROPR by the pool's store.
 pub(crate) fn exec_drop_read<'a>(
     store: &mut Store,
     frame: &mut Frame<'a>,
@@ -83,7 +83,7 @@ pub(crate) fn exec_drop_read<'a>(
     datum: u8,
 ) -> Draft<'a>
     requires own { done.before ≡ job_of frame.old }
-    requires may { MayDo (on_data.DropRead datum) store.old (come frame.old done) }
+    requires may { MayDo (on_data.DropRead datum) store.old (frame_after frame.old done) }
     ensures { IsDoneAfter (on_data.DropRead datum) store.old store.new frame.old frame.new done.entry result }
 {
     let right = frame.take_read(datum);
@@ -93,7 +93,7 @@ pub(crate) fn exec_drop_read<'a>(
     draft
 }
 
-/// Executes DROPW: if the container closes, its subscribers get notices.
+/// Executes DROPW by the pool's store: if the container closes, its subscribers get notices.
 pub(crate) fn exec_drop_write<'a>(
     store: &mut Store,
     frame: &mut Frame<'a>,
@@ -101,7 +101,7 @@ pub(crate) fn exec_drop_write<'a>(
     datum: u8,
 ) -> Result<Draft<'a>, Done<'a>>
     requires own { done.before ≡ job_of frame.old }
-    requires may { MayDo (on_data.DropWrite datum) store.old (come frame.old done) }
+    requires may { MayDo (on_data.DropWrite datum) store.old (frame_after frame.old done) }
     ensures { IsAnswer (on_data.DropWrite datum) store.old store.new frame.old frame.new done.entry result }
 {
     let right = frame.take_write(datum);

@@ -8,7 +8,7 @@ ghost use Rattle.tw_types.specs.declared.value.Value.TheVariants as value;
 ghost use Rattle.tw_store.specs.Served.{IsHere};
 ghost use Rattle.tw_code.specs.declared.instr.DataInstr.TheVariants as on_data;
 ghost use Rattle.tw_frame.specs.Jobs.{job_of};
-ghost use Rattle.tw_pool_state.specs.Coming.{come};
+ghost use Rattle.tw_pool_state.specs.Coming.{frame_after};
 ghost use Rattle.tw_pool_state.specs.Data.{IsAnswer, MayDo};
 
 use crate::data::results::set_result;
@@ -18,7 +18,7 @@ use tw_rights::{Held, ReadRight};
 use tw_store::Store;
 use tw_types::Value;
 
-/// Executes STORE: the subscribers of the datum get notices.
+/// Executes STORE by the pool's store: the subscribers of the datum get notices.
 pub(crate) fn exec_store<'a>(
     store: &mut Store,
     frame: &mut Frame<'a>,
@@ -28,7 +28,7 @@ pub(crate) fn exec_store<'a>(
     from: u8,
 ) -> Result<Draft<'a>, Done<'a>>
     requires own { done.before ≡ job_of frame.old }
-    requires may { MayDo (on_data.Store datum from) store.old (come frame.old done) }
+    requires may { MayDo (on_data.Store datum from) store.old (frame_after frame.old done) }
     ensures { IsAnswer (on_data.Store datum from) store.old store.new frame.old frame.new done.entry result }
 {
     let Ok(value) = done.value(alloc, from) else {
@@ -49,7 +49,7 @@ pub(crate) fn exec_store<'a>(
     }
 }
 
-/// Copies the value of a set scalar twice. Allocates only for a text.
+/// Copies the value of a set scalar of the pool's store twice, for GET. Allocates only for a text.
 fn two_copies(store: &Store, alloc: Global, right: &ReadRight) -> Result<(Value, Value), AllocError>
     requires here { IsHere store.now right.now }
     requires allowed { may_retrieve (get store.now.store.live right.now.id) ≡ Ok tt }
@@ -70,7 +70,7 @@ fn two_copies(store: &Store, alloc: Global, right: &ReadRight) -> Result<(Value,
     }
 }
 
-/// Executes GET: sets a register of the frame, and of its draft.
+/// Executes GET by the pool's store: sets a register of the frame, and of its draft.
 pub(crate) fn exec_get<'a>(
     store: &Store,
     frame: &mut Frame<'a>,
@@ -80,7 +80,7 @@ pub(crate) fn exec_get<'a>(
     datum: u8,
 ) -> Result<Draft<'a>, Done<'a>>
     requires own { done.before ≡ job_of frame.old }
-    requires may { MayDo (on_data.Get to datum) store.now (come frame.old done) }
+    requires may { MayDo (on_data.Get to datum) store.now (frame_after frame.old done) }
     ensures { IsAnswer (on_data.Get to datum) store.now store.now frame.old frame.new done.entry result }
 {
     let Ok(copies) = two_copies(store, alloc, frame.peek_read(datum)) else {

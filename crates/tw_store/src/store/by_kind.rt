@@ -17,7 +17,7 @@ use tw_rights::{ReadRight, WriteRight};
 use tw_types::{Value, ValueRef};
 
 impl Store {
-    /// Calls `insert_under` with an integer.
+    /// Inserts a member at an integer, by `insert_under`.
     pub fn insert(
         &mut self,
         alloc: Global,
@@ -33,7 +33,7 @@ impl Store {
         self.insert_under(alloc, right, ValueRef::Int(subscript), member)
     }
 
-    /// Calls `look_under` with an integer.
+    /// Returns a read right on the member at an integer, by `look_under`.
     pub fn look(&mut self, right: &ReadRight, subscript: i64) -> Option<ReadRight>
         requires here { IsHere self.old right.now }
         requires allowed { may_look self.old.store right.now.id (INT subscript) ≡ Ok tt }

@@ -20,7 +20,7 @@ use tw_rights::{ReadRight, WriteRight};
 use tw_types::{DataType, DatumId, Value, ValueRef};
 
 impl Store {
-    /// Makes a closed map with the next id and one read, at a free place.
+    /// Makes a closed map in the store with the next id and one read, at a free place.
     pub fn create_map(
         &mut self,
         alloc: Global,
@@ -50,7 +50,7 @@ impl Store {
         Ok(ReadRight::of(id, place))
     }
 
-    /// Returns the value of a map at a subscript, for who reads it.
+    /// Returns the value of a map at a subscript, by a read right on the map.
     pub fn entry(&self, right: &ReadRight, subscript: ValueRef<'_>) -> Option<&Value>
         requires { IsHere self.now right.now }
         ensures { option_copied result ≡ entry_at self.now.store right.now.id (named subscript.entry) }
@@ -58,7 +58,7 @@ impl Store {
         datum_at(&self.slab, right.place()).value_at(subscript)
     }
 
-    /// Returns the value of a map at a subscript, for who writes it.
+    /// Returns the value of a map at a subscript, by a write right on the map.
     pub fn written_entry(&self, right: &WriteRight, subscript: ValueRef<'_>) -> Option<&Value>
         requires { IsHere self.now right.now }
         ensures { option_copied result ≡ entry_at self.now.store right.now.id (named subscript.entry) }
@@ -66,7 +66,7 @@ impl Store {
         datum_at(&self.slab, right.place()).value_at(subscript)
     }
 
-    /// Puts a value into a map at a copy of the subscript, in place of one that is there.
+    /// Puts a value into a map by a write right, at a copy of the subscript, in place of one that is there.
     pub fn put(
         &mut self,
         alloc: Global,

@@ -16,7 +16,7 @@ use tw_rights::ReadRight;
 use tw_types::{DatumId, Notice};
 
 impl Store {
-    /// Returns the number of servers.
+    /// Returns the number of servers for which the store queues notices.
     pub fn servers(&self) -> usize
         ensures count { result ≡ length self.now.queues }
         ensures some { 0 < length self.now.queues }
@@ -25,28 +25,29 @@ impl Store {
         self.queues.len()
     }
 
-    /// Returns how much the live data are. Looks at each of them, and at each member and value.
+    /// Returns how many members and bytes of texts the store's live data have. Looks at each of them, and at each member and
+    /// value.
     pub fn amounts(&self) -> Amounts
         ensures { result ≡ amounts_in self.now.store.live }
     {
         amounts_in(&self.slab)
     }
 
-    /// Returns the id of the datum that is made next.
+    /// Returns the id of the datum that the store makes next.
     pub fn next(&self) -> DatumId
         ensures { result ≡ self.now.store.next }
     {
         DatumId::new(self.next)
     }
 
-    /// Returns the place of the datum of an id, if it is live. Searches all places: use it for reports and tests.
+    /// Returns the place of the datum of an id in the store, if it is live. Searches all places: use it for reports and tests.
     pub fn place_of(&self, id: DatumId) -> Option<usize>
         ensures { result ≡ get self.now.places id }
     {
         place_of(&self.slab, id)
     }
 
-    /// Returns the datum of an id, if it is live. Searches it like `place_of`.
+    /// Returns the datum of an id in the store, if it is live. Searches it like `place_of`.
     pub fn view(&self, id: DatumId) -> Option<&Datum>
         ensures datum { datum_if (option_copied result) ≡ get self.now.store.live id }
         ensures members { IfSome result (λ datum. KnowsPlaces self.now datum.now) }
@@ -57,7 +58,7 @@ impl Store {
         }
     }
 
-    /// Returns the datum of a read right.
+    /// Returns the datum of a read right, at the right's place in the store.
     pub fn view_at(&self, right: &ReadRight) -> &Datum
         requires { IsHere self.now right.now }
         ensures datum { get self.now.store.live right.now.id ≡ Some result.now.datum }
@@ -80,7 +81,7 @@ impl Store {
         })
     }
 
-    /// Returns the notice that `take_note` returns next for a server. It stays in its queue.
+    /// Returns the notice that the store's `take_note` returns next for a server. It stays in its queue.
     pub fn oldest_notice(&self, server: u8) -> Option<&Notice>
         requires { server < length self.now.queues }
         ensures { option_copied result ≡ slice_get (slice_index_or self.now.queues server []) 0 }

@@ -1,6 +1,6 @@
 use Rattle.std.proofs.Common.{None}
 use Rattle.tw_types.specs.declared.actor.Actor.TheVariants.{Engine}
-use Rattle.tw_pool.specs.Turns.{GoesFree}
+use Rattle.tw_pool.specs.Turns.{TurnsFree}
 use Rattle.tw_pool.specs.declared.answer.Turn.TheVariants.{NoMemory, Went}
 use Rattle.tw_pool.proofs.Freely as free
 use Rattle.tw_pool.proofs.Freely.{tried_none, tried_some}
@@ -13,7 +13,7 @@ pub invariant_of-self : goal.invariant_of-self
 invariant_of-self c = free.kept_still _ _ _ c.self.inside.stopped c.self.inside.history c.self.inside.parts c.self.invariant c.args.self.now c.self.view_is c.ask.new.self c.in_default.ensures.asked.1
 
 pub returns-in_default : goal.returns-in_default
-returns-in_default c = free.line_still _ _ _ c.self.inside.stopped c.self.inside.history c.self.inside.parts c.self.invariant c.args.self.now c.self.view_is (λ s. GoesFree c.args.self.now s (Engine c.args.engine)) (NoMemory None) (free.ask_refused_for _ _ _ c.self.inside.stopped c.self.inside.history c.self.inside.parts c.self.invariant c.args.self.now c.self.view_is c.args.engine c.requires.engine c.requires.room c.requires.free c.in_default.ensures.asked.0 c.in_default.ensures.memory)
+returns-in_default c = free.line_still _ _ _ c.self.inside.stopped c.self.inside.history c.self.inside.parts c.self.invariant c.args.self.now c.self.view_is (λ s. TurnsFree c.args.self.now s (Engine c.args.engine)) (NoMemory None) (free.ask_refused_for _ _ _ c.self.inside.stopped c.self.inside.history c.self.inside.parts c.self.invariant c.args.self.now c.self.view_is c.args.engine c.requires.engine c.requires.room c.requires.free c.in_default.ensures.asked.0 c.in_default.ensures.memory)
 
 pub invariant_of-self-in_default-asked : goal.invariant_of-self-in_default-asked
 invariant_of-self-in_default-asked c = free.kept_still _ _ _ c.self.inside.stopped c.self.inside.history c.self.inside.parts c.self.invariant c.args.self.now c.self.view_is c.ask.new.self (tried_none _ _ _ c.in-Ok.asked c.in_default-asked.is c.in-Ok.ensures.asked).1
@@ -34,4 +34,4 @@ invariant_of-self-2 c =
 pub returns : goal.returns
 returns c =
     let t = tried_some _ _ _ c.in-Ok.asked c.in-Some.next c.in-Some.is c.in-Ok.ensures.asked in
-    free.line_traced _ _ _ c.self.inside.stopped c.self.inside.history c.self.inside.parts c.self.invariant c.args.self.now c.self.view_is (λ s. GoesFree c.args.self.now s (Engine c.args.engine)) Went _ c.push.new.self c.push.ensures (free.ask_line _ _ _ c.self.inside.stopped c.self.inside.history c.self.inside.parts c.self.invariant c.args.self.now c.self.view_is c.args.engine c.requires.engine c.requires.room c.requires.free c.in-Some.next.0 c.in-Some.next.1 t.0 c.ask.new.self (t.1 _ _))
+    free.line_traced _ _ _ c.self.inside.stopped c.self.inside.history c.self.inside.parts c.self.invariant c.args.self.now c.self.view_is (λ s. TurnsFree c.args.self.now s (Engine c.args.engine)) Went _ c.push.new.self c.push.ensures (free.ask_line _ _ _ c.self.inside.stopped c.self.inside.history c.self.inside.parts c.self.invariant c.args.self.now c.self.view_is c.args.engine c.requires.engine c.requires.room c.requires.free c.in-Some.next.0 c.in-Some.next.1 t.0 c.ask.new.self (t.1 _ _))

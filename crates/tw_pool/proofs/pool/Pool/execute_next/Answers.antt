@@ -2,7 +2,7 @@ use Rattle.std.proofs.Common.{◌≡◌, ◌∷◌, ◌++◌, ◌∙◌, [], ap,
 use Rattle.tw_types.specs.declared.event.Event.TheVariants.{Call}
 use Rattle.tw_pool.specs.declared.answer.Turn.TheVariants as answer
 use Rattle.tw_pool.specs.PoolView.{PoolView}
-use Rattle.tw_pool.specs.Turns.{Lends, OrNoMemory, steps_of}
+use Rattle.tw_pool.specs.Turns.{Issues, OrNoMemory, steps_of}
 use Rattle.tw_pool.proofs.Freely as free
 use Rattle.tw_pool.proofs.Handing as hand
 use Rattle.tw_pool.proofs.Turning as turning
@@ -35,7 +35,7 @@ returns-in-Err c =
     let at = turning.after_is c.args.self.now _ c.args.done c.instr_at-instr.result.now c.procedure.result c.after_place.result (ap (λ (x : PoolView). x.program.program) (sym c.self.view_is)) (c.procedure.ensures ∙ ap (λ j. j.procedure) c.before-2.ensures) c.after_place.ensures c.instr_at-instr.ensures in
     turning.past_call c.args.self.now _ c.args.actor c.args.done _ c.instr_at-instr.result.now at
     (turning.not_local c.args.self.now _ c.args.done c.instr_at-instr.result.now refl c.requires.program c.steps-steps.ensures.done (sym c.requires.whole) at) c.if-is_ret.ensures
-    (free.line_still _ _ _ c.self.inside.stopped c.self.inside.history c.self.inside.parts c.self.invariant c.args.self.now c.self.view_is (λ s. OrNoMemory c.args.self.now (Some c.args.done) (steps_of c.args.actor c.args.done) (Call c.args.actor) (Lends c.args.self.now c.args.actor ((steps_of c.args.actor c.args.done) ++ Call c.args.actor ∷ []))) (answer.NoMemory (Some c.in-Err.done)) (inr (hand.wanted _ _ _ c.self.inside.stopped c.self.inside.history c.self.inside.parts c.self.invariant c.args.self.now c.self.view_is c.args.actor c.requires.actor c.requires.room c.args.done c.requires.owed c.event_of-event.result (hand.has_come _ _ _ c.self.inside.stopped c.self.inside.history c.self.inside.parts c.self.invariant c.args.self.now c.self.view_is c.args.actor c.requires.actor c.requires.room c.args.done c.requires.owed c.steps-steps.ensures.done.few c.event_of-event.result c.event_of-event.ensures) c.instr_at-instr.result.now at c.in-Err.ensures.memory, (ap (λ x. answer.NoMemory (Some x)) c.in-Err.ensures.back, refl))))
+    (free.line_still _ _ _ c.self.inside.stopped c.self.inside.history c.self.inside.parts c.self.invariant c.args.self.now c.self.view_is (λ s. OrNoMemory c.args.self.now (Some c.args.done) (steps_of c.args.actor c.args.done) (Call c.args.actor) (Issues c.args.self.now c.args.actor ((steps_of c.args.actor c.args.done) ++ Call c.args.actor ∷ []))) (answer.NoMemory (Some c.in-Err.done)) (inr (hand.wanted _ _ _ c.self.inside.stopped c.self.inside.history c.self.inside.parts c.self.invariant c.args.self.now c.self.view_is c.args.actor c.requires.actor c.requires.room c.args.done c.requires.owed c.event_of-event.result (hand.has_come _ _ _ c.self.inside.stopped c.self.inside.history c.self.inside.parts c.self.invariant c.args.self.now c.self.view_is c.args.actor c.requires.actor c.requires.room c.args.done c.requires.owed c.steps-steps.ensures.done.few c.event_of-event.result c.event_of-event.ensures) c.instr_at-instr.result.now at c.in-Err.ensures.memory, (ap (λ x. answer.NoMemory (Some x)) c.in-Err.ensures.back, refl))))
 
 pub invariant_of-self-2 : goal.invariant_of-self-2
 invariant_of-self-2 c = hand.kept_called _ _ _ c.self.inside.stopped c.self.inside.history c.self.inside.parts c.self.invariant c.args.self.now c.self.view_is c.args.actor c.requires.actor c.requires.room c.args.done c.requires.owed c.event_of-event.result (hand.has_come _ _ _ c.self.inside.stopped c.self.inside.history c.self.inside.parts c.self.invariant c.args.self.now c.self.view_is c.args.actor c.requires.actor c.requires.room c.args.done c.requires.owed c.steps-steps.ensures.done.few c.event_of-event.result c.event_of-event.ensures) (hand.room_two _ _ _ c.self.inside.stopped c.self.inside.history c.self.inside.parts c.self.invariant c.args.self.now c.self.view_is c.args.actor c.requires.actor c.requires.room c.args.done c.requires.owed c.requires.fits c.event_of-event.result c.event_of-event.ensures) c.record_event.new.history c.push.new.self c.record_event.ensures c.push.ensures c.count_after-event_no.result c.count_after-event_no.ensures c.call.new.self c.in-Ok.ensures.called c.in-Ok.job c.in-Ok.ensures.lent
@@ -45,4 +45,4 @@ returns c =
     let at = turning.after_is c.args.self.now _ c.args.done c.instr_at-instr.result.now c.procedure.result c.after_place.result (ap (λ (x : PoolView). x.program.program) (sym c.self.view_is)) (c.procedure.ensures ∙ ap (λ j. j.procedure) c.before-2.ensures) c.after_place.ensures c.instr_at-instr.ensures in
     turning.past_call c.args.self.now _ c.args.actor c.args.done _ c.instr_at-instr.result.now at
     (turning.not_local c.args.self.now _ c.args.done c.instr_at-instr.result.now refl c.requires.program c.steps-steps.ensures.done (sym c.requires.whole) at) c.if-is_ret.ensures
-    (hand.or_memory c.args.self.now (Lends c.args.self.now c.args.actor ((steps_of c.args.actor c.args.done) ++ Call c.args.actor ∷ [])) (Some c.args.done) (steps_of c.args.actor c.args.done) (Call c.args.actor) _ _ (answer.Run c.in-Ok.job) (hand.line_called _ _ _ c.self.inside.stopped c.self.inside.history c.self.inside.parts c.self.invariant c.args.self.now c.self.view_is c.args.actor c.requires.actor c.requires.room c.args.done c.requires.owed c.event_of-event.result (hand.has_come _ _ _ c.self.inside.stopped c.self.inside.history c.self.inside.parts c.self.invariant c.args.self.now c.self.view_is c.args.actor c.requires.actor c.requires.room c.args.done c.requires.owed c.steps-steps.ensures.done.few c.event_of-event.result c.event_of-event.ensures) (hand.room_two _ _ _ c.self.inside.stopped c.self.inside.history c.self.inside.parts c.self.invariant c.args.self.now c.self.view_is c.args.actor c.requires.actor c.requires.room c.args.done c.requires.owed c.requires.fits c.event_of-event.result c.event_of-event.ensures) c.record_event.new.history c.push.new.self c.record_event.ensures c.push.ensures c.count_after-event_no.result c.count_after-event_no.ensures c.call.new.self c.in-Ok.ensures.called c.in-Ok.job c.in-Ok.ensures.lent))
+    (hand.or_memory c.args.self.now (Issues c.args.self.now c.args.actor ((steps_of c.args.actor c.args.done) ++ Call c.args.actor ∷ [])) (Some c.args.done) (steps_of c.args.actor c.args.done) (Call c.args.actor) _ _ (answer.Run c.in-Ok.job) (hand.line_called _ _ _ c.self.inside.stopped c.self.inside.history c.self.inside.parts c.self.invariant c.args.self.now c.self.view_is c.args.actor c.requires.actor c.requires.room c.args.done c.requires.owed c.event_of-event.result (hand.has_come _ _ _ c.self.inside.stopped c.self.inside.history c.self.inside.parts c.self.invariant c.args.self.now c.self.view_is c.args.actor c.requires.actor c.requires.room c.args.done c.requires.owed c.steps-steps.ensures.done.few c.event_of-event.result c.event_of-event.ensures) (hand.room_two _ _ _ c.self.inside.stopped c.self.inside.history c.self.inside.parts c.self.invariant c.args.self.now c.self.view_is c.args.actor c.requires.actor c.requires.room c.args.done c.requires.owed c.requires.fits c.event_of-event.result c.event_of-event.ensures) c.record_event.new.history c.push.new.self c.record_event.ensures c.push.ensures c.count_after-event_no.result c.count_after-event_no.ensures c.call.new.self c.in-Ok.ensures.called c.in-Ok.job c.in-Ok.ensures.lent))

@@ -1,6 +1,6 @@
 use Rattle.std.proofs.Common.{None}
 use Rattle.tw_types.specs.declared.actor.Actor.TheVariants.{Engine}
-use Rattle.tw_pool.specs.Turns.{GoesFree}
+use Rattle.tw_pool.specs.Turns.{TurnsFree}
 use Rattle.tw_pool.specs.declared.answer.Turn.TheVariants.{NoMemory, Went}
 use Rattle.tw_pool.proofs.Freely as free
 use Rattle.tw_pool.proofs.Freely.{tried_none, tried_some}
@@ -16,7 +16,7 @@ pub invariant_of-self : goal.invariant_of-self
 invariant_of-self c = free.kept_still _ _ _ c.self.inside.stopped c.self.inside.history c.self.inside.parts c.self.invariant c.args.self.now c.self.view_is c.release.new.self c.in_default.ensures.1
 
 pub returns-in_default : goal.returns-in_default
-returns-in_default c = free.line_still _ _ _ c.self.inside.stopped c.self.inside.history c.self.inside.parts c.self.invariant c.args.self.now c.self.view_is (λ s. GoesFree c.args.self.now s (Engine c.args.engine)) (NoMemory None) (free.release_refused_for _ _ _ c.self.inside.stopped c.self.inside.history c.self.inside.parts c.self.invariant c.args.self.now c.self.view_is c.args.engine c.requires.engine c.requires.room c.requires.free c.requires.asked c.in_default.ensures.0)
+returns-in_default c = free.line_still _ _ _ c.self.inside.stopped c.self.inside.history c.self.inside.parts c.self.invariant c.args.self.now c.self.view_is (λ s. TurnsFree c.args.self.now s (Engine c.args.engine)) (NoMemory None) (free.release_refused_for _ _ _ c.self.inside.stopped c.self.inside.history c.self.inside.parts c.self.invariant c.args.self.now c.self.view_is c.args.engine c.requires.engine c.requires.room c.requires.free c.requires.asked c.in_default.ensures.0)
 
 pub invariant_of-self-in_default-released : goal.invariant_of-self-in_default-released
 invariant_of-self-in_default-released c = free.kept_still _ _ _ c.self.inside.stopped c.self.inside.history c.self.inside.parts c.self.invariant c.args.self.now c.self.view_is c.release.new.self (tried_none _ _ _ c.in-Ok.released c.in_default-released.is c.in-Ok.ensures).1
@@ -37,4 +37,4 @@ invariant_of-self-2 c =
 pub returns : goal.returns
 returns c =
     let t = tried_some _ _ _ c.in-Ok.released c.in-Some.rule c.in-Some.is c.in-Ok.ensures in
-    free.line_traced _ _ _ c.self.inside.stopped c.self.inside.history c.self.inside.parts c.self.invariant c.args.self.now c.self.view_is (λ s. GoesFree c.args.self.now s (Engine c.args.engine)) Went _ c.push.new.self c.push.ensures (free.release_line _ _ _ c.self.inside.stopped c.self.inside.history c.self.inside.parts c.self.invariant c.args.self.now c.self.view_is c.args.engine c.requires.engine c.requires.room c.requires.free c.requires.asked c.in-Some.rule t.0 c.release.new.self (t.1 _))
+    free.line_traced _ _ _ c.self.inside.stopped c.self.inside.history c.self.inside.parts c.self.invariant c.args.self.now c.self.view_is (λ s. TurnsFree c.args.self.now s (Engine c.args.engine)) Went _ c.push.new.self c.push.ensures (free.release_line _ _ _ c.self.inside.stopped c.self.inside.history c.self.inside.parts c.self.invariant c.args.self.now c.self.view_is c.args.engine c.requires.engine c.requires.room c.requires.free c.requires.asked c.in-Some.rule t.0 c.release.new.self (t.1 _))

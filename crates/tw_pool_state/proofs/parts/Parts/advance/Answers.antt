@@ -1,7 +1,7 @@
 use Rattle.std.proofs.Common.{Some, ap, arith}
-use Rattle.tw_pool_state.proofs.PartNames.{bare_frame, come, RunningView}
+use Rattle.tw_pool_state.proofs.PartNames.{bare_frame, frame_after, RunningView}
 use Rattle.tw_pool_state.proofs.Fitting.{seen}
-use Rattle.tw_pool_state.proofs.Goings.{is_lent}
+use Rattle.tw_pool_state.proofs.Goings.{is_issued}
 use Rattle.tw_pool_state.proofs.Law.{runner_has_slot}
 use Rattle.tw_pool_state.proofs.parts.Parts.advance.Goals as goal
 
@@ -18,4 +18,4 @@ pub returns-clause-lent : goal.returns-clause-lent
 returns-clause-lent c =
     let s = c.requires.fits_place in
     let came = c.advance.ensures s.2 s.5.is_running in
-    is_lent _ c.args.self.now.running_tasks.tasks c.args.actor (come s.2 c.args.done) c.args.event_no (ap (λ (r : RunningView). r.tasks) came.0) _ came.1
+    is_issued _ c.args.self.now.running_tasks.tasks c.args.actor (frame_after s.2 c.args.done) c.args.event_no (ap (λ (r : RunningView). r.tasks) came.0) _ came.1

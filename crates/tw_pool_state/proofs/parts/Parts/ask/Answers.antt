@@ -1,5 +1,5 @@
 use Rattle.std.proofs.Common.{◌∙◌, sym, ap, refl, IsSome, subst, ◌≡◌, ℕ}
-use Rattle.tw_pool_state.proofs.PartNames.{AsksOpen, IsAsking, IsAt, Right, closed_by, get, same_Some, state_of}
+use Rattle.tw_pool_state.proofs.PartNames.{IsAskOfOpen, IsAsking, IsAt, Right, closed_by, get, same_Some, state_of}
 use Rattle.tw_types.specs.declared.stage.Stage.TheVariants.{Waiting, Ready}
 use Rattle.std.specs.declared.alloc.AllocError.{AllocError}
 use Rattle.std.specs.declared.result.Result.TheVariants.{Ok}
@@ -63,5 +63,5 @@ returns-in_default-ask-clause-memory c = λ q notices due.
     let own = sym c.in-Some.ensures.ask in
     let same : (reads p.0 p.1 old p.2 p.3 c.args.engine c.in-Some.next.0 c.in-Some.next.1 own).right ≡ c.asked_right-right.result.now =
     same_Some _ _ (sym (right_is p.0 p.1 old p.2 p.3 c.args.engine c.in-Some.next.0 c.in-Some.next.1 own) ∙ c.asked_right-right.ensures) in
-    subst (λ (next : ℕ × ℕ). AsksOpen (state_of old notices) next.0 next.1) (same_Some _ q (sym own ∙ due))
+    subst (λ (next : ℕ × ℕ). IsAskOfOpen (state_of old notices) next.0 next.1) (same_Some _ q (sym own ∙ due))
     (asks_open p.0 p.1 old p.2 p.3 c.args.engine c.in-Some.next.0 c.in-Some.next.1 own (ap (λ (r : Right). closed_by (get old.store.store.live r.id)) same ∙ c.in_default-ask.ensures.0) notices)

@@ -1,10 +1,10 @@
 use Rattle.std.proofs.Common.{◌≡◌, ◌∙◌, refl, sym, ap, subst}
-use Rattle.tw_pool_state.proofs.PartNames.{Call, FrameView, IsAtInstr, IsLent, IsOwed, JobView, Makes, MakesAfter, Parts, TakesMemory, Untouched, come, insert, job_of, same_Some, with_done, RunningView, TasksByActor, with_running}
+use Rattle.tw_pool_state.proofs.PartNames.{Call, FrameView, IsAtInstr, IsIssued, IsOwed, JobView, Makes, MakesAfter, Parts, TakesMemory, Untouched, frame_after, insert, job_of, same_Some, with_done, RunningView, TasksByActor, with_running}
 use Rattle.tw_code.specs.declared.instr.Instr.{Instr}
 use Rattle.tw_pool_state.specs.Memory.{CallTakes}
-use Rattle.tw_pool_state.proofs.Answering.{when_back, when_done, when_lent, when_refused}
+use Rattle.tw_pool_state.proofs.Answering.{when_back, when_done, when_issued, when_refused}
 use Rattle.tw_pool_state.proofs.Calling.{called, may_do}
-use Rattle.tw_pool_state.proofs.Goings.{is_lent, lent_goes}
+use Rattle.tw_pool_state.proofs.Goings.{is_issued, issued_goes}
 use Rattle.tw_pool_state.proofs.Law.{runner_has_slot}
 use Rattle.tw_pool_state.proofs.Runners.{again, get_own, same_slot}
 use Rattle.tw_pool_state.proofs.parts.Parts.call.Goals as goal
@@ -13,7 +13,7 @@ pub exec_data-requires-clause-task_slot : goal.exec_data-requires-clause-task_sl
 exec_data-requires-clause-task_slot c =
     let s = subst (λ (i : Instr). IsAtInstr c.args.self.now c.args.actor c.args.done i) (c.in-Data.is) c.requires.fits_place in
     let done = c.args.done in
-    runner_has_slot done.before.program s.layout (with_done c.args.self.now c.args.actor s.f done) s.notices s.parts c.args.actor (come s.f done) (get_own c.args.self.now.running_tasks.tasks c.args.actor (come s.f done))
+    runner_has_slot done.before.program s.layout (with_done c.args.self.now c.args.actor s.f done) s.notices s.parts c.args.actor (frame_after s.f done) (get_own c.args.self.now.running_tasks.tasks c.args.actor (frame_after s.f done))
 
 pub exec_data-requires-clause-is_running : goal.exec_data-requires-clause-is_running
 exec_data-requires-clause-is_running c =
@@ -22,7 +22,7 @@ exec_data-requires-clause-is_running c =
       s.f,
       s.owed.is_running,
       s.owed.own,
-      may_do done.before.program s.layout (with_done c.args.self.now c.args.actor s.f done) s.notices s.parts c.args.actor (come s.f done) s.q c.in-Data.instr (get_own c.args.self.now.running_tasks.tasks c.args.actor (come s.f done)) s.here s.following_is s.small,
+      may_do done.before.program s.layout (with_done c.args.self.now c.args.actor s.f done) s.notices s.parts c.args.actor (frame_after s.f done) s.q c.in-Data.instr (get_own c.args.self.now.running_tasks.tasks c.args.actor (frame_after s.f done)) s.here s.following_is s.small,
     )
 
 pub returns-in-Data-clause-called : goal.returns-in-Data-clause-called
@@ -35,16 +35,16 @@ returns-in-Data-clause-called c =
     when_done c.in-Data.instr old.store c.exec_data.new.store s.f e.0 c.args.event_no done (MakesAfter (Call c.args.actor) old c.args.actor done new) c.exec_data.result e.2 (λ job l. λ layout f owed.
     let same : s.f ≡ f = same_Some s.f f (sym s.owed.is_running ∙ owed.is_running) in
     subst (λ (x : FrameView). Makes done.before.program layout (Call c.args.actor) (with_done old c.args.actor x done) new) same (λ notices h.
-    lent_goes new old.running_tasks.tasks c.args.actor l.at c.args.event_no (ap (λ (r : RunningView). r.tasks) e.1 ∙ ap (insert old.running_tasks.tasks c.args.actor) l.is_lent) done.before.program layout (Call c.args.actor) refl (with_done old c.args.actor s.f done) notices
-    (called done.before.program layout (with_done old c.args.actor s.f done) notices h c.args.actor (come s.f done) s.q c.in-Data.instr (get_own old.running_tasks.tasks c.args.actor (come s.f done)) s.here s.following_is
-    (record new { running_tasks = record new.running_tasks { tasks = insert old.running_tasks.tasks c.args.actor l.at } }) l.at l.is_done (sym (again old.running_tasks.tasks c.args.actor (come s.f done) l.at)) (ap (λ (r : RunningView). r.layout) e.1) refl refl refl refl)))
+    issued_goes new old.running_tasks.tasks c.args.actor l.at c.args.event_no (ap (λ (r : RunningView). r.tasks) e.1 ∙ ap (insert old.running_tasks.tasks c.args.actor) l.is_issued) done.before.program layout (Call c.args.actor) refl (with_done old c.args.actor s.f done) notices
+    (called done.before.program layout (with_done old c.args.actor s.f done) notices h c.args.actor (frame_after s.f done) s.q c.in-Data.instr (get_own old.running_tasks.tasks c.args.actor (frame_after s.f done)) s.here s.following_is
+    (record new { running_tasks = record new.running_tasks { tasks = insert old.running_tasks.tasks c.args.actor l.at } }) l.at l.is_done (sym (again old.running_tasks.tasks c.args.actor (frame_after s.f done) l.at)) (ap (λ (r : RunningView). r.layout) e.1) refl refl refl refl)))
 
 pub returns-in-Data-clause-lent : goal.returns-in-Data-clause-lent
 returns-in-Data-clause-lent c =
     let s = subst (λ (i : Instr). IsAtInstr c.args.self.now c.args.actor c.args.done i) (c.in-Data.is) c.requires.fits_place in
     let e = c.exec_data.ensures s.f s.owed.is_running in
-    when_lent c.in-Data.instr c.args.self.now.store c.exec_data.new.store s.f e.0 c.args.event_no c.args.done (λ (job : JobView). IsLent _ c.args.actor c.args.event_no job) c.exec_data.result e.2 (λ job l.
-    is_lent _ c.args.self.now.running_tasks.tasks c.args.actor l.at c.args.event_no (ap (λ (r : RunningView). r.tasks) e.1 ∙ ap (insert c.args.self.now.running_tasks.tasks c.args.actor) l.is_lent) job (l.is_job ∙ ap job_of l.is_lent))
+    when_issued c.in-Data.instr c.args.self.now.store c.exec_data.new.store s.f e.0 c.args.event_no c.args.done (λ (job : JobView). IsIssued _ c.args.actor c.args.event_no job) c.exec_data.result e.2 (λ job l.
+    is_issued _ c.args.self.now.running_tasks.tasks c.args.actor l.at c.args.event_no (ap (λ (r : RunningView). r.tasks) e.1 ∙ ap (insert c.args.self.now.running_tasks.tasks c.args.actor) l.is_issued) job (l.is_job ∙ ap job_of l.is_issued))
 
 pub returns-in-Data-clause-refused : goal.returns-in-Data-clause-refused
 returns-in-Data-clause-refused c =
@@ -71,6 +71,6 @@ pub returns-in-Data-clause-memory : goal.returns-in-Data-clause-memory
 returns-in-Data-clause-memory c =
     let s = subst (λ (i : Instr). IsAtInstr c.args.self.now c.args.actor c.args.done i) (c.in-Data.is) c.requires.fits_place in
     let e = c.exec_data.ensures s.f s.owed.is_running in
-    when_refused c.in-Data.instr c.args.self.now.store c.exec_data.new.store s.f e.0 c.args.event_no c.args.done ((f : FrameView) → IsOwed c.args.self.now c.args.actor f c.args.done → CallTakes c.args.instr.now c.args.self.now.store (come f c.args.done)) c.exec_data.result e.2 (λ back r. λ f owed.
-    subst (λ (i : Instr). CallTakes i c.args.self.now.store (come f c.args.done)) (sym c.in-Data.is)
-    (subst (λ (x : FrameView). TakesMemory c.in-Data.instr c.args.self.now.store (come x c.args.done)) (same_Some s.f f (sym s.owed.is_running ∙ owed.is_running)) r.memory))
+    when_refused c.in-Data.instr c.args.self.now.store c.exec_data.new.store s.f e.0 c.args.event_no c.args.done ((f : FrameView) → IsOwed c.args.self.now c.args.actor f c.args.done → CallTakes c.args.instr.now c.args.self.now.store (frame_after f c.args.done)) c.exec_data.result e.2 (λ back r. λ f owed.
+    subst (λ (i : Instr). CallTakes i c.args.self.now.store (frame_after f c.args.done)) (sym c.in-Data.is)
+    (subst (λ (x : FrameView). TakesMemory c.in-Data.instr c.args.self.now.store (frame_after x c.args.done)) (same_Some s.f f (sym s.owed.is_running ∙ owed.is_running)) r.memory))

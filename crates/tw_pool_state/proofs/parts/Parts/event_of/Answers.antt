@@ -1,5 +1,5 @@
 use Rattle.std.proofs.Common.{◌≡◌, ◌<◌, sym, ap, subst, arith}
-use Rattle.tw_pool_state.proofs.PartNames.{Goes, nat_tests, with_done}
+use Rattle.tw_pool_state.proofs.PartNames.{Succeeds, nat_tests, with_done}
 use Rattle.tw_types.specs.declared.event.Event.TheVariants as event
 use Rattle.tw_pool_state.proofs.Goings.{gone, leads, stayed}
 use Rattle.tw_pool_state.proofs.parts.Parts.event_of.Goals as goal
@@ -17,6 +17,6 @@ returns-else-steps-eq0 c =
       some,
       ap (event.Local c.args.actor) c.steps-steps.ensures.is,
       λ layout f owed notices h.
-          subst (λ n. Goes done.before.program layout (event.Local c.args.actor n) c.args.self.now notices (with_done c.args.self.now c.args.actor f done)) (sym c.steps-steps.ensures.is)
+          subst (λ n. Succeeds done.before.program layout (event.Local c.args.actor n) c.args.self.now notices (with_done c.args.self.now c.args.actor f done)) (sym c.steps-steps.ensures.is)
           (gone done.before.program layout c.args.self.now notices h c.args.actor f owed.is_running done (leads c.args.self.now c.args.actor f done owed c.steps-steps.ensures.done) some),
     )

@@ -1,9 +1,9 @@
 use Rattle.std.proofs.Common.{◌≡◌, ◌∙◌, Some, refl, sym, ap, arith, to_z, of_z, w64}
 use Rattle.std.proofs.lemmas.Int.{to_z-of_z}
-use Rattle.tw_pool_state.proofs.PartNames.{Call, come, get, gone_on, insert, with_done, RunningView}
+use Rattle.tw_pool_state.proofs.PartNames.{Call, frame_after, get, frame_at_next, insert, with_done, RunningView}
 use Rattle.tw_code.specs.declared.instr.Instr.TheVariants as instr
 use Rattle.tw_pool_state.proofs.AfterJob.{few, here_too, in_queue, kind_of_callee, operands, params_of_callee, runs_there, runs_too, slot_there, is_running_ready, so_bundled, so_valued, there}
-use Rattle.tw_pool_state.proofs.Goings.{is_lent, lent_goes}
+use Rattle.tw_pool_state.proofs.Goings.{is_issued, issued_goes}
 use Rattle.tw_pool_state.proofs.Puts.{put_goes, put_named, put_fits}
 use Rattle.tw_pool_state.proofs.Releases.{fresh}
 use Rattle.tw_pool_state.proofs.Runners.{again}
@@ -13,13 +13,13 @@ use Rattle.tw_pool_state.proofs.parts.Parts.put.Goals as goal
 pub action_operands-requires-clause-suits : goal.action_operands-requires-clause-suits
 action_operands-requires-clause-suits c =
     let s = c.requires.fits_place in
-    let u = put_named c.args.done.before.program s.layout (there c.args.self.now c.args.actor c.args.done (instr.Put c.args.action.now) c.requires.fits_place) s.notices s.parts c.args.actor (come s.f c.args.done) s.q c.args.action.now (runs_there c.args.self.now c.args.actor c.args.done (instr.Put c.args.action.now) c.requires.fits_place) s.here s.following_is in
+    let u = put_named c.args.done.before.program s.layout (there c.args.self.now c.args.actor c.args.done (instr.Put c.args.action.now) c.requires.fits_place) s.notices s.parts c.args.actor (frame_after s.f c.args.done) s.q c.args.action.now (runs_there c.args.self.now c.args.actor c.args.done (instr.Put c.args.action.now) c.requires.fits_place) s.here s.following_is in
     (u.procedure, u.is, u.long, u.values)
 
 pub action_operands-requires-clause-priority : goal.action_operands-requires-clause-priority
 action_operands-requires-clause-priority c =
     let s = c.requires.fits_place in
-    let u = put_named c.args.done.before.program s.layout (there c.args.self.now c.args.actor c.args.done (instr.Put c.args.action.now) c.requires.fits_place) s.notices s.parts c.args.actor (come s.f c.args.done) s.q c.args.action.now (runs_there c.args.self.now c.args.actor c.args.done (instr.Put c.args.action.now) c.requires.fits_place) s.here s.following_is in
+    let u = put_named c.args.done.before.program s.layout (there c.args.self.now c.args.actor c.args.done (instr.Put c.args.action.now) c.requires.fits_place) s.notices s.parts c.args.actor (frame_after s.f c.args.done) s.q c.args.action.now (runs_there c.args.self.now c.args.actor c.args.done (instr.Put c.args.action.now) c.requires.fits_place) s.here s.following_is in
     (u.priority, u.priority_is)
 
 pub reserve-requires : goal.reserve-requires
@@ -33,17 +33,17 @@ take_args-args-requires-clause-task_slot c = slot_there c.args.self.now c.args.a
 pub take_args-args-requires-clause-few : goal.take_args-args-requires-clause-few
 take_args-args-requires-clause-few c =
     let s = c.requires.fits_place in
-    let u = put_named c.args.done.before.program s.layout (there c.args.self.now c.args.actor c.args.done (instr.Put c.args.action.now) c.requires.fits_place) s.notices s.parts c.args.actor (come s.f c.args.done) s.q c.args.action.now (runs_there c.args.self.now c.args.actor c.args.done (instr.Put c.args.action.now) c.requires.fits_place) s.here s.following_is in
+    let u = put_named c.args.done.before.program s.layout (there c.args.self.now c.args.actor c.args.done (instr.Put c.args.action.now) c.requires.fits_place) s.notices s.parts c.args.actor (frame_after s.f c.args.done) s.q c.args.action.now (runs_there c.args.self.now c.args.actor c.args.done (instr.Put c.args.action.now) c.requires.fits_place) s.here s.following_is in
     let params = params_of_callee c.args.done.before.program.program c.args.action.now.procedure c.in-Ok.asked.callee.now c.in-Ok.ensures.callee u.procedure u.is in
     few c.args.self.now c.args.actor c.args.done (instr.Put c.args.action.now) c.requires.fits_place c.args.action.now u c.in-Ok.asked.callee.now.params params c.as_slice-registers.result.now c.as_slice-registers.ensures
 
 pub take_args-args-requires-clause-is_running : goal.take_args-args-requires-clause-is_running
 take_args-args-requires-clause-is_running c =
     let s = c.requires.fits_place in
-    let u = put_named c.args.done.before.program s.layout (there c.args.self.now c.args.actor c.args.done (instr.Put c.args.action.now) c.requires.fits_place) s.notices s.parts c.args.actor (come s.f c.args.done) s.q c.args.action.now (runs_there c.args.self.now c.args.actor c.args.done (instr.Put c.args.action.now) c.requires.fits_place) s.here s.following_is in
+    let u = put_named c.args.done.before.program s.layout (there c.args.self.now c.args.actor c.args.done (instr.Put c.args.action.now) c.requires.fits_place) s.notices s.parts c.args.actor (frame_after s.f c.args.done) s.q c.args.action.now (runs_there c.args.self.now c.args.actor c.args.done (instr.Put c.args.action.now) c.requires.fits_place) s.here s.following_is in
     let params = params_of_callee c.args.done.before.program.program c.args.action.now.procedure c.in-Ok.asked.callee.now c.in-Ok.ensures.callee u.procedure u.is in
     is_running_ready c.args.self.now c.args.actor c.args.done (instr.Put c.args.action.now) c.requires.fits_place c.args.action.now u c.in-Ok.asked.callee.now.params params c.as_slice-registers.result.now c.as_slice-registers.ensures c.in-Ok.asked.vals.items c.in-Ok.ensures.values
-    (put_fits c.args.done.before.program s.layout (there c.args.self.now c.args.actor c.args.done (instr.Put c.args.action.now) c.requires.fits_place) s.notices s.parts c.args.actor (come s.f c.args.done) s.q c.args.action.now (runs_there c.args.self.now c.args.actor c.args.done (instr.Put c.args.action.now) c.requires.fits_place) s.here s.following_is)
+    (put_fits c.args.done.before.program s.layout (there c.args.self.now c.args.actor c.args.done (instr.Put c.args.action.now) c.requires.fits_place) s.notices s.parts c.args.actor (frame_after s.f c.args.done) s.q c.args.action.now (runs_there c.args.self.now c.args.actor c.args.done (instr.Put c.args.action.now) c.requires.fits_place) s.here s.following_is)
 
 pub put-requires-clause-new : goal.put-requires-clause-new
 put-requires-clause-new c =
@@ -63,17 +63,17 @@ returns-clause-put c = λ layout f owed notices h.
     let action = c.args.action.now in
     let here = here_too c.args.self.now c.args.actor c.args.done (instr.Put c.args.action.now) c.requires.fits_place f owed in
     let runs = runs_too c.args.self.now c.args.actor c.args.done (instr.Put c.args.action.now) c.requires.fits_place f owed in
-    let u = put_named program layout (with_done old c.args.actor f c.args.done) notices h c.args.actor (come f c.args.done) s.q action runs here s.following_is in
+    let u = put_named program layout (with_done old c.args.actor f c.args.done) notices h c.args.actor (frame_after f c.args.done) s.q action runs here s.following_is in
     let params = params_of_callee c.args.done.before.program.program c.args.action.now.procedure c.in-Ok.asked.callee.now c.in-Ok.ensures.callee u.procedure u.is in
     let over = c.take_args-args.ensures f owed.is_running in
     let vals = so_valued c.args.done.after.values c.in-Ok.asked.callee.now.params u.procedure.params params action.args c.in-Ok.asked.vals.items c.in-Ok.ensures.values in
     let bundle = so_bundled f.held c.in-Ok.asked.callee.now.params u.procedure.params params c.as_slice-registers.result.now action.args c.as_slice-registers.ensures c.in-Ok.asked.vals.items (Some (record { args = c.take_args-args.result.0; file = over.0 })) over.1 in
-    let running_tasks = sym (again old.running_tasks.tasks c.args.actor (come f c.args.done) (gone_on (come f c.args.done) over.0)) in
+    let running_tasks = sym (again old.running_tasks.tasks c.args.actor (frame_after f c.args.done) (frame_at_next (frame_after f c.args.done) over.0)) in
     let bits : to_z w64 (of_z w64 c.in-Ok.asked.priority) ≡ c.in-Ok.asked.priority = grind (arith, to_z-of_z) in
     let key : to_z w64 (of_z w64 c.in-Ok.asked.priority) ≡ u.priority = bits ∙ ok_ints c.in-Ok.asked.priority u.priority (sym c.in-Ok.ensures.priority ∙ u.priority_is) in
     let kind = kind_of_callee c.args.done.before.program.program c.args.action.now.procedure c.in-Ok.asked.callee.now c.in-Ok.ensures.callee u.procedure u.is in
-    lent_goes _ old.running_tasks.tasks c.args.actor (gone_on (come f c.args.done) over.0) c.args.event_no (ap (λ (r : RunningView). r.tasks) over.2) program layout (Call c.args.actor) refl (with_done old c.args.actor f c.args.done) notices
-    (put_goes program layout (with_done old c.args.actor f c.args.done) notices h c.args.actor (come f c.args.done) s.q action runs here s.following_is c.in-Ok.asked.vals.items vals c.take_args-args.result.0 over.0 bundle _
+    issued_goes _ old.running_tasks.tasks c.args.actor (frame_at_next (frame_after f c.args.done) over.0) c.args.event_no (ap (λ (r : RunningView). r.tasks) over.2) program layout (Call c.args.actor) refl (with_done old c.args.actor f c.args.done) notices
+    (put_goes program layout (with_done old c.args.actor f c.args.done) notices h c.args.actor (frame_after f c.args.done) s.q action runs here s.following_is c.in-Ok.asked.vals.items vals c.take_args-args.result.0 over.0 bundle _
     (c.in-Ok-put.ensures.put
     ∙ ap (λ z. insert c.reserve.new.self.tasks c.new.result (record { kind = c.in-Ok.asked.callee.now.kind; procedure = action.procedure; priority = z; target = action.target; args = c.take_args-args.result.0 })) key
     ∙ ap (λ k. insert c.reserve.new.self.tasks c.new.result (record { kind = k; procedure = action.procedure; priority = u.priority; target = action.target; args = c.take_args-args.result.0 })) kind
@@ -85,4 +85,4 @@ pub returns-clause-lent : goal.returns-clause-lent
 returns-clause-lent c =
     let s = c.requires.fits_place in
     let over = c.take_args-args.ensures s.f s.owed.is_running in
-    is_lent _ c.args.self.now.running_tasks.tasks c.args.actor (gone_on (come s.f c.args.done) over.0) c.args.event_no (ap (λ (r : RunningView). r.tasks) over.2) _ over.3
+    is_issued _ c.args.self.now.running_tasks.tasks c.args.actor (frame_at_next (frame_after s.f c.args.done) over.0) c.args.event_no (ap (λ (r : RunningView). r.tasks) over.2) _ over.3

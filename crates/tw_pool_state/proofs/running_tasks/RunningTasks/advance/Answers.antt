@@ -1,7 +1,7 @@
 use Rattle.std.proofs.Common.{◌≡◌, ◌<◌, ◌∙◌, None, Some, ap, subst, sym}
 use Rattle.std.specs.Prelude.{◌^◌}
 use Rattle.tw_frame.proofs.Lending.{may_go_on}
-use Rattle.tw_pool_state.specs.Coming.{come, lent_as}
+use Rattle.tw_pool_state.specs.Coming.{frame_after, issued_as}
 use Rattle.tw_pool_state.proofs.FrameBufferLists.{slots_kept}
 use Rattle.tw_pool_state.proofs.PartNames.{FrameView, JobView, MayBeAt, job_of, same_Some, with_running}
 use Rattle.tw_pool_state.proofs.Runners.{changed, read_there}
@@ -31,5 +31,5 @@ invariant_of-self c = let m = c.requires.is_running in slots_kept c.self.invaria
 pub returns : goal.returns
 returns c = λ f at.
     let same = same_Some f c.in-Some.frame (read_there c.self.invariant.0 c.self.view_is c.args.actor c.requires.task_slot c.place-number.ensures.is at c.index_mut-place.ensures.value c.in-Some.is) in
-    let lent = c.lend.ensures.kept ∙ ap (lent_as c.args.event_no) (c.complete_job-draft.ensures.taken ∙ ap (λ (g : FrameView). come g c.args.done) (sym same)) in
+    let lent = c.lend.ensures.kept ∙ ap (issued_as c.args.event_no) (c.complete_job-draft.ensures.taken ∙ ap (λ (g : FrameView). frame_after g c.args.done) (sym same)) in
     (changed c.self.invariant.0 c.self.view_is c.args.actor c.requires.task_slot c.place-number.ensures.is c.lend.new.self ∙ ap (with_running c.args.self.now c.args.actor) lent, c.lend.ensures.lent ∙ ap job_of lent)

@@ -1,24 +1,24 @@
 use Rattle.std.proofs.Common.{◌≡◌, ◌<◌, ◌∙◌, ℕ, List, Some, None, Ok, [], arith, ap, cond, count_by, get_or, is_some, length, length-set, option_map, refl, set, slice_get, subst, sym}
-use Rattle.tw_pool_state.proofs.PartNames.{Actor, AreKept, Arg, FrameView, MayBeAt, Procedure, RunningView, StartsAsMachine, TaskOf, TypedProgram, Value, bare_frame, begun, get, insert, is_in, job_of, lent_as, same_Some, slot_of, by_actor, started}
+use Rattle.tw_pool_state.proofs.PartNames.{Actor, AreKept, Arg, FrameView, MayBeAt, Procedure, RunningView, StartsAsMachine, TaskOf, TypedProgram, Value, bare_frame, begun, get, insert, is_in, job_of, issued_as, same_Some, slot_of, by_actor, started}
 use Rattle.std.specs.declared.option.Option.{Option}
 use Rattle.tw_rights.specs.Filed.{filed, rights_in}
 use Rattle.tw_rights.specs.declared.task.Task.{Task}
-use Rattle.tw_queue.specs.Queues.{handed_out, without}
+use Rattle.tw_queue.specs.Queues.{taken_task, without}
 use Rattle.tw_pool_state.proofs.FrameBufferLists.{kept_begun, kept_laid, room_there}
 use Rattle.tw_pool_state.proofs.Runners.{count_set, get_by_actor, low_slot, by_actor_put}
 use Rattle.tw_pool_state.proofs.running_tasks.RunningTasks.start.Goals as goal
 
 -- the task that is taken is an entry's
-handed : (o : Option (ℕ × TaskOf Arg)) (x : Task) → Some x ≡ option_map handed_out o → (e : ℕ × TaskOf Arg) × (o ≡ Some e) × (handed_out e ≡ x)
+handed : (o : Option (ℕ × TaskOf Arg)) (x : Task) → Some x ≡ option_map taken_task o → (e : ℕ × TaskOf Arg) × (o ≡ Some e) × (taken_task e ≡ x)
 handed None x h = cc
-handed (Some e) x h = (e, refl, sym (same_Some x (handed_out e) h))
+handed (Some e) x h = (e, refl, sym (same_Some x (taken_task e) h))
 
 -- the frame that starts
 abbrev begun_so : TypedProgram → Task → Actor → List Value → FrameView
 begun_so verified task actor own = record { program = verified; task = task.no; procedure = task.procedure; actor = actor; event_no = 0; position = record { place = 0; values = own; loops = [] }; held = filed (rights_in task.args); spent = 0 }
 
 -- is the entry's
-module _ (verified : TypedProgram) (actor : Actor) (e : ℕ × TaskOf Arg) (x : Task) (same : handed_out e ≡ x) (own : List Value) where
+module _ (verified : TypedProgram) (actor : Actor) (e : ℕ × TaskOf Arg) (x : Task) (same : taken_task e ≡ x) (own : List Value) where
   starts_so : ((p : Procedure) → slice_get verified.program x.procedure ≡ Some p → started x.args p.registers ≡ Ok own) → (p : Procedure) → slice_get verified.program e.1.procedure ≡ Some p → started e.1.args p.registers ≡ Ok own
   starts_so h = subst (λ (t : Task). (p : Procedure) → slice_get verified.program t.procedure ≡ Some p → started t.args p.registers ≡ Ok own) (sym same) h
 
@@ -57,7 +57,7 @@ put_task-requires-clause-empty c = ap (λ k. get_or c.self.inside.frames.items k
 pub lend-job-requires-clause-fits_place : goal.lend-job-requires-clause-fits_place
 lend-job-requires-clause-fits_place c =
     let e = handed _ c.in-Some.best.now c.in-Some.ensures in
-    let same : handed_out e.0 ≡ c.in-Some-take.task = same_Some (handed_out e.0) c.in-Some-take.task (sym (ap (option_map handed_out) e.1) ∙ sym c.take.ensures.taken ∙ c.in-Some-take.is) in
+    let same : taken_task e.0 ≡ c.in-Some-take.task = same_Some (taken_task e.0) c.in-Some-take.task (sym (ap (option_map taken_task) e.1) ∙ sym c.take.ensures.taken ∙ c.in-Some-take.is) in
     let verified = c.args.verified.now in let own = c.in-Ok.start.values in
     position_so verified c.args.actor e.0 c.in-Some-take.task same own c.start-frame.result.0 c.start-frame.ensures.is
     (c.requires.fits_place e.0 own e.1 (starts_so verified c.args.actor e.0 c.in-Some.best.now e.2 own c.in-Ok.ensures.started) (machine_so verified c.args.actor e.0 c.in-Some-take.task same own c.start-frame.result.0 c.start-frame.ensures.is c.start-frame.ensures.machine))
@@ -79,10 +79,10 @@ pub returns-clause-begun : goal.returns-clause-begun
 returns-clause-begun c =
     let inside : slot_of c.args.actor < length c.self.inside.frames.items = omega (arith, low_slot c.args.actor c.requires.task_slot, c.self.invariant.0.many) in
     let e = handed _ c.in-Some.best.now c.in-Some.ensures in
-    let same : handed_out e.0 ≡ c.in-Some-take.task = same_Some (handed_out e.0) c.in-Some-take.task (sym (ap (option_map handed_out) e.1) ∙ sym c.take.ensures.taken ∙ c.in-Some-take.is) in
+    let same : taken_task e.0 ≡ c.in-Some-take.task = same_Some (taken_task e.0) c.in-Some-take.task (sym (ap (option_map taken_task) e.1) ∙ sym c.take.ensures.taken ∙ c.in-Some-take.is) in
     let verified = c.args.verified.now in let own = c.in-Ok.start.values in
     let frame = c.lend-job.new.self in
-    let lent = c.lend-job.ensures.kept ∙ ap (λ (f : FrameView). lent_as c.args.event_no f) (is_begun verified c.args.actor e.0 c.in-Some-take.task same own c.start-frame.result.0 c.start-frame.ensures.is) in
+    let lent = c.lend-job.ensures.kept ∙ ap (λ (f : FrameView). issued_as c.args.event_no f) (is_begun verified c.args.actor e.0 c.in-Some-take.task same own c.start-frame.result.0 c.start-frame.ensures.is) in
     record {
       e = e.0;
       due = e.1;

@@ -1,7 +1,7 @@
 use Rattle.std.proofs.Common.{◌≡◌, ◌<◌, ◌+◌, ◌∙◌, IsSome, None, Some, ap, arith, subst, sym}
 use Rattle.std.specs.Prelude.{◌^◌}
 use Rattle.tw_rights.specs.Bundled.{bundled}
-use Rattle.tw_pool_state.specs.Coming.{come, gone_on, lent_as}
+use Rattle.tw_pool_state.specs.Coming.{frame_after, frame_at_next, issued_as}
 use Rattle.tw_pool_state.proofs.FrameBufferLists.{slots_kept}
 use Rattle.tw_pool_state.proofs.PartNames.{FrameView, MayBeAt, at_next_place, job_of, same_Some, with_running}
 use Rattle.tw_pool_state.proofs.Runners.{changed, read_there}
@@ -53,9 +53,9 @@ pub returns : goal.returns
 returns c = λ f at.
     let same : f ≡ c.in-Some.frame = same_Some f c.in-Some.frame (read_there c.self.invariant.0 c.self.view_is c.args.actor c.requires.task_slot c.place-number.ensures.is at c.index_mut-place.ensures.value c.in-Some.is) in
     let file = c.take_args-bundle.new.self.held in
-    let moved : c.take_args-bundle.new.self ≡ gone_on (come f c.args.done) file =
-    c.take_args-bundle.ensures.rest ∙ ap (λ (g : FrameView). gone_on g file) (c.complete_job-draft.ensures.taken ∙ ap (λ (g : FrameView). come g c.args.done) (sym same)) in
-    let lent : c.lend.new.self ≡ lent_as c.args.event_no (gone_on (come f c.args.done) file) = c.lend.ensures.kept ∙ ap (lent_as c.args.event_no) moved in
+    let moved : c.take_args-bundle.new.self ≡ frame_at_next (frame_after f c.args.done) file =
+    c.take_args-bundle.ensures.rest ∙ ap (λ (g : FrameView). frame_at_next g file) (c.complete_job-draft.ensures.taken ∙ ap (λ (g : FrameView). frame_after g c.args.done) (sym same)) in
+    let lent : c.lend.new.self ≡ issued_as c.args.event_no (frame_at_next (frame_after f c.args.done) file) = c.lend.ensures.kept ∙ ap (issued_as c.args.event_no) moved in
     let handed = ap (λ ps. bundled f.held ps c.args.args.now c.args.asked.vals.items) (sym c.as_slice-params.ensures)
     ∙ ap (λ (g : FrameView). bundled g.held c.as_slice-params.result.now c.args.args.now c.args.asked.vals.items) same ∙ ap (λ (g : FrameView). bundled g.held c.as_slice-params.result.now c.args.args.now c.args.asked.vals.items) (sym c.complete_job-draft.ensures.taken) ∙ c.take_args-bundle.ensures.handed in
     (file, handed, changed c.self.invariant.0 c.self.view_is c.args.actor c.requires.task_slot c.place-number.ensures.is c.lend.new.self ∙ ap (with_running c.args.self.now c.args.actor) lent, c.lend.ensures.lent ∙ ap job_of lent)

@@ -2,7 +2,7 @@ use Rattle.std.proofs.Common.{◌≡◌, sym, ap, ◌∙◌, option_map}
 use Rattle.std.specs.Option.{option_copied}
 use Rattle.std.specs.declared.option.Option.TheVariants.{None, Some}
 use Rattle.tw_types.specs.Task.{best}
-use Rattle.tw_queue.specs.Queues.{handed_out}
+use Rattle.tw_queue.specs.Queues.{taken_task}
 use Rattle.tw_queue.specs.RankIndex.{ranks_of}
 use Rattle.tw_queue.specs.Indexed.{tasks_in}
 use Rattle.tw_queue.specs.Slots.{slot_at}
@@ -14,7 +14,7 @@ pub returns-in_err-rank : goal.returns-in_err-rank
 returns-in_err-rank c =
     let slots = c.self.inside.tasks.slots in
     let none = index_none (slot_at slots) (ranks_of c.self.inside.index) c.self.invariant (tasks_in slots) (seen slots c.self.invariant.apart) c.args.actor c.in_err-rank.ensures in
-    rw c.from_residual.ensures (ap (option_map handed_out) (sym none ∙ ap (λ q. best c.args.actor q.tasks) c.self.view_is))
+    rw c.from_residual.ensures (ap (option_map taken_task) (sym none ∙ ap (λ q. best c.args.actor q.tasks) c.self.view_is))
 
 pub unreachable-requires : goal.unreachable-requires
 unreachable-requires c =
@@ -33,4 +33,4 @@ returns c =
     let value = c.in-Some.ensures in
     let same : c.in-Some.waiting.now ≡ found_best.waiting = cc in
     ap (λ w. Some w.task) same ∙ sym (handed_best (slot_at slots) (tasks_in slots) c.args.actor c.in_ok-rank.rank found_best)
-    ∙ ap (λ q. option_map handed_out (best c.args.actor q.tasks)) c.self.view_is
+    ∙ ap (λ q. option_map taken_task (best c.args.actor q.tasks)) c.self.view_is

@@ -4,7 +4,7 @@ use Rattle.tw_types.specs.Task.{best}
 use Rattle.tw_queue.specs.RankIndex.{ranks_of}
 use Rattle.tw_queue.specs.Indexed.{tasks_in}
 use Rattle.tw_queue.specs.Slots.{slot_at}
-use Rattle.tw_queue.specs.Queues.{handed_out, room_for, without}
+use Rattle.tw_queue.specs.Queues.{taken_task, room_for, without}
 use Rattle.tw_queue.proofs.Entries.{seen, tasks_gone, updated}
 use Rattle.tw_queue.proofs.Indexing.{taken_index}
 use Rattle.tw_queue.proofs.Rooms.{room_still}
@@ -15,7 +15,7 @@ pub returns-in_err-rank-clause-taken : goal.returns-in_err-rank-clause-taken
 returns-in_err-rank-clause-taken c =
     let slots = c.self.inside.tasks.slots in
     let none = index_none (slot_at slots) (ranks_of c.self.inside.index) c.self.invariant (tasks_in slots) (seen slots c.self.invariant.apart) c.args.actor c.in_err-rank.ensures.best in
-    rw c.from_residual.ensures (ap (option_map handed_out) (sym none ∙ ap (λ q. best c.args.actor q.tasks) c.self.view_is))
+    rw c.from_residual.ensures (ap (option_map taken_task) (sym none ∙ ap (λ q. best c.args.actor q.tasks) c.self.view_is))
 
 pub returns-in_err-rank-clause-rest : goal.returns-in_err-rank-clause-rest
 returns-in_err-rank-clause-rest c =
@@ -53,7 +53,7 @@ returns-clause-taken c =
     let value = c.take-task.ensures.taken in
     let same : c.take-task.result ≡ found_best.waiting = cc in
     ap (λ w. Some w.task) same ∙ sym (handed_best (slot_at slots) (tasks_in slots) c.args.actor c.in_ok-rank.rank found_best)
-    ∙ ap (λ q. option_map handed_out (best c.args.actor q.tasks)) c.self.view_is
+    ∙ ap (λ q. option_map taken_task (best c.args.actor q.tasks)) c.self.view_is
 
 pub returns-clause-rest : goal.returns-clause-rest
 returns-clause-rest c =
