@@ -1,5 +1,5 @@
 -- A batch under the lock: no sleeper has to be woken after it.
-use Rattle.std.proofs.Common.{◌≡◌, ℕ, Bool, true, false, List, length, Option, refl, sym, ap, subst}
+use Rattle.std.proofs.Common.{◌∙◌, ◌≡◌, ℕ, Bool, true, false, List, length, Option, refl, sym, ap, subst}
 use Rattle.tw_types.specs.declared.actor.Actor.{Actor}
 use Rattle.tw_types.specs.Actor.{index_of, is_in}
 use Rattle.tw_types.specs.Layout.{ActorCounts, IsLayout}
@@ -10,9 +10,10 @@ use Rattle.tw_pool.specs.PoolView.{PoolView}
 use Rattle.tw_pool.specs.Work.{LacksWork}
 use Rattle.tw_host.specs.Holds.{AreTurns}
 use Rattle.tw_host.specs.Run.{Run, run_of}
-use Rattle.tw_host.specs.Sleeping.{AreWoken, IsKnown, IsMarked, IsOver, Isnt, TakesNone, is_idle, says_over}
+use Rattle.tw_host.specs.Sleeping.{AreWoken, HasCleared, IsKnown, IsMarked, IsOver, Isnt, TakesNone, is_idle, is_over_turn}
 use Rattle.tw_host.proofs.Holding.{Adds}
 use Rattle.tw_host.proofs.Knowing as knowing
+use Rattle.tw_host.proofs.Settling.{not_both}
 use Rattle.tw_host.proofs.Reported.{idle_not_over, idle_says, over_says, over_stays}
 
 module _ (run : Run) (old : PoolView) (of_run : run_of old ≡ run) (layout_is : IsLayout run.layout) (targets_are : HasTargets run.program.program run.layout) (actor : Actor) (seated : is_in run.layout actor ≡ true) (shown : ActorCounts)
@@ -36,12 +37,24 @@ module _ (run : Run) (old : PoolView) (of_run : run_of old ≡ run) (layout_is :
     own : IsMarked (index_of old.layout actor) false before asleep
     own = subst (λ (l : ActorCounts). IsMarked (index_of l actor) false before asleep) shown_is marked
 
+    at_run : IsMarked (index_of run.layout actor) false before asleep
+    at_run = subst (λ (r : Run). IsMarked (index_of r.layout actor) false before asleep) of_run own
+
+    -- no other actor was marked as awake
+    pub none_due : (due : ℕ) → HasCleared (index_of run.layout actor) before asleep due
+    none_due due i low other is isnt = not_both before i is (sym (at_run.others i low other) ∙ isnt)
+
     pub checked_in : (before ≡ 0 → asleep ≡ 0) → AreWoken old asleep out over
     checked_in = knowing.checked_in old layout targets actor there before asleep out over w own
 
     module _ (new : PoolView) (given : Option DoneView) (turns : List Turn) (answer : Turn) (t : AreTurns old actor given turns answer new) (count : ℕ) (a : Adds old new actor answer count) where
       same : new.layout ≡ old.layout
       same = ap (λ (p : PoolView). p.layout) a.appended
+
+      -- those that were marked as awake after the turns
+      pub all_due : (final due : ℕ) → HasCleared (index_of new.layout actor) asleep final due → HasCleared (index_of run.layout actor) before final due
+      all_due final due h i low other is isnt =
+          h i low (λ e. other (e ∙ ap (λ (l : ActorCounts). index_of l actor) (same ∙ ap (λ (r : Run). r.layout) of_run))) (at_run.others i low other ∙ is) isnt
 
       pub new_layout : IsLayout new.layout
       new_layout = subst IsLayout (sym same) layout
@@ -58,6 +71,9 @@ module _ (run : Run) (old : PoolView) (of_run : run_of old ≡ run) (layout_is :
       pub ended : over ≡ true → IsOver new
       ended is = subst IsOver (sym (over_stays turns old new actor given answer (w.ended is) t).1) (w.ended is)
 
+      pub stops : new.stopped ≡ true → over ≡ true
+      stops is = w.stops (sym (ap (λ (p : PoolView). p.stopped) a.appended) ∙ is)
+
       pub idle : is_idle answer ≡ true → (over ≡ false) × LacksWork new actor × TakesNone new actor
       idle is = let h = idle_says turns old new actor given answer t is in (by over refl, h.0, h.1)
         where
@@ -65,5 +81,5 @@ module _ (run : Run) (old : PoolView) (of_run : run_of old ≡ run) (layout_is :
           by true e = absurd (idle_not_over answer is (over_stays turns old new actor given answer (w.ended e) t).0)
           by false e = e
 
-      pub says : says_over answer ≡ true → IsOver new
+      pub says : is_over_turn answer ≡ true → IsOver new
       says is = over_says turns old new actor given answer t is

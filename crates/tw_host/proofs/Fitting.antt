@@ -14,7 +14,7 @@ use Rattle.tw_pool.specs.declared.answer.Closing.{Closing}
 use Rattle.tw_pool.specs.declared.answer.Closing.TheVariants.{Stopped, Limit}
 use Rattle.tw_pool.specs.declared.answer.Turn.{Turn}
 use Rattle.tw_pool.specs.PoolView.{PoolView}
-use Rattle.tw_pool.specs.Turns.{Makes, TakesBack, Turns, TurnsUnless, closing_at, closing_of, instr_after, is_last, lent_to, steps_of}
+use Rattle.tw_pool.specs.Turns.{Makes, TakesBack, Turns, TurnsUnless, closing_at, closing_of, instr_after, is_last, issued_to, steps_of}
 
 abbrev Fits : PoolView → List Event → Type 0
 Fits p events = length p.history + length events ≤ p.limit
@@ -88,4 +88,4 @@ module _ (p : PoolView) (answer : Turn) (events : List Event) where
   fits s actor (Some closing) given is within l = none within l.1
   fits s actor None given is within l =
       let apart = room_unless (ending s) p.stopped is in
-      turned s actor (lent_to p s actor) given (omega (arith, within, apart)) l
+      turned s actor (issued_to p s actor) given (omega (arith, within, apart)) l

@@ -114,7 +114,7 @@ module _ (old : PoolView) (layout : IsLayout old.layout) (targets : HasTargets o
 
   -- the actor is awake, and nothing else has changed
   pub checked_in : (before ≡ 0 → asleep ≡ 0) → AreWoken old asleep out over
-  checked_in zero = record { own = works 0 (actor_count old.layout) (omega arith); any = covered; over = λ e. zero (w.over e); ended = w.ended; rests = rests }
+  checked_in zero = record { own = works 0 (actor_count old.layout) (omega arith); any = covered; over = λ e. zero (w.over e); ended = w.ended; stops = w.stops; rests = rests }
 
   module _ (es : List Event) (own : events_of actor es ≡ es) where
     abbrev later : PoolView

@@ -86,8 +86,8 @@ pub moved_from : {X : Type 0} (xs ys zs : List X) → xs ≡ ys → IsPermutatio
 moved_from {X} xs ys zs same moved = subst (λ (l : List X). IsPermutation l zs) same moved
 
 -- a loan of a vector's items leaves as many
-pub lent_back : {X : Type 0} (n : ℕ) (xs items : List X) → n ≡ length items → length xs ≡ length items → take n (xs ++ drop (length xs) items) ≡ xs
-lent_back n xs items is same =
+pub issued_back : {X : Type 0} (n : ℕ) (xs items : List X) → n ≡ length items → length xs ≡ length items → take n (xs ++ drop (length xs) items) ≡ xs
+issued_back n xs items is same =
     let none : drop (length xs) items ≡ [] = drop_all (length xs) items (omega (arith, same)) in
     ap (λ ys. take n (xs ++ ys)) none ∙ (ap (λ ys. take n ys) (append-nil xs) ∙ (ap (λ k. take k xs) (is ∙ sym same) ∙ take-length xs))
 

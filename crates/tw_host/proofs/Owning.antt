@@ -15,17 +15,17 @@ use Rattle.tw_pool.specs.declared.answer.Turn.{Turn}
 use Rattle.tw_pool.specs.declared.answer.Turn.TheVariants as turn
 use Rattle.tw_pool.specs.Actors.{events_of}
 use Rattle.tw_pool.specs.PoolView.{PoolView, with_events}
-use Rattle.tw_pool.specs.Turns.{IsTurn, Lends, Makes, TakesBack, Turns, TurnsUnless, closing_at, instr_after, is_last, lent_to, steps_of}
+use Rattle.tw_pool.specs.Turns.{IsTurn, Issues, Makes, TakesBack, Turns, TurnsUnless, closing_at, instr_after, is_last, issued_to, steps_of}
 use Rattle.tw_host.specs.Sees.{IsAnswerOf, IsDoneOf}
 
 abbrev program_in : TypedProgram → Option JobView → TypedProgram
 program_in program None = program
 program_in program (Some job) = job.program
 
-lent_is : (p : PoolView) (n : ℕ) (actor : Actor) (o : Option Frame) (job : JobView)
+issued_is : (p : PoolView) (n : ℕ) (actor : Actor) (o : Option Frame) (job : JobView)
     → option_map (λ (f : Frame). record { program = p.program; task = f.task; procedure = f.procedure; actor = actor; event_no = n; position = f.position }) o ≡ Some job → job.program ≡ p.program
-lent_is p n actor None job is = cc
-lent_is p n actor (Some f) job is = sym (ap (program_in p.program) is)
+issued_is p n actor None job is = cc
+issued_is p n actor (Some f) job is = sym (ap (program_in p.program) is)
 
 module _ (p : PoolView) (answer : Turn) (events : List Event) where
   abbrev Owns : Type 0
@@ -34,8 +34,8 @@ module _ (p : PoolView) (answer : Turn) (events : List Event) where
   other : (wanted : Turn) → answer ≡ wanted → IsAnswerOf p.program wanted → Owns
   other wanted is owns = subst (IsAnswerOf p.program) (sym is) owns
 
-  lends : (actor : Actor) (es : List Event) → Lends p actor es answer events → Owns
-  lends actor es l = other (turn.Run l.2) l.4.0 (lent_is p (length (events_of actor (with_events p es).history)) actor (get l.0.frames actor) l.2 l.3)
+  lends : (actor : Actor) (es : List Event) → Issues p actor es answer events → Owns
+  lends actor es l = other (turn.Run l.2) l.4.0 (issued_is p (length (events_of actor (with_events p es).history)) actor (get l.0.frames actor) l.2 l.3)
 
   made : (actor : Actor) (given : Option DoneView) (es : List Event) (e : Event) → IsDoneOf p.program given → Makes p actor given es e answer events → Owns
   made actor given es (Take a) d (inl l) = lends actor (es ++ Take a ∷ []) l
@@ -65,7 +65,7 @@ module _ (p : PoolView) (answer : Turn) (events : List Event) where
 
   pub owns : (s : State) (actor : Actor) (closing : Option Closing) (given : Option DoneView) → IsDoneOf p.program given → TurnsUnless closing p s actor given answer events → Owns
   owns s actor (Some closing) given d l = other (turn.Over closing) l.0 tt
-  owns s actor None given d l = turned s actor (lent_to p s actor) given d l
+  owns s actor None given d l = turned s actor (issued_to p s actor) given d l
 
 -- like that, for a step
 pub is_answer_of : (old new : PoolView) (actor : Actor) (given : Option DoneView) (answer : Turn) → IsTurn old actor given answer new → IsDoneOf old.program given → IsAnswerOf old.program answer

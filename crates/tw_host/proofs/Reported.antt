@@ -26,10 +26,10 @@ use Rattle.tw_pool.specs.declared.answer.Turn.{Turn}
 use Rattle.tw_pool.specs.declared.answer.Turn.TheVariants as turn
 use Rattle.tw_pool.specs.Kept.{InState}
 use Rattle.tw_pool.specs.PoolView.{PoolView, HasState, with_events}
-use Rattle.tw_pool.specs.Turns.{IsTurn, Makes, TakesBack, Turns, TurnsUnless, closing_at, closing_of, instr_after, is_last, lent_to, steps_of}
+use Rattle.tw_pool.specs.Turns.{IsTurn, Makes, TakesBack, Turns, TurnsUnless, closing_at, closing_of, instr_after, is_last, issued_to, steps_of}
 use Rattle.tw_pool.specs.Work.{LacksWork}
 use Rattle.tw_host.specs.Holds.{AreTurns, HasNextResult}
-use Rattle.tw_host.specs.Sleeping.{IsOver, TakesNone, is_idle, says_over}
+use Rattle.tw_host.specs.Sleeping.{IsOver, TakesNone, is_idle, is_over_turn}
 
 pub none_appended : (p : PoolView) → with_events p [] ≡ p
 none_appended p = ap (λ (h : List Event). record p { history = h }) (append-nil p.history)
@@ -124,11 +124,11 @@ module _ (p : PoolView) (s : State) (here : HasState p s) (actor : Actor) (answe
   says : (closing : Option Closing) (given : Option DoneView) → closing_at p s ≡ closing → TurnsUnless closing p s actor given answer events → Fine
   says (Some closing) given is l =
       other (turn.Over closing) l.0 (subst IsOver (sym (none_new l.1)) (λ t at none. let no : Some closing ≡ None = sym is ∙ (ap (closing_at p) (only p s t here at) ∙ none) in cc))
-  says None given is l = turned (lent_to p s actor) given l
+  says None given is l = turned (issued_to p s actor) given l
 
   -- a run that is over stays as it is
-  stays : (closing : Option Closing) (given : Option DoneView) → closing ≢ None → TurnsUnless closing p s actor given answer events → (says_over answer ≡ true) × (events ≡ [])
-  stays (Some closing) given some l = (ap says_over l.0, l.1)
+  stays : (closing : Option Closing) (given : Option DoneView) → closing ≢ None → TurnsUnless closing p s actor given answer events → (is_over_turn answer ≡ true) × (events ≡ [])
+  stays (Some closing) given some l = (ap is_over_turn l.0, l.1)
   stays None given some l = absurd (some refl)
 
 pub answer_says : (old new : PoolView) (actor : Actor) (given : Option DoneView) (answer : Turn) → IsTurn old actor given answer new → Says new actor answer
@@ -138,7 +138,7 @@ pub answers_say : (before : List Turn) (old new : PoolView) (actor : Actor) (giv
 answers_say [] old new actor given answer t = answer_says old new actor given answer t
 answers_say (first ∷ rest) old new actor given answer t = answers_say rest t.1 new actor t.0 answer t.4
 
-no_next : (answer : Turn) (next : Option DoneView) → says_over answer ≡ true → HasNextResult answer next → ⊥
+no_next : (answer : Turn) (next : Option DoneView) → is_over_turn answer ≡ true → HasNextResult answer next → ⊥
 no_next (turn.Over closing) next is on = on
 no_next (turn.Foreign done) next is on = on
 no_next turn.Owed next is on = on
@@ -148,12 +148,12 @@ no_next turn.Ended next is on = cc
 no_next turn.Went next is on = cc
 no_next turn.Idle next is on = on
 
-over_one : (old new : PoolView) (actor : Actor) (given : Option DoneView) (answer : Turn) → IsOver old → IsTurn old actor given answer new → (says_over answer ≡ true) × (new ≡ old)
+over_one : (old new : PoolView) (actor : Actor) (given : Option DoneView) (answer : Turn) → IsOver old → IsTurn old actor given answer new → (is_over_turn answer ≡ true) × (new ≡ old)
 over_one old new actor given answer over t =
     let same = stays old t.state t.has_state actor answer t.events (closing_at old t.state) given (over t.state t.has_state) t.is in
     (same.0, t.appended ∙ (ap (with_events old) same.1 ∙ none_appended old))
 
-pub over_stays : (before : List Turn) (old new : PoolView) (actor : Actor) (given : Option DoneView) (answer : Turn) → IsOver old → AreTurns old actor given before answer new → (says_over answer ≡ true) × (new ≡ old)
+pub over_stays : (before : List Turn) (old new : PoolView) (actor : Actor) (given : Option DoneView) (answer : Turn) → IsOver old → AreTurns old actor given before answer new → (is_over_turn answer ≡ true) × (new ≡ old)
 over_stays [] old new actor given answer over t = over_one old new actor given answer over t
 over_stays (first ∷ rest) old new actor given answer over t = absurd (no_next first t.0 (over_one old t.1 actor given first over t.2).0 t.3)
 
@@ -224,10 +224,10 @@ idle_says before old new actor given answer t is = resting new actor (by answer 
     by turn.Went says e = cc
     by turn.Idle says e = says
 
-pub over_says : (before : List Turn) (old new : PoolView) (actor : Actor) (given : Option DoneView) (answer : Turn) → AreTurns old actor given before answer new → says_over answer ≡ true → IsOver new
+pub over_says : (before : List Turn) (old new : PoolView) (actor : Actor) (given : Option DoneView) (answer : Turn) → AreTurns old actor given before answer new → is_over_turn answer ≡ true → IsOver new
 over_says before old new actor given answer t is = by answer (answers_say before old new actor given answer t) is
   where
-    by : (a : Turn) → Says new actor a → says_over a ≡ true → IsOver new
+    by : (a : Turn) → Says new actor a → is_over_turn a ≡ true → IsOver new
     by (turn.Over closing) says e = says
     by (turn.Foreign done) says e = cc
     by turn.Owed says e = cc
@@ -238,7 +238,7 @@ over_says before old new actor given answer t is = by answer (answers_say before
     by turn.Idle says e = cc
 
 -- an answer that nothing is due isn't that the run is over
-pub idle_not_over : (answer : Turn) → is_idle answer ≡ true → says_over answer ≡ true → ⊥
+pub idle_not_over : (answer : Turn) → is_idle answer ≡ true → is_over_turn answer ≡ true → ⊥
 idle_not_over (turn.Over closing) is over = cc
 idle_not_over (turn.Foreign done) is over = cc
 idle_not_over turn.Owed is over = cc

@@ -14,7 +14,7 @@ use Rattle.tw_pool.specs.declared.answer.Turn.TheVariants as turn
 use Rattle.tw_pool.specs.PoolView.{PoolView}
 use Rattle.tw_pool.specs.Work.{AreTargeted, LacksWork}
 use Rattle.tw_host.specs.Seats.{actor_at, actor_count}
-use Rattle.tw_host.specs.Sleeping.{AreWoken, Covers, HaveNoWork, Is, IsCleared, IsCovered, IsKnown, IsMarked, IsOver, Isnt, KnownBy, TakesNone, Wakes, WakesAfter, end_of, first_of, has_job, is_idle, says_over}
+use Rattle.tw_host.specs.Sleeping.{AreWoken, Covers, HasCleared, HaveNoWork, Is, IsCleared, IsCovered, IsKnown, IsMarked, IsOver, Isnt, KnownBy, TakesNone, Wakes, WakesAfter, end_of, first_of, has_job, is_idle, is_over_turn}
 use Rattle.tw_host.proofs.Comparing.{index_back, index_low}
 
 pub is_or_isnt : (bits i : ℕ) → Is bits i ⊎ Isnt bits i
@@ -41,7 +41,7 @@ idle_no_job turn.Ended is = refl
 idle_no_job turn.Went is = refl
 idle_no_job turn.Idle is = refl
 
-pub not_over : (answer : Turn) (over : Bool) → over ≡ false → is_idle answer ≡ true → (over || says_over answer) ≡ false
+pub not_over : (answer : Turn) (over : Bool) → over ≡ false → is_idle answer ≡ true → (over || is_over_turn answer) ≡ false
 not_over (turn.Over closing) over e is = cc
 not_over (turn.Foreign done) over e is = rw e refl
 not_over turn.Owed over e is = rw e refl
@@ -56,12 +56,13 @@ over_if p true says h k is = h refl
 over_if p false says h k is = k is
 
 -- nobody sleeps
-pub all_awake : (p : PoolView) (asleep out : ℕ) (over : Bool) → asleep ≡ 0 → (over ≡ true → IsOver p) → AreWoken p asleep out over
-all_awake p asleep out over none ended = record {
+pub all_awake : (p : PoolView) (asleep out : ℕ) (over : Bool) → asleep ≡ 0 → (over ≡ true → IsOver p) → (p.stopped ≡ true → over ≡ true) → AreWoken p asleep out over
+all_awake p asleep out over none ended stops = record {
   own = λ i from to is. none_of_zero asleep i none is;
   any = λ kind. inr (inl (λ i from to. ap (λ (n : ℕ). bit_at n i) none ∙ bit_at-zero i));
   over = λ e. none;
   ended = ended;
+  stops = stops;
   rests = λ i low is. none_of_zero asleep i none is;
 }
 
@@ -268,5 +269,13 @@ module _ (p : PoolView) (layout : IsLayout p.layout) (actor : Actor) (there : is
         by (inl h) = lacks i low h (was i (omega (arith, low, few)) is).0
         by (inr h) = subst (LacksWork p) (sym (ap (actor_at p.layout) h.0 ∙ index_back p.layout actor there)) (when_idle h.1).1
 
-    pub settled : (over ≡ true → IsOver p) → AreWoken p asleep2 out1 over
-    settled ended = record { own = works; any = covered; over = none_asleep; ended = ended; rests = rests }
+    pub settled : (over ≡ true → IsOver p) → (p.stopped ≡ true → over ≡ true) → AreWoken p asleep2 out1 over
+    settled ended stops = record { own = works; any = covered; over = none_asleep; ended = ended; stops = stops; rests = rests }
+
+    -- who doesn't sleep any more is due
+    pub due_are : HasCleared own asleep asleep2 due
+    due_are i low other is isnt = by (is_or_isnt due i)
+      where
+        by : Is due i ⊎ Isnt due i → Is due i
+        by (inl h) = h
+        by (inr h) = not_both asleep2 i (z.others i low h ∙ (others i low other ∙ is)) isnt

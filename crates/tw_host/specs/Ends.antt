@@ -8,7 +8,7 @@ use Rattle.tw_types.specs.Actor.{is_in}
 use Rattle.tw_types.specs.Layout.{ActorCounts}
 use Rattle.tw_soundness.specs.EndsWell.{EndsWell}
 use Rattle.tw_pool.specs.Actors.{events_of}
-use Rattle.tw_pool.specs.Ends.{FinalView, IsShut}
+use Rattle.tw_pool.specs.Ends.{FinalView, IsClosedPool}
 use Rattle.tw_pool.specs.History.{HistoryView}
 use Rattle.tw_pool.specs.PoolView.{PoolView}
 use Rattle.tw_host.specs.declared.close.Closed.{Closed}
@@ -30,7 +30,7 @@ pub record IsEnded (run : Run) (seats : List SeatEvents) (by_seat : List (List E
   pub pool : PoolView
   pub of_run : run_of pool ≡ run
   pub within : length pool.history ≤ run.limit
-  pub shut : IsShut pool final history
+  pub shut : IsClosedPool pool final history
   pub ends_well : EndsWell run.program.program shut.state
   pub one_each : IsPermutation seats (map (seen_of history.events) (actors_of run.layout))
   pub by_seat_is : by_seat ≡ map (λ actor. events_of actor history.events) (actors_of run.layout)

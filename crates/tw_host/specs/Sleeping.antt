@@ -61,6 +61,8 @@ pub record AreWoken (p : PoolView) (asleep out : ℕ) (is_over : Bool) : Type 0 
   -- once it is known that the run is over, nobody sleeps
   pub over : is_over ≡ true → asleep ≡ 0
   pub ended : is_over ≡ true → IsOver p
+  -- of a stopped run it is known
+  pub stops : p.stopped ≡ true → is_over ≡ true
   -- who sleeps runs no job
   pub rests : (i : ℕ) → i < actor_count p.layout → Is asleep i → Isnt out i
 
@@ -82,6 +84,10 @@ pub record IsCleared (due old new : ℕ) : Type 0 where
   pub gone : (i : ℕ) → i < 64 → Is due i → Isnt new i
   pub others : (i : ℕ) → i < 64 → Isnt due i → bit_at new i ≡ bit_at old i
   pub all : (due ≡ old) ⊎ (old ≡ 0) → new ≡ 0
+
+-- these bits have every bit that was set and isn't any more, except one
+abbrev pub HasCleared : ℕ → ℕ → ℕ → ℕ → Type 0
+HasCleared index old new due = (i : ℕ) → i < 64 → i ≢ index → Is old i → Isnt new i → Is due i
 
 -- ---- the sleepers that are woken
 
@@ -145,15 +151,15 @@ is_idle turn.Ended = false
 is_idle turn.Went = false
 is_idle turn.Idle = true
 
-abbrev pub says_over : Turn → Bool
-says_over (turn.Over closing) = true
-says_over (turn.Foreign done) = false
-says_over turn.Owed = false
-says_over (turn.NoMemory given) = false
-says_over (turn.Run job) = false
-says_over turn.Ended = false
-says_over turn.Went = false
-says_over turn.Idle = false
+abbrev pub is_over_turn : Turn → Bool
+is_over_turn (turn.Over closing) = true
+is_over_turn (turn.Foreign done) = false
+is_over_turn turn.Owed = false
+is_over_turn (turn.NoMemory given) = false
+is_over_turn (turn.Run job) = false
+is_over_turn turn.Ended = false
+is_over_turn turn.Went = false
+is_over_turn turn.Idle = false
 
 abbrev pub KnownBy : PoolView → ℕ → ℕ → Actor → Type 0
 KnownBy p asleep out (Engine _) = Unit {0}

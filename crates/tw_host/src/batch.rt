@@ -23,7 +23,7 @@ const ENOUGH_TURNS: usize = 56;
 /// The greatest budget of a procedure whose jobs are run under the lock.
 const FEW_INSTRUCTIONS: u64 = 256;
 
-/// Returns whether a place has an instruction that isn't local.
+/// Returns whether a place has an instruction that isn't local, so that a job ends there.
 fn stops_at(code: &[Instr], place: usize) -> bool
     ensures { result ≡ true → IsStop code.now place }
 {
@@ -45,7 +45,7 @@ fn is_at_stop(job: &Job<'_>) -> bool
     }
 }
 
-/// Returns whether no register is a text.
+/// Returns whether no register of a job's task is a text, so that its run under the lock allocates nothing.
 fn has_no_text(types: &[Scalar]) -> bool
     ensures { result ≡ true → HasText types.now → ⊥ }
 {
@@ -57,7 +57,7 @@ fn has_no_text(types: &[Scalar]) -> bool
     true
 }
 
-/// Returns whether a job's task executes at most `FEW_INSTRUCTIONS`, and allocates nothing for them.
+/// Returns whether a job is run under the lock since its task executes at most `FEW_INSTRUCTIONS`, and allocates nothing for them.
 fn is_brief(job: &Job<'_>) -> bool
     ensures { result ≡ true → IsBrief job.now }
 {
@@ -92,7 +92,7 @@ fn done_at_once<'a>(alloc: Global, job: Job<'a>) -> Done<'a>
     done
 }
 
-/// Returns whether a task has ended.
+/// Returns whether a scheduling step of a batch has ended a task.
 fn has_ended(answer: &Turn<'_>) -> bool {
     match answer {
         Turn::Ended => true,
@@ -118,8 +118,9 @@ fn next_result<'a>(alloc: Global, answer: Turn<'a>) -> Result<Option<Done<'a>>, 
     }
 }
 
-/// Makes at most `most` turns of an actor. Ends earlier with a job that isn't to be run under the lock, or with a result that has no next turn.
-pub(crate) fn run_batch<'a>(
+/// Makes at most `most` turns of an actor under the host's lock. Ends earlier with a job that isn't to be run under the lock, or
+/// with a result that has no next turn.
+pub(crate) fn take_turns<'a>(
     pool: &mut Pool<'a>,
     alloc: Global,
     actor: Actor,

@@ -3,7 +3,7 @@
 ghost use Rattle.std.specs.Prelude.{◌≡◌, ◌<◌, ◌^◌, ◌↔◌, ℕ, IsTrue, false, true};
 ghost use Rattle.tw_host.specs.Sleeping.{Is, IsCleared, IsMarked, IsRange, Isnt};
 
-/// Returns the bit of an index.
+/// Returns the bit of an actor's index in a set of actors.
 pub(crate) fn bit(index: usize) -> u64
     requires { index < 64 }
     ensures is { result ≡ 2 ^ index }
@@ -12,7 +12,7 @@ pub(crate) fn bit(index: usize) -> u64
     1u64.wrapping_shl(index as u32)
 }
 
-/// Returns whether the bit of an index is set.
+/// Returns whether the bit of an actor's index is set.
 pub(crate) fn has(bits: u64, index: usize) -> bool
     requires { index < 64 }
     ensures { IsTrue result ↔ Is bits index }
@@ -20,7 +20,7 @@ pub(crate) fn has(bits: u64, index: usize) -> bool
     bits & bit(index) != 0
 }
 
-/// Returns the bits with that of an index.
+/// Returns a set of actors with the bit of an index.
 pub(crate) fn with(bits: u64, index: usize) -> u64
     requires { index < 64 }
     ensures { IsMarked index true bits result }
@@ -28,7 +28,7 @@ pub(crate) fn with(bits: u64, index: usize) -> u64
     bits | bit(index)
 }
 
-/// Returns the bits without that of an index.
+/// Returns a set of actors without the bit of an index.
 pub(crate) fn without(bits: u64, index: usize) -> u64
     requires { index < 64 }
     ensures marked { IsMarked index false bits result }
@@ -37,7 +37,7 @@ pub(crate) fn without(bits: u64, index: usize) -> u64
     bits & !bit(index)
 }
 
-/// Returns the bits of the indices from `from` on, before `to`.
+/// Returns the bits of the actors at the indices from `from` on, before `to`.
 pub(crate) fn bits(from: usize, to: usize) -> u64
     requires from { from < 64 }
     requires to { to < 64 }
@@ -46,7 +46,7 @@ pub(crate) fn bits(from: usize, to: usize) -> u64
     (bit(to) - 1) & !(bit(from) - 1)
 }
 
-/// Returns the bits without those that are due.
+/// Returns a set of sleeping actors without those that are to be woken.
 pub(crate) fn without_all(bits: u64, due: u64) -> u64
     ensures { IsCleared due bits result }
 {

@@ -34,7 +34,7 @@ pub enum Closed {
     },
 }
 
-/// Returns whether the event at `next` of a list is this event of the run.
+/// Returns whether the event at `next` of a seat's list is this event of the run.
 fn is_next(list: &Events, next: usize, history: &History, k: usize) -> bool
     requires within { next ≤ length list.now.items }
     requires there { k < length history.now.events }
@@ -43,14 +43,14 @@ fn is_next(list: &Events, next: usize, history: &History, k: usize) -> bool
     next < list.len() && list.is_at(next, history, k)
 }
 
-/// Returns whether a seat is an actor's.
+/// Returns whether a seat of the host is an actor's.
 fn is_seat_of<N: Named>(seat: &Seat<N>, actor: Actor) -> bool
     ensures { IsTrue result ↔ (seat.now.actor ≡ actor) }
 {
     seat.actor == actor
 }
 
-/// Returns the first index from `from` on of a seat of an actor.
+/// Returns the index of the first seat of an actor, from `from` on.
 fn place_of<N: Named>(seats: &[Seat<N>], from: usize, actor: Actor) -> Option<usize>
     ensures { let actors = map (λ s. s.actor) seats.now in MatchOption result
         ((k : ℕ) (d : AnActor) → from ≤ k → k < length actors → slice_index_or actors k d ≢ actor)
@@ -64,7 +64,7 @@ fn place_of<N: Named>(seats: &[Seat<N>], from: usize, actor: Actor) -> Option<us
     None
 }
 
-/// Sorts the seats by their actors. Returns the first actor without a seat, if there is one.
+/// Sorts the seats by their actors when the host is closed. Returns the first actor without a seat, if there is one.
 fn put_in_order<N: Named>(seats: &mut [Seat<N>], layout: Layout) -> Option<Actor>
     requires { length seats.old ≡ actor_count layout }
     ensures moved { IsPermutation seats.old seats.new }
@@ -181,6 +181,7 @@ fn list_of_place(mut by_seat: Vec<Events>, place: Option<usize>) -> Events
 }
 
 impl<'a, N: Named> Locked<'a, N> {
+    /// Closes the pool under the host's lock, after comparing the events of each seat with its actor's.
     fn close(self, mut seats: Vec<Seat<N>>, by_seat: Vec<Events>) -> Closed
         requires all { vec_len seats ≡ actor_count N.run.layout }
         requires empty { by_seat.items ≡ [] }
@@ -213,7 +214,7 @@ impl<'a, N: Named> Locked<'a, N> {
 }
 
 impl<'a, N: Named> Host<'a, N> {
-    /// Closes the run, with all its seats in any order. Compares the events of each seat with its actor's events of the run.
+    /// Closes the host, with all its seats in any order. Compares the events of each seat with its actor's events of the run.
     pub fn close(self, seats: Vec<Seat<N>>) -> Closed
         requires all { vec_len seats ≡ actor_count N.run.layout }
         ensures closes { Closes N.run (map (λ s. seen_by s.actor s.events.items) seats.items) result }

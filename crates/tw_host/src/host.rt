@@ -28,16 +28,16 @@ const TRIES: u32 = 100;
 /// The greatest number of pauses between two tries, as a power of two.
 const LONGEST_PAUSE: u32 = 9;
 
-/// Pauses after a try to take the lock, twice as long as after the one before. Never yields the processor, since on a busy machine
-/// that costs a time slice.
+/// Pauses after a try to take the host's lock, twice as long as after the one before. Never yields the processor, since on a busy
+/// machine that costs a time slice.
 fn pause_after(tries: u32) {
     for _ in 0..1u32 << tries.min(LONGEST_PAUSE) {
         hint::spin_loop();
     }
 }
 
-/// Takes a lock that is held for short times. Spins first, since a lock that is passed to a sleeping thread is idle until that thread
-/// runs. Tries seldom, so that the holder may take the lock again and the data stay in its processor's cache.
+/// Takes the host's lock, which is held for short times. Spins first, since a lock that is passed to a sleeping thread is idle
+/// until that thread runs. Tries seldom, so that the holder may take the lock again and the data stay in its processor's cache.
 fn locked_soon<'b, T, R: Wait>(lock: &'b Mutex<T>, rt: &R) -> MutexGuard<'b, T> {
     for tries in 0..TRIES {
         if let Some(guard) = lock.try_lock() {
@@ -63,8 +63,8 @@ pub struct Host<'a, N: Named> {
 }
 
 impl<'a, N: Named> Host<'a, N> {
-    /// Opens a run before its first event, with a seat for each actor, in the order of `actor_at`. Allocates all memory for the seats
-    /// before it makes one.
+    /// Opens a host before its run's first event, with a seat for each actor, in the order of `actor_at`. Allocates all memory for
+    /// the seats before it makes one.
     pub fn open(
         alloc: Global,
         blank: Blank,
@@ -109,7 +109,7 @@ impl<'a, N: Named> Host<'a, N> {
         Ok((host, seats))
     }
 
-    /// Returns the program that is run.
+    /// Returns the verified program that the host runs.
     pub fn program(&self) -> &'a Verified
         ensures { result.now ≡ N.run.program }
     {
@@ -161,7 +161,7 @@ impl<'a, N: Named> Host<'a, N> {
         let mut guard = locked_soon(&self.locked, rt);
         let locked = &mut **guard;
         let is_over = self.progress.is_over();
-        let answer = locked.run_batch(alloc, seat, done, most, is_over, &mut due);
+        let answer = locked.turn_seat(alloc, seat, done, most, is_over, &mut due);
         self.progress.set_events(locked.len());
         drop(guard);
         if let Ok(Turn::Over(_)) = answer {
@@ -177,7 +177,7 @@ impl<'a, N: Named> Host<'a, N> {
         self.progress.events()
     }
 
-    /// Stops the run: from now on no step makes an event.
+    /// Stops the host's run: from now on no step makes an event.
     pub fn stop(&self, rt: &impl Wait) {
         let mut guard = self.locked.lock(rt);
         let locked = &mut **guard;

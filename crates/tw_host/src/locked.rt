@@ -3,8 +3,10 @@
 ghost use Rattle.std.specs.Prelude.{◌≡◌, ◌<◌, ◌≤◌, ◌+◌, ◌*◌, length, true, IfOk};
 ghost use Rattle.tw_host.specs.Holds.{SeesUpTo};
 ghost use Rattle.tw_host.specs.Sees.{IsAnswerOf, IsDoneOf};
+ghost use Rattle.tw_host.specs.Sleeping.{HasCleared};
+ghost use Rattle.tw_types.specs.Actor.{index_of};
 
-use crate::batch::run_batch;
+use crate::batch::take_turns;
 use crate::named::Named;
 use crate::seat::{Seat, record_events};
 use crate::sleepers::Sleepers;
@@ -21,7 +23,8 @@ pub struct Strange<'a> {
     pub done: Option<Done<'a>>,
 }
 
-/// The pool, the total of its events, the parts of the ledger that no seat has, and which actors sleep.
+/// The pool, the total of its events, the parts of the ledger that no seat has, and which actors sleep. Contracts see the pool, and the
+/// bits of the actors that sleep.
 pub(crate) struct Locked<'a, N: Named> {
     pub(crate) pool: Pool<'a>,
     pub(crate) book: Book<N>,
@@ -30,34 +33,36 @@ pub(crate) struct Locked<'a, N: Named> {
 }
 
 impl<'a, N: Named> Model for Locked<'a, N> {
+    ghost use Rattle.std.specs.Prelude.{ℕ};
     ghost use Rattle.tw_pool.specs.PoolView.{PoolView};
 
-    ghost Value = { PoolView };
+    ghost Value = { PoolView × ℕ };
 
     ghost use Rattle.tw_host.specs.Kept.{IsKept};
 
-    ghost view = { λ l. l.pool };
+    ghost view = { λ l. (l.pool, l.sleepers.asleep) };
 
     ghost invariant = { λ l. IsKept N.run N.parts l.book.total l.spare.parts l.spare.amount l.pool l.sleepers };
 }
 
 impl<'a, N: Named> Locked<'a, N> {
-    /// Stops the run. Returns the actors to be woken.
+    /// Stops the run of the locked pool. Returns the actors to be woken.
     pub(crate) fn stop(&mut self) -> u64
-        ensures { self.new ≡ record self.old { stopped = true } }
+        ensures pool { self.new.0 ≡ record self.old.0 { stopped = true } }
+        ensures due { result ≡ self.old.1 }
     {
         self.pool.stop();
         self.sleepers.end()
     }
 
-    /// Returns the number of events.
+    /// Returns the number of events of the locked pool.
     pub(crate) fn len(&self) -> usize {
         self.pool.history().len()
     }
 
-    /// Makes steps of the seat's actor, at most `most`. The seat gets the events that they append. `is_over` is whether it was published
-    /// that the run is over. Sets `due` to the actors to be woken afterwards.
-    pub(crate) fn run_batch(
+    /// Makes steps of the seat's actor in the locked pool, at most `most`. The seat gets the events that they append. `is_over` is
+    /// whether it was published that the run is over. Sets `due` to the actors to be woken afterwards.
+    pub(crate) fn turn_seat(
         &mut self,
         alloc: Global,
         seat: &mut Seat<N>,
@@ -72,6 +77,7 @@ impl<'a, N: Named> Locked<'a, N> {
         ensures actor { seat.new.actor ≡ seat.old.actor }
         ensures events { SeesUpTo most N.run seat.old.actor seat.old.events.items seat.new.events.items done.entry result }
         ensures program { IfOk result (IsAnswerOf N.run.program) }
+        ensures due { HasCleared (index_of N.run.layout seat.old.actor) self.old.1 self.new.1 due.new }
     {
         let actor = seat.actor;
         self.sleepers.check_in(self.pool.layout(), actor, is_over);
@@ -81,7 +87,7 @@ impl<'a, N: Named> Locked<'a, N> {
             return Err(Strange { count, done });
         }
         let before = self.pool.history().len();
-        let answer = run_batch(&mut self.pool, alloc, actor, done, most);
+        let answer = take_turns(&mut self.pool, alloc, actor, done, most);
         record_events(self.pool.history(), before, &mut self.book, seat);
         let events = self.pool.history().len() - before;
         *due = self.sleepers.to_wake(&self.pool, actor, events, &answer);

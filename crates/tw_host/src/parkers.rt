@@ -49,6 +49,7 @@ struct Parker {
 }
 
 impl Parker {
+    /// Makes a parker for the thread of one actor, which isn't parked and wasn't unparked.
     fn new() -> Parker {
         Parker {
             state: AtomicU64::new(EMPTY),
@@ -57,6 +58,7 @@ impl Parker {
         }
     }
 
+    /// Replaces the state of a parker if it is `from`. Returns whether it was.
     fn exchange(&self, from: u64, to: u64) -> bool {
         let state = &self.state;
         state
@@ -64,7 +66,7 @@ impl Parker {
             .is_ok()
     }
 
-    /// Takes the unpark, if there was one.
+    /// Takes the unpark that a parker kept, if there was one.
     fn take(&self) -> bool {
         self.state.load(Ordering::SeqCst) == NOTIFIED && self.exchange(NOTIFIED, EMPTY)
     }
@@ -82,7 +84,8 @@ impl Parker {
         false
     }
 
-    /// Spins and then parks, until there is an unpark. It may also return without a reason, and does so after the longest park.
+    /// Spins and then parks the thread of one actor, until there is an unpark. It may also return without a reason, and does so
+    /// after the longest park.
     fn park(&self, rt: &impl Wait) {
         let parks = self.parks.load(Ordering::Relaxed);
         if self.spin(looks_after(parks)) {
@@ -97,7 +100,7 @@ impl Parker {
         self.state.store(EMPTY, Ordering::SeqCst);
     }
 
-    /// Unparks the thread. The kernel is called only if it is parked.
+    /// Unparks the thread of one actor. The kernel is called only if it is parked.
     fn unpark(&self) {
         self.unparks.fetch_add(1, Ordering::SeqCst);
         if self.state.swap(NOTIFIED, Ordering::SeqCst) == PARKED {
@@ -113,6 +116,7 @@ pub(crate) struct Parkers {
 }
 
 impl Parkers {
+    /// Makes the parkers of all actors of a layout, by their indices.
     pub(crate) fn new(alloc: Global, layout: Layout) -> Result<Parkers, AllocError> {
         let count = layout.actor_count();
         let mut parkers = Vec::with_capacity(alloc, count)?;
@@ -143,7 +147,7 @@ impl Parkers {
         }
     }
 
-    /// Returns how many unparks there were.
+    /// Returns how many unparks the parkers of all actors made.
     pub(crate) fn unparks(&self) -> u64 {
         let mut unparks = 0_u64;
         for parker in self.parkers.as_slice() {

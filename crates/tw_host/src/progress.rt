@@ -12,6 +12,7 @@ pub(crate) struct RunProgress {
 }
 
 impl RunProgress {
+    /// Makes the published progress of a run without events that isn't over.
     pub(crate) fn new() -> RunProgress {
         RunProgress {
             events: CachePadded::new(AtomicU64::new(0)),
@@ -19,22 +20,22 @@ impl RunProgress {
         }
     }
 
-    /// Publishes the number of events.
+    /// Publishes the number of a run's events.
     pub(crate) fn set_events(&self, events: usize) {
         self.events.store(events as u64, Ordering::SeqCst);
     }
 
-    /// Publishes that the run is over.
+    /// Publishes that a run on the host is over.
     pub(crate) fn end(&self) {
         self.is_over.store(true, Ordering::SeqCst);
     }
 
-    /// Returns whether it was published that the run is over.
+    /// Returns whether it was published that a run on the host is over.
     pub(crate) fn is_over(&self) -> bool {
         self.is_over.load(Ordering::SeqCst)
     }
 
-    /// Returns a recent number of events, or `None` once the run is over.
+    /// Returns a published number of a run's events, or `None` once the run is over.
     pub(crate) fn events(&self) -> Option<u64> {
         if self.is_over() {
             return None;

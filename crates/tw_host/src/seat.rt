@@ -23,14 +23,14 @@ pub struct Seat<N: Named> {
 }
 
 impl<N: Named> Seat<N> {
-    /// Returns the actor of the seat.
+    /// Returns the actor of the host's seat.
     pub fn actor(&self) -> Actor
         ensures { result ≡ self.now.actor }
     {
         self.actor
     }
 
-    /// Returns the events that the seat got, in order.
+    /// Returns the events that the host's seat got, in order.
     pub fn events(&self) -> &Events
         ensures { result.now ≡ self.now.events }
     {
@@ -45,7 +45,7 @@ pub struct SentSeat<N: Named> {
 }
 
 impl<N: Named> SentSeat<N> {
-    /// Returns the seat.
+    /// Returns the seat that was sent to a thread.
     pub fn into_seat(self) -> Seat<N>
         ensures { result ≡ self.seat }
     {
@@ -55,6 +55,7 @@ impl<N: Named> SentSeat<N> {
 }
 
 impl<N: Named> Drop for SentSeat<N> {
+    /// Drops a seat that was sent to a thread: its list of events and its part of the ledger.
     fn drop(self) {
         let Self { seat } = self;
         let Seat {
@@ -68,7 +69,7 @@ impl<N: Named> Drop for SentSeat<N> {
     }
 }
 
-/// Drops seats, one by one.
+/// Drops seats of the host, one by one.
 fn drop_all<N: Named>(seats: Vec<Seat<N>>) {
     let mut rest = seats.into_iter();
     while let Some(seat) = rest.next() {
@@ -83,7 +84,7 @@ pub struct SentSeats<N: Named> {
 }
 
 impl<N: Named> SentSeats<N> {
-    /// Returns the seats.
+    /// Returns the seats that were sent to a thread.
     pub fn into_seats(self) -> Vec<Seat<N>>
         ensures { result ≡ self.seats }
     {
@@ -93,6 +94,7 @@ impl<N: Named> SentSeats<N> {
 }
 
 impl<N: Named> Drop for SentSeats<N> {
+    /// Drops the seats that were sent to a thread, one by one.
     fn drop(self) {
         let Self { seats } = self;
         drop_all(seats);
@@ -141,7 +143,7 @@ pub(crate) fn seats_of<N: Named>(
     seats
 }
 
-/// Appends to a seat the events of the run from an index on, and counts them.
+/// Appends to a seat of the host the events of the run from an index on, and counts them.
 pub(crate) fn record_events<N: Named>(
     history: &History,
     before: usize,

@@ -5,29 +5,29 @@ ghost use Rattle.tw_types.specs.declared.actor.Kind.TheVariants.{Control, Leaf};
 ghost use Rattle.tw_types.specs.Actor.{is_in, actor_count, index_of};
 ghost use Rattle.tw_types.specs.Layout.{IsLayout};
 ghost use Rattle.tw_pool.specs.Work.{AreTargeted, LacksWork};
-ghost use Rattle.tw_host.specs.Sleeping.{AreWoken, Is, IsCleared, IsConsidered, IsKnown, IsMarked, IsOver, Isnt, TakesNone, Wakes, WakesAfter, WakesKind, WakesOne, WakesOwn, WakesServers, end_of, first_of, has_job, is_idle, says_over};
+ghost use Rattle.tw_host.specs.Sleeping.{AreWoken, HasCleared, Is, IsCleared, IsConsidered, IsKnown, IsMarked, IsOver, Isnt, TakesNone, Wakes, WakesAfter, WakesKind, WakesOne, WakesOwn, WakesServers, end_of, first_of, has_job, is_idle, is_over_turn};
 
 use crate::bits::{bit, bits, has, nobody_looks, with, without, without_all};
 use tw_pool::{Pool, Turn};
 use tw_types::{Actor, Kind, Layout};
 
-/// Returns whether an actor has a job to run.
+/// Returns whether an actor has a job to run after its scheduling step.
 fn has_job(answer: &Turn<'_>) -> bool
     ensures { result ≡ has_job answer.now }
 {
     matches!(answer, Turn::Run(_))
 }
 
-/// Returns whether nothing was due for an actor.
+/// Returns whether nothing was due for an actor in its scheduling step.
 fn is_idle(answer: &Turn<'_>) -> bool
     ensures { result ≡ is_idle answer.now }
 {
     matches!(answer, Turn::Idle)
 }
 
-/// Returns whether the run is over.
-fn says_over(answer: &Turn<'_>) -> bool
-    ensures { result ≡ says_over answer.now }
+/// Returns whether a scheduling step has found that the run is over.
+fn is_over_turn(answer: &Turn<'_>) -> bool
+    ensures { result ≡ is_over_turn answer.now }
 {
     matches!(answer, Turn::Over(_))
 }
@@ -63,6 +63,7 @@ pub(crate) struct Sleepers {
 }
 
 impl Sleepers {
+    /// Makes the record of sleeping actors before a run: none sleeps or runs a job.
     pub(crate) fn new() -> Sleepers
         ensures { (result.asleep ≡ 0) × (result.is_over ≡ false) }
     {
@@ -131,6 +132,7 @@ impl Sleepers {
         self.due_among(pool, from, to, task)
     }
 
+    /// Returns the sleeping engines that have to be woken: for their own work, or a task without a target.
     fn due_engines(&self, pool: &Pool<'_>) -> u64
         requires { IsLayout pool.now.layout }
         ensures { WakesKind pool.now self.now.asleep self.now.out result Control }
@@ -139,6 +141,7 @@ impl Sleepers {
         self.due_of(pool, Kind::Control, 0, engines)
     }
 
+    /// Returns the sleeping servers that have to be woken: those that have notices to deliver.
     fn due_servers(&self, pool: &Pool<'_>) -> u64
         requires { IsLayout pool.now.layout }
         ensures { WakesServers pool.now self.now.asleep result }
@@ -149,6 +152,7 @@ impl Sleepers {
         self.due_among(pool, engines, servers, false)
     }
 
+    /// Returns the sleeping workers that have to be woken: for their own work, or a task without a target.
     fn due_workers(&self, pool: &Pool<'_>) -> u64
         requires { IsLayout pool.now.layout }
         ensures { WakesKind pool.now self.now.asleep self.now.out result Leaf }
@@ -196,7 +200,7 @@ impl Sleepers {
         self.due_by(pool, actor, is_out)
     }
 
-    /// Marks sleepers as awake.
+    /// Marks sleeping actors as awake, and counts their wakes.
     fn wake(&mut self, due: u64) -> u64
         ensures due { result ≡ due }
         ensures asleep { IsCleared due self.old.asleep self.new.asleep }
@@ -207,7 +211,7 @@ impl Sleepers {
         due
     }
 
-    /// Counts a wake that came too late, if there was one.
+    /// Counts a wake of a sleeping actor that came too late, if there was one.
     fn count_late(&mut self, is_late: bool)
         ensures { (self.new.asleep ≡ self.old.asleep) × (self.new.out ≡ self.old.out) × (self.new.is_over ≡ self.old.is_over) }
     {
@@ -231,7 +235,7 @@ impl Sleepers {
         self.asleep = without(self.asleep, index);
     }
 
-    /// Records whether an actor runs a job.
+    /// Records among the sleepers whether an actor runs a job.
     fn set_out(&mut self, index: usize, is_out: bool)
         requires { index < 64 }
         ensures out { IsMarked index is_out self.old.out self.new.out }
@@ -244,17 +248,17 @@ impl Sleepers {
         };
     }
 
-    /// Records that the run is over, if the answer says so.
+    /// Records among the sleepers that the run is over, if the step's result says so.
     fn note_end(&mut self, answer: &Turn<'_>)
-        ensures over { self.new.is_over ≡ (self.old.is_over || says_over answer.now) }
+        ensures over { self.new.is_over ≡ (self.old.is_over || is_over_turn answer.now) }
         ensures others { (self.new.asleep ≡ self.old.asleep) × (self.new.out ≡ self.old.out) }
     {
-        if says_over(answer) {
+        if is_over_turn(answer) {
             self.is_over = true;
         }
     }
 
-    /// Marks an actor as asleep if it is idle.
+    /// Records an actor as asleep if its step found nothing to do.
     fn sleep_if(&mut self, index: usize, is_idle: bool)
         requires { index < 64 }
         ensures asleep { is_idle ≡ true → IsMarked index true self.old.asleep self.new.asleep }
@@ -280,9 +284,11 @@ impl Sleepers {
         requires awake { Isnt self.old.asleep (index_of pool.now.layout actor) }
         requires known { IsKnown pool.now self.old.asleep self.old.out actor events }
         requires idle { is_idle answer.now ≡ true → (self.old.is_over ≡ false) × LacksWork pool.now actor × TakesNone pool.now actor }
-        requires over { says_over answer.now ≡ true → IsOver pool.now }
+        requires over { is_over_turn answer.now ≡ true → IsOver pool.now }
         requires ended { self.old.is_over ≡ true → IsOver pool.now }
-        ensures { AreWoken pool.now self.new.asleep self.new.out self.new.is_over }
+        requires stops { pool.now.stopped ≡ true → self.old.is_over ≡ true }
+        ensures woken { AreWoken pool.now self.new.asleep self.new.out self.new.is_over }
+        ensures due { HasCleared (index_of pool.now.layout actor) self.old.asleep self.new.asleep result }
     {
         let index = pool.layout().index_of(actor);
         let is_out = has_job(answer);
@@ -294,17 +300,18 @@ impl Sleepers {
         self.wake(due)
     }
 
-    /// Returns the actors to be woken once the run is over.
+    /// Marks all sleeping actors as awake once the run is over, and returns them.
     pub(crate) fn end(&mut self) -> u64
         ensures asleep { self.new.asleep ≡ 0 }
         ensures over { self.new.is_over ≡ true }
+        ensures due { result ≡ self.old.asleep }
     {
         self.is_over = true;
         let asleep = self.asleep;
         self.wake(asleep)
     }
 
-    /// Returns how many wakes were late, or weren't made although they were due.
+    /// Returns how many wakes of sleeping actors were late, or weren't made although they were due.
     pub(crate) fn missed_wakes(&self, made: u64) -> u64 {
         self.late.wrapping_add(self.wakes.wrapping_sub(made))
     }

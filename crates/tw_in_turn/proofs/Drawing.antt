@@ -9,7 +9,7 @@ use Rattle.tw_pool.specs.declared.answer.Turn.{Turn}
 use Rattle.tw_pool.specs.declared.answer.Turn.TheVariants.{Idle, Over, Run}
 use Rattle.tw_pool.specs.PoolView.{PoolView}
 use Rattle.tw_in_turn.specs.Drawn.{place_for}
-use Rattle.tw_in_turn.specs.InTurn.{GoesOn, IsAfter, IsDrawn, IsIdle, IsMove, actor_from}
+use Rattle.tw_in_turn.specs.InTurn.{Continues, IsAfter, IsDrawn, IsIdle, IsMove, actor_from}
 use Rattle.tw_in_turn.specs.Rounds.{Ends, MayTurn}
 use Rattle.tw_in_turn.specs.declared.rounds.End.{End}
 use Rattle.tw_in_turn.specs.declared.rounds.End.TheVariants as end
@@ -102,6 +102,6 @@ idle_again now new first skipped same idles last k low = subst (λ (p : PoolView
     by (inr apart) = idles k (omega (arith, low, apart))
 
 -- one step more
-pub after_drawn : (seed steps : ℕ) (first now new : PoolView) (actor : Actor) (answer : Turn) → IsAfter (Some seed) first steps now → IsDrawn seed now steps actor → IsMove now actor answer new → GoesOn answer
+pub after_drawn : (seed steps : ℕ) (first now new : PoolView) (actor : Actor) (answer : Turn) → IsAfter (Some seed) first steps now → IsDrawn seed now steps actor → IsMove now actor answer new → Continues answer
     → IsAfter (Some seed) first (steps + 1) new
 after_drawn seed steps first now new actor answer after drawn move on = subst (λ n. IsAfter (Some seed) first n new) (sym (add-one steps)) (now, actor, answer, after, drawn, move, on)

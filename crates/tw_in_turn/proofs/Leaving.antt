@@ -2,16 +2,16 @@
 use Rattle.std.proofs.Common.{◌≡◌, ℕ, Option, false, ap, subst, sym, ◌∙◌}
 use Rattle.tw_code.specs.machine.State.{State}
 use Rattle.tw_soundness.specs.EndsWell.{EndsWell}
-use Rattle.tw_pool.specs.Ends.{FinalView, IsShut}
+use Rattle.tw_pool.specs.Ends.{FinalView, IsClosedPool}
 use Rattle.tw_pool.specs.History.{HistoryView}
 use Rattle.tw_pool.specs.PoolView.{HasState, PoolView}
 use Rattle.tw_in_turn.specs.InTurn.{HasEnded, IsLeftIn, IsOver}
 use Rattle.tw_in_turn.specs.Rounds.{IsGrown}
-use Rattle.tw_in_turn.specs.Stopping.{ComesAfter}
+use Rattle.tw_in_turn.specs.Stopping.{IsReachedAfter}
 use Rattle.tw_in_turn.proofs.Moving.{ends_over}
 
 module _ (pool first p : PoolView) (final : FinalView) (history : HistoryView) (is : pool ≡ first) where
-  pub left_in : IsGrown pool p → IsShut p final history → ((s : State) → HasState p s → EndsWell p.program.program s) → IsLeftIn first p final history
+  pub left_in : IsGrown pool p → IsClosedPool p final history → ((s : State) → HasState p s → EndsWell p.program.program s) → IsLeftIn first p final history
   left_in grown shut ends =
       let same : p ≡ record first { history = p.history } = grown.same ∙ ap (λ (q : PoolView). record q { history = p.history }) is in
       record {
@@ -21,8 +21,8 @@ module _ (pool first p : PoolView) (final : FinalView) (history : HistoryView) (
         ends_well = subst (λ (q : PoolView). EndsWell q.program.program shut.state) same (ends shut.state shut.has_state);
       }
 
-  pub left_over : (seed : Option ℕ) (turns : ℕ) → first.stopped ≡ false → ComesAfter seed pool turns IsOver p → IsGrown pool p → IsShut p final history → ((s : State) → HasState p s → EndsWell p.program.program s)
-      → (x : PoolView) × ComesAfter seed first turns IsOver x × IsLeftIn first x final history × HasEnded final.closing
+  pub left_over : (seed : Option ℕ) (turns : ℕ) → first.stopped ≡ false → IsReachedAfter seed pool turns IsOver p → IsGrown pool p → IsClosedPool p final history → ((s : State) → HasState p s → EndsWell p.program.program s)
+      → (x : PoolView) × IsReachedAfter seed first turns IsOver x × IsLeftIn first x final history × HasEnded final.closing
   left_over seed turns on comes grown shut ends =
-      let over = subst (λ (q : PoolView). ComesAfter seed q turns IsOver p) is comes in
+      let over = subst (λ (q : PoolView). IsReachedAfter seed q turns IsOver p) is comes in
       (p, over, left_in grown shut ends, subst HasEnded (sym shut.closing) (ends_over seed first p on over.0 shut.state shut.has_state))

@@ -24,15 +24,15 @@ use Rattle.tw_pool.specs.declared.answer.Turn.{Turn}
 use Rattle.tw_pool.specs.declared.answer.Turn.TheVariants.{Over, Foreign, Owed, NoMemory, Run, Ended, Went, Idle}
 use Rattle.tw_pool.specs.Actors.{events_of}
 use Rattle.tw_pool.specs.PoolView.{PoolView, HasState, with_events}
-use Rattle.tw_pool.specs.Turns.{Answers, GoesFree, IsTurn, Lends, Makes, TakesBack, Turns, TurnsUnless, closing_at, closing_of, instr_after, is_last, lent_to, steps_of}
+use Rattle.tw_pool.specs.Turns.{Answers, TurnsFree, IsTurn, Issues, Makes, TakesBack, Turns, TurnsUnless, closing_at, closing_of, instr_after, is_last, issued_to, steps_of}
 use Rattle.tw_pool.proofs.Counting.{AreBy, others_same}
 use Rattle.tw_pool.proofs.Lines.{whose_due}
 use Rattle.tw_host.specs.Sees.{IsAnswerOf, IsDoneOf}
 use Rattle.tw_host.proofs.Owning.{is_answer_of}
 use Rattle.tw_host.proofs.Turning as turning
-use Rattle.tw_in_turn.specs.InTurn.{ComesTo, GoesOn, Has, HasDone, HasEnded, IsAfter, IsIdle, IsOver, IsWorkOf}
+use Rattle.tw_in_turn.specs.InTurn.{IsReachedWith, Continues, Has, HasDone, HasEnded, IsAfter, IsIdle, IsOver, IsWorkOf}
 use Rattle.tw_in_turn.specs.declared.rounds.End.{End as Stop}
-use Rattle.tw_in_turn.specs.Rounds.{Comes, IsGrown, IsTurned, Keeps}
+use Rattle.tw_in_turn.specs.Rounds.{ContinuesOrEnds, IsGrown, IsTurned, Keeps}
 use Rattle.tw_in_turn.proofs.Frames as frames
 
 -- an event of rules or notices
@@ -48,10 +48,10 @@ IsOfRules (Release engine rule) = Unit {0}
 pub data CameTo (old : PoolView) (s : State) (actor : Actor) (given : Option DoneView) (answer : Turn) (events : List Event) : Type 0 where
   over : (closing : Closing) → closing_at old s ≡ Some closing → answer ≡ Over closing → events ≡ [] → CameTo old s actor given answer events
   full : answer ≡ Over Limit → length old.history + length events ≡ old.limit → CameTo old s actor given answer events
-  lent : (t : State) → HasState (with_events old events) t → (job : JobView) → lent_to (with_events old events) t actor ≡ Some job → answer ≡ Run job → 1 ≤ length events → CameTo old s actor given answer events
+  lent : (t : State) → HasState (with_events old events) t → (job : JobView) → issued_to (with_events old events) t actor ≡ Some job → answer ≡ Run job → 1 ≤ length events → CameTo old s actor given answer events
   ended : (before : List Event) → answer ≡ Ended → events ≡ before ++ End actor ∷ [] → CameTo old s actor given answer events
-  went : (e : Event) → IsOfRules e → answer ≡ Went → events ≡ e ∷ [] → lent_to old s actor ≡ None → CameTo old s actor given answer events
-  idle : answer ≡ Idle → events ≡ [] → lent_to old s actor ≡ None → ((due : Event) → IsDueFree old.layout actor s due → ⊥) → closing_at old s ≡ None → CameTo old s actor given answer events
+  went : (e : Event) → IsOfRules e → answer ≡ Went → events ≡ e ∷ [] → issued_to old s actor ≡ None → CameTo old s actor given answer events
+  idle : answer ≡ Idle → events ≡ [] → issued_to old s actor ≡ None → ((due : Event) → IsDueFree old.layout actor s due → ⊥) → closing_at old s ≡ None → CameTo old s actor given answer events
   refused : answer ≡ NoMemory given → events ≡ [] → CameTo old s actor given answer events
 
 -- ---- by the lines of the table
@@ -60,9 +60,9 @@ module _ (old : PoolView) (s : State) (actor : Actor) (answer : Turn) (events : 
   abbrev Came : Option DoneView → Type 0
   Came given = CameTo old s actor given answer events
 
-  lends : (given : Option DoneView) (es : List Event) (e : Event) → Lends old actor (es ++ e ∷ []) answer events → Came given
+  lends : (given : Option DoneView) (es : List Event) (e : Event) → Issues old actor (es ++ e ∷ []) answer events → Came given
   lends given es e l =
-      lent l.0 (subst (λ x. HasState (with_events old x) l.0) (sym l.4.1) l.1) l.2 (subst (λ x. lent_to (with_events old x) l.0 actor ≡ Some l.2) (sym l.4.1) l.3) l.4.0
+      lent l.0 (subst (λ x. HasState (with_events old x) l.0) (sym l.4.1) l.1) l.2 (subst (λ x. issued_to (with_events old x) l.0 actor ≡ Some l.2) (sym l.4.1) l.3) l.4.0
       (let n = ap (λ x. length x) l.4.1 ∙ length-append es (e ∷ []) in omega (arith, n))
 
   run_after : (given : Option DoneView) (es : List Event) (i : Option Instr) → Makes old actor given es (event_of actor i) answer events → Came given
@@ -77,7 +77,7 @@ module _ (old : PoolView) (s : State) (actor : Actor) (answer : Turn) (events : 
   run_after given es (Some (instr.Put action)) (inr l) = refused l.1.0 l.1.1
   run_after given es (Some instr.Ret) l = ended es l.0 l.1
 
-  due_made : (e : Event) → IsDueFree old.layout actor s e → lent_to old s actor ≡ None → Makes old actor None [] e answer events → Came None
+  due_made : (e : Event) → IsDueFree old.layout actor s e → issued_to old s actor ≡ None → Makes old actor None [] e answer events → Came None
   due_made (Take a) due none (inl l) = lends None [] (Take a) l
   due_made (Take a) due none (inr l) = refused l.1.0 l.1.1
   due_made (Local a n) due none l = elim l [ ]
@@ -90,7 +90,7 @@ module _ (old : PoolView) (s : State) (actor : Actor) (answer : Turn) (events : 
   due_made (Release engine rule) due none (inl l) = went (Release engine rule) tt l.0 l.1 none
   due_made (Release engine rule) due none (inr l) = refused l.1.0 l.1.1
 
-  goes_free : closing_at old s ≡ None → lent_to old s actor ≡ None → GoesFree old s actor answer events → Came None
+  goes_free : closing_at old s ≡ None → issued_to old s actor ≡ None → TurnsFree old s actor answer events → Came None
   goes_free runs_on none (inl l) = due_made l.0 l.1 none l.3
   goes_free runs_on none (inr l) = idle l.1.0 l.1.1 none l.0 runs_on
 
@@ -110,16 +110,16 @@ module _ (old : PoolView) (s : State) (actor : Actor) (answer : Turn) (events : 
       full l.0 (omega (arith, one, long, limit))
   taken_back done false is l = run_after (Some done) (steps_of actor done) (instr_after old.program.program done) l
 
-  turned : closing_at old s ≡ None → (job : Option JobView) → lent_to old s actor ≡ job → (given : Option DoneView) → HasDone job given → Turns old s actor job given answer events → Came given
+  turned : closing_at old s ≡ None → (job : Option JobView) → issued_to old s actor ≡ job → (given : Option DoneView) → HasDone job given → Turns old s actor job given answer events → Came given
   turned runs_on None is None has l = goes_free runs_on is l
   turned runs_on None is (Some done) has l = let no_done : Some done ≡ None = has in cc
   turned runs_on (Some job) is None has l = absurd has
   turned runs_on (Some job) is (Some done) has (inl l) = taken_back done (is_last old done) refl (subst (λ b. TakesBack b (is_last old done) old actor done answer events) has.short_is l.1)
   turned runs_on (Some job) is (Some done) has (inr l) = absurd (l.0 has.own)
 
-  pub came_to : (closing : Option Closing) → closing_at old s ≡ closing → (given : Option DoneView) → HasDone (lent_to old s actor) given → TurnsUnless closing old s actor given answer events → Came given
+  pub came_to : (closing : Option Closing) → closing_at old s ≡ closing → (given : Option DoneView) → HasDone (issued_to old s actor) given → TurnsUnless closing old s actor given answer events → Came given
   came_to (Some closing) is given has l = over closing is l.0 l.1
-  came_to None is given has l = turned is (lent_to old s actor) refl given has l
+  came_to None is given has l = turned is (issued_to old s actor) refl given has l
 
 -- ---- why a run is over
 
@@ -152,11 +152,11 @@ no_frame : (p : PoolView) (n : ℕ) (actor : Actor) (o : Option Frame) → optio
 no_frame p n actor None is = refl
 no_frame p n actor (Some f) is = cc
 
-pub without_frame : (p : PoolView) (s : State) (actor : Actor) → lent_to p s actor ≡ None → get s.frames actor ≡ None
+pub without_frame : (p : PoolView) (s : State) (actor : Actor) → issued_to p s actor ≡ None → get s.frames actor ≡ None
 without_frame p s actor none = no_frame p (length (events_of actor p.history)) actor (get s.frames actor) none
 
-pub lent_none : (p : PoolView) (s : State) (actor : Actor) → get s.frames actor ≡ None → lent_to p s actor ≡ None
-lent_none p s actor none = ap (option_map (job_by p (length (events_of actor p.history)) actor)) none
+pub issued_none : (p : PoolView) (s : State) (actor : Actor) → get s.frames actor ≡ None → issued_to p s actor ≡ None
+issued_none p s actor none = ap (option_map (job_by p (length (events_of actor p.history)) actor)) none
 
 -- results that issue no job
 abbrev pub Rests : Turn → Type 0
@@ -174,7 +174,7 @@ rests_of answer (inl is) = subst Rests (sym is) tt
 rests_of answer (inr (inl is)) = subst Rests (sym is) tt
 rests_of answer (inr (inr is)) = subst Rests (sym is) tt
 
-pub goes_on : (answer : Turn) → Rests answer → GoesOn answer
+pub goes_on : (answer : Turn) → Rests answer → Continues answer
 goes_on (Over closing) rests = rests
 goes_on (Foreign done) rests = rests
 goes_on Owed rests = rests
@@ -224,11 +224,11 @@ module _ (old new : PoolView) (actor : Actor) (given : Option DoneView) (answer 
     program = subst (λ program. IsDoneOf program kept) (sym program_same) k.program;
   }
     where
-      same : (t : State) → HasState new t → lent_to new t other ≡ lent_to old s other
+      same : (t : State) → HasState new t → issued_to new t other ≡ issued_to old s other
       same t has =
           let frame = frames.others_all old.program.program old.layout actor other apart turn.events s t own (leads t has) in
           let count = others_same other actor apart old.history turn.events own in
-          ap (λ (p : PoolView). lent_to p t other) turn.appended ∙ (ap (λ n. option_map (job_by old n other) (get t.frames other)) count ∙ ap (option_map (job_by old (length (events_of other old.history)) other)) frame)
+          ap (λ (p : PoolView). issued_to p t other) turn.appended ∙ (ap (λ n. option_map (job_by old n other) (get t.frames other)) count ∙ ap (option_map (job_by old (length (events_of other old.history)) other)) frame)
 
   -- ---- after a job
 
@@ -238,13 +238,13 @@ module _ (old new : PoolView) (actor : Actor) (given : Option DoneView) (answer 
     program = subst (λ program. IsDoneOf program (Some done)) (sym program_same) (ap (λ (j : JobView). j.program) work.own ∙ subst (λ (a : Turn). IsAnswerOf old.program a) is (is_answer_of old new actor given answer turn owned));
   }
     where
-      by : CameTo old s actor given answer turn.events → (t : State) → HasState new t → HasDone (lent_to new t actor) (Some done)
+      by : CameTo old s actor given answer turn.events → (t : State) → HasState new t → HasDone (issued_to new t actor) (Some done)
       by (over closing at a e) t has = let no_run : Over closing ≡ Run job = sym a ∙ is in cc
       by (full a e) t has = let no_run : Over Limit ≡ Run job = sym a ∙ is in cc
       by (lent u at j there a some) t has =
           let same : u ≡ t = same_went u t (sym at ∙ subst (λ (p : PoolView). HasState p t) turn.appended has) in
           let job_is : j ≡ job = (let r : Run j ≡ Run job = sym a ∙ is in cc) in
-          let now : lent_to new t actor ≡ Some job = ap (λ (p : PoolView). lent_to p t actor) turn.appended ∙ (ap (λ x. lent_to (with_events old turn.events) x actor) (sym same) ∙ (there ∙ ap Some job_is)) in
+          let now : issued_to new t actor ≡ Some job = ap (λ (p : PoolView). issued_to p t actor) turn.appended ∙ (ap (λ x. issued_to (with_events old turn.events) x actor) (sym same) ∙ (there ∙ ap Some job_is)) in
           subst (λ (o : Option JobView). HasDone o (Some done)) (sym now) work
       by (ended before a e) t has = let no_run : Ended ≡ Run job = sym a ∙ is in cc
       by (went e rules a es none) t has = let no_run : Went ≡ Run job = sym a ∙ is in cc
@@ -267,7 +267,7 @@ module _ (old new : PoolView) (actor : Actor) (given : Option DoneView) (answer 
   of_rules (Release engine rule) rules t f = frames.release_same old.program.program old.layout s t engine rule f
 
   pub keeps_none : Rests answer → Keeps new actor None
-  keeps_none rests = record { has = λ t has. subst (λ (o : Option JobView). HasDone o None) (sym (lent_none new t actor (by came t (leads t has)))) refl; program = tt }
+  keeps_none rests = record { has = λ t has. subst (λ (o : Option JobView). HasDone o None) (sym (issued_none new t actor (by came t (leads t has)))) refl; program = tt }
     where
       by : CameTo old s actor given answer turn.events → (t : State) → run old.program.program old.layout turn.events s ≡ Gone t → get t.frames actor ≡ None
       by (over closing at a e) t f = absurd (subst Rests a rests)
@@ -316,12 +316,12 @@ module _ (old new : PoolView) (actor : Actor) (given : Option DoneView) (answer 
   new_length = turning.longer old new actor given answer turn
 
   -- a step that isn't the last makes an event, or nothing changes and the actor is idle
-  pub more_or_idle : GoesOn answer → (length old.history + 1 ≤ length new.history) ⊎ ((new ≡ old) × IsIdle old actor)
+  pub more_or_idle : Continues answer → (length old.history + 1 ≤ length new.history) ⊎ ((new ≡ old) × IsIdle old actor)
   more_or_idle on = by came
     where
       by : CameTo old s actor given answer turn.events → (length old.history + 1 ≤ length new.history) ⊎ ((new ≡ old) × IsIdle old actor)
-      by (over closing at a e) = absurd (subst GoesOn a on)
-      by (full a e) = absurd (subst GoesOn a on)
+      by (over closing at a e) = absurd (subst Continues a on)
+      by (full a e) = absurd (subst Continues a on)
       by (lent u at j there a some) = inl (omega (arith, some, new_length))
       by (ended before a e) = let n = ap (λ x. length x) e ∙ length-append before (End actor ∷ []) in inl (omega (arith, n, new_length))
       by (went e rules a es none) = let n = ap (λ x. length x) es in inl (omega (arith, n, new_length))
@@ -329,24 +329,24 @@ module _ (old new : PoolView) (actor : Actor) (given : Option DoneView) (answer 
         turn.appended ∙ (ap (with_events old) e ∙ ap (λ (h : List Event). record old { history = h }) (append-nil old.history)),
         record { state = s; has_state = turn.has_state; free = without_frame old s actor none; none_due = nothing; runs_on = runs_on },
       )
-      by (refused a e) = absurd (subst GoesOn a on)
+      by (refused a e) = absurd (subst Continues a on)
 
   -- an idle actor makes no event
   pub idle_answer : IsIdle old actor → Answers Idle [] answer turn.events
   idle_answer i =
       let same : i.state ≡ s = same_went i.state s (sym i.has_state ∙ turn.has_state) in
       let runs_on : closing_at old s ≡ None = subst (λ (t : State). closing_at old t ≡ None) same i.runs_on in
-      let none : lent_to old s actor ≡ None = lent_none old s actor (subst (λ (t : State). get t.frames actor ≡ None) same i.free) in
+      let none : issued_to old s actor ≡ None = issued_none old s actor (subst (λ (t : State). get t.frames actor ≡ None) same i.free) in
       let nothing : given ≡ None = subst (λ (job : Option JobView). HasDone job given) none (has s turn.has_state) in
       let open_line = subst (λ (c : Option Closing). TurnsUnless c old s actor given answer turn.events) runs_on turn.is in
       let free_line = subst (λ (job : Option JobView). Turns old s actor job given answer turn.events) none open_line in
       by (subst (λ (t : State). (due : Event) → IsDueFree old.layout actor t due → ⊥) same i.none_due) (subst (λ (o : Option DoneView). Turns old s actor None o answer turn.events) nothing free_line)
     where
-      by : ((due : Event) → IsDueFree old.layout actor s due → ⊥) → GoesFree old s actor answer turn.events → Answers Idle [] answer turn.events
+      by : ((due : Event) → IsDueFree old.layout actor s due → ⊥) → TurnsFree old s actor answer turn.events → Answers Idle [] answer turn.events
       by none (inl l) = absurd (none l.0 l.1)
       by none (inr l) = l.1
 
-  pub turned_is : length old.history ≤ old.limit → (kept : Option DoneView) (end : Option Stop) → Comes new actor answer kept end → IsTurned old actor new kept end
+  pub turned_is : length old.history ≤ old.limit → (kept : Option DoneView) (end : Option Stop) → ContinuesOrEnds new actor answer kept end → IsTurned old actor new kept end
   turned_is low kept end comes = record {
     answer = answer;
     move = record { given = given; has = has; turn = turn };
@@ -386,7 +386,7 @@ module _ (seed : Option ℕ) (first : PoolView) where
   never_stopped zero p on after = ap (λ (x : PoolView). x.stopped) after ∙ on
   never_stopped (suc turns) p on (x, actor, a, after, next, m, goes) = ap (λ (o : PoolView). o.stopped) m.turn.appended ∙ never_stopped turns x on after
 
-  pub ends_over : (p : PoolView) → first.stopped ≡ false → (c : ComesTo seed first IsOver p) → (t : State) → HasState p t → HasEnded (closing_at p t)
+  pub ends_over : (p : PoolView) → first.stopped ≡ false → (c : IsReachedWith seed first IsOver p) → (t : State) → HasState p t → HasEnded (closing_at p t)
   ends_over p on c t at =
       let m = c.last in
       over_ends c.before p c.actor m.given c.answer m.turn m.has (never_stopped c.turns c.before on c.after) c.is.0 c.is.1 t at

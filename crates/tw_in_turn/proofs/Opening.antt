@@ -16,7 +16,7 @@ use Rattle.tw_frame.specs.Jobs.{JobView}
 use Rattle.tw_pool.specs.PoolView.{PoolView}
 use Rattle.tw_in_turn.specs.InTurn.{HasDone}
 use Rattle.tw_in_turn.specs.Rounds.{Keeps}
-use Rattle.tw_in_turn.proofs.Moving.{lent_none}
+use Rattle.tw_in_turn.proofs.Moving.{issued_none}
 
 nobody : (program : List Procedure) (inputs : List Input) (layout : ActorCounts) (s : State) (actor : Actor) → reached program inputs layout [] ≡ Went s → get s.frames actor ≡ None
 unfolding run opening
@@ -24,6 +24,6 @@ nobody program inputs layout s actor e = ap (λ (t : State). get t.frames actor)
 
 pub keeps_nothing : (p : PoolView) → p.history ≡ [] → (actor : Actor) → Keeps p actor None
 keeps_nothing p first actor = record {
-  has = λ s at. subst (λ (o : Option JobView). HasDone o None) (sym (lent_none p s actor (nobody p.program.program p.inputs p.layout s actor (subst (λ (es : List Event). reached p.program.program p.inputs p.layout es ≡ Went s) first at)))) refl;
+  has = λ s at. subst (λ (o : Option JobView). HasDone o None) (sym (issued_none p s actor (nobody p.program.program p.inputs p.layout s actor (subst (λ (es : List Event). reached p.program.program p.inputs p.layout es ≡ Went s) first at)))) refl;
   program = tt;
 }

@@ -23,8 +23,8 @@ use Rattle.tw_pool.specs.declared.answer.Closing.TheVariants.{Limit, Stopped}
 use Rattle.tw_pool.specs.declared.answer.Turn.{Turn}
 use Rattle.tw_pool.specs.PoolView.{PoolView}
 use Rattle.tw_pool.specs.Turns.{closing_of}
-use Rattle.tw_in_turn.specs.InTurn.{GoesOn, IsAfter, IsIdle, IsMove, actor_after}
-use Rattle.tw_in_turn.specs.Stopping.{ComesAfter}
+use Rattle.tw_in_turn.specs.InTurn.{Continues, IsAfter, IsIdle, IsMove, actor_after}
+use Rattle.tw_in_turn.specs.Stopping.{IsReachedAfter}
 use Rattle.tw_in_turn.specs.Rounds.{AreKept, IsGrown, Keeps, MayTurn}
 
 -- ---- actors by their index
@@ -110,7 +110,7 @@ whose now layout rounds index is low = sym (ap (λ (l : ActorCounts). actor_afte
 
 -- one turn more in a round
 pub one_more : (first now new : PoolView) (layout : ActorCounts) (rounds index : ℕ) (answer : Turn) → now.layout ≡ layout → index < actor_count layout
-    → IsAfter None first (rounds * actor_count layout + index) now → IsMove now (actor_at layout index) answer new → GoesOn answer → IsAfter None first (rounds * actor_count layout + (index + 1)) new
+    → IsAfter None first (rounds * actor_count layout + index) now → IsMove now (actor_at layout index) answer new → Continues answer → IsAfter None first (rounds * actor_count layout + (index + 1)) new
 one_more first now new layout rounds index answer is low after move on = subst (λ n. IsAfter None first n new) next done
   where
     done : IsAfter None first (suc (rounds * actor_count layout + index)) new
@@ -124,7 +124,7 @@ one_more first now new layout rounds index answer is low after move on = subst (
 
 -- the last one
 pub the_last : (first now new : PoolView) (layout : ActorCounts) (rounds index : ℕ) (answer : Turn) (Answers : Turn → Type 0) → now.layout ≡ layout → index < actor_count layout
-    → IsAfter None first (rounds * actor_count layout + index) now → IsMove now (actor_at layout index) answer new → Answers answer → ComesAfter None first (rounds * actor_count layout + index) Answers new
+    → IsAfter None first (rounds * actor_count layout + index) now → IsMove now (actor_at layout index) answer new → Answers answer → IsReachedAfter None first (rounds * actor_count layout + index) Answers new
 the_last first now new layout rounds index answer Answers is low after move ends = (
   record {
     turns = rounds * actor_count layout + index;

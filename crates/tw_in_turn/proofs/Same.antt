@@ -22,12 +22,12 @@ use Rattle.tw_frame.specs.Ready.{IsStop}
 use Rattle.tw_pool.specs.declared.answer.Closing.{Closing}
 use Rattle.tw_pool.specs.declared.answer.Turn.{Turn}
 use Rattle.tw_pool.specs.declared.answer.Turn.TheVariants.{Over, Foreign, Owed, NoMemory, Run, Ended, Went, Idle}
-use Rattle.tw_pool.specs.Ends.{FinalView, IsShut}
+use Rattle.tw_pool.specs.Ends.{FinalView, IsClosedPool}
 use Rattle.tw_pool.specs.History.{HistoryView}
 use Rattle.tw_pool.specs.PoolView.{PoolView, oldest_notice, with_events}
-use Rattle.tw_pool.specs.Turns.{GoesFree, Lends, Makes, TakesBack, Turns, TurnsUnless, IsOldest, closing_at, instr_after, is_last, lent_to, steps_of}
+use Rattle.tw_pool.specs.Turns.{TurnsFree, Issues, Makes, TakesBack, Turns, TurnsUnless, IsOldest, closing_at, instr_after, is_last, issued_to, steps_of}
 use Rattle.tw_in_turn.specs.Drawn.{place_for}
-use Rattle.tw_in_turn.specs.InTurn.{ComesTo, GoesOn, HasDone, IsAfter, IsDrawn, IsIdle, IsLeft, IsMove, IsNext, IsOver, IsWorkOf, actor_from}
+use Rattle.tw_in_turn.specs.InTurn.{IsReachedWith, Continues, HasDone, IsAfter, IsDrawn, IsIdle, IsLeft, IsMove, IsNext, IsOver, IsWorkOf, actor_from}
 use Rattle.tw_in_turn.specs.Same.{AreSameFinals}
 use Rattle.tw_in_turn.specs.declared.run.InTurnResult.TheVariants as left
 
@@ -77,7 +77,7 @@ IsNoFailure Ended = Unit {0}
 IsNoFailure Went = Unit {0}
 IsNoFailure Idle = Unit {0}
 
-goes_without_failure : (answer : Turn) → GoesOn answer → IsNoFailure answer
+goes_without_failure : (answer : Turn) → Continues answer → IsNoFailure answer
 goes_without_failure (Over closing) on = tt
 goes_without_failure (Foreign done) on = tt
 goes_without_failure Owed on = tt
@@ -95,18 +95,18 @@ refused_not : (a : Turn) (given : Option DoneView) → IsNoFailure a → a ≡ N
 refused_not a given fits_place is = subst IsNoFailure is fits_place
 
 module _ (p : PoolView) (a b : Turn) (xs ys : List Event) (sa : IsNoFailure a) (sb : IsNoFailure b) where
-  lends_same : (actor : Actor) (es : List Event) → Lends p actor es a xs → Lends p actor es b ys → BothSame a b xs ys
-  lends_same actor es l m =
+  issues_same : (actor : Actor) (es : List Event) → Issues p actor es a xs → Issues p actor es b ys → BothSame a b xs ys
+  issues_same actor es l m =
       let state : m.0 ≡ l.0 = same_went m.0 l.0 (sym m.1 ∙ l.1) in
-      let job : l.2 ≡ m.2 = same_Some l.2 m.2 (sym l.3 ∙ (ap (λ (s : State). lent_to (with_events p es) s actor) (sym state) ∙ m.3)) in
+      let job : l.2 ≡ m.2 = same_Some l.2 m.2 (sym l.3 ∙ (ap (λ (s : State). issued_to (with_events p es) s actor) (sym state) ∙ m.3)) in
       (l.4.0 ∙ (ap Run job ∙ sym m.4.0), l.4.1 ∙ sym m.4.1)
 
   makes_same : (actor : Actor) (given : Option DoneView) (es : List Event) (e : Event) → Makes p actor given es e a xs → Makes p actor given es e b ys → BothSame a b xs ys
-  makes_same actor given es (Take x) (inl l) (inl m) = lends_same actor (es ++ Take x ∷ []) l m
+  makes_same actor given es (Take x) (inl l) (inl m) = issues_same actor (es ++ Take x ∷ []) l m
   makes_same actor given es (Take x) (inl l) (inr m) = absurd (refused_not b given sb m.1.0)
   makes_same actor given es (Take x) (inr l) m = absurd (refused_not a given sa l.1.0)
   makes_same actor given es (Local x n) l m = elim l [ ]
-  makes_same actor given es (Call x) (inl l) (inl m) = lends_same actor (es ++ Call x ∷ []) l m
+  makes_same actor given es (Call x) (inl l) (inl m) = issues_same actor (es ++ Call x ∷ []) l m
   makes_same actor given es (Call x) (inl l) (inr m) = absurd (refused_not b given sb m.1.0)
   makes_same actor given es (Call x) (inr l) m = absurd (refused_not a given sa l.1.0)
   makes_same actor given es (End x) l m = (l.0 ∙ sym m.0, l.1 ∙ sym m.1)
@@ -133,7 +133,7 @@ module _ (p : PoolView) (a b : Turn) (xs ys : List Event) (sa : IsNoFailure a) (
   due_same s (Worker n) e f de df first last = same_Some f e (sym df ∙ de)
   due_same s (Server n) e f de df first last = oldest_same s n e f de df first last
 
-  free_same : (s : State) (actor : Actor) → GoesFree p s actor a xs → GoesFree p s actor b ys → BothSame a b xs ys
+  free_same : (s : State) (actor : Actor) → TurnsFree p s actor a xs → TurnsFree p s actor b ys → BothSame a b xs ys
   free_same s actor (inl l) (inl m) = makes_same actor None [] l.0 l.3 (subst (λ x. Makes p actor None [] x b ys) (due_same s actor l.0 m.0 l.1 m.1 l.2 m.2) m.3)
   free_same s actor (inl l) (inr m) = absurd (m.0 l.0 l.1)
   free_same s actor (inr l) (inl m) = absurd (l.0 m.0 m.1)
@@ -142,7 +142,7 @@ module _ (p : PoolView) (a b : Turn) (xs ys : List Event) (sa : IsNoFailure a) (
   -- ---- all lines
 
   back_same : (actor : Actor) (short last : Bool) (done : DoneView) → TakesBack short last p actor done a xs → TakesBack short last p actor done b ys → BothSame a b xs ys
-  back_same actor true last done l m = lends_same actor (steps_of actor done) l m
+  back_same actor true last done l m = issues_same actor (steps_of actor done) l m
   back_same actor false true done l m = (l.0 ∙ sym m.0, l.1 ∙ sym m.1)
   back_same actor false false done l m = makes_same actor (Some done) (steps_of actor done) (event_of actor (instr_after p.program.program done)) l m
 
@@ -157,7 +157,7 @@ module _ (p : PoolView) (a b : Turn) (xs ys : List Event) (sa : IsNoFailure a) (
 
   unless_same : (s : State) (actor : Actor) (closing : Option Closing) (given : Option DoneView) → TurnsUnless closing p s actor given a xs → TurnsUnless closing p s actor given b ys → BothSame a b xs ys
   unless_same s actor (Some closing) given l m = (l.0 ∙ sym m.0, l.1 ∙ sym m.1)
-  unless_same s actor None given l m = turns_same s actor (lent_to p s actor) given l m
+  unless_same s actor None given l m = turns_same s actor (issued_to p s actor) given l m
 
 -- ---- two moves from one pool
 
@@ -165,7 +165,7 @@ move_same : (old new other : PoolView) (actor : Actor) (a b : Turn) (m : IsMove 
 move_same old new other actor a b m n sa sb =
     let s = m.turn.state in
     let state : n.turn.state ≡ s = same_went n.turn.state s (sym n.turn.has_state ∙ m.turn.has_state) in
-    let given : n.given ≡ m.given = given_same (lent_to old s actor) n.given m.given (n.has s m.turn.has_state) (m.has s m.turn.has_state) in
+    let given : n.given ≡ m.given = given_same (issued_to old s actor) n.given m.given (n.has s m.turn.has_state) (m.has s m.turn.has_state) in
     let line = subst (λ (t : State). TurnsUnless (closing_at old t) old t actor n.given b n.turn.events) state n.turn.is in
     let same = subst (λ (o : Option DoneView). TurnsUnless (closing_at old s) old s actor o b n.turn.events) given line in
     unless_same old a b m.turn.events n.turn.events sa sb s actor (closing_at old s) m.given m.turn.is same
@@ -213,7 +213,7 @@ record GoesBy (seed : Option ℕ) (first : PoolView) (turns : ℕ) : Type 0 wher
   after : IsAfter seed first turns before
   chosen : IsNext seed before turns actor
   move : IsMove before actor answer next
-  on : GoesOn answer
+  on : Continues answer
 
 -- some steps later
 abbrev later_on : ℕ → ℕ → ℕ
@@ -227,7 +227,7 @@ goes_by seed first turns (suc later) q (x, u, a, h, c, m, on) = goes_by seed fir
 over_without_failure : (a : Turn) → IsOver a → IsNoFailure a
 over_without_failure a over = subst IsNoFailure (sym over.1) tt
 
-module _ (seed : Option ℕ) (first p q : PoolView) (c : ComesTo seed first IsOver p) (d : ComesTo seed first IsOver q) where
+module _ (seed : Option ℕ) (first p q : PoolView) (c : IsReachedWith seed first IsOver p) (d : IsReachedWith seed first IsOver q) where
   -- as many turns
   as_many : c.turns ≡ d.turns → p ≡ q
   as_many is =
@@ -241,7 +241,7 @@ module _ (seed : Option ℕ) (first p q : PoolView) (c : ComesTo seed first IsOv
       let g = goes_by seed first c.turns later d.before (subst (λ n. IsAfter seed first n d.before) is d.after) in
       let same = after_same seed first c.turns c.before g.before c.after g.after in
       let leads = next_leads seed c.before g.before p g.next c.turns c.actor g.actor c.answer g.answer same c.next g.chosen c.last g.move (over_without_failure c.answer c.is) (goes_without_failure g.answer g.on) in
-      subst GoesOn (sym leads.0 ∙ c.is.1) g.on
+      subst Continues (sym leads.0 ∙ c.is.1) g.on
 
 abbrev Order : ℕ → ℕ → Type 0
 Order m n = (m ≡ n) ⊎ (((k : ℕ) × (n ≡ suc (later_on k m))) ⊎ ((k : ℕ) × (m ≡ suc (later_on k n))))
@@ -265,7 +265,7 @@ order zero (suc n) = inr (inl (n, ap suc (later_zero n)))
 order (suc m) zero = inr (inr (m, ap suc (later_zero m)))
 order (suc m) (suc n) = order_on m n (order m n)
 
-pub one_run : (seed : Option ℕ) (first p q : PoolView) → ComesTo seed first IsOver p → ComesTo seed first IsOver q → p ≡ q
+pub one_run : (seed : Option ℕ) (first p q : PoolView) → IsReachedWith seed first IsOver p → IsReachedWith seed first IsOver q → p ≡ q
 one_run seed first p q c d = by (order c.turns d.turns)
   where
     by : Order c.turns d.turns → p ≡ q
@@ -275,7 +275,7 @@ one_run seed first p q c d = by (order c.turns d.turns)
 
 -- ---- the results
 
-same_shut : (p : PoolView) (one other : FinalView) (h k : HistoryView) → IsShut p one h → IsShut p other k → (h.events ≡ k.events) × AreSameFinals one other
+same_shut : (p : PoolView) (one other : FinalView) (h k : HistoryView) → IsClosedPool p one h → IsClosedPool p other k → (h.events ≡ k.events) × AreSameFinals one other
 same_shut p one other h k a b =
     let state : a.state ≡ b.state = same_went a.state b.state (sym a.has_state ∙ b.has_state) in (
       a.events ∙ sym b.events,
@@ -289,4 +289,4 @@ same_shut p one other h k a b =
 
 pub same_left : (seed : Option ℕ) (first : PoolView) (one other : FinalView) (h k : HistoryView) → IsLeft seed first (left.Over one h) → IsLeft seed first (left.Over other k) → (h.events ≡ k.events) × AreSameFinals one other
 same_left seed first one other h k (p, c, a, ended) (q, d, b, over) =
-    same_shut p one other h k a.shut (subst (λ (x : PoolView). IsShut x other k) (one_run seed first q p d c) b.shut)
+    same_shut p one other h k a.shut (subst (λ (x : PoolView). IsClosedPool x other k) (one_run seed first q p d c) b.shut)

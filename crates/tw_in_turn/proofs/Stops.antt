@@ -1,16 +1,16 @@
 -- The end of a run, at its last look.
 use Rattle.std.proofs.Common.{ℕ, suc, Option, subst, sym}
 use Rattle.tw_pool.specs.PoolView.{PoolView}
-use Rattle.tw_in_turn.specs.InTurn.{GoesOn, IsAfter}
+use Rattle.tw_in_turn.specs.InTurn.{Continues, IsAfter}
 use Rattle.tw_in_turn.specs.Rounds.{Ends, EndsAfter}
-use Rattle.tw_in_turn.specs.Stopping.{ComesAfter}
+use Rattle.tw_in_turn.specs.Stopping.{IsReachedAfter}
 use Rattle.tw_in_turn.specs.declared.rounds.End.{End}
 use Rattle.tw_in_turn.specs.declared.rounds.End.TheVariants.{Over, NoMemory, Stopped}
 use Rattle.tw_in_turn.proofs.Watching.{with_last}
 
-pub ends_after : (seed : Option ℕ) (first : PoolView) (turns : ℕ) (end : End) (p : PoolView) → ComesAfter seed first turns (Ends end) p → EndsAfter seed first (with_last end turns) end p
+pub ends_after : (seed : Option ℕ) (first : PoolView) (turns : ℕ) (end : End) (p : PoolView) → IsReachedAfter seed first turns (Ends end) p → EndsAfter seed first (with_last end turns) end p
 ends_after seed first turns Over p comes = comes
 ends_after seed first turns NoMemory p comes = comes
 ends_after seed first turns Stopped p (c, count) =
-    let on : GoesOn c.answer = subst GoesOn (sym c.is.1) tt in
+    let on : Continues c.answer = subst Continues (sym c.is.1) tt in
     subst (λ n. IsAfter seed first (suc n) p) count (c.before, c.actor, c.answer, c.after, c.next, c.last, on)

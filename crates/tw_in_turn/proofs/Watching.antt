@@ -15,7 +15,7 @@ use Rattle.tw_pool.specs.declared.answer.Closing.{Closing}
 use Rattle.tw_pool.specs.declared.answer.Turn.{Turn}
 use Rattle.tw_pool.specs.History.{HistoryView}
 use Rattle.tw_pool.specs.PoolView.{PoolView}
-use Rattle.tw_pool.specs.Turns.{IsTurn, Makes, TakesBack, Turns, TurnsUnless, closing_at, instr_after, is_last, lent_to, steps_of}
+use Rattle.tw_pool.specs.Turns.{IsTurn, Makes, TakesBack, Turns, TurnsUnless, closing_at, instr_after, is_last, issued_to, steps_of}
 use Rattle.tw_code.specs.machine.Due.{event_of}
 use Rattle.tw_in_turn.specs.Rounds.{all_owed, answers_in, is_stop, looks_at, owed}
 use Rattle.tw_in_turn.specs.Stopping.{looks_in, looks_within}
@@ -74,7 +74,7 @@ module _ (p : PoolView) (actor : Actor) (answer : Turn) (events : List Event) wh
 
   unless : (s : State) (closing : Option Closing) (given : Option DoneView) → TurnsUnless closing p s actor given answer events → looks_within events ≤ owed given
   unless s (Some closing) given l = no_more events (owed given) l.1
-  unless s None given l = turned s (lent_to p s actor) given l
+  unless s None given l = turned s (issued_to p s actor) given l
 
 -- the events of a step have the looks of the result that is submitted
 pub in_step : (old new : PoolView) (actor : Actor) (given : Option DoneView) (answer : Turn) → IsTurn old actor given answer new → looks_within new.history ≤ looks_within old.history + owed given

@@ -14,10 +14,10 @@ use Rattle.tw_pool.specs.declared.answer.Closing.{Closing}
 use Rattle.tw_pool.specs.declared.answer.Closing.TheVariants.{Quiet, Stuck, Stopped, Limit}
 use Rattle.tw_pool.specs.declared.answer.Turn.{Turn}
 use Rattle.tw_pool.specs.declared.answer.Turn.TheVariants.{Over, Foreign, Owed, NoMemory, Run, Ended, Went, Idle}
-use Rattle.tw_pool.specs.Ends.{FinalView, IsShut}
+use Rattle.tw_pool.specs.Ends.{FinalView, IsClosedPool}
 use Rattle.tw_pool.specs.History.{HistoryView}
 use Rattle.tw_pool.specs.PoolView.{PoolView, HasState}
-use Rattle.tw_pool.specs.Turns.{IsTurn, closing_at, lent_to}
+use Rattle.tw_pool.specs.Turns.{IsTurn, closing_at, issued_to}
 use Rattle.tw_in_turn.specs.Drawn.{place_for}
 use Rattle.tw_in_turn.specs.declared.run.InTurnResult.{InTurnResult}
 use Rattle.tw_in_turn.specs.declared.run.InTurnResult.TheVariants as left
@@ -68,7 +68,7 @@ HasDone (Some job) (Some done) = IsWorkOf job false done
 
 -- holds for what an actor submits with its step
 abbrev pub Has : PoolView → Actor → Option DoneView → Type 0
-Has p actor given = (s : State) → HasState p s → HasDone (lent_to p s actor) given
+Has p actor given = (s : State) → HasState p s → HasDone (issued_to p s actor) given
 
 -- the step of an actor with that
 pub record IsMove (old : PoolView) (actor : Actor) (answer : Turn) (new : PoolView) : Type 0 where
@@ -79,24 +79,24 @@ pub record IsMove (old : PoolView) (actor : Actor) (answer : Turn) (new : PoolVi
 -- ---- steps, one after the other
 
 -- holds for the results after which the next actor makes a step
-abbrev pub GoesOn : Turn → Type 0
-GoesOn (Over closing) = ⊥
-GoesOn (Foreign done) = ⊥
-GoesOn Owed = ⊥
-GoesOn (NoMemory given) = ⊥
-GoesOn (Run job) = Unit {0}
-GoesOn Ended = Unit {0}
-GoesOn Went = Unit {0}
-GoesOn Idle = Unit {0}
+abbrev pub Continues : Turn → Type 0
+Continues (Over closing) = ⊥
+Continues (Foreign done) = ⊥
+Continues Owed = ⊥
+Continues (NoMemory given) = ⊥
+Continues (Run job) = Unit {0}
+Continues Ended = Unit {0}
+Continues Went = Unit {0}
+Continues Idle = Unit {0}
 
 -- holds for the pool after so many steps, from the first one on
 abbrev pub IsAfter : Option ℕ → PoolView → ℕ → PoolView → Type 0
 IsAfter seed first zero p = p ≡ first
 IsAfter seed first (suc turns) p =
-    (before : PoolView) × (actor : Actor) × (answer : Turn) × IsAfter seed first turns before × IsNext seed before turns actor × IsMove before actor answer p × GoesOn answer
+    (before : PoolView) × (actor : Actor) × (answer : Turn) × IsAfter seed first turns before × IsNext seed before turns actor × IsMove before actor answer p × Continues answer
 
 -- the step after some others, with a result for which `Answers` holds
-pub record ComesTo (seed : Option ℕ) (first : PoolView) (Answers : Turn → Type 0) (p : PoolView) : Type 0 where
+pub record IsReachedWith (seed : Option ℕ) (first : PoolView) (Answers : Turn → Type 0) (p : PoolView) : Type 0 where
   pub turns : ℕ
   pub before : PoolView
   pub after : IsAfter seed first turns before
@@ -113,15 +113,15 @@ abbrev pub IsOver : Turn → Type 0
 IsOver answer = (closing : Closing) × (answer ≡ Over closing)
 
 -- holds if an allocation failed: for the step's event, or for a local instruction of the job that it issued
-abbrev pub IsRefused : Turn → Type 0
-IsRefused (Over closing) = ⊥
-IsRefused (Foreign done) = ⊥
-IsRefused Owed = ⊥
-IsRefused (NoMemory given) = Unit {0}
-IsRefused (Run job) = (done : DoneView) × IsWorkOf job true done
-IsRefused Ended = ⊥
-IsRefused Went = ⊥
-IsRefused Idle = ⊥
+abbrev pub IsOutOfMemory : Turn → Type 0
+IsOutOfMemory (Over closing) = ⊥
+IsOutOfMemory (Foreign done) = ⊥
+IsOutOfMemory Owed = ⊥
+IsOutOfMemory (NoMemory given) = Unit {0}
+IsOutOfMemory (Run job) = (done : DoneView) × IsWorkOf job true done
+IsOutOfMemory Ended = ⊥
+IsOutOfMemory Went = ⊥
+IsOutOfMemory Idle = ⊥
 
 -- holds if it has ended by itself, or has reached the limit
 abbrev pub HasEnded : Option Closing → Type 0
@@ -135,10 +135,10 @@ HasEnded (Some Limit) = Unit {0}
 pub record IsLeftIn (first p : PoolView) (final : FinalView) (history : HistoryView) : Type 0 where
   pub of_first : p ≡ record first { history = p.history }
   pub within : length p.history ≤ first.limit
-  pub shut : IsShut p final history
+  pub shut : IsClosedPool p final history
   pub ends_well : EndsWell first.program.program shut.state
 
 -- holds for a finished run, from its first pool on
 abbrev pub IsLeft : Option ℕ → PoolView → InTurnResult → Type 0
-IsLeft seed first (left.Over final history) = (p : PoolView) × ComesTo seed first IsOver p × IsLeftIn first p final history × HasEnded final.closing
-IsLeft seed first (left.NoMemory final history) = (p : PoolView) × ComesTo seed first IsRefused p × IsLeftIn first p final history
+IsLeft seed first (left.Over final history) = (p : PoolView) × IsReachedWith seed first IsOver p × IsLeftIn first p final history × HasEnded final.closing
+IsLeft seed first (left.NoMemory final history) = (p : PoolView) × IsReachedWith seed first IsOutOfMemory p × IsLeftIn first p final history

@@ -12,19 +12,19 @@ use Rattle.tw_host.specs.Sees.{IsDoneOf}
 use Rattle.tw_in_turn.specs.declared.rounds.End.{End}
 use Rattle.tw_in_turn.specs.declared.rounds.End.TheVariants.{Over, NoMemory, Stopped}
 use Rattle.tw_stop.specs.Looks.{looks, noes}
-use Rattle.tw_in_turn.specs.Stopping.{ComesAfter, looks_within}
-use Rattle.tw_in_turn.specs.InTurn.{GoesOn, Has, IsAfter, IsIdle, IsMove, IsOver, IsRefused}
+use Rattle.tw_in_turn.specs.Stopping.{IsReachedAfter, looks_within}
+use Rattle.tw_in_turn.specs.InTurn.{Continues, Has, IsAfter, IsIdle, IsMove, IsOver, IsOutOfMemory}
 
 -- holds for the reason why no step follows this result; a stop cuts off the job that was issued
 abbrev pub Ends : End → Turn → Type 0
 Ends Over answer = IsOver answer
-Ends NoMemory answer = IsRefused answer
+Ends NoMemory answer = IsOutOfMemory answer
 Ends Stopped answer = (job : JobView) × (answer ≡ Run job)
 
 -- holds for the reason why no step follows the first so many, which lead to this pool
 abbrev pub EndsAfter : Option ℕ → PoolView → ℕ → End → PoolView → Type 0
-EndsAfter seed first turns Over p = ComesAfter seed first turns IsOver p
-EndsAfter seed first turns NoMemory p = ComesAfter seed first turns IsRefused p
+EndsAfter seed first turns Over p = IsReachedAfter seed first turns IsOver p
+EndsAfter seed first turns NoMemory p = IsReachedAfter seed first turns IsOutOfMemory p
 EndsAfter seed first turns Stopped p = IsAfter seed first turns p
 
 abbrev pub is_stop : End → Bool
@@ -71,9 +71,9 @@ pub record Keeps (p : PoolView) (actor : Actor) (given : Option DoneView) : Type
   pub program : IsDoneOf p.program given
 
 -- holds if an actor keeps what it needs for its next step, or if no step follows
-abbrev pub Comes : PoolView → Actor → Turn → Option DoneView → Option End → Type 0
-Comes p actor answer kept None = GoesOn answer × Keeps p actor kept
-Comes p actor answer kept (Some end) = Ends end answer
+abbrev pub ContinuesOrEnds : PoolView → Actor → Turn → Option DoneView → Option End → Type 0
+ContinuesOrEnds p actor answer kept None = Continues answer × Keeps p actor kept
+ContinuesOrEnds p actor answer kept (Some end) = Ends end answer
 
 -- only events are new
 pub record IsGrown (old new : PoolView) : Type 0 where
@@ -85,9 +85,9 @@ pub record IsGrown (old new : PoolView) : Type 0 where
 pub record IsTurned (old : PoolView) (actor : Actor) (new : PoolView) (kept : Option DoneView) (end : Option End) : Type 0 where
   pub answer : Turn
   pub move : IsMove old actor answer new
-  pub comes : Comes new actor answer kept end
+  pub comes : ContinuesOrEnds new actor answer kept end
   pub others : (other : Actor) (its : Option DoneView) → other ≢ actor → Keeps old other its → Keeps new other its
-  pub more : GoesOn answer → (length old.history + 1 ≤ length new.history) ⊎ ((new ≡ old) × IsIdle old actor)
+  pub more : Continues answer → (length old.history + 1 ≤ length new.history) ⊎ ((new ≡ old) × IsIdle old actor)
   pub grown : IsGrown old new
 
 -- each actor has what it needs for its next step, in the order of the actors
@@ -108,16 +108,16 @@ turns_in None layout rounds = rounds * actor_count layout
 turns_in (Some seed) layout rounds = rounds
 
 -- if a round isn't the last, there is some new event
-pub record GoesAround (seed : Option ℕ) (rounds : ℕ) (old new : PoolView) (kept : List (Option DoneView)) : Type 0 where
+pub record CompletesRound (seed : Option ℕ) (rounds : ℕ) (old new : PoolView) (kept : List (Option DoneView)) : Type 0 where
   pub more : length old.history < length new.history
   pub kept_is : AreKept new kept
   pub after : (first : PoolView) → IsAfter seed first (turns_in seed old.layout rounds) old → IsAfter seed first (turns_in seed old.layout (rounds + 1)) new
 
 -- holds for the result of a round after so many, with a look before each of its steps at least, and those while tasks ran
-abbrev pub ComesAround : (List Bool → Type 0) → Option ℕ → ℕ → PoolView → List (Option DoneView) → PoolView → List (Option DoneView) → Option End → Type 0
-ComesAround Looks seed rounds old had new kept None =
-    GoesAround seed rounds old new kept × (count : ℕ) × Looks (noes count) × (turns_in seed old.layout (rounds + 1) + looks_at new kept ≤ turns_in seed old.layout rounds + looks_at old had + count)
-ComesAround Looks seed rounds old had new kept (Some end) =
+abbrev pub IsRoundResult : (List Bool → Type 0) → Option ℕ → ℕ → PoolView → List (Option DoneView) → PoolView → List (Option DoneView) → Option End → Type 0
+IsRoundResult Looks seed rounds old had new kept None =
+    CompletesRound seed rounds old new kept × (count : ℕ) × Looks (noes count) × (turns_in seed old.layout (rounds + 1) + looks_at new kept ≤ turns_in seed old.layout rounds + looks_at old had + count)
+IsRoundResult Looks seed rounds old had new kept (Some end) =
     (turns : ℕ) × (count : ℕ) × Looks (looks count (is_stop end)) × (turns + looks_within new.history ≤ turns_in seed old.layout rounds + looks_at old had + count)
     × ((first : PoolView) → IsAfter seed first (turns_in seed old.layout rounds) old → EndsAfter seed first turns end new)
 

@@ -5,7 +5,7 @@ use Rattle.tw_types.specs.declared.event.Event.{Event}
 use Rattle.tw_types.specs.declared.event.Event.TheVariants.{Take, Local, Call, End, Ask, Deliver, Release}
 use Rattle.tw_pool.specs.declared.answer.Turn.{Turn}
 use Rattle.tw_pool.specs.PoolView.{PoolView}
-use Rattle.tw_in_turn.specs.InTurn.{ComesTo, HasEnded, IsAfter, IsLeft, IsLeftIn, IsOver, IsRefused}
+use Rattle.tw_in_turn.specs.InTurn.{IsReachedWith, HasEnded, IsAfter, IsLeft, IsLeftIn, IsOver, IsOutOfMemory}
 use Rattle.tw_in_turn.specs.declared.run.InTurnResult.TheVariants as left
 use Rattle.tw_in_turn.specs.declared.run.StoppableResult.{StoppableResult}
 use Rattle.tw_in_turn.specs.declared.run.StoppableResult.TheVariants.{Ended, Stopped}
@@ -37,13 +37,13 @@ looks_within events = sum_by looks_in events
 -- ---- how it ends
 
 -- the step after so many others
-abbrev pub ComesAfter : Option ℕ → PoolView → ℕ → (Turn → Type 0) → PoolView → Type 0
-ComesAfter seed first turns Answers p = (c : ComesTo seed first Answers p) × (c.turns ≡ turns)
+abbrev pub IsReachedAfter : Option ℕ → PoolView → ℕ → (Turn → Type 0) → PoolView → Type 0
+IsReachedAfter seed first turns Answers p = (c : IsReachedWith seed first Answers p) × (c.turns ≡ turns)
 
 -- holds for a finished run, from its first pool on: it ended at the step after so many, or was stopped after them
 abbrev pub IsLeftAfter : Option ℕ → PoolView → ℕ → StoppableResult → Type 0
-IsLeftAfter seed first turns (Ended (left.Over final history)) = (p : PoolView) × ComesAfter seed first turns IsOver p × IsLeftIn first p final history × HasEnded final.closing
-IsLeftAfter seed first turns (Ended (left.NoMemory final history)) = (p : PoolView) × ComesAfter seed first turns IsRefused p × IsLeftIn first p final history
+IsLeftAfter seed first turns (Ended (left.Over final history)) = (p : PoolView) × IsReachedAfter seed first turns IsOver p × IsLeftIn first p final history × HasEnded final.closing
+IsLeftAfter seed first turns (Ended (left.NoMemory final history)) = (p : PoolView) × IsReachedAfter seed first turns IsOutOfMemory p × IsLeftIn first p final history
 IsLeftAfter seed first turns (Stopped final history) = (p : PoolView) × IsAfter seed first turns p × IsLeftIn first p final history
 
 -- Holds for a finished run whose looks had these answers: at least one before each step, and those while tasks ran. All say no but the last

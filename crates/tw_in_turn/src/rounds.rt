@@ -3,7 +3,7 @@
 ghost use Rattle.std.specs.Prelude.{◌≡◌, ◌≤◌, None, Some, true, ℕ};
 ghost use Rattle.tw_stop.specs.Looks.{Looked};
 ghost use Rattle.tw_types.specs.Actor.{is_in};
-ghost use Rattle.tw_in_turn.specs.Rounds.{AreKept, ComesAround, EndsBy, IsGrown, IsTurned, IsWatched, Keeps, MayTurn};
+ghost use Rattle.tw_in_turn.specs.Rounds.{AreKept, IsRoundResult, EndsBy, IsGrown, IsTurned, IsWatched, Keeps, MayTurn};
 
 use crate::drawn::place_for;
 use std::alloc::Global;
@@ -66,7 +66,7 @@ fn turn_round<'a, S: StopSignal>(
 ) -> Option<End>
     requires may { MayTurn pool.old }
     requires kept { AreKept pool.old kept.old }
-    ensures round { (rounds : ℕ) → ComesAround (Looked S.says stop.old stop.new) None rounds pool.old kept.old pool.new kept.new result }
+    ensures round { (rounds : ℕ) → IsRoundResult (Looked S.says stop.old stop.new) None rounds pool.old kept.old pool.new kept.new result }
     ensures grown { IsGrown pool.old pool.new }
 {
     let layout = pool.layout();
@@ -94,7 +94,7 @@ fn turn_drawn<'a, S: StopSignal>(
 ) -> Option<End>
     requires may { MayTurn pool.old }
     requires kept { AreKept pool.old kept.old }
-    ensures round { ComesAround (Looked S.says stop.old stop.new) (Some seed) steps pool.old kept.old pool.new kept.new result }
+    ensures round { IsRoundResult (Looked S.says stop.old stop.new) (Some seed) steps pool.old kept.old pool.new kept.new result }
     ensures grown { IsGrown pool.old pool.new }
 {
     let layout = pool.layout();
@@ -127,7 +127,7 @@ fn turn_next<'a, S: StopSignal>(
 ) -> Option<End>
     requires may { MayTurn pool.old }
     requires kept { AreKept pool.old kept.old }
-    ensures round { ComesAround (Looked S.says stop.old stop.new) seed rounds pool.old kept.old pool.new kept.new result }
+    ensures round { IsRoundResult (Looked S.says stop.old stop.new) seed rounds pool.old kept.old pool.new kept.new result }
     ensures grown { IsGrown pool.old pool.new }
 {
     match seed {

@@ -34,7 +34,7 @@ pub enum StoppableResult {
     Stopped { outcome: Final, history: History },
 }
 
-/// Returns the kept results before a run: none for each actor.
+/// Returns the kept `Done`s before a run in one thread: none for each actor.
 fn nothing_kept<'a>(alloc: Global, count: usize) -> Result<Vec<Option<Done<'a>>>, AllocError>
     ensures kept { (p : PoolView) → IsOpened p count → IfOk result (λ kept. AreKept p kept.items) }
     ensures nothing { IfOk result (λ kept. all_owed kept.items ≡ 0) }

@@ -2,7 +2,7 @@
 
 ghost use Rattle.std.specs.Prelude.{◌≡◌, ℕ, Option};
 ghost use Rattle.tw_in_turn.specs.Bounded.{EndsByItself, HasFew, IsBoundedBy};
-ghost use Rattle.tw_in_turn.specs.InTurn.{ComesTo, IsLeft, IsOver};
+ghost use Rattle.tw_in_turn.specs.InTurn.{IsReachedWith, IsLeft, IsOver};
 ghost use Rattle.tw_in_turn.specs.Same.{AreSameFinals};
 ghost use Rattle.tw_in_turn.specs.declared.run.InTurnResult.TheVariants as left;
 ghost use Rattle.tw_pool.specs.Ends.{FinalView};
@@ -13,7 +13,7 @@ ghost use Rattle.tw_verify.specs.Typed.{TypedProgram};
 /// Proves that two runs in one thread from the same opening, with the same seed or none, end in the same pool: with the same events. Also
 /// that they leave the same results.
 pub fn one_run()
-    ensures pool { (seed : Option ℕ) (first p q : PoolView) → ComesTo seed first IsOver p → ComesTo seed first IsOver q → p ≡ q }
+    ensures pool { (seed : Option ℕ) (first p q : PoolView) → IsReachedWith seed first IsOver p → IsReachedWith seed first IsOver q → p ≡ q }
     ensures results { (seed : Option ℕ) (first : PoolView) (one other : FinalView) (h k : HistoryView)
         → IsLeft seed first (left.Over one h) → IsLeft seed first (left.Over other k) → (h.events ≡ k.events) × AreSameFinals one other }
 {}

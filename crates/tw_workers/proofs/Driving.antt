@@ -5,7 +5,7 @@ use Rattle.tw_frame.specs.Jobs.{DoneView}
 use Rattle.tw_host.specs.Run.{Run}
 use Rattle.tw_host.specs.Seats.{SeatEvents}
 use Rattle.tw_workers.specs.AtHost.{AtSeat}
-use Rattle.tw_workers.specs.Driving.{Answer, Drives, Ends, GoesOn, Step, Turned, Held, Stopped, Before, Ran, Left, After, asked, ends, goes}
+use Rattle.tw_workers.specs.Driving.{Answer, Drives, Ends, Continues, Step, Turned, Held, Stopped, Before, Ran, Left, After, step_or_batch, ends, goes}
 
 -- ---- lists of steps
 
@@ -21,14 +21,14 @@ seen view R p q (x ∷ xs) is = (view is.0, is.1, seen view R is.0 q xs is.2)
 
 -- the `Done` that is submitted is the one that was there
 module _ (was given : Option DoneView) (taken : given ≡ was) (past : List Step) (so_far : (rest : List Step) (memory : Bool) → Drives was rest memory → Drives None (past ++ rest) memory) (several : Bool) (answer : Answer) (later : List Step) where
-  turned : (rest : List Step) (memory : Bool) → Drives given (asked several given answer ∷ rest) memory → Drives None (past ++ (asked several given answer ∷ rest)) memory
-  turned rest memory drives = so_far (asked several given answer ∷ rest) memory (subst (λ o. Drives o (asked several given answer ∷ rest) memory) taken drives)
+  turned : (rest : List Step) (memory : Bool) → Drives given (step_or_batch several given answer ∷ rest) memory → Drives None (past ++ (step_or_batch several given answer ∷ rest)) memory
+  turned rest memory drives = so_far (step_or_batch several given answer ∷ rest) memory (subst (λ o. Drives o (step_or_batch several given answer ∷ rest) memory) taken drives)
 
-  pub on : (next : Option DoneView) → GoesOn answer later next → (rest : List Step) (memory : Bool) → Drives next rest memory → Drives None ((past ++ (asked several given answer ∷ later)) ++ rest) memory
+  pub on : (next : Option DoneView) → Continues answer later next → (rest : List Step) (memory : Bool) → Drives next rest memory → Drives None ((past ++ (step_or_batch several given answer ∷ later)) ++ rest) memory
   on next is rest memory drives =
-      subst (λ steps. Drives None steps memory) (sym (append_assoc past (asked several given answer ∷ later) rest)) (turned (later ++ rest) memory (goes several answer later next rest is drives))
+      subst (λ steps. Drives None steps memory) (sym (append_assoc past (step_or_batch several given answer ∷ later) rest)) (turned (later ++ rest) memory (goes several answer later next rest is drives))
 
-  pub over : (memory : Bool) → Ends answer later memory → Drives None (past ++ (asked several given answer ∷ later)) memory
+  pub over : (memory : Bool) → Ends answer later memory → Drives None (past ++ (step_or_batch several given answer ∷ later)) memory
   over memory is = turned later memory (ends several answer later is)
 
 -- ---- at a host

@@ -23,9 +23,9 @@ pub data Step : Type 0 where
   After : Actor → ℕ → Step
 
 -- returns one scheduling step, or a batch
-abbrev pub asked : Bool → Option DoneView → Answer → Step
-asked false given answer = Turned given answer
-asked true given answer = Held given answer
+abbrev pub step_or_batch : Bool → Option DoneView → Answer → Step
+step_or_batch false given answer = Turned given answer
+step_or_batch true given answer = Held given answer
 
 -- ---- after a scheduling step
 
@@ -40,16 +40,16 @@ GivesUp None steps = steps ≡ Stopped ∷ []
 GivesUp (Some done) steps = (answer : Answer) × (steps ≡ Turned (Some done) answer ∷ Stopped ∷ [])
 
 -- The driver continues: these steps follow this result, and with its next scheduling step it submits this.
-abbrev pub GoesOn : Answer → List Step → Option DoneView → Type 0
-GoesOn (Ok (turn.Over closing)) steps next = ⊥
-GoesOn (Ok (turn.Foreign done)) steps next = ⊥
-GoesOn (Ok turn.Owed) steps next = ⊥
-GoesOn (Ok (turn.NoMemory given)) steps next = ⊥
-GoesOn (Ok (turn.Run job)) steps next = (done : DoneView) × (done.before ≡ job) × (done.short ≡ false) × (steps ≡ working job (Some done)) × (next ≡ Some done)
-GoesOn (Ok turn.Ended) steps next = (steps ≡ []) × (next ≡ None)
-GoesOn (Ok turn.Went) steps next = (steps ≡ []) × (next ≡ None)
-GoesOn (Ok turn.Idle) steps next = (steps ≡ []) × (next ≡ None)
-GoesOn (Err strange) steps next = ⊥
+abbrev pub Continues : Answer → List Step → Option DoneView → Type 0
+Continues (Ok (turn.Over closing)) steps next = ⊥
+Continues (Ok (turn.Foreign done)) steps next = ⊥
+Continues (Ok turn.Owed) steps next = ⊥
+Continues (Ok (turn.NoMemory given)) steps next = ⊥
+Continues (Ok (turn.Run job)) steps next = (done : DoneView) × (done.before ≡ job) × (done.short ≡ false) × (steps ≡ working job (Some done)) × (next ≡ Some done)
+Continues (Ok turn.Ended) steps next = (steps ≡ []) × (next ≡ None)
+Continues (Ok turn.Went) steps next = (steps ≡ []) × (next ≡ None)
+Continues (Ok turn.Idle) steps next = (steps ≡ []) × (next ≡ None)
+Continues (Err strange) steps next = ⊥
 
 -- the driver ends after a job for which an allocation failed, or that was cut off
 abbrev pub EndsWithin : JobView → List Step → Bool → Type 0
@@ -70,13 +70,13 @@ Ends (Err strange) steps memory = (steps ≡ Stopped ∷ []) × (memory ≡ fals
 
 -- holds if it continues, with or without a `Done` to submit; or if it ends
 abbrev pub Follows : Answer → List Step → Result (Option DoneView) End → Type 0
-Follows answer steps (Ok next) = GoesOn answer steps next
+Follows answer steps (Ok next) = Continues answer steps next
 Follows answer steps (Err end) = Ends answer steps end.memory
 
 -- ---- from a scheduling step to the end
 
 -- a driver that submits this makes these steps, and `memory` is whether an allocation failed
 pub data Drives : Option DoneView → List Step → Bool → Type 0 where
-  ends : {given : Option DoneView} {memory : Bool} (several : Bool) (answer : Answer) (rest : List Step) → Ends answer rest memory → Drives given (asked several given answer ∷ rest) memory
+  ends : {given : Option DoneView} {memory : Bool} (several : Bool) (answer : Answer) (rest : List Step) → Ends answer rest memory → Drives given (step_or_batch several given answer ∷ rest) memory
   goes : {given : Option DoneView} {memory : Bool} (several : Bool) (answer : Answer) (later : List Step) (next : Option DoneView) (rest : List Step)
-      → GoesOn answer later next → Drives next rest memory → Drives given (asked several given answer ∷ (later ++ rest)) memory
+      → Continues answer later next → Drives next rest memory → Drives given (step_or_batch several given answer ∷ (later ++ rest)) memory

@@ -29,7 +29,7 @@ struct End {
     memory: bool,
 }
 
-/// Runs a job between the two calls of the observer. Returns nothing if the run is over meanwhile.
+/// Runs a job of a driver's seat between the two calls of the observer. Returns nothing if the run is over meanwhile.
 fn run_job<'a, D: DriverCalls<'a>, R: Wait>(
     rt: &R,
     alloc: Global,
@@ -67,7 +67,8 @@ fn retry_and_stop<'a, D: DriverCalls<'a>, R: Wait>(
     driver_calls.stop(rt, seat);
 }
 
-/// Runs a job, whose `Done` is submitted with the next step. A short one ends the driver, and so does the end of the run.
+/// Runs a job of a driver's seat, whose `Done` is submitted with the next step. A short one ends the driver, and so does the end
+/// of the run.
 fn work<'a, D: DriverCalls<'a>, R: Wait>(
     rt: &R,
     alloc: Global,
@@ -132,7 +133,7 @@ pub fn drive_at<'a, D: DriverCalls<'a>, R: Wait + Clock>(
 {
     let mut done: Option<Done<'a>> = None;
     for _ in rt.forever() {
-        let answer = driver_calls.run_batch(rt, alloc, seat, done.take());
+        let answer = driver_calls.make_steps(rt, alloc, seat, done.take());
         match handle_turn(rt, alloc, driver_calls, seat, answer) {
             Ok(next) => done = next,
             Err(End { memory }) => return memory,

@@ -18,18 +18,20 @@ pub enum SoFar {
 
 /// Progress of work that other threads do: of a run, or of the runs of many lines.
 pub trait Progress {
-    /// Returns how far it had got recently, or `None` once it is over.
+    /// Returns how far observed work had got recently, or `None` once it is over.
     fn so_far(&self) -> Option<SoFar>;
 
-    /// Stops the work, if it can be stopped.
+    /// Stops observed work, if it can be stopped.
     fn stop<R: Wait>(&self, _rt: &R) {}
 }
 
 impl<'a, N: Named> Progress for Host<'a, N> {
+    /// Returns the host's recent number of events as an observer's progress, or `None` once its run is over.
     fn so_far(&self) -> Option<SoFar> {
         Some(SoFar::Events(self.events_so_far()?))
     }
 
+    /// Stops the host's run for an observer.
     fn stop<R: Wait>(&self, rt: &R) {
         Host::stop(self, rt);
     }
@@ -40,8 +42,8 @@ pub trait Gate {
     /// Holds if the observer loses nothing by not seeing each job.
     ghost unwatched: { Type 0 } = { ⊥ };
 
-    /// Returns whether it has to see each job. If not, a job whose next instruction isn't local, or whose task is brief, is run and
-    /// submitted under the same lock, without calls of the observer.
+    /// Returns whether an observer has to see each job. If not, a job whose next instruction isn't local, or whose task is brief,
+    /// is run and submitted under the same lock, without calls of the observer.
     fn watches(&self) -> bool
         ensures { result ≡ false → unwatched }
     {
@@ -51,22 +53,25 @@ pub trait Gate {
     /// Holds if the observer may stop the run.
     ghost stoppable: { Type 0 } = { ⊥ };
 
-    /// Returns whether it may stop the run. If so, jobs look whether the run is over, and are cut off then.
+    /// Returns whether an observer may stop the run. If so, jobs look whether the run is over, and are cut off then.
     fn may_stop(&self) -> bool
         ensures { result ≡ true → stoppable }
     {
         false
     }
 
+    /// Is called before each job that the observer has to see, in the thread that runs it.
     fn before_job<R: Wait>(&self, rt: &R, actor: Actor, task: u64);
 
+    /// Is called after each job that the observer has to see, in the thread that has run it.
     fn after_job<R: Wait>(&self, rt: &R, actor: Actor, task: u64);
 
-    /// Is called once, beside the threads that do the work. It may look at their progress until the work is over, as often as it likes.
+    /// Is called once by an observer's run, beside the threads that do the work. It may look at their progress until the work is
+    /// over, as often as it likes.
     fn monitor<R: Wait + Clock, P: Progress>(&self, _rt: &R, _work: &P) {}
 
-    /// Receives how many wakes of idle threads were lost. It is called once, after the last driver has ended. The number is 0 unless
-    /// the host has a bug.
+    /// Receives for an observer how many wakes of idle threads were lost. It is called once, after the last driver has ended. The
+    /// number is 0 unless the host has a bug.
     fn missed_wakes(&self, _late: u64) {}
 }
 
@@ -77,11 +82,14 @@ pub struct NoGate;
 impl Gate for NoGate {
     ghost unwatched = { Unit {0} };
 
+    /// Returns that the observer which does nothing needn't see each job.
     fn watches(&self) -> bool {
         false
     }
 
+    /// Does nothing before a job.
     fn before_job<R: Wait>(&self, _rt: &R, _actor: Actor, _task: u64) {}
 
+    /// Does nothing after a job.
     fn after_job<R: Wait>(&self, _rt: &R, _actor: Actor, _task: u64) {}
 }

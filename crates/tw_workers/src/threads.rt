@@ -40,7 +40,7 @@ impl<N: Named, G: Gate> Promise<Returned<N>> for DriverPromise<N, G> {
     ghost kept_by = { λ b r. Drove N.run G.unwatched G.stoppable (seen_by b.seat.value.actor b.seat.value.events.items) (seen_by r.sent.seat.actor r.sent.seat.events.items) r.memory };
 }
 
-/// Drives a seat until the run is over.
+/// Drives a seat that was sent to a thread until the run is over.
 fn drive_sent<'a, N: Named, G: Gate, R: Wait + Clock>(
     rt: &R,
     alloc: Global,
@@ -57,7 +57,7 @@ fn drive_sent<'a, N: Named, G: Gate, R: Wait + Clock>(
     }
 }
 
-/// Starts to drive a seat in its own thread. If there is none, stops the run and drives the seat here.
+/// Starts to drive a seat in its own thread. If there is no thread, stops the run and drives the seat here.
 fn begin<'s, 'e, 'a, N: Named + Send + Sync, G: Gate + Sync, R: Threads + Wait + Clock + Sync>(
     rt: &'e R,
     alloc: Global,
@@ -166,7 +166,7 @@ pub fn run_all<'a, N: Named + Send + Sync, G: Gate + Sync, R: Threads + Wait + C
     (host.close(seats), memory)
 }
 
-/// Makes one run, with its name as a type.
+/// Makes one run in threads, with the run's name as a type.
 fn run_named<N: Named + Send + Sync, G: Gate + Sync, R: Threads + Wait + Clock + Sync>(
     rt: &R,
     alloc: Global,
@@ -187,7 +187,8 @@ fn run_named<N: Named + Send + Sync, G: Gate + Sync, R: Threads + Wait + Clock +
     Ok(run_all(rt, alloc, host, seats, gate))
 }
 
-/// Runs a program in as many threads as there are actors. Also returns whether an allocation failed or a seat had no thread.
+/// Runs a verified program in as many threads as there are actors. Also returns whether an allocation failed or a seat had no
+/// thread.
 pub fn run<G: Gate + Sync, R: Threads + Wait + Clock + Sync>(
     rt: &R,
     alloc: Global,

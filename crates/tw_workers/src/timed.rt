@@ -24,6 +24,7 @@ struct TimedWork<'w, P: Progress, C: Clock, R: Wait> {
 }
 
 impl<'w, P: Progress, C: Clock, R: Wait> Progress for TimedWork<'w, P, C, R> {
+    /// Returns how far timed work has got, and stops it if its deadline is past.
     fn so_far(&self) -> Option<SoFar> {
         let so_far = self.work.so_far();
         if so_far.is_some() && self.deadline.is_over() {
@@ -32,12 +33,14 @@ impl<'w, P: Progress, C: Clock, R: Wait> Progress for TimedWork<'w, P, C, R> {
         so_far
     }
 
+    /// Stops the work that has a deadline.
     fn stop<S: Wait>(&self, rt: &S) {
         self.work.stop(rt);
     }
 }
 
-/// Looks at work until it is over. The pause between two looks doubles up to the longest one, so that short work isn't delayed.
+/// Looks at timed work until it is over. The pause between two looks doubles up to the longest one, so that short work isn't
+/// delayed.
 fn watch<R: Wait + Clock, P: Progress>(rt: &R, work: &P) {
     let mut pause = SHORTEST;
     for _ in rt.forever() {
@@ -64,18 +67,22 @@ impl<'g, G: Gate, C: Clock> Gate for Timed<'g, G, C> {
 
     ghost stoppable = { Unit {0} };
 
+    /// Returns whether the other observer, beside the deadline, has to see each job.
     fn watches(&self) -> bool {
         self.gate.watches()
     }
 
+    /// Returns that an observer with a deadline may stop the run.
     fn may_stop(&self) -> bool {
         true
     }
 
+    /// Calls the other observer, beside the deadline, before a job.
     fn before_job<R: Wait>(&self, rt: &R, actor: Actor, task: u64) {
         self.gate.before_job(rt, actor, task);
     }
 
+    /// Calls the other observer, beside the deadline, after a job.
     fn after_job<R: Wait>(&self, rt: &R, actor: Actor, task: u64) {
         self.gate.after_job(rt, actor, task);
     }
@@ -91,6 +98,7 @@ impl<'g, G: Gate, C: Clock> Gate for Timed<'g, G, C> {
         watch(rt, &timed);
     }
 
+    /// Reports lost wakes to the other observer, beside the deadline.
     fn missed_wakes(&self, late: u64) {
         self.gate.missed_wakes(late);
     }

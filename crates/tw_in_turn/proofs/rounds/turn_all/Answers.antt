@@ -5,7 +5,7 @@ use Rattle.tw_types.specs.Layout.{ActorCounts}
 use Rattle.tw_in_turn.specs.InTurn.{IsAfter}
 use Rattle.tw_stop.specs.Looks.{Looked}
 use Rattle.tw_stop.proofs.Looking.{more_looks, more_noes}
-use Rattle.tw_in_turn.specs.Rounds.{ComesAround, is_stop, looks_at, turns_in}
+use Rattle.tw_in_turn.specs.Rounds.{IsRoundResult, is_stop, looks_at, turns_in}
 use Rattle.tw_in_turn.specs.Stopping.{looks_within}
 use Rattle.tw_in_turn.specs.declared.rounds.End.{End}
 use Rattle.tw_in_turn.proofs.Rounding as rounding
@@ -55,7 +55,7 @@ loop-rounds-preserved g c =
     let seed = c.args.seed in
     let same : now.layout ≡ first.layout = rounding.layout_same first now inv.grown in
     let new = c.turn_next.new.pool in
-    let around = subst (λ (o : Option End). ComesAround (Looked g.S.StopSignal.says c.loop-rounds.stop c.turn_next.new.stop) seed c.loop-rounds.rounds now c.loop-rounds.kept new c.turn_next.new.kept o) c.in_default.is c.turn_next.ensures.round in
+    let around = subst (λ (o : Option End). IsRoundResult (Looked g.S.StopSignal.says c.loop-rounds.stop c.turn_next.new.stop) seed c.loop-rounds.rounds now c.loop-rounds.kept new c.turn_next.new.kept o) c.in_default.is c.turn_next.ensures.round in
     record {
       grown = rounding.grown_twice first now new inv.grown c.turn_next.ensures.grown;
       kept_is = around.0.kept_is;

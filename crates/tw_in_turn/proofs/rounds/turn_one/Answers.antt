@@ -1,8 +1,8 @@
 use Rattle.std.proofs.Common.{Option, Some, None, true, false, arith, inl, inr, refl, rules, subst, sym}
 use Rattle.tw_frame.specs.Jobs.{DoneView}
 use Rattle.tw_pool.specs.Turns.{IsTurn}
-use Rattle.tw_in_turn.specs.InTurn.{GoesOn, IsRefused, IsWorkOf}
-use Rattle.tw_in_turn.specs.Rounds.{Comes, Keeps}
+use Rattle.tw_in_turn.specs.InTurn.{Continues, IsOutOfMemory, IsWorkOf}
+use Rattle.tw_in_turn.specs.Rounds.{ContinuesOrEnds, Keeps}
 use Rattle.tw_in_turn.specs.declared.rounds.End.TheVariants.{NoMemory, Over, Stopped}
 use Rattle.tw_in_turn.proofs.Moving as moving
 use Rattle.tw_in_turn.proofs.Watching as watching
@@ -12,20 +12,20 @@ pub returns-then-short-clause-turned : goal.returns-then-short-clause-turned
 returns-then-short-clause-turned g c =
     let t = subst (λ (o : Option DoneView). IsTurn c.args.pool.now c.args.actor o c.turn.result c.turn.new.self) c.take.ensures.value c.turn.ensures in
     let work : IsWorkOf c.in-Run.job true c.in-Some.done = moving.work_of c.in-Run.job c.in-Some.done true c.in-Some.ensures.before (sym c.if-short.ensures) c.steps-steps.ensures.done in
-    let comes : Comes c.turn.new.self c.args.actor c.turn.result c.take.new.self (Some NoMemory) = subst IsRefused (sym c.in-Run.is) (c.in-Some.done, work) in
+    let comes : ContinuesOrEnds c.turn.new.self c.args.actor c.turn.result c.take.new.self (Some NoMemory) = subst IsOutOfMemory (sym c.in-Run.is) (c.in-Some.done, work) in
     moving.turned_is c.args.pool.now c.turn.new.self c.args.actor c.args.kept.now c.turn.result t c.requires.keeps.has c.requires.may.within c.take.new.self (Some NoMemory) comes
 
 pub returns-in-Run-clause-turned : goal.returns-in-Run-clause-turned
 returns-in-Run-clause-turned g c =
     let t = subst (λ (o : Option DoneView). IsTurn c.args.pool.now c.args.actor o c.turn.result c.turn.new.self) c.take.ensures.value c.turn.ensures in
     let work : IsWorkOf c.in-Run.job false c.in-Some.done = moving.work_of c.in-Run.job c.in-Some.done false c.in-Some.ensures.before (sym c.if-short.ensures) c.steps-steps.ensures.done in
-    let comes : Comes c.turn.new.self c.args.actor c.turn.result (Some c.in-Some.done) None = (subst GoesOn (sym c.in-Run.is) tt, moving.keeps_work c.args.pool.now c.turn.new.self c.args.actor c.args.kept.now c.turn.result t c.requires.keeps.has c.requires.keeps.program c.in-Run.job c.in-Some.done c.in-Run.is work) in
+    let comes : ContinuesOrEnds c.turn.new.self c.args.actor c.turn.result (Some c.in-Some.done) None = (subst Continues (sym c.in-Run.is) tt, moving.keeps_work c.args.pool.now c.turn.new.self c.args.actor c.args.kept.now c.turn.result t c.requires.keeps.has c.requires.keeps.program c.in-Run.job c.in-Some.done c.in-Run.is work) in
     moving.turned_is c.args.pool.now c.turn.new.self c.args.actor c.args.kept.now c.turn.result t c.requires.keeps.has c.requires.may.within (Some c.in-Some.done) None comes
 
 pub returns-in_default-clause-turned : goal.returns-in_default-clause-turned
 returns-in_default-clause-turned g c =
     let t = subst (λ (o : Option DoneView). IsTurn c.args.pool.now c.args.actor o c.turn.result c.turn.new.self) c.take.ensures.value c.turn.ensures in
-    let comes : Comes c.turn.new.self c.args.actor c.turn.result c.take.new.self (Some Stopped) = (c.in-Run.job, c.in-Run.is) in
+    let comes : ContinuesOrEnds c.turn.new.self c.args.actor c.turn.result c.take.new.self (Some Stopped) = (c.in-Run.job, c.in-Run.is) in
     moving.turned_is c.args.pool.now c.turn.new.self c.args.actor c.args.kept.now c.turn.result t c.requires.keeps.has c.requires.may.within c.take.new.self (Some Stopped) comes
 
 pub returns-in-Ended-clause-turned : goal.returns-in-Ended-clause-turned
@@ -33,19 +33,19 @@ returns-in-Ended-clause-turned g c =
     let t = subst (λ (o : Option DoneView). IsTurn c.args.pool.now c.args.actor o c.turn.result c.turn.new.self) c.take.ensures.value c.turn.ensures in
     let rests = moving.rests_of c.turn.result c.in-Ended.is in
     let keeps = subst (λ (o : Option DoneView). Keeps c.turn.new.self c.args.actor o) (sym c.take.ensures.after) (moving.keeps_none c.args.pool.now c.turn.new.self c.args.actor c.args.kept.now c.turn.result t c.requires.keeps.has rests) in
-    let comes : Comes c.turn.new.self c.args.actor c.turn.result c.take.new.self None = (moving.goes_on c.turn.result rests, keeps) in
+    let comes : ContinuesOrEnds c.turn.new.self c.args.actor c.turn.result c.take.new.self None = (moving.goes_on c.turn.result rests, keeps) in
     moving.turned_is c.args.pool.now c.turn.new.self c.args.actor c.args.kept.now c.turn.result t c.requires.keeps.has c.requires.may.within c.take.new.self None comes
 
 pub returns-in-Over-clause-turned : goal.returns-in-Over-clause-turned
 returns-in-Over-clause-turned g c =
     let t = subst (λ (o : Option DoneView). IsTurn c.args.pool.now c.args.actor o c.turn.result c.turn.new.self) c.take.ensures.value c.turn.ensures in
-    let comes : Comes c.turn.new.self c.args.actor c.turn.result c.take.new.self (Some Over) = search rules in
+    let comes : ContinuesOrEnds c.turn.new.self c.args.actor c.turn.result c.take.new.self (Some Over) = search rules in
     moving.turned_is c.args.pool.now c.turn.new.self c.args.actor c.args.kept.now c.turn.result t c.requires.keeps.has c.requires.may.within c.take.new.self (Some Over) comes
 
 pub returns-in-NoMemory-clause-turned : goal.returns-in-NoMemory-clause-turned
 returns-in-NoMemory-clause-turned g c =
     let t = subst (λ (o : Option DoneView). IsTurn c.args.pool.now c.args.actor o c.turn.result c.turn.new.self) c.take.ensures.value c.turn.ensures in
-    let comes : Comes c.turn.new.self c.args.actor c.turn.result c.take.new.self (Some NoMemory) = search rules in
+    let comes : ContinuesOrEnds c.turn.new.self c.args.actor c.turn.result c.take.new.self (Some NoMemory) = search rules in
     moving.turned_is c.args.pool.now c.turn.new.self c.args.actor c.args.kept.now c.turn.result t c.requires.keeps.has c.requires.may.within c.take.new.self (Some NoMemory) comes
 
 pub unreachable-requires : goal.unreachable-requires

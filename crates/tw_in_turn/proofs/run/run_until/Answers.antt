@@ -3,8 +3,8 @@ use Rattle.tw_frame.specs.Jobs.{DoneView}
 use Rattle.tw_stop.specs.Looks.{looks}
 use Rattle.tw_pool.specs.Openings.{opened}
 use Rattle.tw_pool.specs.PoolView.{PoolView}
-use Rattle.tw_in_turn.specs.InTurn.{IsAfter, IsRefused}
-use Rattle.tw_in_turn.specs.Stopping.{ComesAfter}
+use Rattle.tw_in_turn.specs.InTurn.{IsAfter, IsOutOfMemory}
+use Rattle.tw_in_turn.specs.Stopping.{IsReachedAfter}
 use Rattle.tw_in_turn.specs.Rounds.{AreKept, all_owed}
 use Rattle.tw_in_turn.proofs.Leaving.{left_in, left_over}
 use Rattle.tw_in_turn.proofs.Watching.{all_looks}
@@ -32,7 +32,7 @@ returns-in-NoMemory-clause-left g c =
     let first = opened c.args.verified.now c.args.inputs.now c.args.layout c.args.limit in
     let ends = c.in-NoMemory.ensures.ends in
     let watched = all_looks c.in_ok-pool.pool p c.as_mut_slice.result.now c.shut-outcome-2.result.1 ends.0 ends.1 (ap (λ (q : PoolView). q.history) c.in_ok-pool.ensures.opened) (ap all_owed c.as_mut_slice.ensures.value ∙ c.in-Ok.ensures.nothing) c.shut-outcome-2.ensures.left.events ends.2 in
-    let comes = subst (λ (q : PoolView). ComesAfter c.args.seed q ends.0 IsRefused p) c.in_ok-pool.ensures.opened ends.4 in
+    let comes = subst (λ (q : PoolView). IsReachedAfter c.args.seed q ends.0 IsOutOfMemory p) c.in_ok-pool.ensures.opened ends.4 in
     let left = left_in c.in_ok-pool.pool first p c.shut-outcome-2.result.0 c.shut-outcome-2.result.1 c.in_ok-pool.ensures.opened c.turn_all-end.ensures.grown c.shut-outcome-2.ensures.left c.shut-outcome-2.ensures.ends_well in
     (looks ends.1 false, ends.3, (ends.0, ends.1, watched, refl, (p, comes, left)))
 

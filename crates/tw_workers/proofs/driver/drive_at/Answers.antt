@@ -1,5 +1,5 @@
 use Rattle.std.proofs.Common.{◌∷◌, ◌++◌, rules}
-use Rattle.tw_workers.specs.Driving.{asked}
+use Rattle.tw_workers.specs.Driving.{step_or_batch}
 use Rattle.tw_workers.proofs.Driving.{joined, on, over}
 use Rattle.tw_workers.proofs.driver.drive_at.Goals as goal
 
@@ -8,15 +8,15 @@ loop-preserved g c =
     let so_far = c.loop.invariant.driven in
     let later = c.in-Ok.ensures.steps in
     let given = c.take.result in
-    let answer = c.run_batch-answer.result in
-    let several = c.run_batch-answer.ensures.does.0 in
+    let answer = c.make_steps-answer.result in
+    let several = c.make_steps-answer.ensures.does.0 in
     record {
       next = search rules;
       finite = search rules;
       program = c.in-Ok.ensures.program;
       driven = (
-        so_far.0 ++ asked several given answer ∷ later.0,
-        joined g.D.DriverCalls.does _ _ _ so_far.0 (asked several given answer ∷ later.0) so_far.1 (_, c.run_batch-answer.ensures.does.1, later.1),
+        so_far.0 ++ step_or_batch several given answer ∷ later.0,
+        joined g.D.DriverCalls.does _ _ _ so_far.0 (step_or_batch several given answer ∷ later.0) so_far.1 (_, c.make_steps-answer.ensures.does.1, later.1),
         on _ given c.take.ensures.value so_far.0 so_far.2 several answer later.0 _ later.2,
       );
     }
@@ -26,9 +26,9 @@ returns-in-Err g c =
     let so_far = c.loop.invariant.driven in
     let later = c.in-Err.ensures.steps in
     let given = c.take.result in
-    let answer = c.run_batch-answer.result in
-    let several = c.run_batch-answer.ensures.does.0 in (
-      so_far.0 ++ asked several given answer ∷ later.0,
-      joined g.D.DriverCalls.does _ _ _ so_far.0 (asked several given answer ∷ later.0) so_far.1 (_, c.run_batch-answer.ensures.does.1, later.1),
+    let answer = c.make_steps-answer.result in
+    let several = c.make_steps-answer.ensures.does.0 in (
+      so_far.0 ++ step_or_batch several given answer ∷ later.0,
+      joined g.D.DriverCalls.does _ _ _ so_far.0 (step_or_batch several given answer ∷ later.0) so_far.1 (_, c.make_steps-answer.ensures.does.1, later.1),
       over _ given c.take.ensures.value so_far.0 so_far.2 several answer later.0 _ later.2,
     )

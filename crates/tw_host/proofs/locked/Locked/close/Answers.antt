@@ -9,7 +9,7 @@ use Rattle.tw_pool.specs.Actors.{events_of}
 use Rattle.tw_host.specs.Ends.{IsOther}
 use Rattle.tw_host.proofs.Comparing.{either_way, some_if}
 use Rattle.tw_host.proofs.Lists.{at_same}
-use Rattle.tw_host.proofs.Ordering.{all_at, by_seat, held, lacking, lent_back, list_at, moved_from, one_each, sums}
+use Rattle.tw_host.proofs.Ordering.{all_at, by_seat, held, lacking, issued_back, list_at, moved_from, one_each, sums}
 use Rattle.tw_host.proofs.locked.Locked.close.Goals as goal
 
 pub returns-in-None : goal.returns-in-None
@@ -20,7 +20,7 @@ returns-in-None g c =
     let items = c.args.seats.items in
     let seats = c.first_other-other.new.seats in
     let moved = moved_from c.as_mut_slice.result.now items seats c.as_mut_slice.ensures.value c.first_other-other.ensures.moved in
-    let back = lent_back c.args.seats.len seats items c.args.seats.ok.0 (length_permutation items seats moved) in
+    let back = issued_back c.args.seats.len seats items c.args.seats.ok.0 (length_permutation items seats moved) in
     let history = c.shut-outcome.result.1.events in
     let all = all_at (λ s. seen_by s.actor s.events.items) seats seats c.history.result.now.events history refl (c.history.ensures.events ∙ sym shut.events) c.in-None.ensures.found.1 in
     let placed = c.in-None.ensures.found.0 ∙ ap actors_of (c.layout.ensures ∙ ap (λ r. r.layout) inv.of_run) in
@@ -42,7 +42,7 @@ list_of_place-requires g c =
     let items = c.args.seats.items in
     let seats = c.first_other-other.new.seats in
     let moved = moved_from c.as_mut_slice.result.now items seats c.as_mut_slice.ensures.value c.first_other-other.ensures.moved in
-    let back = lent_back c.args.seats.len seats items c.args.seats.ok.0 (length_permutation items seats moved) in
+    let back = issued_back c.args.seats.len seats items c.args.seats.ok.0 (length_permutation items seats moved) in
     let as_long = ap length (c.settle_seats-by_seat.ensures.lists ∙ ap (map (λ s. s.events.items)) back) in
     some_if _ c.in-Some.seat c.in-Some.ensures.found
     (λ k found. omega (arith, found.0, as_long, c.settle_seats-by_seat.result.ok.0, length-map c.settle_seats-by_seat.result.items (λ v. v.items), length-map seats (λ s. s.events.items), length-map seats (λ s. seen_by s.actor s.events.items)))
@@ -54,7 +54,7 @@ returns g c =
     let items = c.args.seats.items in
     let seats = c.first_other-other.new.seats in
     let moved = moved_from c.as_mut_slice.result.now items seats c.as_mut_slice.ensures.value c.first_other-other.ensures.moved in
-    let back = lent_back c.args.seats.len seats items c.args.seats.ok.0 (length_permutation items seats moved) in
+    let back = issued_back c.args.seats.len seats items c.args.seats.ok.0 (length_permutation items seats moved) in
     let whole = c.audit.ensures.whole (omega (arith, c.settle_seats-by_seat.ensures.parts, inv.no_part, c.requires.all, inv.seats)) in
     let same_sum = sums (λ s. seen_by s.actor s.events.items) items seats moved _ back in
     let actor = c.in-Some.actor in

@@ -19,5 +19,5 @@ invariant_of-self g c =
       seats = inv.seats;
       no_part = inv.no_part;
       no_amount = inv.no_amount;
-      woken = all_awake c.stop.new.self _ _ _ c.end.ensures.asleep (λ e. stopped c.stop.new.self (ap (λ (p : PoolView). p.stopped) is));
+      woken = all_awake c.stop.new.self _ _ _ c.end.ensures.asleep (λ e. stopped c.stop.new.self (ap (λ (p : PoolView). p.stopped) is)) (λ e. c.end.ensures.over);
     }

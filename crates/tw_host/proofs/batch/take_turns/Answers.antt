@@ -7,7 +7,7 @@ use Rattle.tw_pool.specs.PoolView.{PoolView}
 use Rattle.tw_pool.specs.Turns.{IsTurn}
 use Rattle.tw_host.specs.Sees.{IsDoneOf}
 use Rattle.tw_host.proofs.Holding as holding
-use Rattle.tw_host.proofs.batch.run_batch.Goals as goal
+use Rattle.tw_host.proofs.batch.take_turns.Goals as goal
 
 pub loop-made-preserved : goal.loop-made-preserved
 loop-made-preserved c =

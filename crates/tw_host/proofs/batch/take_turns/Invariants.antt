@@ -4,7 +4,7 @@ use Rattle.tw_pool.specs.declared.answer.Turn.{Turn}
 use Rattle.tw_pool.specs.PoolView.{PoolView}
 use Rattle.tw_host.specs.Holds.{AreTurns}
 use Rattle.tw_host.specs.Sees.{IsDoneOf}
-use Rattle.tw_host.proofs.batch.run_batch.Given as goal
+use Rattle.tw_host.proofs.batch.take_turns.Given as goal
 
 abbrev pub invariant-loop-made : goal.invariant-loop-made
 invariant-loop-made l = record {
