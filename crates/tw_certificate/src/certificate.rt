@@ -23,7 +23,7 @@ use tw_machine::Plain;
 use tw_types::{DatumId, Event, Input, Layout};
 use tw_verify::{Verified, no_trap};
 
-/// Adds a datum to those that have been copied, if there is one.
+/// Adds a datum to those whose write right has been copied, if there is one.
 fn note(copied: &mut BTreeSet<u64>, id: Option<DatumId>) -> Result<(), AllocError>
     ensures { OnOk result ((c : Copied) → Notes copied.old c → Notes copied.new (with_copy c id)) }
 {
@@ -34,7 +34,8 @@ fn note(copied: &mut BTreeSet<u64>, id: Option<DatumId>) -> Result<(), AllocErro
     Ok(())
 }
 
-/// Executes an event, and notes what it copies. Returns the event's place instead if it is a contested insertion.
+/// Executes an event of a certificate's replay, and notes what it copies. Returns the event's place instead if it is a contested
+/// insertion.
 fn advance(
     alloc: Global,
     plain: &mut Plain,
@@ -58,7 +59,7 @@ fn advance(
     }
 }
 
-/// Executes events up to the first contested insertion.
+/// Executes events of a certificate's replay up to the first contested insertion.
 fn first_contest_from(
     alloc: Global,
     plain: &mut Plain,

@@ -32,6 +32,7 @@ fn copy_of_data(frame: &Frame, instr: &DataInstr) -> Option<DatumId>
     }
 }
 
+/// Returns the datum whose write right an instruction of a task copies.
 fn copy_of(frame: &Frame, instr: &Instr) -> Option<DatumId>
     ensures { result ≡ copy_of frame.now (Some instr.now) }
 {
@@ -67,7 +68,7 @@ pub(crate) fn copied_by(plain: &Plain, event: &Event) -> Option<DatumId>
 
 // ---- contested insertions
 
-/// Returns the member of a container at the subscript in a value register.
+/// Returns the member of a container at the subscript in a value register, for an insertion that may be contested.
 fn member_at(plain: &Plain, frame: &Frame, container: u8, subscript: u8) -> Option<DatumId>
     ensures { result ≡ option_and_then (λ id. option_and_then (λ at. member_at plain.now.state.store id at) (slice_get frame.now.position.values subscript)) (right_at frame.now.rights container) }
 {
@@ -77,14 +78,14 @@ fn member_at(plain: &Plain, frame: &Frame, container: u8, subscript: u8) -> Opti
     datum.member_at(at.borrowed())
 }
 
-/// Returns whether a map has a value at the subscript in a value register.
+/// Returns whether a map has a value at the subscript in a value register, so that an insertion is refused.
 fn has_value_at(plain: &Plain, frame: &Frame, map: u8, subscript: u8) -> bool
     ensures { result ≡ is_value_taken plain.now.state.store frame.now map subscript }
 {
     value_at(plain, frame, map, subscript).is_some()
 }
 
-/// Returns the value of a map at the subscript in a value register.
+/// Returns the value of a map at the subscript in a value register, for an insertion that may be contested.
 fn value_at<'p>(plain: &'p Plain, frame: &Frame, map: u8, subscript: u8) -> Option<&'p Value>
     ensures { option_copied result ≡ option_and_then (λ id. option_and_then (λ at. entry_at plain.now.state.store id at) (slice_get frame.now.position.values subscript)) (right_at frame.now.rights map) }
 {
@@ -94,7 +95,7 @@ fn value_at<'p>(plain: &'p Plain, frame: &Frame, map: u8, subscript: u8) -> Opti
     datum.value_at(at.borrowed())
 }
 
-/// Returns whether the set has this datum, if there is one.
+/// Returns whether the set of copied data has this datum, if there is one.
 fn is_copied(copied: &BTreeSet<u64>, id: Option<DatumId>) -> bool
     ensures { (c : Copied) → Notes copied.now c → result ≡ is_copied c id }
 {
@@ -137,6 +138,7 @@ fn is_contest_on(plain: &Plain, copied: &BTreeSet<u64>, frame: &Frame, instr: &D
     }
 }
 
+/// Returns whether an instruction of a task is an insertion that will be refused at a container of the set.
 fn is_contest(plain: &Plain, copied: &BTreeSet<u64>, frame: &Frame, instr: &Instr) -> bool
     ensures { (c : Copied) → Notes copied.now c → result ≡ is_contest c plain.now.state.store frame.now (Some instr.now) }
 {
@@ -146,7 +148,7 @@ fn is_contest(plain: &Plain, copied: &BTreeSet<u64>, frame: &Frame, instr: &Inst
     }
 }
 
-/// Returns the next instruction of a task.
+/// Returns the next instruction of a task of the certificate's replay.
 fn instr_here<'p>(plain: &'p Plain, frame: &Frame) -> Option<&'p Instr>
     ensures { option_copied result ≡ instr_here plain.now.program frame.now }
 {

@@ -1,12 +1,12 @@
 -- Statistics of a replay, and the budgets of its program.
 use Rattle.std.proofs.Common.{arith, ◌≡◌, ◌+◌, ◌*◌, ◌<◌, ◌≤◌, ◌++◌, ℕ, zero, suc, List, [], ◌∷◌, length, length-take, get_or, take, slice_get, Option, Some, sym, ap, subst}
-use Rattle.tw_replay_output.proofs.ReplayNames.{AreBudgets, AreShort, Event, IsComing, IsSmall, IsTally, NotEnabled, Outcome, PlainView, Procedure, State, Trap, Went, size_of, slice_get-get_or, step, take_all, take_more}
+use Rattle.tw_replay_output.proofs.ReplayNames.{AreBudgets, AreShort, Event, IsPreStateOf, IsSmall, IsTally, NotEnabled, Outcome, PlainView, Procedure, State, Trap, Went, size_of, slice_get-get_or, step, take_all, take_more}
 use Rattle.std.proofs.lemmas.List.Sums.{sum_by-cons}
 use Rattle.std.specs.Option.{IsSomeAnd}
 use Rattle.tw_types.specs.Layout.{ActorCounts}
 use Rattle.tw_code.specs.accepting.Flow.{flows}
 use Rattle.tw_code.specs.accepting.Walk.{IsBudget}
-use Rattle.tw_code.specs.machine.History.{if_went}
+use Rattle.tw_code.specs.machine.History.{if_succeeded}
 use Rattle.tw_machine.specs.Moments.{Moment, history, moments}
 use Rattle.tw_stats.specs.declared.pre_state.PreState.{PreState}
 use Rattle.tw_stats.specs.declared.stats_builder.StatsBuilder.{StatsBuilder}
@@ -28,7 +28,7 @@ few program layout number [] s all = record { count = omega arith; steps = omega
 few program layout number (event ∷ events) s all = go (λ next. few program layout (suc number) events next all.1) (step program layout event s)
   where
     go : ((next : State) → AreFew events (moments program layout (suc number) events next)) → (o : Outcome State)
-        → AreFew (event ∷ events) (if_went o (λ next. record { number = number; event = event; before = s; state_after = next } ∷ moments program layout (suc number) events next))
+        → AreFew (event ∷ events) (if_succeeded o (λ next. record { number = number; event = event; before = s; state_after = next } ∷ moments program layout (suc number) events next))
     go rest (Went next) =
         let others = rest next in
         let size : size_of event ≤ 1000000000 = all.0 in
@@ -56,8 +56,8 @@ pub small_on : (first : PlainView) (events : List Event) (i : ℕ) (event : Even
 small_on first events i event inside is all short = subst (λ (es : List Event). IsSmall (history first es)) (one_taken events i event inside is) (small_taken first events (i + 1) all short)
 
 -- what precedes an event is the same with the program of the first machine
-pub came : (first at : PlainView) (event : Event) (c : PreState) → at ≡ record first { state = at.state } → IsComing at.program event at.state c → IsComing first.program event at.state c
-came first at event c stays h = subst (λ (ps : List Procedure). IsComing ps event at.state c) (ap (λ (v : PlainView). v.program) stays) h
+pub came : (first at : PlainView) (event : Event) (c : PreState) → at ≡ record first { state = at.state } → IsPreStateOf at.program event at.state c → IsPreStateOf first.program event at.state c
+came first at event c stays h = subst (λ (ps : List Procedure). IsPreStateOf ps event at.state c) (ap (λ (v : PlainView). v.program) stays) h
 
 pub tally_of_all : (first : PlainView) (events : List Event) (i : ℕ) (s : State) (t : StatsBuilder) → length events ≤ i → IsTally first (take i events) s t → IsTally first events s t
 tally_of_all first events i s t all h = subst (λ (es : List Event). IsTally first es s t) (take_all i events all) h

@@ -1,5 +1,5 @@
 -- Outcomes of events that are counted.
-use Rattle.std.specs.Prelude.{◌≡◌, ◌≤◌, List}
+use Rattle.std.specs.Prelude.{◌≡◌, ◌≤◌, List, Result, Ok, Err}
 use Rattle.std.specs.List.{AllByRecursion}
 use Rattle.tw_types.specs.declared.event.Event.{Event}
 use Rattle.tw_code.specs.accepting.Walk.{greatest_budget}
@@ -7,11 +7,11 @@ use Rattle.tw_code.specs.machine.Bounds.{size_of}
 use Rattle.tw_code.specs.machine.Machine.{run}
 use Rattle.tw_machine.specs.PlainView.{PlainView}
 use Rattle.tw_stats.specs.Kept.{IsTally}
-use Rattle.tw_replay_output.specs.declared.numbers.Counting.{Counting}
-use Rattle.tw_replay_output.specs.declared.numbers.Counting.TheVariants.{Made, Stopped}
+use Rattle.tw_replay_output.specs.declared.numbers.Counted.{Counted}
 use Rattle.tw_replay_output.specs.Replay.{ByOutcome, played_from}
 use Rattle.tw_replay_output.specs.Stuck.{IsReplayFrom}
 use Rattle.tw_source.specs.Reply.{reply}
+use Rattle.tw_source.specs.declared.reply.Reply.{Reply as StoppedReply}
 
 -- holds if the event executes no more instructions than a task may
 abbrev pub IsShort : Event → Type 0
@@ -21,6 +21,6 @@ abbrev pub AreShort : List Event → Type 0
 AreShort events = AllByRecursion IsShort events
 
 -- holds if all events were executed and counted; or if one failed, and this is the reply
-abbrev pub IsCounting : PlainView → List Event → Counting → Type 0
-IsCounting first events (Made c) = IsReplayFrom first events c.replaying × IsTally first events c.replaying.plain.state c.stats_builder
-IsCounting first events (Stopped r) = ByOutcome (run first.program first.layout events first.state) (λ s. ⊥) (reply r.text.items r.close ≡ played_from first events)
+abbrev pub IsCounting : PlainView → List Event → Result Counted StoppedReply → Type 0
+IsCounting first events (Ok c) = IsReplayFrom first events c.replaying × IsTally first events c.replaying.plain.state c.stats_builder
+IsCounting first events (Err r) = ByOutcome (run first.program first.layout events first.state) (λ s. ⊥) (reply r.text.items r.close ≡ played_from first events)

@@ -1,5 +1,5 @@
 -- The model of what the code keeps of a trace while it replays it, for the lines that made its rules.
-use Rattle.std.specs.Prelude.{◌≡◌, ◌+◌, ◌≤◌, ℕ, List, [], Option, Some, None, length, map, slice_get}
+use Rattle.std.specs.Prelude.{◌≡◌, ◌+◌, ◌≤◌, ℕ, List, [], Option, Some, None, Result, Ok, Err, length, map, slice_get}
 use Rattle.std.specs.FinMap.{get}
 use Rattle.std.specs.Option.{option_and_then}
 use Rattle.tw_types.specs.declared.event.Event.{Event}
@@ -18,12 +18,11 @@ use Rattle.tw_machine.specs.PlainView.{PlainView}
 use Rattle.tw_order.specs.declared.runs.Answer.{Answer}
 use Rattle.tw_source.specs.Reply.{Reply, reply}
 use Rattle.tw_source.specs.Source.{MayBeSource, text_of}
+use Rattle.tw_source.specs.declared.reply.Reply.{Reply as StoppedReply}
 use Rattle.tw_source.specs.declared.source.SourceText.{SourceText}
 use Rattle.tw_replay_output.specs.Circle.{AreEndingDetails, IsMade, Start, reached_from}
 use Rattle.tw_replay_output.specs.Replay.{ByOutcome, IsAnswer, IsDetailed, played_from, state_reply}
 use Rattle.tw_replay_output.specs.declared.replaying.Made.{Made}
-use Rattle.tw_replay_output.specs.declared.replaying.Played.{Played}
-use Rattle.tw_replay_output.specs.declared.replaying.Played.TheVariants.{All, Stopped}
 use Rattle.tw_replay_output.specs.declared.replaying.Replaying.{Replaying}
 use Rattle.tw_replay_output.specs.declared.stuck.Lookup.{Lookup}
 use Rattle.tw_symbols.specs.Symbols.{AreNames}
@@ -94,9 +93,9 @@ pub record IsReplayFrom (first : PlainView) (events : List Event) (r : Replaying
   pub replay : (start : Start) → IsOpened start first → IsReplayOf start events r
 
 -- holds if all events were executed; or if one failed, and this is the reply
-abbrev pub IsPlayed : PlainView → List Event → Played → Type 0
-IsPlayed first events (All r) = IsReplayFrom first events r
-IsPlayed first events (Stopped r) = ByOutcome (run first.program first.layout events first.state) (λ s. ⊥) (reply r.text.items r.close ≡ played_from first events)
+abbrev pub IsPlayed : PlainView → List Event → Result Replaying StoppedReply → Type 0
+IsPlayed first events (Ok r) = IsReplayFrom first events r
+IsPlayed first events (Err r) = ByOutcome (run first.program first.layout events first.state) (λ s. ⊥) (reply r.text.items r.close ≡ played_from first events)
 
 -- ---- details
 

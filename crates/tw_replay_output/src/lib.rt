@@ -11,9 +11,9 @@ mod state_json;
 mod stuck;
 
 pub use drawn::draw;
-pub use numbers::{Counting, budgets_of, count, put_bytes};
+pub use numbers::{budgets_of, count, put_bytes};
 pub use opening::{first_unfit, inputs_refused_reply};
 pub use replay::replayed_reply;
-pub use replaying::{Played, Replaying, play};
+pub use replaying::{Replaying, play};
 pub use state_json::instructions_by;
 pub use stuck::put_circle;

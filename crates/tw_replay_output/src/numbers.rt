@@ -2,25 +2,21 @@
 
 ghost use Rattle.std.specs.Prelude.{◌≡◌, ◌≤◌, ◌++◌, List, IfOk, OnOk, length};
 ghost use Rattle.tw_types.specs.declared.event.Event.{Event as AnEvent};
-ghost use Rattle.tw_types.specs.Outcome.{Outcome};
 ghost use Rattle.tw_code.specs.machine.Bounds.{AreBelow, opening_bound};
-ghost use Rattle.tw_code.specs.machine.State.{State};
-ghost use Rattle.tw_instr.specs.Attempts.{IsStopped};
 ghost use Rattle.tw_machine.specs.PlainView.{PlainView};
 ghost use Rattle.tw_stats.specs.Kept.{IsFirst, IsTally};
 ghost use Rattle.tw_order.specs.declared.runs.Answer.TheVariants.{Numbers};
 ghost use Rattle.tw_replay_output.specs.Counted.{AreShort, IsCounting};
-ghost use Rattle.tw_replay_output.specs.Replay.{AreBudgets, AreKnownBudgets, ByOutcome, IsNumbered, after_event};
+ghost use Rattle.tw_replay_output.specs.Replay.{AreBudgets, AreKnownBudgets, IsNumbered};
 ghost use Rattle.tw_replay_output.specs.Stuck.{IsAnswerFrom};
-ghost use Rattle.tw_source.specs.Reply.{Reply as AReply, reply};
-ghost use Rattle.tw_source.specs.declared.reply.Reply.{Reply as StoppedReply};
+ghost use Rattle.tw_source.specs.Reply.{reply};
 
 use crate::replay::{close_of, stopped_reply};
 use crate::replay_details::with_details;
 use crate::replaying::Replaying;
 use std::alloc::{AllocError, Global};
 use tw_code::Program;
-use tw_machine::{Plain, Stopped};
+use tw_machine::Plain;
 use tw_report::report_state;
 use tw_source::{Reply, SourceText};
 use tw_stats::StatsBuilder;
@@ -40,13 +36,6 @@ pub struct Budgeted {
 pub struct Counted {
     pub replaying: Replaying,
     pub stats_builder: StatsBuilder,
-}
-
-/// A result of counting events: all were executed, or one failed and has this reply.
-#[derive(Drop)]
-pub enum Counting {
-    Made(Counted),
-    Stopped(Reply),
 }
 
 /// Returns the budgets of the procedures, one each.
@@ -108,17 +97,12 @@ fn numbers_reply(
     Ok(Reply { text, close })
 }
 
-/// Returns the result if the event with this number failed in this way.
-fn stopped_counting(alloc: Global, stopped: Stopped, event: usize) -> Result<Counting, AllocError>
-    ensures { IfOk result (λ c. (r : StoppedReply) × (c ≡ Counting.Stopped r)
-        × ((o : Outcome State) (next : State → AReply) → IsStopped o stopped → ByOutcome o (λ s. ⊥) (reply r.text.items r.close ≡ after_event event o next))) }
-{
-    let reply = stopped_reply(alloc, stopped, event)?;
-    Ok(Counting::Stopped(reply))
-}
-
-/// Executes the events and counts them, up to the first that isn't enabled or traps.
-pub fn count(alloc: Global, first: Plain, events: &[Event]) -> Result<Counting, AllocError>
+/// Executes the events and counts them. If one isn't enabled or traps, returns the reply to the first such event.
+pub fn count(
+    alloc: Global,
+    first: Plain,
+    events: &[Event],
+) -> Result<Result<Counted, Reply>, AllocError>
     requires opening { IsFirst first.state }
     requires below { AreBelow opening_bound first.state }
     requires sizes { AreShort events.now }
@@ -131,10 +115,13 @@ pub fn count(alloc: Global, first: Plain, events: &[Event]) -> Result<Counting, 
         let pre_state = stats_builder.pre_state(&replaying.plain, event);
         match replaying.step(alloc, *event) {
             Ok(()) => stats_builder.count_event(&replaying.plain, event, &pre_state)?,
-            Err(stopped) => return stopped_counting(alloc, stopped, index + 1),
+            Err(stopped) => {
+                let reply = stopped_reply(alloc, stopped, index + 1)?;
+                return Ok(Err(reply));
+            }
         }
     }
-    Ok(Counting::Made(Counted {
+    Ok(Ok(Counted {
         replaying,
         stats_builder,
     }))
@@ -157,7 +144,7 @@ pub fn counted_reply(
     ensures { IfOk result (λ r. IsAnswerFrom names.now source.now Numbers first events.now (reply r.text.items r.close)) }
 {
     match count(alloc, first, events)? {
-        Counting::Made(counted) => {
+        Ok(counted) => {
             let answered = numbers_reply(
                 alloc,
                 &counted.replaying.plain,
@@ -167,6 +154,6 @@ pub fn counted_reply(
             )?;
             with_details(alloc, source, &counted.replaying, answered)
         }
-        Counting::Stopped(reply) => Ok(reply),
+        Err(reply) => Ok(reply),
     }
 }

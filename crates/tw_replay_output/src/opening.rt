@@ -1,9 +1,9 @@
 //! Finds why a program isn't opened with these inputs.
 
-ghost use Rattle.std.specs.Prelude.{◌≡◌, ◌<◌, ◌+◌, ◌++◌, ℕ, List, IfOk, MatchOption, OnOk, Some, codes, decimal, false, length, slice_get, take, true};
+ghost use Rattle.std.specs.Prelude.{◌≡◌, ◌<◌, ◌+◌, ◌++◌, ℕ, List, IfOk, MatchOption, OnOk, Some, codes, decimal, false, length, take, true};
 ghost use Rattle.tw_types.specs.DataType.{is_map};
 ghost use Rattle.tw_types.specs.Given.{given_by, members_by};
-ghost use Rattle.tw_code.specs.machine.Inputs.{has_fitting_inputs, input_params, rises};
+ghost use Rattle.tw_code.specs.machine.Inputs.{has_fitting_inputs, rises};
 ghost use Rattle.tw_code.specs.machine.Opening.{main_params};
 ghost use Rattle.tw_diagnostics.specs.Words.{type_text};
 ghost use Rattle.tw_replay_output.specs.Opening.{AreOpeningDetails, PrintsInputs, PrintsUnfit, count_line, counts_line, excess_text, has_twice, has_twice_after, many_given, members_text, such_text, type_given, unfit_text};
@@ -15,7 +15,7 @@ ghost use Rattle.tw_source.specs.Source.{text_of};
 use std::alloc::{AllocError, Global};
 use tw_code::{
     MAX_ENTRIES, MAX_MEMBERS, Procedure, has_fitting_inputs, has_input_count, input_count,
-    main_params, rises,
+    input_param, main_params, rises,
 };
 use tw_diagnostics::put_type;
 use tw_report::{put, put_numbered};
@@ -23,23 +23,6 @@ use tw_source::{
     Failure, Position, Reply, SourceText, example_word, put_examples, put_failure_line, refused_by,
 };
 use tw_types::{AsValue, DataType, Input, Param, Scalar};
-
-/// Returns the parameter of the input after `index` others.
-fn input_param(program: &[Procedure], index: usize) -> Option<Param>
-    ensures { result ≡ slice_get (input_params (main_params program.now)) index }
-{
-    let params = main_params(program);
-    let mut left = index;
-    for param in params {
-        if !param.mode.is_write() {
-            if left == 0 {
-                return Some(*param);
-            }
-            left -= 1;
-        }
-    }
-    None
-}
 
 /// Adds words that encode the inputs of these parameters, if some take one.
 fn put_such(out: &mut Vec<u8>, params: &[Param]) -> Result<(), AllocError>
@@ -67,6 +50,7 @@ fn put_counts(
     put(out, "\n")
 }
 
+/// Adds the line on how many inputs are given and required.
 fn put_count_line(
     alloc: Global,
     out: &mut Vec<u8>,
@@ -217,7 +201,7 @@ fn put_unfit(
     let Some(index) = first_unfit(program, inputs) else {
         return Ok(Position::Nowhere);
     };
-    let Some(param) = input_param(program, index) else {
+    let Some(param) = input_param(main_params(program), index) else {
         return Ok(Position::Nowhere);
     };
     let Some(input) = inputs.get(index) else {

@@ -22,7 +22,7 @@ ghost use Rattle.tw_source.specs.Reply.{Reply as AReply, reply};
 use crate::drawn::draw;
 use crate::numbers::{Budgeted, counted_reply, with_budgets};
 use crate::replay_details::{unopened_reply, with_details};
-use crate::replaying::{Played, play};
+use crate::replaying::play;
 use crate::state_json::json_reply;
 use std::alloc::{AllocError, Global};
 use tw_code::Program;
@@ -45,6 +45,7 @@ pub fn close_of(ending: Option<Ending>) -> Close
     }
 }
 
+/// Returns the report of the machine's state.
 fn state_reply(alloc: Global, plain: &Plain) -> Result<Reply, AllocError>
     ensures { IfOk result (λ r. reply r.text.items r.close ≡ state_reply plain.now.program plain.now.state) }
 {
@@ -99,11 +100,11 @@ fn report_reply(
     ensures { IfOk result (λ r. IsAnswerFrom [] source.now Report first events.now (reply r.text.items r.close)) }
 {
     match play(alloc, first, events)? {
-        Played::All(replaying) => {
+        Ok(replaying) => {
             let answered = state_reply(alloc, &replaying.plain)?;
             with_details(alloc, source, &replaying, answered)
         }
-        Played::Stopped(reply) => Ok(reply),
+        Err(reply) => Ok(reply),
     }
 }
 

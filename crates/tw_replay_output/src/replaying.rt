@@ -3,16 +3,11 @@
 ghost use Rattle.std.specs.Prelude.{◌≡◌, ◌<◌, ◌≤◌, ◌+◌, ◌^◌, ◌++◌, ℕ, List, [], ◌∷◌, Some, IfOk, OnOk, length, option_to_list};
 ghost use Rattle.std.specs.FinMap.{get};
 ghost use Rattle.tw_types.specs.declared.event.Event.{Event as AnEvent};
-ghost use Rattle.tw_types.specs.Outcome.{Outcome};
 ghost use Rattle.tw_code.specs.machine.Bounds.{AreBelow, opening_bound, size_of};
 ghost use Rattle.tw_code.specs.machine.Machine.{step};
-ghost use Rattle.tw_code.specs.machine.State.{State};
-ghost use Rattle.tw_instr.specs.Attempts.{Changes, IsStopped};
-ghost use Rattle.tw_source.specs.Reply.{Reply as AReply, reply};
-ghost use Rattle.tw_source.specs.declared.reply.Reply.{Reply as StoppedReply};
+ghost use Rattle.tw_instr.specs.Attempts.{Changes};
 ghost use Rattle.tw_replay_output.specs.Circle.{Start};
 ghost use Rattle.tw_replay_output.specs.Counted.{AreShort};
-ghost use Rattle.tw_replay_output.specs.Replay.{ByOutcome, after_event};
 ghost use Rattle.tw_replay_output.specs.Stuck.{IsOpened, IsPlayed, IsReplayOf, rule_by, rule_done, rule_in};
 
 use crate::replay::stopped_reply;
@@ -68,6 +63,7 @@ fn rule_done(plain: &Plain, event: &Event) -> Option<Made>
     }
 }
 
+/// Adds where a rule was made, if an event made one.
 fn keep(made: &mut Vec<Made>, rule: Option<Made>) -> Result<(), AllocError>
     ensures { OnOk result (made.new.items ≡ made.old.items ++ option_to_list rule) }
 {
@@ -118,24 +114,12 @@ impl Replaying {
     }
 }
 
-/// A result of a replay: all events were executed, or one failed and has this reply.
-#[derive(Drop)]
-pub enum Played {
-    All(Replaying),
-    Stopped(Reply),
-}
-
-/// Returns the result if the event with this number failed in this way.
-fn stopped_play(alloc: Global, stopped: Stopped, event: usize) -> Result<Played, AllocError>
-    ensures { IfOk result (λ p. (r : StoppedReply) × (p ≡ Played.Stopped r)
-        × ((o : Outcome State) (next : State → AReply) → IsStopped o stopped → ByOutcome o (λ s. ⊥) (reply r.text.items r.close ≡ after_event event o next))) }
-{
-    let reply = stopped_reply(alloc, stopped, event)?;
-    Ok(Played::Stopped(reply))
-}
-
-/// Executes the events, up to the first that isn't enabled or traps.
-pub fn play(alloc: Global, first: Plain, events: &[Event]) -> Result<Played, AllocError>
+/// Executes the events. If one isn't enabled or traps, returns the reply to the first such event.
+pub fn play(
+    alloc: Global,
+    first: Plain,
+    events: &[Event],
+) -> Result<Result<Replaying, Reply>, AllocError>
     requires below { AreBelow opening_bound first.state }
     requires sizes { AreShort events.now }
     requires few { length events.now ≤ 16777217 }
@@ -145,8 +129,11 @@ pub fn play(alloc: Global, first: Plain, events: &[Event]) -> Result<Played, All
     for (index, event) in events.iter().enumerate() {
         match replaying.step(alloc, *event) {
             Ok(()) => {}
-            Err(stopped) => return stopped_play(alloc, stopped, index + 1),
+            Err(stopped) => {
+                let reply = stopped_reply(alloc, stopped, index + 1)?;
+                return Ok(Err(reply));
+            }
         }
     }
-    Ok(Played::All(replaying))
+    Ok(Ok(replaying))
 }

@@ -8,7 +8,7 @@ ghost use Rattle.tw_replay_output.specs.Counted.{AreShort};
 ghost use Rattle.tw_replay_output.specs.Replay.{IsShownState, pending_of, shown_state, state_line, status_of};
 ghost use Rattle.tw_stats.specs.Kept.{IsFirst};
 
-use crate::numbers::{Counting, count};
+use crate::numbers::count;
 use crate::replay::close_of;
 use std::alloc::{AllocError, Global};
 use tw_json_output::{RunEnd, RunNumbers, run_line};
@@ -77,6 +77,7 @@ fn state_line(alloc: Global, plain: &Plain, events: &[Event]) -> Result<String, 
     run_line(alloc, plain.state(), numbers, &end)
 }
 
+/// Returns the reply with the JSON line of the state to which events lead.
 fn shown_state(alloc: Global, plain: &Plain, events: &[Event]) -> Result<Reply, AllocError>
     ensures { IfOk result (λ r. reply r.text.items r.close ≡ shown_state plain.now.program events.now plain.now.state) }
 {
@@ -97,7 +98,7 @@ pub fn json_reply(alloc: Global, first: Plain, events: &[Event]) -> Result<Reply
     ensures { IfOk result (λ r. IsShownState first events.now (reply r.text.items r.close)) }
 {
     match count(alloc, first, events)? {
-        Counting::Made(counted) => shown_state(alloc, &counted.replaying.plain, events),
-        Counting::Stopped(reply) => Ok(reply),
+        Ok(counted) => shown_state(alloc, &counted.replaying.plain, events),
+        Err(reply) => Ok(reply),
     }
 }

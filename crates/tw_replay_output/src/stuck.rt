@@ -26,6 +26,7 @@ fn made_of(made: &[Made], rule: RuleNo) -> Option<Made>
     }
 }
 
+/// Adds which rule it is, and the procedure that it runs.
 fn put_rule_text(
     alloc: Global,
     out: &mut Vec<u8>,
@@ -41,6 +42,7 @@ fn put_rule_text(
     put(out, ", made ")
 }
 
+/// Adds the line of a rule that was made by this line of the text.
 fn put_rule_line(
     alloc: Global,
     out: &mut Vec<u8>,

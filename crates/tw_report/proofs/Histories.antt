@@ -5,17 +5,17 @@ use Rattle.std.proofs.lemmas.List.Splits.{length-slice_split}
 use Rattle.std.proofs.lemmas.List.Sums.{count_by-le-length}
 use Rattle.tw_types.specs.declared.event.Event.{Event}
 use Rattle.tw_types.specs.declared.event.Event.TheVariants.{Take, Local, Call, End, Ask, Deliver, Release}
-use Rattle.tw_report.specs.Events.{IsEvent, SpellParts, SpellsEvent, event_parts, words_in}
+use Rattle.tw_report.specs.Events.{IsEvent, EncodeParts, EncodesEvent, event_parts, words_in}
 use Rattle.tw_report.specs.History.{IsBlank, IsEnd, OneHistory, IsTraceOf, after_blank, after_event, lines_in}
 use Rattle.tw_report.proofs.Written.{one_event}
 
 -- ---- only one trace
 
 -- an event has two words at least
-two_words : (event : Event) (words : List (List ℕ)) (word : List ℕ) → SpellParts (event_parts event) words → (words ≡ []) ⊎ (words ≡ word ∷ []) → ⊥
-two_words event words word spells (inl is) = by event (subst (SpellParts (event_parts event)) is spells)
+two_words : (event : Event) (words : List (List ℕ)) (word : List ℕ) → EncodeParts (event_parts event) words → (words ≡ []) ⊎ (words ≡ word ∷ []) → ⊥
+two_words event words word spells (inl is) = by event (subst (EncodeParts (event_parts event)) is spells)
   where
-    by : (event : Event) → SpellParts (event_parts event) [] → ⊥
+    by : (event : Event) → EncodeParts (event_parts event) [] → ⊥
     by (Take a) s = s
     by (Local a n) s = s
     by (Call a) s = s
@@ -23,9 +23,9 @@ two_words event words word spells (inl is) = by event (subst (SpellParts (event_
     by (Ask e r j) s = s
     by (Deliver s d r j) p = p
     by (Release e r) s = s
-two_words event words word spells (inr is) = by event (subst (SpellParts (event_parts event)) is spells)
+two_words event words word spells (inr is) = by event (subst (EncodeParts (event_parts event)) is spells)
   where
-    by : (event : Event) → SpellParts (event_parts event) (word ∷ []) → ⊥
+    by : (event : Event) → EncodeParts (event_parts event) (word ∷ []) → ⊥
     by (Take a) s = s.1
     by (Local a n) s = s.1
     by (Call a) s = s.1
@@ -40,10 +40,10 @@ blank_no_end line blank end = no (sym blank ∙ end)
     no : [] ≡ codes "end" ∷ [] → ⊥
     no e = cc
 
-blank_no_event : (line : List ℕ) (event : Event) → IsBlank line → SpellsEvent event line → ⊥
+blank_no_event : (line : List ℕ) (event : Event) → IsBlank line → EncodesEvent event line → ⊥
 blank_no_event line event blank spells = two_words event (words_in line) [] spells.parts (inl blank)
 
-end_no_event : (line : List ℕ) (event : Event) → IsEnd line → SpellsEvent event line → ⊥
+end_no_event : (line : List ℕ) (event : Event) → IsEnd line → EncodesEvent event line → ⊥
 end_no_event line event end spells = two_words event (words_in line) (codes "end") spells.parts (inr end)
 
 pub one_history : OneHistory

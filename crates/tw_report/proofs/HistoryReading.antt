@@ -5,7 +5,7 @@ use Rattle.std.proofs.lemmas.Bool.{eqb-true}
 use Rattle.std.proofs.lemmas.List.{append-nil, length-append, length-drop, take-append-drop, take_all, take_more}
 use Rattle.std.proofs.lemmas.List.Splits.{slice_split-cons_no}
 use Rattle.tw_types.specs.declared.event.Event.{Event}
-use Rattle.tw_report.specs.Events.{SpellsEvent}
+use Rattle.tw_report.specs.Events.{EncodesEvent}
 use Rattle.tw_report.specs.History.{HasNoLineFeed, IsBlank, IsNoHistory, IsWord, IsTraceOf, after_blank, after_event, lines_in, text_of}
 use Rattle.tw_report.specs.reading.History.{IsFirstLine, IsReadTo, Takes, onto}
 use Rattle.tw_report.specs.declared.history.HistoryFault.{HistoryFault}
@@ -46,7 +46,7 @@ shorter text line rest first = let all : length text ≡ length line + suc (leng
 -- ---- events
 
 abbrev AddsLine : List Event → List ℕ → List Event → Type 0
-AddsLine events line after = (IsBlank line × (after ≡ events)) ⊎ ((event : Event) × SpellsEvent event line × (after ≡ events ++ event ∷ []))
+AddsLine events line after = (IsBlank line × (after ≡ events)) ⊎ ((event : Event) × EncodesEvent event line × (after ≡ events ++ event ∷ []))
 
 -- with one line more before them
 pub more_traced : (events after : List Event) (count : ℕ) (line : List ℕ) (others : List (List ℕ)) (r : Result (List Event) ℕ) → AddsLine events line after → IsTraceOf others r → (q : Result (List Event) ℕ) × IsTraceOf (line ∷ others) q × (onto events count q ≡ onto after (count + 1) r)

@@ -14,7 +14,7 @@ use Rattle.tw_types.specs.Actor.{number_in_kind}
 use Rattle.tw_lexer.specs.Words.{is_edge, is_parting, IsBare}
 use Rattle.tw_lexer.proofs.Once.{no_edge}
 use Rattle.tw_lexer.proofs.Writing.{all_append, decimal_bare, decimal_clean}
-use Rattle.tw_report.specs.Events.{EventsAreReadBack, IsByte, IsEvent, IsWord, Name, Number, OneEvent, Parameter, Part, SpellParts, SpellsPart, actor_part, event_parts, has_bytes, part_text, words_in}
+use Rattle.tw_report.specs.Events.{EventsAreReadBack, IsByte, IsEvent, IsWord, Name, Number, OneEvent, Parameter, Part, EncodeParts, EncodesPart, actor_part, event_parts, has_bytes, part_text, words_in}
 use Rattle.tw_report.proofs.EventReading.{event_read}
 
 -- ---- one event
@@ -85,14 +85,14 @@ parts_one : (parts : List Part) → AllByRecursion IsFine parts → AllByRecursi
 parts_one [] are = tt
 parts_one (part ∷ parts) are = (part_one part are.0, parts_one parts are.1)
 
-part_spelled : (part : Part) → IsFine part → SpellsPart part (part_text part)
-part_spelled (Name name) fine = refl
-part_spelled (Number front n) fine = let d = decimal_is_IsNumeral n (small n fine.1) in (decimal n, record { digits = d.0; value = d.1 }, refl)
-part_spelled (Parameter n) fine = let d = decimal_is_IsNumeral n (small n (byte_word n fine)) in (n, record { digits = d.0; value = d.1 }, byte_word n fine, sym (min-eq_left fine.1))
+part_encoded : (part : Part) → IsFine part → EncodesPart part (part_text part)
+part_encoded (Name name) fine = refl
+part_encoded (Number front n) fine = let d = decimal_is_IsNumeral n (small n fine.1) in (decimal n, record { digits = d.0; value = d.1 }, refl)
+part_encoded (Parameter n) fine = let d = decimal_is_IsNumeral n (small n (byte_word n fine)) in (n, record { digits = d.0; value = d.1 }, byte_word n fine, sym (min-eq_left fine.1))
 
-parts_spelled : (parts : List Part) → AllByRecursion IsFine parts → SpellParts parts (map part_text parts)
-parts_spelled [] are = tt
-parts_spelled (part ∷ parts) are = (part_spelled part are.0, parts_spelled parts are.1)
+parts_encoded : (parts : List Part) → AllByRecursion IsFine parts → EncodeParts parts (map part_text parts)
+parts_encoded [] are = tt
+parts_encoded (part ∷ parts) are = (part_encoded part are.0, parts_encoded parts are.1)
 
 -- ---- events
 
@@ -117,5 +117,5 @@ events_fine (Release e r) may = (((refl, (refl, (refl, (refl, (refl, (refl, (ref
 pub events_are_read_back : EventsAreReadBack
 events_are_read_back event may = record {
   limits = may;
-  parts = subst (SpellParts (event_parts event)) (sym (joined_words (map part_text (event_parts event)) (parts_one (event_parts event) (events_fine event may)))) (parts_spelled (event_parts event) (events_fine event may));
+  parts = subst (EncodeParts (event_parts event)) (sym (joined_words (map part_text (event_parts event)) (parts_one (event_parts event) (events_fine event may)))) (parts_encoded (event_parts event) (events_fine event may));
 }

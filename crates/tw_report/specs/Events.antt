@@ -7,7 +7,7 @@ use Rattle.tw_types.specs.declared.actor.Actor.TheVariants.{Engine, Server, Work
 use Rattle.tw_types.specs.declared.event.Event.{Event}
 use Rattle.tw_types.specs.declared.event.Event.TheVariants.{Take, Local, Call, End, Ask, Deliver, Release}
 use Rattle.tw_types.specs.Actor.{number_in_kind}
-use Rattle.tw_lexer.specs.Number.{SpellsDigits}
+use Rattle.tw_lexer.specs.Number.{EncodesDigits}
 use Rattle.tw_lexer.specs.Words.{is_parting}
 
 -- ---- words
@@ -65,21 +65,21 @@ IsEvent (Release engine rule) = IsByte engine × IsWord rule
 
 -- ---- which event a text is
 
-abbrev pub SpellsPart : Part → List ℕ → Type 0
-SpellsPart (Name name) word = word ≡ name
-SpellsPart (Number front number) word = (digits : List ℕ) × SpellsDigits number digits × (word ≡ front ++ digits)
-SpellsPart (Parameter parameter) word = (number : ℕ) × SpellsDigits number word × IsWord number × (parameter ≡ min number 255)
+abbrev pub EncodesPart : Part → List ℕ → Type 0
+EncodesPart (Name name) word = word ≡ name
+EncodesPart (Number front number) word = (digits : List ℕ) × EncodesDigits number digits × (word ≡ front ++ digits)
+EncodesPart (Parameter parameter) word = (number : ℕ) × EncodesDigits number word × IsWord number × (parameter ≡ min number 255)
 
 -- holds if each part is one word
-abbrev pub SpellParts : List Part → List (List ℕ) → Type 0
-SpellParts [] [] = Unit {0}
-SpellParts [] (word ∷ words) = ⊥
-SpellParts (part ∷ parts) [] = ⊥
-SpellParts (part ∷ parts) (word ∷ words) = SpellsPart part word × SpellParts parts words
+abbrev pub EncodeParts : List Part → List (List ℕ) → Type 0
+EncodeParts [] [] = Unit {0}
+EncodeParts [] (word ∷ words) = ⊥
+EncodeParts (part ∷ parts) [] = ⊥
+EncodeParts (part ∷ parts) (word ∷ words) = EncodesPart part word × EncodeParts parts words
 
-pub record SpellsEvent (event : Event) (line : List ℕ) : Type 0 where
+pub record EncodesEvent (event : Event) (line : List ℕ) : Type 0 where
   pub limits : IsEvent event
-  pub parts : SpellParts (event_parts event) (words_in line)
+  pub parts : EncodeParts (event_parts event) (words_in line)
 
 -- ---- written events
 
@@ -99,8 +99,8 @@ event_line event = event_text event ++ codes "\n"
 
 -- no line is two events
 abbrev pub OneEvent : Type 0
-OneEvent = (line : List ℕ) (event other : Event) → SpellsEvent event line → SpellsEvent other line → other ≡ event
+OneEvent = (line : List ℕ) (event other : Event) → EncodesEvent event line → EncodesEvent other line → other ≡ event
 
 -- the text written of an event is this event
 abbrev pub EventsAreReadBack : Type 0
-EventsAreReadBack = (event : Event) → IsEvent event → SpellsEvent event (event_text event)
+EventsAreReadBack = (event : Event) → IsEvent event → EncodesEvent event (event_text event)

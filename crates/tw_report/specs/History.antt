@@ -4,7 +4,7 @@ use Rattle.std.specs.List.{AllByRecursion, flat_map, slice_split}
 use Rattle.tw_types.specs.declared.event.Event.{Event}
 use Rattle.tw_report.specs.declared.history.HistoryFault.{HistoryFault}
 use Rattle.tw_report.specs.declared.history.HistoryFault.TheVariants.{UnknownLine, NoMemory}
-use Rattle.tw_report.specs.Events.{SpellsEvent, words_in}
+use Rattle.tw_report.specs.Events.{EncodesEvent, words_in}
 
 -- ---- lines
 
@@ -26,7 +26,7 @@ IsEnd line = IsWord (codes "end") line
 
 -- holds if the line isn't blank, nor `end`, nor an event
 abbrev pub IsUnknown : List ℕ → Type 0
-IsUnknown line = (IsBlank line → ⊥) × (IsEnd line → ⊥) × ((event : Event) → SpellsEvent event line → ⊥)
+IsUnknown line = (IsBlank line → ⊥) × (IsEnd line → ⊥) × ((event : Event) → EncodesEvent event line → ⊥)
 
 -- ---- traces
 
@@ -46,7 +46,7 @@ IsTraceOf [] r = r ≡ Ok []
 IsTraceOf (line ∷ others) r =
     (IsBlank line × ((q : Result (List Event) ℕ) × IsTraceOf others q × (r ≡ after_blank q)))
     ⊎ ((IsEnd line × (r ≡ Ok []))
-    ⊎ (((event : Event) × SpellsEvent event line × ((q : Result (List Event) ℕ) × IsTraceOf others q × (r ≡ after_event event q)))
+    ⊎ (((event : Event) × EncodesEvent event line × ((q : Result (List Event) ℕ) × IsTraceOf others q × (r ≡ after_event event q)))
     ⊎ (IsUnknown line × (r ≡ Err 1))))
 
 -- holds for the error of lines

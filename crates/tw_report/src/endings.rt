@@ -7,6 +7,7 @@ use crate::lines::{put, put_numbered};
 use std::alloc::{AllocError, Global};
 use tw_types::{Ending, Link};
 
+/// Adds the line of a link of the circle.
 fn put_link_line(alloc: Global, out: &mut Vec<u8>, link: &Link) -> Result<(), AllocError>
     ensures { OnOk result (out.new.items ≡ out.old.items ++ link_line link.now) }
 {
@@ -16,6 +17,7 @@ fn put_link_line(alloc: Global, out: &mut Vec<u8>, link: &Link) -> Result<(), Al
     put(out, "\n")
 }
 
+/// Adds the lines of the links of the circle.
 fn put_link_lines(alloc: Global, out: &mut Vec<u8>, links: &[Link]) -> Result<(), AllocError>
     ensures { OnOk result (out.new.items ≡ out.old.items ++ link_lines links.now) }
 {

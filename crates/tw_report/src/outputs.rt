@@ -57,6 +57,7 @@ fn values_word(ty: DataType) -> &'static str
     }
 }
 
+/// Returns the word for a closed datum, or nothing.
 fn closed_text(closed: bool) -> &'static str
     ensures { result.now ≡ closed_text closed }
 {

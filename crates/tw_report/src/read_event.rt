@@ -4,13 +4,14 @@ ghost use Rattle.std.specs.Prelude.{◌≡◌, ◌≤◌, IfSome, MatchOption};
 ghost use Rattle.std.specs.Option.{option_map};
 ghost use Rattle.tw_types.specs.declared.event.Event.{Event as AnEvent};
 ghost use Rattle.tw_types.specs.declared.event.Event.TheVariants.{Take, Call, End};
-ghost use Rattle.tw_report.specs.Events.{SpellsEvent, words_in};
+ghost use Rattle.tw_report.specs.Events.{EncodesEvent, words_in};
 ghost use Rattle.tw_report.specs.reading.Event.{actor_in, alone, ask_in, number_after, deliver_in, event_in, first, for_actor, local_in, named, number_in, parameter_in, release_in};
 
 use crate::words::{first_word, is_blank};
 use tw_lexer::digits;
 use tw_types::{Actor, DatumId, Event, RuleNo};
 
+/// Returns the number that a word writes, if it is within these limits.
 fn number_in(word: &[u8], low: u64, high: u64) -> Option<u64>
     ensures is { result ≡ number_in low high word.now }
     ensures within { IfSome result (λ n. n ≤ high) }
@@ -21,6 +22,7 @@ fn number_in(word: &[u8], low: u64, high: u64) -> Option<u64>
     }
 }
 
+/// Returns the number up to 255 that a word writes.
 fn byte_in(word: &[u8]) -> Option<u8>
     ensures { result ≡ number_in 0 255 word.now }
 {
@@ -48,6 +50,7 @@ fn number_after(letter: u8, word: &[u8]) -> Option<u8>
     }
 }
 
+/// Returns the actor that a word names.
 #[tactic(auto, unfolding(crate::specs::reading::Event::actor_in))]
 fn actor_in(word: &[u8]) -> Option<Actor>
     ensures { result ≡ actor_in word.now }
@@ -64,6 +67,7 @@ fn actor_in(word: &[u8]) -> Option<Actor>
     }
 }
 
+/// Returns the number in a line's first word, if it is within these limits, and the rest of the line.
 fn first_number(line: &[u8], low: u64, high: u64) -> Option<(u64, &[u8])>
     ensures { option_map (λ f. (f.0, words_in f.1.now)) result ≡ first (number_in low high) (words_in line.now) }
 {
@@ -72,6 +76,7 @@ fn first_number(line: &[u8], low: u64, high: u64) -> Option<(u64, &[u8])>
     Some((number, rest))
 }
 
+/// Returns the parameter in a line's first word, and the rest of the line.
 fn first_parameter(line: &[u8]) -> Option<(u8, &[u8])>
     ensures { option_map (λ f. (f.0, words_in f.1.now)) result ≡ first parameter_in (words_in line.now) }
 {
@@ -80,6 +85,7 @@ fn first_parameter(line: &[u8]) -> Option<(u8, &[u8])>
     Some((number, rest))
 }
 
+/// Returns the number after a letter in a line's first word, and the rest of the line.
 fn first_number_after(letter: u8, line: &[u8]) -> Option<(u8, &[u8])>
     ensures { option_map (λ f. (f.0, words_in f.1.now)) result ≡ first (number_after letter) (words_in line.now) }
 {
@@ -88,6 +94,7 @@ fn first_number_after(letter: u8, line: &[u8]) -> Option<(u8, &[u8])>
     Some((number, rest))
 }
 
+/// Returns the actor in a line's first word, and the rest of the line.
 fn first_actor(line: &[u8]) -> Option<(Actor, &[u8])>
     ensures { option_map (λ f. (f.0, words_in f.1.now)) result ≡ first actor_in (words_in line.now) }
 {
@@ -103,6 +110,7 @@ fn alone(event: Event, line: &[u8]) -> Option<Event>
     if is_blank(line) { Some(event) } else { None }
 }
 
+/// Returns the Take in a line.
 fn take_in(line: &[u8]) -> Option<Event>
     ensures { result ≡ for_actor Take (words_in line.now) }
 {
@@ -110,6 +118,7 @@ fn take_in(line: &[u8]) -> Option<Event>
     alone(Event::Take(actor), rest)
 }
 
+/// Returns the Local in a line.
 fn local_in(line: &[u8]) -> Option<Event>
     ensures { result ≡ local_in (words_in line.now) }
 {
@@ -118,6 +127,7 @@ fn local_in(line: &[u8]) -> Option<Event>
     alone(Event::Local(actor, steps), rest)
 }
 
+/// Returns the Call in a line.
 fn call_in(line: &[u8]) -> Option<Event>
     ensures { result ≡ for_actor Call (words_in line.now) }
 {
@@ -125,6 +135,7 @@ fn call_in(line: &[u8]) -> Option<Event>
     alone(Event::Call(actor), rest)
 }
 
+/// Returns the End in a line.
 fn end_in(line: &[u8]) -> Option<Event>
     ensures { result ≡ for_actor End (words_in line.now) }
 {
@@ -132,6 +143,7 @@ fn end_in(line: &[u8]) -> Option<Event>
     alone(Event::End(actor), rest)
 }
 
+/// Returns the Ask in a line.
 fn ask_in(line: &[u8]) -> Option<Event>
     ensures { result ≡ ask_in (words_in line.now) }
 {
@@ -141,6 +153,7 @@ fn ask_in(line: &[u8]) -> Option<Event>
     alone(Event::Ask(engine, RuleNo::new(rule), parameter), rest)
 }
 
+/// Returns the Deliver in a line.
 fn deliver_in(line: &[u8]) -> Option<Event>
     ensures { result ≡ deliver_in (words_in line.now) }
 {
@@ -154,6 +167,7 @@ fn deliver_in(line: &[u8]) -> Option<Event>
     )
 }
 
+/// Returns the Release in a line.
 fn release_in(line: &[u8]) -> Option<Event>
     ensures { result ≡ release_in (words_in line.now) }
 {
@@ -191,7 +205,7 @@ fn named(name: &[u8], rest: &[u8]) -> Option<Event>
 /// A line is the event's name, its actor and its numbers, separated by spaces, tabs and carriage returns. Numbers are decimal
 /// digits, and leading zeros are allowed. A parameter's number over 255 is read as 255: no rule has that many.
 pub fn event_of(line: &[u8]) -> Option<Event>
-    ensures { MatchOption result ((event : AnEvent) → SpellsEvent event line.now → ⊥) (λ event. SpellsEvent event line.now) }
+    ensures { MatchOption result ((event : AnEvent) → EncodesEvent event line.now → ⊥) (λ event. EncodesEvent event line.now) }
 {
     let (name, rest) = first_word(line);
     named(name, rest)

@@ -5,6 +5,7 @@ ghost use Rattle.tw_lexer.specs.Words.{is_parting};
 ghost use Rattle.tw_report.specs.Events.{words_in};
 ghost use Rattle.tw_report.specs.reading.Words.{IsAtWord, with_word, word_length};
 
+/// Returns whether a byte is between words.
 fn parts_words(byte: u8) -> bool
     ensures { result ≡ is_parting byte }
 {

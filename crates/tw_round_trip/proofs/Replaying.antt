@@ -72,7 +72,7 @@ ending_details text program order events s (ending.Stuck rules) more h = h
 
 module _ (program : List Procedure) (text : Option (List ℕ)) (order : RunOrder) (events : List Event) (s : State) (e : Ending) (is : machine.ending s ≡ Some e) where
   -- the details of the state to which the events lead
-  details : (text : Option (List ℕ)) (more : List ℕ) → reached program order.inputs order.layout events ≡ Went s → AreAnswerDetails text replayed.Report (ran.start_of program order) events more
+  details : (text : Option (List ℕ)) (more : List ℕ) → reached program order.inputs order.options.layout events ≡ Went s → AreAnswerDetails text replayed.Report (ran.start_of program order) events more
       → ran.AreRunDetails run_answer.Report text program order events s (closing_of e) more
   details None more goes h = h
   details (Some text) more goes h =
@@ -81,10 +81,10 @@ module _ (program : List Procedure) (text : Option (List ℕ)) (order : RunOrder
       (subst (λ (o : Outcome State). ByOutcome o (λ t. AreEndingDetails text (ran.start_of program order) events t (machine.ending t) more) (more ≡ [])) goes h))
 
   -- an answer to the events is the report
-  answered : (version : Version) (r : Reply) → reached program order.inputs order.layout events ≡ Went s → IsAnswered text (replay_of order) (record { version = version; procedures = program }) events r → IsReportOf text program order events s e r
+  answered : (version : Version) (r : Reply) → reached program order.inputs order.options.layout events ≡ Went s → IsAnswered text (replay_of order) (record { version = version; procedures = program }) events r → IsReportOf text program order events s e r
   answered version r goes (names, are, detailed) =
       let (answer, more, played_is, more_is, joined) = detailed in
-      let whole = played_is ∙ all_played program order.layout 1 events (opening program order.inputs) s goes ∙ same_report program s e is in
+      let whole = played_is ∙ all_played program order.options.layout 1 events (opening program order.inputs) s goes ∙ same_report program s e is in
       let printed = ran.run_report text program order s (closing_of e) in
       let texts : answer.text ≡ printed = ap (λ (x : Reply). x.text) whole ∙ sym (append-nil _) ∙ ap (λ (l : List ℕ). end_report program s (Some (closing_of e)) ++ l) (sym (no_limit text order e)) in
       (printed, more, refl, details text more goes more_is, joined ∙ ap (λ (t : List ℕ). reply (t ++ more) answer.close) texts ∙ ap (λ (c : Close). reply (printed ++ more) c) (ap (λ (x : Reply). x.close) whole))
@@ -96,12 +96,12 @@ events_is x y e = cc
 
 pub replays_print : (program : List Procedure) (typings : Typings) → IsProgram program → AreRight program typings → ReplaysPrintReports program
 replays_print program typings proper right version text order events s e rest r given laid short goes is (inl (read, trace, replays)) =
-    let back = all_read_back program typings proper right order.inputs order.layout events s rest given laid short goes in
+    let back = all_read_back program typings proper right order.inputs order.options.layout events s rest given laid short goes in
     let same : read ≡ events = events_is read events (one_history (trace_lines events rest) (Ok read) (Ok events) trace back) in
     let opens = subst (λ (o : Option OpenError). OpensOr text program order.inputs o (IsAnswered text (replay_of order) (record { version = version; procedures = program }) read r) r)
     (none_refused program order.inputs right.accepted.main given) replays in
     answered program text order events s e is version r goes (subst (λ (es : List Event). IsAnswered text (replay_of order) (record { version = version; procedures = program }) es r) same opens)
 replays_print program typings proper right version text order events s e rest r given laid short goes is (inr (line, trace, refused)) =
-    let back = all_read_back program typings proper right order.inputs order.layout events s rest given laid short goes in
+    let back = all_read_back program typings proper right order.inputs order.options.layout events s rest given laid short goes in
     let never = one_history (trace_lines events rest) (Err line) (Ok events) trace back in
     absurd cc

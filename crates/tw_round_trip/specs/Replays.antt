@@ -29,7 +29,7 @@ closing_of (ending.Stuck rules) = closing.Stuck rules
 
 -- returns the order to replay a run's trace, for its report
 abbrev pub replay_of : RunOrder → ReplayOrder
-replay_of order = record { answer = Report; layout = order.layout; inputs = order.inputs }
+replay_of order = record { answer = Report; layout = order.options.layout; inputs = order.inputs }
 
 -- holds for the report of a run that ended so, with its details, if the program was read from a text
 abbrev pub IsReportOf : Option (List ℕ) → List Procedure → RunOrder → List Event → State → Ending → Reply → Type 0
@@ -41,5 +41,5 @@ IsReportOf text program order events s e r =
 abbrev pub ReplaysPrintReports : List Procedure → Type 0
 ReplaysPrintReports program =
     (version : Version) (text : Option (List ℕ)) (order : RunOrder) (events : List Event) (s : State) (e : Ending) (rest : List ℕ) (r : Reply)
-    → AreInputsOf program order.inputs → IsLayout order.layout → length events ≤ 1000000 → reached program order.inputs order.layout events ≡ Went s → machine.ending s ≡ Some e
+    → AreInputsOf program order.inputs → IsLayout order.options.layout → length events ≤ 1000000 → reached program order.inputs order.options.layout events ≡ Went s → machine.ending s ≡ Some e
     → RepliesByLines text (replay_of order) (trace_lines events rest) (record { version = version; procedures = program }) r → IsReportOf text program order events s e r

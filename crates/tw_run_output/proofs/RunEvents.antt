@@ -63,10 +63,10 @@ goes_by o s goes stops is h = subst (λ (p : Outcome State). ByOutcome p goes st
 -- ---- the machine at the start
 
 -- events from there lead to the run's state
-pub goes_there : (program : List Procedure) (order : RunOrder) (first : PlainView) (read events : List Event) (s : State) → first ≡ begins first.version program order → read ≡ events → reached program order.inputs order.layout events ≡ Went s
+pub goes_there : (program : List Procedure) (order : RunOrder) (first : PlainView) (read events : List Event) (s : State) → first ≡ begins first.version program order → read ≡ events → reached program order.inputs order.options.layout events ≡ Went s
     → run first.program first.layout read first.state ≡ Went s
 goes_there program order first read events s same all goes =
-    ap (λ (v : PlainView). run v.program v.layout read v.state) same ∙ ap (λ (es : List Event). reached program order.inputs order.layout es) all ∙ goes
+    ap (λ (v : PlainView). run v.program v.layout read v.state) same ∙ ap (λ (es : List Event). reached program order.inputs order.options.layout es) all ∙ goes
 
 -- the statistics of the events that were read are those of the run's events
 pub numbers_there : (names : List (List ℕ)) (first begin : PlainView) (read events : List Event) (plain : PlainView) (t : StatsBuilder) (budgets text : List ℕ) → first ≡ begin → read ≡ events → plain ≡ record first { state = plain.state } → IsTally first read plain.state t

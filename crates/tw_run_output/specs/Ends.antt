@@ -7,7 +7,7 @@ use Rattle.tw_code.specs.machine.State.{State}
 use Rattle.tw_pool.specs.declared.answer.Closing.{Closing}
 use Rattle.tw_pool.specs.declared.answer.Closing.TheVariants.{Quiet, Stuck, Stopped, Limit}
 use Rattle.tw_types.specs.declared.ending.Ending.TheVariants as ending
-use Rattle.tw_pool.specs.Ends.{FinalView, IsShut}
+use Rattle.tw_pool.specs.Ends.{FinalView, IsClosedPool}
 use Rattle.tw_pool.specs.History.{HistoryView}
 use Rattle.tw_pool.specs.PoolView.{PoolView}
 use Rattle.tw_report.specs.Report.{ending_lines, report}
@@ -24,7 +24,7 @@ abbrev pub end_report : List Procedure → State → Option Closing → List ℕ
 end_report program s over = report s.store.live s.outputs (closing_lines over (circle program s))
 
 abbrev pub InEachState : FinalView → (List Procedure → State → Type 0) → Type 0
-InEachState final Holds = (p : PoolView) (history : HistoryView) (shut : IsShut p final history) → Holds p.program.program shut.state
+InEachState final Holds = (p : PoolView) (history : HistoryView) (shut : IsClosedPool p final history) → Holds p.program.program shut.state
 
 -- hold for the report of a run that ended so; and for that of a run by its own end
 abbrev pub IsReportAs : FinalView → Option Closing → List ℕ → Type 0

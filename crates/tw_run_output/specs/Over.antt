@@ -22,15 +22,15 @@ use Rattle.tw_source.specs.declared.source.SourceText.{SourceText}
 -- a finished run: main takes its inputs, there are no more events than allowed, and all succeed from its start
 pub record IsFinished (program : List Procedure) (order : RunOrder) (events : List Event) : Type 0 where
   pub inputs : AreInputsOf program order.inputs
-  pub few : length events ≤ order.limit
+  pub few : length events ≤ order.options.limit
   pub state : State
-  pub reaches : reached program order.inputs order.layout events ≡ Went state
+  pub reaches : reached program order.inputs order.options.layout events ≡ Went state
 
 -- a run that is over: its events lead to a state of which the host reports this
 pub record IsRunOver (program : List Procedure) (order : RunOrder) (final : FinalView) (events : List Event) (closing : Closing) : Type 0 where
   pub state : State
-  pub few : length events ≤ order.limit
-  pub reaches : reached program order.inputs order.layout events ≡ Went state
+  pub few : length events ≤ order.options.limit
+  pub reaches : reached program order.inputs order.options.layout events ≡ Went state
   pub reports : (printed : List ℕ) → IsReportAs final (Some closing) printed → printed ≡ end_report program state (Some closing)
   pub members : (found : json.Members) → AreEndMembers final events closing found → found ≡ members_of program events state closing
   pub shows : (line : List ℕ) → IsEndLine final events closing line → line ≡ run_line program events state closing

@@ -46,7 +46,7 @@ close_of Stopped = close.Limit
 
 -- returns the line after `limit`, if the program was read from a text: how many events the run has, and how many one may have
 abbrev pub limit_details : Option (List ℕ) → RunOrder → Closing → List ℕ
-limit_details (Some text) order Limit = codes "events " ++ (decimal order.limit ++ codes "; --limit takes up to 1000000\n")
+limit_details (Some text) order Limit = codes "events " ++ (decimal order.options.limit ++ codes "; --limit takes up to 1000000\n")
 limit_details (Some text) order Quiet = []
 limit_details (Some text) order (Stuck rules) = []
 limit_details (Some text) order Stopped = []
@@ -58,12 +58,12 @@ run_report text program order s closing = end_report program s (Some closing) ++
 
 -- returns the start of a run, for a program in this version of the format
 abbrev pub begins : Version → List Procedure → RunOrder → PlainView
-begins version program order = record { version = version; program = program; layout = order.layout; state = opening program order.inputs }
+begins version program order = record { version = version; program = program; layout = order.options.layout; state = opening program order.inputs }
 
 -- holds if these are the statistics of the run's events, with these names of procedures; they are the same in each version of the format
 abbrev pub AreRunNumbers : List (List ℕ) → List Procedure → RunOrder → List Event → List ℕ → Type 0
 AreRunNumbers names program order events text =
-    (version : Version) → (budgets : List ℕ) × AreBudgets program budgets × AreNumbers names program order.layout budgets (history (begins version program order) events) text
+    (version : Version) → (budgets : List ℕ) × AreBudgets program budgets × AreNumbers names program order.options.layout budgets (history (begins version program order) events) text
 
 -- holds if this is the timeline of the events in this range; it is the same in each version, too
 abbrev pub IsRunPicture : List (List ℕ) → EventRange → List Procedure → RunOrder → List Event → State → List ℕ → Type 0
@@ -75,9 +75,9 @@ abbrev pub IsRunText : RunAnswer → Option (List ℕ) → List Procedure → Ru
 IsRunText Report text program order events s closing printed = printed ≡ run_report text program order s closing
 IsRunText Json text program order events s closing printed = printed ≡ run_line program events s closing
 IsRunText Order text program order events s closing printed =
-    (found : Option CopyInsertion) × (lines : List ℕ) × IsFirstContest program order.inputs order.layout events found × IsOrderText text closing found lines × (printed ≡ run_report text program order s closing ++ lines)
+    (found : Option CopyInsertion) × (lines : List ℕ) × IsFirstContest program order.inputs order.options.layout events found × IsOrderText text closing found lines × (printed ≡ run_report text program order s closing ++ lines)
 IsRunText OrderJson text program order events s closing printed =
-    (found : Option CopyInsertion) × IsFirstContest program order.inputs order.layout events found × (printed ≡ order_line closing found (members_of program events s closing))
+    (found : Option CopyInsertion) × IsFirstContest program order.inputs order.options.layout events found × (printed ≡ order_line closing found (members_of program events s closing))
 IsRunText Numbers text program order events s closing printed =
     (names : List (List ℕ)) × (numbers : List ℕ) × AreSymbols text names × AreRunNumbers names program order events numbers × (printed ≡ run_report text program order s closing ++ numbers)
 IsRunText (Picture shown) text program order events s closing printed =
@@ -85,7 +85,7 @@ IsRunText (Picture shown) text program order events s closing printed =
 
 -- returns the start of the run
 abbrev pub start_of : List Procedure → RunOrder → Start
-start_of program order = record { program = program; inputs = order.inputs; layout = order.layout }
+start_of program order = record { program = program; inputs = order.inputs; layout = order.options.layout }
 
 -- holds if these are the lines at the end, for a program that was read from this text
 abbrev pub AreClosingDetails : List ℕ → List Procedure → RunOrder → List Event → State → Closing → List ℕ → Type 0

@@ -10,6 +10,7 @@ use tw_pool::{Closing, Final};
 use tw_report::{circle_of, put_report};
 use tw_types::Link;
 
+/// Returns whether a run is quiet or stuck: it wasn't stopped, by the host or at the limit.
 fn has_ended(closing: Option<Closing>) -> bool
     ensures { result ≡ has_ended closing }
 {

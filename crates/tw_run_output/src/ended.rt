@@ -28,7 +28,7 @@ use tw_code::Program;
 use tw_machine::Plain;
 use tw_order::{EventRange, RunAnswer, RunOrder};
 use tw_pool::{Closing, Final, History};
-use tw_replay_output::{Counting, budgets_of, count, draw, put_bytes};
+use tw_replay_output::{budgets_of, count, draw, put_bytes};
 use tw_report::{put, put_event_line, put_numbered};
 use tw_source::{Close, Reply, SourceText, symbols_of};
 use tw_types::Event;
@@ -84,6 +84,7 @@ pub fn trace(alloc: Global, history: &History) -> Result<Vec<u8>, AllocError>
     Ok(text)
 }
 
+/// Adds the line that says the limit, and the greatest one.
 fn put_limit_line(alloc: Global, out: &mut Vec<u8>, events: usize) -> Result<(), AllocError>
     ensures { OnOk result (out.new.items ≡ out.old.items ++ (codes "events " ++ (decimal events ++ codes "; --limit takes up to 1000000\n"))) }
 {
@@ -103,7 +104,7 @@ fn put_limit(
 {
     match source {
         Some(_) => match closing {
-            Closing::Limit => put_limit_line(alloc, out, order.limit.events()),
+            Closing::Limit => put_limit_line(alloc, out, order.options.limit.events()),
             Closing::Quiet | Closing::Stuck(_) | Closing::Stopped => Ok(()),
         },
         None => Ok(()),
@@ -123,7 +124,12 @@ fn first_machine(alloc: Global, order: &RunOrder, program: Program) -> Result<Pl
     ensures first { IfOk result (λ plain. plain ≡ begins program.version program.procedures order.now) }
     ensures below { IfOk result (λ plain. AreBelow opening_bound plain.state) }
 {
-    match Plain::open(alloc, program, order.inputs.as_slice(), order.layout) {
+    match Plain::open(
+        alloc,
+        program,
+        order.inputs.as_slice(),
+        order.options.layout,
+    ) {
         Ok(plain) => Ok(plain),
         Err(_) => Err(AllocError),
     }
@@ -141,7 +147,7 @@ pub fn begin(
 {
     // For their clauses alone: they hold for an accepted program's procedures, and bound the events of a run.
     let _procedures = verified.program().procedures();
-    let _most = order.limit.events();
+    let _most = order.options.limit.events();
     let events = events_of(alloc, history)?;
     let first = first_machine(alloc, order, verified.into_program())?;
     Ok(Begun { first, events })
@@ -159,7 +165,7 @@ fn put_run_numbers(
 ) -> Result<(), AllocError>
     requires finished { IsFinished verified.program order.now history.now.events }
     requires source { MayBeSource source.now verified.program }
-    ensures { OnOk result ((s : MachineState) → reached verified.program order.now.inputs order.now.layout history.now.events ≡ Went s
+    ensures { OnOk result ((s : MachineState) → reached verified.program order.now.inputs order.now.options.layout history.now.events ≡ Went s
         → (names : List (List ℕ)) × (numbers : List ℕ) × (more : List ℕ) × AreSymbols (text_of source.now) names × AreRunNumbers names verified.program order.now history.now.events numbers
         × AreReportedDetails (text_of source.now) verified.program order.now history.now.events s closing more × (out.new.items ≡ out.old.items ++ (numbers ++ more))) }
 {
@@ -167,14 +173,14 @@ fn put_run_numbers(
     let names = symbols_of(alloc, source)?;
     let Begun { first, events } = begin(alloc, order, verified, history)?;
     match count(alloc, first, &events)? {
-        Counting::Made(counted) => {
+        Ok(counted) => {
             let numbers = counted
                 .stats_builder
                 .text(alloc, &counted.replaying.plain, &names, &budgets)?;
             put_bytes(out, &numbers)?;
             put_closing_details(alloc, out, source, &counted.replaying, closing)
         }
-        Counting::Stopped(_) => unreachable!(),
+        Err(_) => unreachable!(),
     }
 }
 
@@ -189,7 +195,7 @@ fn put_run_picture(
     history: &History,
 ) -> Result<(), AllocError>
     requires { IsFinished verified.program order.now history.now.events }
-    ensures { OnOk result ((s : MachineState) → reached verified.program order.now.inputs order.now.layout history.now.events ≡ Went s
+    ensures { OnOk result ((s : MachineState) → reached verified.program order.now.inputs order.now.options.layout history.now.events ≡ Went s
         → (names : List (List ℕ)) × (picture : List ℕ) × AreSymbols (text_of source.now) names × IsRunPicture names shown verified.program order.now history.now.events s picture × (out.new.items ≡ out.old.items ++ picture)) }
 {
     let names = symbols_of(alloc, source)?;
@@ -240,7 +246,7 @@ fn put_order_json(
     closing: Closing,
 ) -> Result<(), AllocError>
     requires { IsFinished verified.now.program order.now history.now.events }
-    ensures { OnOk result ((found : Option Insertion) × (members : json.Members) × IsFirstContest verified.now.program order.now.inputs order.now.layout history.now.events found
+    ensures { OnOk result ((found : Option Insertion) × (members : json.Members) × IsFirstContest verified.now.program order.now.inputs order.now.options.layout history.now.events found
         × AreEndMembers outcome.now history.now.events closing members × (out.new.items ≡ out.old.items ++ order_line closing found members)) }
 {
     let line = order_line(alloc, order, verified, outcome, history, closing)?;
@@ -261,9 +267,9 @@ fn put_outcome(
     requires finished { IsFinished verified.program order.now history.now.events }
     requires source { MayBeSource source.now verified.program }
     ensures { OnOk result ((over : IsRunOver verified.program order.now outcome.now history.now.events closing)
-        → (lines : List ℕ) × IsRunOutput order.now.answer (text_of source.now) verified.program order.now history.now.events over.state closing lines × (out.new.items ≡ out.old.items ++ lines)) }
+        → (lines : List ℕ) × IsRunOutput order.now.options.answer (text_of source.now) verified.program order.now history.now.events over.state closing lines × (out.new.items ≡ out.old.items ++ lines)) }
 {
-    match order.answer {
+    match order.options.answer {
         RunAnswer::Report => {
             put_run_report(alloc, out, source, order, outcome, closing)?;
             put_run_details(alloc, out, source, order, verified, history, closing)
@@ -300,12 +306,12 @@ pub fn ended_reply(
     requires over { IsRunOver verified.program order.now outcome.now history.now.events closing }
     requires source { MayBeSource source.now verified.program }
     ensures { IfOk result (λ r. (over : IsRunOver verified.program order.now outcome.now history.now.events closing) → (printed : List ℕ) × (more : List ℕ)
-        × IsRunText order.now.answer (text_of source.now) verified.program order.now history.now.events over.state closing printed
-        × AreRunDetails order.now.answer (text_of source.now) verified.program order.now history.now.events over.state closing more
-        × (reply r.text.items r.close ≡ reply (trace_text order.now.trace history.now.events ++ (printed ++ more)) (close_of closing))) }
+        × IsRunText order.now.options.answer (text_of source.now) verified.program order.now history.now.events over.state closing printed
+        × AreRunDetails order.now.options.answer (text_of source.now) verified.program order.now history.now.events over.state closing more
+        × (reply r.text.items r.close ≡ reply (trace_text order.now.options.trace history.now.events ++ (printed ++ more)) (close_of closing))) }
 {
     let mut text = Vec::new(alloc);
-    put_trace(alloc, &mut text, order.trace, history)?;
+    put_trace(alloc, &mut text, order.options.trace, history)?;
     put_outcome(
         alloc, &mut text, source, order, verified, outcome, history, closing,
     )?;

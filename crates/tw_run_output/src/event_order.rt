@@ -76,17 +76,17 @@ fn contest_in(
     history: &History,
 ) -> Result<Option<CopyInsertion>, AllocError>
     requires { IsFinished verified.now.program order.now history.now.events }
-    ensures first { IfOk result (IsFirstContest verified.now.program order.now.inputs order.now.layout history.now.events) }
+    ensures first { IfOk result (IsFirstContest verified.now.program order.now.inputs order.now.options.layout history.now.events) }
     ensures there { IfOk result (MayBeInsertion verified.now.program) }
 {
     // For its clauses alone: they bound the events of a run.
-    let _most = order.limit.events();
+    let _most = order.options.limit.events();
     let events = events_of(alloc, history)?;
     first_contest(
         alloc,
         verified,
         order.inputs.as_slice(),
-        order.layout,
+        order.options.layout,
         &events,
     )
 }
@@ -103,8 +103,8 @@ pub(crate) fn put_order(
 ) -> Result<(), AllocError>
     requires finished { IsFinished verified.program order.now history.now.events }
     requires source { MayBeSource source.now verified.program }
-    ensures { OnOk result ((s : State) → reached verified.program order.now.inputs order.now.layout history.now.events ≡ Went s
-        → (found : Option Insertion) × (lines : List ℕ) × (more : List ℕ) × IsFirstContest verified.program order.now.inputs order.now.layout history.now.events found
+    ensures { OnOk result ((s : State) → reached verified.program order.now.inputs order.now.options.layout history.now.events ≡ Went s
+        → (found : Option Insertion) × (lines : List ℕ) × (more : List ℕ) × IsFirstContest verified.program order.now.inputs order.now.options.layout history.now.events found
         × IsOrderText (text_of source.now) closing found lines × AreReportedDetails (text_of source.now) verified.program order.now history.now.events s closing more × (out.new.items ≡ out.old.items ++ (lines ++ more))) }
 {
     let found = contest_in(alloc, order, &verified, history)?;
@@ -149,7 +149,7 @@ pub(crate) fn order_line(
     closing: Closing,
 ) -> Result<String, AllocError>
     requires { IsFinished verified.now.program order.now history.now.events }
-    ensures { IfOk result (λ line. (found : Option Insertion) × (members : json.Members) × IsFirstContest verified.now.program order.now.inputs order.now.layout history.now.events found
+    ensures { IfOk result (λ line. (found : Option Insertion) × (members : json.Members) × IsFirstContest verified.now.program order.now.inputs order.now.options.layout history.now.events found
         × AreEndMembers left.now history.now.events closing members × (string_bytes line ≡ order_line closing found members)) }
 {
     let found = contest_in(alloc, order, verified, history)?;

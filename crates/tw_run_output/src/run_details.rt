@@ -17,7 +17,7 @@ use crate::ended::{Begun, begin};
 use std::alloc::{AllocError, Global};
 use tw_order::RunOrder;
 use tw_pool::{Closing, History};
-use tw_replay_output::{Played, Replaying, play, put_circle};
+use tw_replay_output::{Replaying, play, put_circle};
 use tw_source::SourceText;
 use tw_verify::Verified;
 
@@ -72,7 +72,7 @@ pub fn put_run_details(
     };
     let Begun { first, events } = begin(alloc, order, verified, history)?;
     match play(alloc, first, &events)? {
-        Played::All(replaying) => put_closing_details(alloc, out, source, &replaying, closing),
-        Played::Stopped(_) => unreachable!(),
+        Ok(replaying) => put_closing_details(alloc, out, source, &replaying, closing),
+        Err(_) => unreachable!(),
     }
 }

@@ -10,7 +10,7 @@ use Rattle.tw_types.specs.Layout.{ActorCounts}
 use Rattle.tw_types.specs.Outcome.{Outcome, Went, NotEnabled, Trap}
 use Rattle.tw_code.specs.declared.procedure.Procedure.{Procedure}
 use Rattle.tw_code.specs.machine.Bounds.{AreBelow}
-use Rattle.tw_code.specs.machine.History.{if_went}
+use Rattle.tw_code.specs.machine.History.{if_succeeded}
 use Rattle.tw_code.specs.machine.Machine.{run, step}
 use Rattle.tw_code.specs.machine.State.{Frame, State}
 use Rattle.tw_code.proofs.Runs.{run_more}
@@ -21,7 +21,7 @@ use Rattle.tw_stats.specs.declared.pre_state.PreState.{PreState}
 use Rattle.tw_stats.specs.declared.executor.Executor.{Executor}
 use Rattle.tw_stats.specs.declared.stats_builder.StatsBuilder.{StatsBuilder}
 use Rattle.tw_stats.specs.declared.dependency.Dependency.{Dependency}
-use Rattle.tw_stats.specs.Kept.{AreNextAfter, AreChains, AreCounts, AreOfProcedures, HasSpentFew, IsComing, IsFirst, IsLater, IsNext, IsSmall, IsTally, rules_in, tasks_in}
+use Rattle.tw_stats.specs.Kept.{AreNextAfter, AreChains, AreCounts, AreOfProcedures, HasSpentFew, IsPreStateOf, IsFirst, IsLater, IsNext, IsSmall, IsTally, rules_in, tasks_in}
 use Rattle.tw_stats.specs.Waits.{provides, brings_by, doer_at, doer_in, doer_of, needs, needs_by}
 use Rattle.tw_stats.proofs.Nexts.{step_more}
 
@@ -36,7 +36,7 @@ low program layout number [] s m h = let none : h.0 < 0 = h.1 in absurd (omega a
 low program layout number (event ∷ events) s m h = go (λ next later. low program layout (suc number) events next m later) (step program layout event s) h
   where
     go : ((next : State) → Contains (moments program layout (suc number) events next) m → m.number < suc number + length events) → (o : Outcome State)
-        → Contains (if_went o (λ next. record { number = number; event = event; before = s; state_after = next } ∷ moments program layout (suc number) events next)) m → m.number < number + length (event ∷ events)
+        → Contains (if_succeeded o (λ next. record { number = number; event = event; before = s; state_after = next } ∷ moments program layout (suc number) events next)) m → m.number < number + length (event ∷ events)
     go rest (Went next) h = elim (in_rest (record { number = number; event = event; before = s; state_after = next }) m (moments program layout (suc number) events next) h.0 h.1 h.2) [
       | inl same ↦ let number_is : m.number ≡ number = ap (λ (m : Moment). m.number) same in omega arith
       | inr later ↦ let others = rest next later in omega arith
@@ -80,7 +80,7 @@ unfolding run
 tally_first first t begins counts procedures chains next = record { reached = refl; counts = counts; procedures = procedures; chains = chains; next = next first.state begins }
 
 module _ (first : PlainView) (events : List Event) (event : Event) (s t : State) (old new : StatsBuilder) (c : PreState) (executor : Option Executor) (needed brought : List Dependency) where
-  pub tally_more : IsTally first events s old → IsComing first.program event s c → step first.program first.layout event s ≡ Went t → AreBelow (2 ^ 63) s → AreBelow (2 ^ 63) t → IsSmall (history first (events ++ event ∷ []))
+  pub tally_more : IsTally first events s old → IsPreStateOf first.program event s c → step first.program first.layout event s ≡ Went t → AreBelow (2 ^ 63) s → AreBelow (2 ^ 63) t → IsSmall (history first (events ++ event ∷ []))
       → executor ≡ doer_at event s t → needed ≡ needs_by event executor c.asked → brought ≡ brings_by event executor c.made
       → ((moments : List Moment) (m : Moment) → m.event ≡ event → IsSmall (moments ++ m ∷ []) → AreCounts moments old.counts → AreCounts (moments ++ m ∷ []) new.counts)
       → ((moments : List Moment) (m : Moment) → m.event ≡ event → doer_at m.event m.before m.state_after ≡ executor → IsSmall (moments ++ m ∷ []) → HasSpentFew executor → AreOfProcedures moments old.procedures → AreOfProcedures (moments ++ m ∷ []) new.procedures)

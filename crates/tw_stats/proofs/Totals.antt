@@ -20,7 +20,7 @@ use Rattle.tw_types.proofs.Results.{WhereOk, ok_both, ok_of, ok_there}
 use Rattle.tw_types.proofs.Totals.{insert_same}
 use Rattle.tw_code.specs.declared.procedure.Procedure.{Procedure}
 use Rattle.tw_code.specs.machine.Bounds.{size_of}
-use Rattle.tw_code.specs.machine.History.{if_went}
+use Rattle.tw_code.specs.machine.History.{if_succeeded}
 use Rattle.tw_code.specs.machine.Machine.{RunningInstr, is_ret, local_steps, running_instr_of, step}
 use Rattle.tw_code.specs.machine.State.{Frame, State, filled, frame_of, values_in}
 use Rattle.tw_code.proofs.Leaving.{IsRunningAt, call_leaves, is_running_at, take_leaves}
@@ -151,7 +151,7 @@ are_of program layout number [] s = tt
 are_of program layout number (event ∷ events) s = by (step program layout event s) refl (λ next. are_of program layout (suc number) events next)
   where
     by : (o : Outcome State) → step program layout event s ≡ o → ((next : State) → Each (IsMomentOf program) (moments program layout (suc number) events next))
-        → Each (IsMomentOf program) (if_went o (λ next. record { number = number; event = event; before = s; state_after = next } ∷ moments program layout (suc number) events next))
+        → Each (IsMomentOf program) (if_succeeded o (λ next. record { number = number; event = event; before = s; state_after = next } ∷ moments program layout (suc number) events next))
     by (Went next) e later = (is_of program layout s event next e, later next)
     by NotEnabled e later = tt
     by (Trap cause) e later = tt

@@ -104,7 +104,7 @@ executor_before (event.Deliver server datum rule parameter) s = None
 executor_before (event.Release engine rule) s = None
 
 -- the facts about an event in the state before it
-pub record IsComing (program : List Procedure) (event : Event) (s : State) (c : PreState) : Type 0 where
+pub record IsPreStateOf (program : List Procedure) (event : Event) (s : State) (c : PreState) : Type 0 where
   pub executor : c.executor ≡ executor_before event s
   pub asked : c.asked ≡ asked_at event s
   pub made : c.made ≡ made_at program event s

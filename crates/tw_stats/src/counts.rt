@@ -22,6 +22,7 @@ pub struct Counts {
     pub actors: Actors,
 }
 
+/// Returns the index of an event's kind.
 fn kind_of(event: &Event) -> u64
     ensures { result ≡ kind_of event.now }
 {

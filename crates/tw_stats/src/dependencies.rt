@@ -15,6 +15,7 @@ pub struct Dependencies {
     pub second: Option<Dependency>,
 }
 
+/// Returns the task that executed an event, as a dependency, if one did.
 fn task_of(executor: &Option<Executor>) -> Option<Dependency>
     ensures { option_to_list result ≡ task_of executor.now }
 {
@@ -24,6 +25,7 @@ fn task_of(executor: &Option<Executor>) -> Option<Dependency>
     }
 }
 
+/// Returns a datum as a dependency, if there is one.
 fn datum(id: &Option<DatumId>) -> Option<Dependency>
     ensures { result ≡ option_map Dependency.Datum id.now }
 {

@@ -32,6 +32,7 @@ impl Depths {
         }
     }
 
+    /// Returns the depth of a dependency.
     fn at(&self, dependency: Dependency) -> u64
         ensures { result ≡ depth_at self.now dependency }
     {
@@ -43,6 +44,7 @@ impl Depths {
         }
     }
 
+    /// Returns the depth of a dependency, or 0 if there is none.
     fn at_most_one(&self, dependency: &Option<Dependency>) -> u64
         ensures { result ≡ deepest self.now (option_to_list dependency.now) }
     {
@@ -60,6 +62,7 @@ impl Depths {
             .max(self.at_most_one(&dependencies.second))
     }
 
+    /// Raises the depth of a dependency to at least this one.
     fn deepen_at(&mut self, dependency: Dependency, depth: u64) -> Result<(), AllocError>
         ensures { OnOk result ((x : AThing) → depth_at self.new x ≡ max (depth_at self.old x) (if same_thing dependency x then depth else 0)) }
     {
@@ -71,6 +74,7 @@ impl Depths {
         }
     }
 
+    /// Raises the depth of a dependency to at least this one, if there is a dependency.
     fn deepen_one(&mut self, dependency: &Option<Dependency>, depth: u64) -> Result<(), AllocError>
         ensures { OnOk result (IsDeepened self.old (option_to_list dependency.now) depth self.new) }
     {

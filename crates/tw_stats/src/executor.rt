@@ -16,6 +16,7 @@ pub struct Executor {
 }
 
 impl Executor {
+    /// Returns the task of a frame, with what it has executed.
     fn of(frame: &Frame) -> Executor
         ensures { result ≡ doer_of frame.now }
     {

@@ -5,7 +5,7 @@ ghost use Rattle.std.specs.FinMap.{get};
 ghost use Rattle.std.specs.Option.{option_and_then, option_copied};
 ghost use Rattle.tw_code.specs.machine.Rights.{right_at};
 ghost use Rattle.tw_code.specs.machine.State.{State};
-ghost use Rattle.tw_stats.specs.Kept.{IsComing, IsNext, executor_before};
+ghost use Rattle.tw_stats.specs.Kept.{IsPreStateOf, IsNext, executor_before};
 ghost use Rattle.tw_stats.specs.Waits.{asked_at, if_closed, is_closed_at, made_at, made_by, made_in, written};
 
 use crate::dependency::Dependency;
@@ -43,6 +43,7 @@ fn rule_at(plain: &Plain, rule: RuleNo) -> Option<&Rule>
     plain.state().rules().get(&rule.number())
 }
 
+/// Returns whether a datum is closed.
 fn is_closed(plain: &Plain, id: DatumId) -> bool
     ensures { result ≡ is_closed_at (get plain.now.state.store.live id) }
 {
@@ -140,7 +141,7 @@ fn made_at(next: Next, plain: &Plain, event: &Event) -> Option<Dependency>
 impl PreState {
     /// Returns the facts about an event in the machine's current state. Call it before the event is executed.
     pub fn of(next: Next, plain: &Plain, event: &Event) -> PreState
-        ensures { IsNext plain.now.state next → IsComing plain.now.program event.now plain.now.state result }
+        ensures { IsNext plain.now.state next → IsPreStateOf plain.now.program event.now plain.now.state result }
     {
         PreState {
             executor: executor_before(plain, event),

@@ -55,6 +55,7 @@ impl Procedures {
         }
     }
 
+    /// Adds an event to the counts of its executor's procedure.
     fn add_of(&mut self, event: &Event, executor: &Executor) -> Result<(), AllocError>
         ensures { OnOk result ((moments : List Moment) (m : Moment) → m.event ≡ event.now → done_by m ≡ Some executor.now → IsSmall (moments ++ m ∷ []) → executor.now.spent < 2 ^ 63 → AreOfProcedures moments self.old → AreOfProcedures (moments ++ m ∷ []) self.new) }
     {

@@ -8,7 +8,7 @@ ghost use Rattle.tw_code.specs.machine.Machine.{step};
 ghost use Rattle.tw_code.specs.machine.State.{State};
 ghost use Rattle.tw_machine.specs.PlainView.{PlainView};
 ghost use Rattle.tw_machine.specs.Moments.{history};
-ghost use Rattle.tw_stats.specs.Kept.{executor_before, IsComing, IsFirst, IsNext, IsSmall, IsTally};
+ghost use Rattle.tw_stats.specs.Kept.{executor_before, IsPreStateOf, IsFirst, IsNext, IsSmall, IsTally};
 ghost use Rattle.tw_stats.specs.Waits.{doer_at};
 
 use crate::chains::Chains;
@@ -57,7 +57,7 @@ impl StatsBuilder {
 
     /// Returns the facts about an event in the state before it. Call it before the event is executed.
     pub fn pre_state(&self, plain: &Plain, event: &Event) -> PreState
-        ensures { IsNext plain.now.state self.now.next → IsComing plain.now.program event.now plain.now.state result }
+        ensures { IsNext plain.now.state self.now.next → IsPreStateOf plain.now.program event.now plain.now.state result }
     {
         PreState::of(self.next, plain, event)
     }
@@ -69,7 +69,7 @@ impl StatsBuilder {
         event: &Event,
         pre_state: &PreState,
     ) -> Result<(), AllocError>
-        ensures { OnOk result ((first : PlainView) (events : List AnEvent) (s : State) → IsTally first events s self.old → IsComing first.program event.now s pre_state.now
+        ensures { OnOk result ((first : PlainView) (events : List AnEvent) (s : State) → IsTally first events s self.old → IsPreStateOf first.program event.now s pre_state.now
             → step first.program first.layout event.now s ≡ Went plain.now.state → AreBelow (2 ^ 63) s → AreBelow (2 ^ 63) plain.now.state → IsSmall (history first (events ++ event.now ∷ []))
             → IsTally first (events ++ event.now ∷ []) plain.now.state self.new) }
     {

@@ -39,6 +39,7 @@ impl Table {
         self.items.get(key as usize).copied().unwrap_or(0)
     }
 
+    /// Sets the number at a key.
     fn set(&mut self, key: u64, number: u64) -> Result<(), AllocError>
         ensures { OnOk result (IsSet self.old key number self.new) }
     {

@@ -41,6 +41,7 @@ fn put_kinds(out: &mut Writer, counts: &Counts)
     put_number_line(out, "release ", counts.kinds.at(6));
 }
 
+/// Adds a budget, if it is known.
 fn put_budget(out: &mut Writer, budget: Option<u64>)
     ensures { IsAppended out.old out.new (budget_text budget) }
 {
@@ -58,6 +59,7 @@ fn put_name(out: &mut Writer, names: &Symbols, number: usize)
     out.note(done);
 }
 
+/// Adds a procedure, its name and the number of its tasks.
 fn put_tasks(out: &mut Writer, names: &Symbols, number: usize, tasks: u64)
     ensures { IsAppended out.old out.new (tasks_part names.now number tasks) }
 {
@@ -66,6 +68,7 @@ fn put_tasks(out: &mut Writer, names: &Symbols, number: usize, tasks: u64)
     out.put_numbered(" tasks ", tasks as usize);
 }
 
+/// Adds the number of executed instructions, and the most of one task.
 fn put_done(out: &mut Writer, instructions: u64, most: u64)
     ensures { IsAppended out.old out.new (done_part instructions most) }
 {
@@ -113,6 +116,7 @@ fn put_actors(out: &mut Writer, layout: Layout, counts: &Counts)
     }
 }
 
+/// Returns the budget of a procedure, if it is known.
 fn budget_at(budgets: &[u64], number: usize) -> Option<u64>
     ensures { result ≡ slice_get budgets.now number }
 {
@@ -134,6 +138,7 @@ fn put_procedures(
     }
 }
 
+/// Adds the line of the number of steps and of the longest chain.
 fn put_chain(out: &mut Writer, steps: u64, longest: u64)
     ensures { IsAppended out.old out.new (chain_line steps longest) }
 {
@@ -141,6 +146,7 @@ fn put_chain(out: &mut Writer, steps: u64, longest: u64)
     put_number_line(out, " chain ", longest);
 }
 
+/// Returns the number of procedures.
 fn procedure_count(plain: &Plain) -> usize
     ensures { result ≡ length plain.now.program }
 {

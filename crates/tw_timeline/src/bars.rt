@@ -96,6 +96,7 @@ fn name_or_number(alloc: Global, names: &Symbols, number: u8) -> Result<Vec<u8>,
     }
 }
 
+/// Returns the label of a bar with its task and its procedure.
 fn full_text(alloc: Global, task: u64, procedure: &[u8]) -> Writer
     ensures { Holds result (full_text task procedure.now) }
 {
@@ -164,6 +165,7 @@ fn has_bar(view: View, bar: &Bar) -> bool
         && least <= bar_width(view, &bar)
 }
 
+/// Returns the class of a bar, by whether it is open.
 fn bar_class(bar: &Bar) -> Word
     ensures { result ≡ bar_class bar.now.to }
 {
@@ -173,6 +175,7 @@ fn bar_class(bar: &Bar) -> Word
     }
 }
 
+/// Adds the rectangle of a bar, with its tooltip.
 fn put_bar_box(out: &mut Writer, names: &Symbols, layout: Layout, view: View, bar: &Bar)
     ensures { IsAppended out.old out.new (xml_text (bar_box names.now layout view bar.now)) }
 {
@@ -207,6 +210,7 @@ fn put_bar_label(out: &mut Writer, names: &Symbols, layout: Layout, view: View, 
     put_words(out, Name::Text, &row, &text);
 }
 
+/// Adds the rectangle and the label of a bar.
 fn put_parts(out: &mut Writer, names: &Symbols, layout: Layout, view: View, bar: &Bar)
     ensures { IsAppended out.old out.new (xml_text (bar_parts names.now layout view bar.now)) }
 {

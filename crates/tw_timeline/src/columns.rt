@@ -59,6 +59,7 @@ fn column_title(alloc: Global, from: usize, to: usize, count: usize) -> Writer
     title
 }
 
+/// Adds the rectangle of a column, with its tooltip.
 fn put_column_box(out: &mut Writer, place: (usize, usize), height: usize, title: &Writer)
     requires lane { place.0 < 1000 }
     requires column { place.1 < 6554 }

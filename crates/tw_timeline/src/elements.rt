@@ -27,6 +27,7 @@ fn put_point(out: &mut Writer, words: &str, x: usize, y: usize)
     out.put_numbered(" ", y);
 }
 
+/// Adds the route of a curve between two points.
 fn put_curve(out: &mut Writer, from: Point, to: Point)
     ensures { IsAppended out.old out.new (curve_text from to) }
 {
@@ -37,6 +38,7 @@ fn put_curve(out: &mut Writer, from: Point, to: Point)
     put_point(out, " ", to.x, to.y);
 }
 
+/// Adds the route of a line that leads from one point to another, below both.
 fn put_under(out: &mut Writer, from: Point, to: Point, below: usize)
     ensures { IsAppended out.old out.new (under_text from to below) }
 {
@@ -46,6 +48,7 @@ fn put_under(out: &mut Writer, from: Point, to: Point, below: usize)
     out.put_numbered(" V ", to.y);
 }
 
+/// Adds the value of an attribute.
 fn put_value(out: &mut Writer, value: Value)
     ensures { IsAppended out.old out.new (value_text value) }
 {
@@ -58,6 +61,7 @@ fn put_value(out: &mut Writer, value: Value)
     }
 }
 
+/// Adds an attribute, after a space.
 #[tactic(auto, unfolding(crate::specs::Xml::attribute_text))]
 fn put_attribute(out: &mut Writer, attribute: Attribute)
     ensures { IsAppended out.old out.new (attribute_text attribute) }
@@ -69,6 +73,7 @@ fn put_attribute(out: &mut Writer, attribute: Attribute)
     out.put("\"");
 }
 
+/// Adds attributes, each after a space.
 fn put_attributes(out: &mut Writer, attributes: &[Attribute])
     ensures { IsAppended out.old out.new (flat_map attribute_text attributes.now) }
 {

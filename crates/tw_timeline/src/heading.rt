@@ -14,12 +14,14 @@ use crate::places::View;
 use std::alloc::Global;
 use tw_writer::Writer;
 
+/// Returns the style sheet.
 fn looks() -> &'static str
     ensures { result.now ≡ looks }
 {
     "svg{background:white;font:12px monospace}.lane{fill:#f3f5f8;stroke:#d5dae0}.actor{fill:#222;font-weight:bold}.again{fill:#8a94a0;font-size:8px}.tick{stroke:#d5dae0}.number{fill:#667;font-size:10px}.thread{fill:none;stroke:#7a9;stroke-width:1.5}.thin{fill:none;stroke:#7a9;stroke-width:.6;opacity:.6}.bar{fill:#cfe0f5;stroke:#4a78b0}.open{fill:#e4edf8;stroke:#4a78b0;stroke-dasharray:4 3}.label{fill:#124;font-size:11px}.column{fill:#2f5d94;opacity:.75}.take{fill:#4a78b0}.local{fill:#98a2ae}.call{fill:#e08a1e}.end{fill:#1d3557}.ask{fill:#8e44ad}.deliver{fill:#16a085}.release{fill:#c0392b}.closing{fill:#222;font-size:14px;font-weight:bold}.rule{fill:#fbe3e0;stroke:#c0392b}.wait{fill:none;stroke:#c0392b;stroke-width:1.5;marker-end:url(#tip)}"
 }
 
+/// Returns the attributes of the tip of an arrow.
 fn tip_row() -> [Attribute; 6]
     ensures { result ≡ tip_row }
 {
@@ -33,6 +35,7 @@ fn tip_row() -> [Attribute; 6]
     ]
 }
 
+/// Returns the attributes of the shape of an arrowhead.
 fn head_row() -> [Attribute; 2]
     ensures { result ≡ head_row }
 {
@@ -42,6 +45,7 @@ fn head_row() -> [Attribute; 2]
     ]
 }
 
+/// Adds the definition of the tip of an arrow.
 fn put_marker(out: &mut Writer)
     ensures { IsAppended out.old out.new (xml_text marker) }
 {
@@ -77,6 +81,7 @@ fn put_kind(out: &mut Writer, event: Kind, x: usize)
     );
 }
 
+/// Adds the colours of the first four kinds of events.
 fn put_first_kinds(out: &mut Writer)
     ensures { IsAppended out.old out.new (xml_text first_kinds) }
 {
@@ -86,6 +91,7 @@ fn put_first_kinds(out: &mut Writer)
     put_kind(out, Kind::End, 490);
 }
 
+/// Adds the colours of all kinds of events.
 fn put_kinds(out: &mut Writer)
     ensures { IsAppended out.old out.new (xml_text kinds) }
 {
@@ -116,6 +122,7 @@ fn put_key(out: &mut Writer, view: View)
     }
 }
 
+/// Returns the first and the last event shown, and how many there are.
 fn some_text(alloc: Global, view: View, events: u32) -> Writer
     ensures { Holds result (some_text view events) }
 {
@@ -126,6 +133,7 @@ fn some_text(alloc: Global, view: View, events: u32) -> Writer
     text
 }
 
+/// Returns the line of a timeline that shows no events.
 fn none_text(alloc: Global, events: u32) -> Writer
     ensures { Holds result (none_text events) }
 {
@@ -145,6 +153,7 @@ fn shown_text(alloc: Global, view: View, events: u32) -> Writer
     }
 }
 
+/// Adds the line that says which events are shown.
 fn put_shown(out: &mut Writer, view: View, events: u32)
     ensures { IsAppended out.old out.new (xml_text (shown_line view events)) }
 {

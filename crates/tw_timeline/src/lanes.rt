@@ -17,6 +17,7 @@ use std::alloc::Global;
 use tw_types::{Actor, Layout};
 use tw_writer::Writer;
 
+/// Returns the name of an actor.
 fn actor_name(alloc: Global, actor: Actor) -> Writer
     ensures { Holds result (actor_name actor) }
 {
@@ -53,6 +54,7 @@ fn put_lane(out: &mut Writer, layout: Layout, width: usize, actor: Actor)
     put_names(out, top, width, &name);
 }
 
+/// Adds the rows of the engines.
 fn put_engines(out: &mut Writer, layout: Layout, width: usize)
     requires { width < 2 ^ 51 }
     ensures { IsAppended out.old out.new (xml_text (below (λ n. lane layout width (Engine n)) layout.engines)) }
@@ -62,6 +64,7 @@ fn put_engines(out: &mut Writer, layout: Layout, width: usize)
     }
 }
 
+/// Adds the rows of the servers.
 fn put_servers(out: &mut Writer, layout: Layout, width: usize)
     requires { width < 2 ^ 51 }
     ensures { IsAppended out.old out.new (xml_text (below (λ n. lane layout width (Server n)) layout.servers)) }
@@ -71,6 +74,7 @@ fn put_servers(out: &mut Writer, layout: Layout, width: usize)
     }
 }
 
+/// Adds the rows of the workers.
 fn put_workers(out: &mut Writer, layout: Layout, width: usize)
     requires { width < 2 ^ 51 }
     ensures { IsAppended out.old out.new (xml_text (below (λ n. lane layout width (Worker n)) layout.workers)) }
@@ -90,6 +94,7 @@ pub fn put_lanes(out: &mut Writer, layout: Layout, width: usize)
     put_workers(out, layout, width);
 }
 
+/// Returns the attributes of a vertical line.
 fn tick_row(x: usize, down_to: usize) -> [Attribute; 5]
     ensures { result ≡ tick_row x down_to }
 {

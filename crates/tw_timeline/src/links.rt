@@ -77,6 +77,7 @@ fn back(left: usize, next: usize, top: usize) -> Value
     Value::Under(from, to, top + 56)
 }
 
+/// Returns the route of an arrow from one box to the next, over or under those between.
 fn arrow(left: usize, next: usize, top: usize) -> Value
     requires left { left < 2 ^ 41 }
     requires next { next < 2 ^ 41 }
@@ -112,6 +113,7 @@ fn put_wait_arrow(out: &mut Writer, layout: Layout, wait: &Wait)
     put_written(out, Name::Text, &place, &text);
 }
 
+/// Adds a rule of the circle, with the arrow to the rule for which it waits.
 fn put_wait(out: &mut Writer, layout: Layout, wait: &Wait)
     ensures { IsAppended out.old out.new (xml_text (wait_shape layout wait.now)) }
 {

@@ -36,6 +36,7 @@ pub fn way_row(class: Word, way: Value) -> [Attribute; 2]
     [fixed(Key::Class, class), route(way)]
 }
 
+/// Returns the kind of an event.
 fn kind_of(event: &Event) -> Kind
     ensures { result ≡ kind_of event.now }
 {

@@ -29,6 +29,7 @@ fn width_of(drawing: &Drawing, view: View) -> usize
     840usize.max(events).max(220 * (rules as usize) + 90)
 }
 
+/// Returns the height of a timeline.
 fn height_of(drawing: &Drawing) -> usize
     ensures { result ≡ height_of drawing.now }
 {
@@ -39,6 +40,7 @@ fn height_of(drawing: &Drawing) -> usize
     }
 }
 
+/// Returns the attributes of a timeline of this size.
 fn sized(width: usize, height: usize) -> [Attribute; 4]
     ensures { result ≡ sized width height }
 {
@@ -83,6 +85,7 @@ fn put_things(out: &mut Writer, drawing: &Drawing, view: View)
     put_waits(out, drawing.layout, &drawing.waits);
 }
 
+/// Adds the whole timeline.
 fn put_drawn(out: &mut Writer, drawing: &Drawing, view: View)
     ensures { IsAppended out.old out.new (xml_text (drawn drawing.now view)) }
 {

@@ -14,6 +14,7 @@ use std::alloc::Global;
 use tw_types::Layout;
 use tw_writer::Writer;
 
+/// Returns the tooltip of a thread.
 fn thread_title(alloc: Global, thread: &Thread) -> Writer
     ensures { Holds result (thread_title thread.now) }
 {
@@ -61,6 +62,7 @@ fn thread_way(layout: Layout, view: View, thread: &Thread) -> Value
     Value::Curve(from, to)
 }
 
+/// Adds a thread, if it is shown.
 fn put_thread(out: &mut Writer, layout: Layout, view: View, thread: &Thread)
     ensures { IsAppended out.old out.new (xml_text (thread_box layout view thread.now)) }
 {

@@ -63,6 +63,7 @@ fn keep_maker(makers: &mut Vec<Place>, plain: &Plain, mark: &Mark) -> Result<(),
     Ok(())
 }
 
+/// Returns the place at an index, if there is one.
 fn place_at(places: &[Place], index: usize) -> Option<Place>
     ensures { result ≡ slice_get places.now index }
 {
@@ -80,6 +81,7 @@ fn maker_of(makers: &[Place], task: TaskNo) -> Option<Place>
     place_at(makers, (number - FIRST_MADE) as usize)
 }
 
+/// Returns whether an event ends a task on this actor.
 fn is_end_of(event: &Event, actor: Actor) -> bool
     ensures { result ≡ is_end_of actor event.now }
 {

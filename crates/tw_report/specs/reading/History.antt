@@ -1,14 +1,14 @@
 -- Parsing of traces, line by line.
 use Rattle.std.specs.Prelude.{◌≡◌, ◌⊎◌, ◌+◌, ℕ, Bool, true, false, List, [], ◌∷◌, ◌++◌, Option, Some, None, Result, Ok, Err}
 use Rattle.tw_types.specs.declared.event.Event.{Event}
-use Rattle.tw_report.specs.Events.{SpellsEvent}
+use Rattle.tw_report.specs.Events.{EncodesEvent}
 use Rattle.tw_report.specs.History.{HasNoLineFeed, IsBlank, IsEnd, IsUnknown, IsTraceOf, lines_in}
 use Rattle.tw_report.specs.declared.history.HistoryFault.{HistoryFault}
 use Rattle.tw_report.specs.declared.history.HistoryFault.TheVariants.{UnknownLine, NoMemory}
 
 -- holds for the events after one line, and whether other lines may follow
 abbrev pub Takes : List Event → List ℕ → ℕ → Result Bool HistoryFault → List Event → Type 0
-Takes events line number (Ok true) after = (IsBlank line × (after ≡ events)) ⊎ ((event : Event) × SpellsEvent event line × (after ≡ events ++ event ∷ []))
+Takes events line number (Ok true) after = (IsBlank line × (after ≡ events)) ⊎ ((event : Event) × EncodesEvent event line × (after ≡ events ++ event ∷ []))
 Takes events line number (Ok false) after = IsEnd line × (after ≡ events)
 Takes events line number (Err (UnknownLine at)) after = IsUnknown line × (at ≡ number)
 Takes events line number (Err NoMemory) after = Unit {0}

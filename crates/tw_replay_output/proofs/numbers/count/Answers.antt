@@ -1,5 +1,5 @@
 use Rattle.std.proofs.Common.{◌≡◌, ◌+◌, ◌*◌, ◌≤◌, ◌^◌, [], arith, subst, sym, take}
-use Rattle.tw_replay_output.proofs.ReplayNames.{AreBelow, IfOk-weaker, IsCounting, IsTally, PlainView, Went, opening_bound, reply, size_of, step}
+use Rattle.tw_replay_output.proofs.ReplayNames.{AreBelow, IsTally, PlainView, Went, opening_bound, reply, size_of, step}
 use Rattle.tw_code.proofs.Growth.{below_more}
 use Rattle.tw_replay_output.proofs.Playing.{event_small, not_made, stepped}
 use Rattle.tw_replay_output.proofs.Replays.{at_end, at_first, at_next}
@@ -11,14 +11,10 @@ step-requires-clause-small c = below_more (opening_bound + 1000000000 * c.loop-i
 
 pub returns-in-Err : goal.returns-in-Err
 returns-in-Err c =
-    let first = c.args.first in
-    let events = c.args.events.now in
+    let r = c.in_ok-reply-in-Err.reply in
     let at = c.loop-index.invariant.at in
-    IfOk-weaker c.stopped_counting.result _ (IsCounting first events)
-    (λ counting (r, is, answered).
-    subst (IsCounting first events) (sym is)
-    (not_made first c.loop-index.replaying.plain events c.loop-index.index c.index-events-index.result c.in-Err.stopped (reply r.text.items r.close) (λ s. ⊥) at.stays c.loop-index-test.true c.index-events-index.is c.in-Err.ensures.steps.0 answered at.same at.runs))
-    c.stopped_counting.ensures
+    not_made c.args.first c.loop-index.replaying.plain c.args.events.now c.loop-index.index c.index-events-index.result c.in-Err.stopped (reply r.text.items r.close) (λ s. ⊥) at.stays c.loop-index-test.true c.index-events-index.is
+    c.in-Err.ensures.steps.0 c.in_ok-reply-in-Err.ensures at.same at.runs
 
 pub loop-index-init : goal.loop-index-init
 loop-index-init c =

@@ -18,6 +18,6 @@ returns c =
       first = is ∙ ap (λ (v : PlainView). begins v.version program order) (sym is);
       events = all;
       below = c.in_ok-first.ensures.below;
-      short = subst AreShort (sym all) (run_short program (typings_of c.args.verified) (subst IsProgram c.program.ensures.is c.procedures-procedures.ensures.within) c.program.ensures.right order.inputs order.layout c.args.history.now.events run.state run.inputs run.reaches);
+      short = subst AreShort (sym all) (run_short program (typings_of c.args.verified) (subst IsProgram c.program.ensures.is c.procedures-procedures.ensures.within) c.program.ensures.right order.inputs order.options.layout c.args.history.now.events run.state run.inputs run.reaches);
       few = subst (λ (es : List Event). length es ≤ 16777217) (sym all) (omega (arith, run.few, c.events-most.ensures.most, c.events-most.ensures.value));
     }

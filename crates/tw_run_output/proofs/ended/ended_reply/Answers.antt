@@ -9,7 +9,7 @@ put_outcome-requires-clause-finished c = record { inputs = c.requires.inputs; fe
 
 pub returns : goal.returns
 returns c = λ over.
-    let trace = trace_text c.args.order.now.trace c.args.history.now.events in
+    let trace = trace_text c.args.order.now.options.trace c.args.history.now.events in
     let (lines, output, added) = c.in_ok-put_outcome.ensures over in
     let (printed, more, is, are, joined) = output in
     let whole =

@@ -5,7 +5,6 @@ use Rattle.tw_stats.specs.Kept.{IsFirst, IsTally}
 use Rattle.tw_stats.specs.Text.{AreNumbers}
 use Rattle.tw_stats.proofs.Openings.{first_is}
 use Rattle.tw_replay_output.specs.Counted.{IsCounting}
-use Rattle.tw_replay_output.specs.declared.numbers.Counting.{Counting}
 use Rattle.tw_run_output.proofs.Closings.{replay_there}
 use Rattle.tw_run_output.proofs.RunEvents.{goes_by, goes_there, numbers_there}
 use Rattle.tw_run_output.proofs.ended.put_run_numbers.Goals as goal
@@ -30,14 +29,14 @@ returns c =
     let read = c.deref.result.now in
     let begun = c.in_ok-first.ensures in
     let budgets = c.in_ok-budgets.budgets.items in
-    let r = c.in-Made.counted.replaying in
-    let stats = c.in-Made.counted.stats_builder in
-    let (from, tally) = subst (λ (x : Counting). IsCounting first read x) c.in-Made.is c.in_ok-counted.ensures in
+    let r = c.in-Ok.counted.replaying in
+    let stats = c.in-Ok.counted.stats_builder in
+    let (from, tally) = subst (IsCounting first read) c.in-Ok.is c.in_ok-counted.ensures in
     let all : read ≡ events = c.deref.ensures.value ∙ begun.events in
-    let text = c.in_ok-numbers-in-Made.numbers.items in
+    let text = c.in_ok-numbers-in-Ok.numbers.items in
     let printed = numbers_there names first (begins first.version program order) read events r.plain stats budgets text begun.first all from.stays tally
-    (subst (λ (bs : List ℕ). (v : PlainView) (es : List Event) → r.plain ≡ record v { state = r.plain.state } → IsTally v es r.plain.state stats → AreNumbers names v.program v.layout bs (history v es) text) c.deref-in-Made.ensures.value c.in_ok-numbers-in-Made.ensures) in
-    let added = c.in_ok-put_bytes-in-Made.ensures ∙ ap (λ (t : List ℕ). c.args.out.now.items ++ t) c.deref-in-Made-2.ensures.value in
+    (subst (λ (bs : List ℕ). (v : PlainView) (es : List Event) → r.plain ≡ record v { state = r.plain.state } → IsTally v es r.plain.state stats → AreNumbers names v.program v.layout bs (history v es) text) c.deref-in-Ok.ensures.value c.in_ok-numbers-in-Ok.ensures) in
+    let added = c.in_ok-put_bytes-in-Ok.ensures ∙ ap (λ (t : List ℕ). c.args.out.now.items ++ t) c.deref-in-Ok-2.ensures.value in
     on_ok_weaker c.put_closing_details.result
     (λ h s goes.
     let (more, are, whole) = h program order events s c.requires.source (replay_there program order first read events r begun.first all from) goes in
@@ -49,6 +48,6 @@ unreachable-requires c =
     let read = c.deref.result.now in
     let begun = c.in_ok-first.ensures in
     let run_is = c.requires.finished in
-    let stopped = subst (λ (x : Counting). IsCounting first read x) c.in-Stopped.is c.in_ok-counted.ensures in
+    let stopped = subst (IsCounting first read) c.in-Err.is c.in_ok-counted.ensures in
     goes_by (run first.program first.layout read first.state) run_is.state (λ t. ⊥) _
     (goes_there c.args.verified.program c.args.order.now first read c.args.history.now.events run_is.state begun.first (c.deref.ensures.value ∙ begun.events) run_is.reaches) stopped

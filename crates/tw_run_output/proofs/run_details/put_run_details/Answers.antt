@@ -2,7 +2,6 @@ use Rattle.std.proofs.Common.{◌≤◌, ◌∙◌, List, ap, length, subst, sym
 use Rattle.std.specs.Option.{option_copied}
 use Rattle.tw_run_output.proofs.RunNames.{AreShort, Event, on_ok_weaker, run}
 use Rattle.tw_replay_output.specs.Stuck.{IsPlayed}
-use Rattle.tw_replay_output.specs.declared.replaying.Played.{Played}
 use Rattle.tw_run_output.proofs.Closings.{no_circle, replay_there}
 use Rattle.tw_run_output.proofs.RunEvents.{goes_by, goes_there}
 use Rattle.tw_run_output.proofs.run_details.put_run_details.Goals as goal
@@ -23,8 +22,8 @@ returns c =
     let first = c.in_ok-first.field-0.first in
     let read = c.deref.result.now in
     let begun = c.in_ok-first.ensures in
-    let played = subst (λ (x : Played). IsPlayed first read x) c.in-All.is c.in_ok-replaying.ensures in
-    let replay = replay_there program order first read events c.in-All.replaying begun.first (c.deref.ensures.value ∙ begun.events) played in
+    let played = subst (IsPlayed first read) c.in-Ok.is c.in_ok-replaying.ensures in
+    let replay = replay_there program order first read events c.in-Ok.replaying begun.first (c.deref.ensures.value ∙ begun.events) played in
     on_ok_weaker c.put_closing_details.result (λ printed s goes. printed program order events s c.requires.source replay goes) c.put_closing_details.ensures
 
 pub unreachable-requires : goal.unreachable-requires
@@ -33,6 +32,6 @@ unreachable-requires c =
     let read = c.deref.result.now in
     let begun = c.in_ok-first.ensures in
     let run_is = c.requires.finished in
-    let stopped = subst (λ (x : Played). IsPlayed first read x) c.in-Stopped.is c.in_ok-replaying.ensures in
+    let stopped = subst (IsPlayed first read) c.in-Err.is c.in_ok-replaying.ensures in
     goes_by (run first.program first.layout read first.state) run_is.state (λ t. ⊥) _
     (goes_there c.args.verified.program c.args.order.now first read c.args.history.now.events run_is.state begun.first (c.deref.ensures.value ∙ begun.events) run_is.reaches) stopped
