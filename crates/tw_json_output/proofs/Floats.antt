@@ -1,8 +1,6 @@
 -- No value here has a float.
 use Rattle.std.proofs.Common.{◌≡◌, ℕ, ◌^◌, List, [], ◌∷◌, Bool, true, false, ◌||◌, map, Option, Some, None, Ordering, Less, Equal, Greater, refl, sym, ap, ◌∙◌, nat_lt, nat_cmp, true≢false, if◌then◌else◌}
 use Rattle.std.specs.Cmp.Lexicographic.{slice_cmp}
-use Rattle.std.specs.Str.Lines.{lines}
-use Rattle.std.specs.Str.Lossy.{utf8_lossy}
 use Rattle.std.specs.FinMap as fin
 use Rattle.std.specs.Ordering.{match_ordering}
 use Rattle.std.specs.Option.{option_and_then}
@@ -18,20 +16,17 @@ use Rattle.tw_types.specs.Store.{Content, Unset, Set, Contains, Maps, Datum, Dat
 use Rattle.tw_types.specs.StoreCalls.{value_in}
 use Rattle.tw_types.specs.ValueOrder.{Subscript}
 use Rattle.tw_json_output.specs.Outputs.{content_json, datum_json, datum_kind, key_of, kinds_json, members_json, output_json, outputs_json, scalar_json, value_json, with_members, with_values}
-use Rattle.tw_json_output.specs.Texts.{explanation_json, lines_json, printed_json, whole_json, with_code, with_status, without_feed}
-use Rattle.tw_json_output.specs.declared.text_object.Printed.{Printed}
-use Rattle.tw_json_output.specs.declared.text_object.Printed.TheVariants.{Digits, Listing, Plain, Text}
 use Rattle.tw_json_output.specs.Run.{circle_json, link_json, run_json, run_members, size_json, with_circle, with_pending}
 
 pub both : (a b : Bool) → a ≡ false → b ≡ false → a || b ≡ false
 both false b left right = right
 both true b left right = absurd (true≢false left)
 
-first : (a b : Bool) → a || b ≡ false → a ≡ false
+pub first : (a b : Bool) → a || b ≡ false → a ≡ false
 first false b e = refl
 first true b e = absurd (true≢false e)
 
-second : (a b : Bool) → a || b ≡ false → b ≡ false
+pub second : (a b : Bool) → a || b ≡ false → b ≡ false
 second false b e = e
 second true b e = absurd (true≢false e)
 
@@ -53,23 +48,6 @@ one_more k d (json.member l e ms) value rest =
 pub strings : (texts : List (List ℕ)) → items_have_float (items_of (map json.string texts)) ≡ false
 strings [] = refl
 strings (t ∷ ts) = strings ts
-
--- a status and one more value
-pub with_one : (status name : List ℕ) (value : json.Data) → has_float value ≡ false → members_have_float (with_status status name value) ≡ false
-with_one status name value fine = one_more name value (json.member (codes "status") (json.string status) json.no_members) fine refl
-
-pub of_printed : (printed : Printed) (text : List ℕ) → has_float (printed_json printed text) ≡ false
-of_printed Digits text = with_one (codes "assembled") (codes "bytes") (whole_json (without_feed text)) refl
-of_printed Plain text = with_one (codes "assembled") (codes "text") (whole_json text) refl
-of_printed Text text = with_one (codes "disassembled") (codes "text") (whole_json text) refl
-of_printed Listing text = with_one (codes "disassembled") (codes "listing") (lines_json text) (strings (lines (utf8_lossy text)))
-
-coded : (code : List ℕ) (ms : json.Members) → members_have_float ms ≡ false → members_have_float (with_code code ms) ≡ false
-coded [] ms before = before
-coded (c ∷ code) ms before = one_more (codes "code") (whole_json (c ∷ code)) ms refl before
-
-pub of_explanation : (code text : List ℕ) → has_float (explanation_json code text) ≡ false
-of_explanation code text = coded code (with_status (codes "explained") (codes "text") (whole_json text)) (with_one (codes "explained") (codes "text") (whole_json text) refl)
 
 integer : (n : ℤ) → has_float (json.number (of_integer n)) ≡ false
 integer (pos n) = refl

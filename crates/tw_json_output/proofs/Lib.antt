@@ -1,3 +1,4 @@
 pub mod Floats
 pub mod Members
 pub mod OneLine
+mod Wholes

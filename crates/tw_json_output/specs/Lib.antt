@@ -4,3 +4,5 @@ pub mod Run
 pub mod Texts
 -- Texts of one line.
 pub mod Lines
+-- Objects and arrays that are written piece by piece.
+pub mod Writers

@@ -2,6 +2,7 @@
 //! first.
 #![tactic(auto)]
 
+mod object_writer;
 mod output_kinds;
 mod outputs;
 mod printed_lines;
@@ -10,7 +11,7 @@ mod text_object;
 mod theorems;
 mod values;
 
-pub use printed_lines::lines_value;
+pub use object_writer::{ArrayWriter, ObjectWriter};
 pub use run_object::{RunEnd, RunNumbers, end_members, line_of, run_line};
-pub use text_object::{Printed, explanation_line, members_with, printed_line, text_value};
+pub use text_object::{Printed, explanation_line, printed_line};
 pub use theorems::one_line;

@@ -11,7 +11,8 @@ use tw_datum::{Datum, Member};
 use tw_report::ReportSource;
 use tw_types::{DataType, Scalar, Value};
 
-/// Returns the kind of a container, by whether its subscripts are texts, by its members' type, and by whether it is closed.
+/// Returns the kind of a container in JSON, by whether its subscripts are texts, by its members' type, and by whether it is
+/// closed.
 fn container_kind(by_text: bool, scalar: Scalar, closed: bool) -> &'static str
     ensures { result.now ≡ container_kind by_text scalar closed }
 {
@@ -27,7 +28,8 @@ fn container_kind(by_text: bool, scalar: Scalar, closed: bool) -> &'static str
     }
 }
 
-/// Returns the kind of a map, by whether its subscripts are texts, by its values' type, and by whether it is closed; no type is sums'.
+/// Returns the kind of a map in JSON, by whether its subscripts are texts, by its values' type, and by whether it is closed; no
+/// type is sums'.
 fn map_kind(by_text: bool, values: Option<Scalar>, closed: bool) -> &'static str
     ensures { result.now ≡ map_kind by_text values closed }
 {
@@ -47,7 +49,7 @@ fn map_kind(by_text: bool, values: Option<Scalar>, closed: bool) -> &'static str
     }
 }
 
-/// Returns the type of a map's values, or `None` for sums.
+/// Returns the type of a map's values for its kind in JSON, or `None` for sums.
 fn values_of(ty: DataType) -> Option<Scalar>
     ensures { result ≡ values_of ty }
 {
@@ -84,7 +86,7 @@ fn datum_kind<M: Member>(datum: Option<&Datum<M>>) -> &'static str
     }
 }
 
-/// Returns the kinds of the outputs, from number 0 on.
+/// Returns the kinds of the outputs in JSON, from number 0 on.
 pub fn output_kinds<T: ReportSource>(alloc: Global, shown: &T) -> Result<Vec<Json>, AllocError>
     ensures { IfOk result (λ v. map view v.items ≡ kinds_json (T.live shown.now) (T.ids shown.now)) }
 {

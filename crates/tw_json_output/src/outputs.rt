@@ -15,7 +15,7 @@ use tw_datum::{Datum, Member};
 use tw_report::ReportSource;
 use tw_types::DatumId;
 
-/// Returns the object of a container's members.
+/// Returns the JSON object of a container's members.
 fn members_value<T: ReportSource>(
     alloc: Global,
     shown: &T,
@@ -36,7 +36,7 @@ fn members_value<T: ReportSource>(
     Ok(Json::Object(members))
 }
 
-/// Returns the object of a map's values.
+/// Returns the JSON object of a map's values.
 fn values_value<M: Member>(alloc: Global, map: &Datum<M>) -> Result<Json, AllocError>
     requires { has_entries map.now.datum.content ≡ true }
     ensures { IfOk result (λ v. view v ≡ object (values_json (entries (entries_in map.now.datum.content)))) }
@@ -53,7 +53,7 @@ fn values_value<M: Member>(alloc: Global, map: &Datum<M>) -> Result<Json, AllocE
     Ok(Json::Object(values))
 }
 
-/// Returns the value of an output: a scalar's value, an object of a container's members or of a map's values, or `null`.
+/// Returns the JSON value of an output: a scalar's value, an object of a container's members or of a map's values, or `null`.
 fn output_value<T: ReportSource>(alloc: Global, shown: &T, id: DatumId) -> Result<Json, AllocError>
     ensures { IfOk result (λ v. view v ≡ output_json (T.live shown.now) (get (T.live shown.now) id)) }
 {
@@ -72,7 +72,7 @@ fn output_value<T: ReportSource>(alloc: Global, shown: &T, id: DatumId) -> Resul
     members_value(alloc, shown, datum)
 }
 
-/// Returns the values of the outputs, from number 0 on.
+/// Returns the JSON values of the outputs, from number 0 on.
 pub fn output_values<T: ReportSource>(alloc: Global, shown: &T) -> Result<Vec<Json>, AllocError>
     ensures { IfOk result (λ v. map view v.items ≡ outputs_json (T.live shown.now) (T.ids shown.now)) }
 {

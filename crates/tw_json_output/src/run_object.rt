@@ -33,7 +33,7 @@ pub struct RunEnd<'a> {
     pub circle: Option<Vec<Link>>,
 }
 
-/// Returns a number, or `null` past 64 bits.
+/// Returns a number of a run as JSON, or `null` past 64 bits.
 fn size_value(number: u128) -> Json
     ensures { view result ≡ size_json number }
 {
@@ -43,14 +43,14 @@ fn size_value(number: u128) -> Json
     }
 }
 
-/// Returns a link of the circle as its three numbers.
+/// Returns a link of a stuck run's circle as a JSON array of its three numbers.
 fn link_value(alloc: Global, link: &Link) -> Result<Json, AllocError>
     ensures { IfOk result (λ v. view v ≡ link_json link.now) }
 {
     json!(in alloc; [link.rule.number(), link.datum.number(), link.next.number()])
 }
 
-/// Returns the links of a circle.
+/// Returns the links of a stuck run's circle as JSON.
 fn circle_value(alloc: Global, links: &[Link]) -> Result<Json, AllocError>
     ensures { IfOk result (λ v. view v ≡ circle_json links.now) }
 {
@@ -61,7 +61,7 @@ fn circle_value(alloc: Global, links: &[Link]) -> Result<Json, AllocError>
     Ok(Json::from(values))
 }
 
-/// Adds the members that a stuck run has.
+/// Adds the members that a stuck run has to the JSON object of a run.
 fn put_pending(
     alloc: Global,
     members: &mut Map<String, Json>,
@@ -79,7 +79,7 @@ fn put_pending(
     Ok(())
 }
 
-/// Returns the members that each run has.
+/// Returns the members that the JSON object of each run has.
 fn run_members<T: ReportSource>(
     alloc: Global,
     shown: &T,
@@ -109,7 +109,7 @@ fn run_members<T: ReportSource>(
     Ok(members)
 }
 
-/// Returns a value as one line.
+/// Returns a JSON value as one line.
 pub fn line_of(alloc: Global, value: &Json) -> Result<String, AllocError>
     requires { has_float (view value.now) ≡ false }
     ensures { IfOk result (λ line. string_bytes line ≡ json_line (view value.now)) }
@@ -119,7 +119,7 @@ pub fn line_of(alloc: Global, value: &Json) -> Result<String, AllocError>
     Ok(line)
 }
 
-/// Returns the members of the object of a run.
+/// Returns the members of the JSON object of a run, with those of a stuck one.
 pub fn end_members<T: ReportSource>(
     alloc: Global,
     shown: &T,
@@ -134,7 +134,7 @@ pub fn end_members<T: ReportSource>(
     Ok(members)
 }
 
-/// Returns the object of a run, on one line.
+/// Returns the JSON object of a run, on one line.
 pub fn run_line<T: ReportSource>(
     alloc: Global,
     shown: &T,

@@ -11,7 +11,7 @@ use std::alloc::{AllocError, Global};
 use tw_datum::{Datum, Member};
 use tw_types::Value;
 
-/// Returns an integer as a number, and a text as a string.
+/// Returns an integer as a JSON number, and a text as a JSON string.
 pub fn scalar_value(alloc: Global, value: &Value) -> Result<Json, AllocError>
     ensures { IfOk result (λ v. view v ≡ scalar_json value.now) }
 {
@@ -21,7 +21,7 @@ pub fn scalar_value(alloc: Global, value: &Value) -> Result<Json, AllocError>
     }
 }
 
-/// Returns the key of a member: its subscript, in decimal digits if that is an integer.
+/// Returns the JSON key of a member: its subscript, in decimal digits if that is an integer.
 pub fn key_of(alloc: Global, subscript: &Value) -> Result<String, AllocError>
     ensures { IfOk result (λ key. string_bytes key ≡ key_of subscript.now) }
 {
@@ -34,7 +34,7 @@ pub fn key_of(alloc: Global, subscript: &Value) -> Result<String, AllocError>
     }
 }
 
-/// Returns the value of a scalar, or `null` if it is unset or freed.
+/// Returns the JSON value of a scalar, or `null` if it is unset or freed.
 pub fn datum_value<M: Member>(alloc: Global, datum: Option<&Datum<M>>) -> Result<Json, AllocError>
     ensures { IfOk result (λ v. view v ≡ datum_json (option_map (λ d. d.datum) (option_copied datum.entry))) }
 {

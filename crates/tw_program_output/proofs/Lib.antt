@@ -7,4 +7,4 @@ mod ReplyNames
 pub mod Admissions
 mod Circles
 pub mod CheckObjects
-mod ErrorObjects
+mod Objects

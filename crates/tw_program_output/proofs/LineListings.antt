@@ -1,7 +1,7 @@
 -- A text's own lines in a listing, one line more.
 use Rattle.std.proofs.Common.{◌≡◌, ◌<◌, ◌≤◌, ◌+◌, ◌-◌, ◌⊎◌, inl, inr, ℕ, zero, suc, List, [], ◌∷◌, ◌++◌, length, get_or, map, drop, take, Option, None, Some, codes, refl, sym, ap, subst, ◌∙◌, append_assoc, arith}
 use Rattle.std.proofs.lemmas.Bool.{cases_lt}
-use Rattle.tw_program_output.proofs.ReplyNames.{IsSource, LineSays, LinesSay, Procedure, ParserState, Typing, after_line, append-nil, at_start, counts_of, get_or_append_left, length-append, lines, plain_of, right_at, right_column, rights_below, said_line, said_lines, situation, situation_from, slice_get, slice_get_within, typings_in, zip}
+use Rattle.tw_program_output.proofs.ReplyNames.{IsSource, HasStatement, HaveStatements, Procedure, ParserState, Typing, after_line, append-nil, at_start, counts_of, get_or_append_left, length-append, lines, plain_of, right_at, right_column, rights_below, listed_line, listed_lines, situation, situation_from, slice_get, slice_get_within, typings_in, zip}
 use Rattle.std.proofs.Math.Seq.{get_or-append_seam, split_at}
 use Rattle.std.proofs.lemmas.List.{length-map}
 use Rattle.std.proofs.lemmas.List.FromFn.{get_or-enumerate_from, length-enumerate_from}
@@ -11,7 +11,7 @@ use Rattle.tw_asm.specs.Statement.{Statement}
 use Rattle.tw_code.specs.accepting.WellTyped.{IsWellTyped}
 use Rattle.tw_code.specs.machine.Holders.{Typings}
 use Rattle.tw_soundness.specs.NoTrap.{AreRight}
-use Rattle.tw_diagnostics.specs.LineRole.{says_of}
+use Rattle.tw_diagnostics.specs.LineRole.{statement_role}
 use Rattle.tw_diagnostics.specs.declared.parser_state.LineRole.{LineRole}
 use Rattle.tw_diagnostics.specs.declared.parser_state.LineRole.TheVariants as says
 use Rattle.tw_program_output.specs.Listing.{beside, place_column, rights_text}
@@ -23,19 +23,19 @@ use Rattle.tw_source.proofs.Sources.{said_length, some_origin}
 
 -- what lines say, and one line more
 said_more : (names : ℕ → ℕ → List ℕ) (typings : Typings) (number : ℕ) (s : ParserState) (ls : List (List ℕ)) (line : List ℕ) (before : List (Option Statement)) (x : Option Statement) → length before ≡ length ls
-    → said_lines names typings number s (ls ++ line ∷ []) (before ++ x ∷ []) ≡ said_lines names typings number s ls before ++ said_line (names (number + length ls)) typings (situation_from number s before) line (says_of x)
+    → listed_lines names typings number s (ls ++ line ∷ []) (before ++ x ∷ []) ≡ listed_lines names typings number s ls before ++ listed_line (names (number + length ls)) typings (situation_from number s before) line (statement_role x)
 said_more names typings number s [] line [] x e =
     let here : number ≡ number + 0 = omega arith in
-    append-nil (said_line (names number) typings s line (says_of x)) ∙ ap (λ (n : ℕ). said_line (names n) typings s line (says_of x)) here
+    append-nil (listed_line (names number) typings s line (statement_role x)) ∙ ap (λ (n : ℕ). listed_line (names n) typings s line (statement_role x)) here
 said_more names typings number s [] line (y ∷ before) x e = absurd (omega (arith, e))
 said_more names typings number s (l ∷ ls) line [] x e = absurd (omega (arith, e))
 said_more names typings number s (l ∷ ls) line (y ∷ before) x e =
-    let own = said_line (names number) typings s l (says_of y) in
+    let own = listed_line (names number) typings s l (statement_role y) in
     let next = after_line number y s in
     let there : (number + 1) + length ls ≡ number + suc (length ls) = omega arith in
     ap (λ (t : List ℕ). own ++ t) (said_more names typings (number + 1) next ls line before x (omega (arith, e)))
-    ∙ ap (λ (n : ℕ). own ++ (said_lines names typings (number + 1) next ls before ++ said_line (names n) typings (situation_from (number + 1) next before) line (says_of x))) there
-    ∙ sym (append_assoc own (said_lines names typings (number + 1) next ls before) (said_line (names (number + suc (length ls))) typings (situation_from (number + 1) next before) line (says_of x)))
+    ∙ ap (λ (n : ℕ). own ++ (listed_lines names typings (number + 1) next ls before ++ listed_line (names n) typings (situation_from (number + 1) next before) line (statement_role x))) there
+    ∙ sym (append_assoc own (listed_lines names typings (number + 1) next ls before) (listed_line (names (number + suc (length ls))) typings (situation_from (number + 1) next before) line (statement_role x)))
 
 -- ---- names that are the same
 
@@ -49,7 +49,7 @@ text_same : (a b : ℕ → List ℕ) (typing : Option Typing) → ((k : ℕ) →
 text_same a b None same = refl
 text_same a b (Some typing) same = rights_same a b typing 16 same
 
-line_same : (a b : ℕ → List ℕ) (typings : Typings) (s : ParserState) (line : List ℕ) (printed : LineRole) → ((k : ℕ) → k < 16 → a k ≡ b k) → said_line a typings s line printed ≡ said_line b typings s line printed
+line_same : (a b : ℕ → List ℕ) (typings : Typings) (s : ParserState) (line : List ℕ) (printed : LineRole) → ((k : ℕ) → k < 16 → a k ≡ b k) → listed_line a typings s line printed ≡ listed_line b typings s line printed
 line_same a b typings s line says.Head same = refl
 line_same a b typings s line says.Code same =
     ap (λ (t : List ℕ). place_column s.instructions ++ (beside line t ++ codes "\n")) (text_same a b (slice_get (typings (s.procedures - 1)) s.instructions) same)
@@ -62,7 +62,7 @@ line_same a b typings s line says.Label same = refl
 
 -- holds if these lines are listed, whatever their expanded lines say, and this much was counted by them
 abbrev pub AreLinesListed : (ℕ → ℕ → List ℕ) → Typings → List (List ℕ) → List (List ℕ) → Counts → List ℕ → Type 0
-AreLinesListed names typings ls owns counts out = (said : List (Option Statement)) → LinesSay 1 at_start owns said → (counts ≡ counts_of (situation said)) × (out ≡ said_lines names typings 1 at_start ls said)
+AreLinesListed names typings ls owns counts out = (said : List (Option Statement)) → HaveStatements 1 at_start owns said → (counts ≡ counts_of (situation said)) × (out ≡ listed_lines names typings 1 at_start ls said)
 
 pub none_listed_yet : (names : ℕ → ℕ → List ℕ) (typings : Typings) (counts : Counts) (out : List ℕ) → counts ≡ counts_of at_start → out ≡ [] → AreLinesListed names typings [] [] counts out
 none_listed_yet names typings counts out is none [] h = (is, none)
@@ -71,9 +71,9 @@ none_listed_yet names typings counts out is none (x ∷ said) h = absurd h
 pub line_listed : (names : ℕ → ℕ → List ℕ) (typings : Typings) (ls owns : List (List ℕ)) (line own : List ℕ) (known : ℕ → List ℕ) (counts next : Counts) (out new : List ℕ) (printed : LineRole) → length owns ≡ length ls
     → AreLinesListed names typings ls owns counts out
     → ((k : ℕ) → k < 16 → known k ≡ names (length ls + 1) k)
-    → ((s : ParserState) (said : Option Statement) → LineSays s own said → printed ≡ says_of said)
-    → ((s : ParserState) → counts ≡ counts_of s → new ≡ out ++ said_line known typings s line printed)
-    → ((number : ℕ) (s : ParserState) (l : List ℕ) (said : Option Statement) → counts ≡ counts_of s → LineSays s l said → printed ≡ says_of said → next ≡ counts_of (after_line number said s))
+    → ((s : ParserState) (said : Option Statement) → HasStatement s own said → printed ≡ statement_role said)
+    → ((s : ParserState) → counts ≡ counts_of s → new ≡ out ++ listed_line known typings s line printed)
+    → ((number : ℕ) (s : ParserState) (l : List ℕ) (said : Option Statement) → counts ≡ counts_of s → HasStatement s l said → printed ≡ statement_role said → next ≡ counts_of (after_line number said s))
     → AreLinesListed names typings (ls ++ line ∷ []) (owns ++ own ∷ []) next new
 line_listed names typings ls owns line own known counts next out new printed same before knows prints puts counts_on said say =
     let split = split_last 1 at_start owns own said say in
@@ -84,11 +84,11 @@ line_listed names typings ls owns line own known counts next out new printed sam
     let named = line_same known (names (1 + length ls)) typings s line printed (λ k low. knows k low ∙ ap (λ (n : ℕ). names n k) at) in (
       counts_on (1 + length split.before) s own split.last here.0 split.says what ∙ ap counts_of (sym split.leads),
       puts s here.0
-          ∙ ap (λ (t : List ℕ). t ++ said_line known typings s line printed) here.1
-          ∙ ap (λ (t : List ℕ). said_lines names typings 1 at_start ls split.before ++ t) named
-          ∙ ap (λ (w : LineRole). said_lines names typings 1 at_start ls split.before ++ said_line (names (1 + length ls)) typings s line w) what
+          ∙ ap (λ (t : List ℕ). t ++ listed_line known typings s line printed) here.1
+          ∙ ap (λ (t : List ℕ). listed_lines names typings 1 at_start ls split.before ++ t) named
+          ∙ ap (λ (w : LineRole). listed_lines names typings 1 at_start ls split.before ++ listed_line (names (1 + length ls)) typings s line w) what
           ∙ sym (said_more names typings 1 at_start ls line split.before split.last (said_length 1 at_start owns split.before split.say ∙ same))
-          ∙ ap (said_lines names typings 1 at_start (ls ++ line ∷ [])) (sym split.is),
+          ∙ ap (listed_lines names typings 1 at_start (ls ++ line ∷ [])) (sym split.is),
     )
 
 -- ---- lines and their expanded lines
@@ -208,7 +208,7 @@ all_pairs xs ys items e = sym (pairs_seen items) ∙ ap (map (λ (x : ℕ × See
 -- ---- the text of a program
 
 -- its lines have statements, each where it can follow
-pub some_said : (source : SourceText) (program : List Procedure) → IsSource source program → (said : List (Option Statement)) × LinesSay 1 at_start (lines (plain_of source)) said
+pub some_said : (source : SourceText) (program : List Procedure) → IsSource source program → (said : List (Option Statement)) × HaveStatements 1 at_start (lines (plain_of source)) said
 some_said source program is = let c = (some_origin (plain_of source) program source.lines.procedures 0 0 is.1 (main_there program is.0)).1 in (c.said, c.say)
 
 -- ---- typings

@@ -13,11 +13,11 @@ pub use Rattle.tw_source.specs.declared.close.Close.TheVariants.{Refused}
 pub use Rattle.tw_source.specs.declared.failure.Failure.{Failure}
 pub use Rattle.tw_source.specs.Failure.{coded, failed_with, failure_line}
 pub use Rattle.tw_source.specs.declared.reply.Reply.{Reply}
-pub use Rattle.tw_asm.specs.Fault.{LineSays, LinesSay, ParserState, after_line, at_start, situation, situation_from}
+pub use Rattle.tw_asm.specs.Fault.{HasStatement, HaveStatements, ParserState, after_line, at_start, situation, situation_from}
 pub use Rattle.tw_asm.specs.Origins.{instr_at}
 pub use Rattle.tw_symbols.specs.Expansion.{ExpandsTo}
 pub use Rattle.tw_program_output.specs.Listed.{counts_of, typings_in}
-pub use Rattle.tw_program_output.specs.Listing.{IsListing, IsRefusedListing, listing_from, no_typings, procedure_listing, right_column, rights_below, said_line, said_lines}
+pub use Rattle.tw_program_output.specs.Listing.{IsListed, IsListing, IsRejectedListing, listing_from, procedure_listing, right_column, rights_below, listed_line, listed_lines}
 pub use Rattle.tw_source.specs.Program.{RepliesBySource}
 pub use Rattle.tw_source.specs.Reply.{reply}
 pub use Rattle.tw_source.specs.Source.{IsSource, MayBeSource, MayBeSourceAt, plain_of, text_of}

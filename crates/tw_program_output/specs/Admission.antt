@@ -21,7 +21,12 @@ use Rattle.tw_order.specs.declared.caps.Caps.{Caps}
 use Rattle.tw_order.specs.Orders.{greatest_cap}
 use Rattle.tw_source.specs.Failure.{coded, failed_with}
 use Rattle.tw_source.specs.declared.failure.Position.TheVariants as position
-use Rattle.tw_source.specs.Reply.{Reply}
+use Rattle.tw_source.specs.Reply.{Reply, reply}
+use Rattle.tw_code.specs.accepting.WellTyped.{IsAccepted}
+use Rattle.tw_order.specs.declared.form.Places.{Places}
+use Rattle.tw_program_output.specs.Rejection.{RepliesByRejection}
+use Rattle.tw_program_output.specs.declared.acceptance.Admitted.{Admitted}
+use Rattle.tw_program_output.specs.declared.acceptance.Admitted.TheVariants.{Run, Rejected}
 
 -- holds for a bound up to the cap; no bound, or one over the largest, is within the greatest cap alone
 abbrev pub is_within : Bound → ℕ → Bool
@@ -78,8 +83,20 @@ pub record StaysWithinCaps (program : List Procedure) (limit : Option ℕ) (caps
       → IsRunWithinCaps program caps inputs events s
   pub budgets : caps.budget < greatest_cap → (k : ℕ) (p : Procedure) (budget : ℕ) → slice_get program k ≡ Some p → IsBudget (flows p.code) budget → budget ≤ caps.budget
 
--- holds if no bound is above its cap, so that the program stays within the caps, and `Admitted` holds; or the reply has the lines for those above
-abbrev pub RepliesIfAdmitted : List Procedure → Option ℕ → Caps → Reply → Type 0 → Type 0
-RepliesIfAdmitted program limit caps r Admitted =
-    (lines : List ℕ) × AreExcessLines (has_cap caps) program limit caps lines
-    × (((lines ≡ []) × StaysWithinCaps program limit caps × Admitted) ⊎ ((lines ≢ []) × (r ≡ failed_with (coded 79 7 position.Nowhere) lines)))
+-- holds for an accepted program no bound of which is above its cap, so that it stays within the caps
+abbrev pub IsAdmitted : List Procedure → Option ℕ → Caps → Type 0
+IsAdmitted program limit caps = IsAccepted program × AreExcessLines (has_cap caps) program limit caps [] × StaysWithinCaps program limit caps
+
+-- holds for the reply to any other program: the lines for the bounds above their caps, or the verifier's error
+abbrev pub IsRejected : Places → Option (List ℕ) → List Procedure → Option ℕ → Caps → Reply → Type 0
+IsRejected places text program limit caps r =
+    (IsAccepted program × ((lines : List ℕ) × AreExcessLines (has_cap caps) program limit caps lines × (lines ≢ []) × (r ≡ failed_with (coded 79 7 position.Nowhere) lines)))
+    ⊎ RepliesByRejection places text program r
+
+-- hold for the reply to an admitted program, or for the program itself; or for the reply that rejects it
+abbrev pub RepliesIfAdmitted : Places → Option (List ℕ) → List Procedure → Option ℕ → Caps → (Reply → Type 0) → Reply → Type 0
+RepliesIfAdmitted places text program limit caps Answers r = (IsAdmitted program limit caps × Answers r) ⊎ IsRejected places text program limit caps r
+
+abbrev pub IsAdmittedOr : Places → Option (List ℕ) → List Procedure → Option ℕ → Caps → Admitted → Type 0
+IsAdmittedOr places text program limit caps (Run verified) = (verified.program ≡ program) × IsAdmitted program limit caps
+IsAdmittedOr places text program limit caps (Rejected r) = IsRejected places text program limit caps (reply r.text.items r.close)

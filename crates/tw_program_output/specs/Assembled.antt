@@ -2,36 +2,34 @@
 use Rattle.std.specs.Prelude.{◌≡◌, ◌⊎◌, ◌++◌, ℕ, List, codes}
 use Rattle.hex.specs.Hex.{encode_lower}
 use Rattle.tw_asm.specs.Answers.{HasFault}
-use Rattle.tw_asm.specs.Fault as asm
-use Rattle.tw_asm.specs.Spelling.{SpellsProgram}
+use Rattle.tw_asm.specs.Spelling.{EncodesProgram}
 use Rattle.tw_code.specs.format.Program.{Versioned}
-use Rattle.tw_binary.specs.Spelling.{spelling}
+use Rattle.tw_binary.specs.Spelling.{encoding}
 use Rattle.tw_order.specs.declared.form.Assembling.{Assembling}
 use Rattle.tw_order.specs.declared.form.Assembling.TheVariants as assembling
 use Rattle.tw_order.specs.declared.order.Source.TheVariants.{Assembly}
 use Rattle.tw_asm.specs.declared.fault.FaultNo.{FaultNo}
-use Rattle.tw_source.specs.Failure.{coded, failed}
-use Rattle.tw_source.specs.FaultWord.{IsWordIn}
-use Rattle.tw_source.specs.Names.{RepliesByPlain}
+use Rattle.tw_diagnostics.specs.Diagnostics.{IsTextReason, error_word}
+use Rattle.tw_diagnostics.specs.declared.diagnostic.Reason.{Reason}
+use Rattle.tw_source.specs.Failure.{failed, fault_failure}
 use Rattle.tw_source.specs.Reply.{Reply, reply}
 use Rattle.tw_source.specs.Text.{RepliesByUtf8}
 use Rattle.tw_source.specs.declared.close.Close.TheVariants.{Success}
-use Rattle.tw_source.specs.declared.failure.Position.TheVariants as position
-use Rattle.tw_source.specs.Program.{RepliesBySource}
+use Rattle.tw_source.specs.Program.{RepliesByPlain, RepliesBySource}
 
 -- holds for the line of a fault; its word and column are of the error alone
 abbrev pub IsFaultReply : List ℕ → FaultNo → ℕ → Reply → Type 0
-IsFaultReply input which line r = (at : ℕ × ℕ) × IsWordIn input which line at × (r ≡ failed (coded 65 (asm.fault_number which) (position.Line line at.0 at.1)))
+IsFaultReply input which line r = (reason : Reason) × IsTextReason input which line reason × (r ≡ failed (fault_failure which line (error_word reason)))
 
 -- like `RepliesBySource`, for an assembly text whose bytes are requested: it has no names, and an error prints only its line
 abbrev pub RepliesByText : List ℕ → (Versioned → Reply → Type 0) → Reply → Type 0
 RepliesByText input Answers r =
-    RepliesByUtf8 input (((program : Versioned) × SpellsProgram program input × Answers program r)
+    RepliesByUtf8 input (((program : Versioned) × EncodesProgram program input × Answers program r)
     ⊎ ((which : FaultNo) × (line : ℕ) × HasFault input which line × IsFaultReply input which line r)) r
 
 -- holds for a program's bytes, in hex digits
 abbrev pub IsWritten : Versioned → Reply → Type 0
-IsWritten program r = r ≡ reply (encode_lower (spelling program) ++ codes "\n") Success
+IsWritten program r = r ≡ reply (encode_lower (encoding program) ++ codes "\n") Success
 
 -- holds for what is assembled: the bytes of an assembly text, or of one that may be symbolic, or the expanded text of such a text
 abbrev pub RepliesByAssembling : Assembling → List ℕ → Reply → Type 0

@@ -1,86 +1,67 @@
 -- Output of `check` about a program.
-use Rattle.std.specs.Prelude.{◌≡◌, ℕ, suc, List, [], ◌∷◌, ◌++◌, codes, decimal, Option}
-use Rattle.tw_types.specs.declared.actor.Kind.{Kind}
-use Rattle.tw_types.specs.declared.actor.Kind.TheVariants.{Control, Leaf}
+use Rattle.std.specs.Prelude.{◌≡◌, ℕ, List, [], ◌++◌, codes, decimal, Option, Some, None, option_map}
+use Rattle.std.specs.List.{flat_map}
 use Rattle.tw_code.specs.declared.procedure.Procedure.{Procedure}
-use Rattle.tw_code.specs.accepting.Flow.{flows}
-use Rattle.tw_code.specs.accepting.Needs.{needed}
-use Rattle.tw_code.specs.accepting.Walk.{IsBudget}
-use Rattle.tw_code.specs.accepting.WellTyped.{IsFirstRejection}
 use Rattle.tw_order.specs.declared.check.CheckOrder.{CheckOrder}
 use Rattle.tw_order.specs.declared.form.Places.{Places}
 use Rattle.tw_order.specs.declared.form.Places.TheVariants.{Hidden, Shown}
 use Rattle.tw_order.specs.declared.form.Form.{Form}
 use Rattle.tw_order.specs.declared.form.Form.TheVariants as form
-use Rattle.tw_program_output.specs.CheckJson.{IsCheckLine}
-use Rattle.tw_symbols.specs.Symbols.{AreSymbols, bracketed, name_at}
+use Rattle.tw_symbols.specs.Symbols.{bracketed, name_at}
 use Rattle.tw_program_output.specs.Admission.{RepliesIfAdmitted}
-use Rattle.tw_program_output.specs.Bounds.{MayPrintBounds}
-use Rattle.tw_program_output.specs.EventOrder.{MayPrintOrder}
-use Rattle.tw_source.specs.Failure.{coded, failed_after}
-use Rattle.tw_source.specs.declared.failure.Failure.{Failure}
-use Rattle.tw_source.specs.declared.failure.Position.TheVariants as position
-use Rattle.tw_program_output.specs.Listing.{IsListing, IsRefusedListing}
+use Rattle.tw_program_output.specs.Answer.{IsAnswer, circle_in, kind_word}
+use Rattle.tw_program_output.specs.Bounds.{IsCircleText, bounds_text}
+use Rattle.tw_program_output.specs.CheckJson.{check_line}
+use Rattle.tw_program_output.specs.EventOrder.{MayBeOrderLine}
+use Rattle.tw_program_output.specs.declared.answer.CheckAnswer.{CheckAnswer}
+use Rattle.tw_program_output.specs.declared.answer.ProcedureRow.{ProcedureRow}
 use Rattle.tw_source.specs.Reply.{Reply, reply}
-use Rattle.tw_source.specs.Text.{AreDetailsOf}
 use Rattle.tw_source.specs.declared.close.Close.TheVariants.{Success}
-use Rattle.tw_verify.specs.Rejection.{verify_error_code}
-use Rattle.tw_verify.specs.declared.rejection.VerifyError.{VerifyError}
 
-abbrev pub kind_text : Kind → List ℕ
-kind_text Control = codes " control"
-kind_text Leaf = codes " leaf"
+-- ---- the text of an answer
 
 -- returns the number of a procedure, its kind and its budget, and its name in brackets if it has one
-abbrev pub procedure_line : List ℕ → ℕ → Kind → ℕ → List ℕ
-procedure_line name number kind budget = codes "proc " ++ (decimal number ++ (kind_text kind ++ (codes " budget " ++ (decimal budget ++ (bracketed name ++ codes "\n")))))
+abbrev pub procedure_line : List ℕ → ProcedureRow → List ℕ
+procedure_line name row = codes "proc " ++ (decimal row.number ++ (codes " " ++ (kind_word row.kind ++ (codes " budget " ++ (decimal row.budget ++ (bracketed name ++ codes "\n"))))))
 
--- holds for a line for each procedure, with the first number
-abbrev pub AreProcedureLines : List (List ℕ) → ℕ → List Procedure → List ℕ → Type 0
-AreProcedureLines names number [] text = text ≡ []
-AreProcedureLines names number (p ∷ others) text =
-    (budget : ℕ) × (rest : List ℕ) × IsBudget (flows p.code) budget × (text ≡ procedure_line (name_at names number) number p.kind budget ++ rest) × AreProcedureLines names (suc number) others rest
+abbrev pub procedure_lines : List (List ℕ) → List ProcedureRow → List ℕ
+procedure_lines names rows = flat_map (λ (row : ProcedureRow). procedure_line (name_at names row.number) row) rows
 
 -- returns how many engines and workers the targets need
 abbrev pub needs_line : ℕ → ℕ → List ℕ
 needs_line engines workers = codes "needs engines " ++ (decimal engines ++ (codes " workers " ++ (decimal workers ++ codes "\n")))
 
--- holds for the whole text: the line `accepted`, the procedures, which have these names, and the actors that the targets need
-abbrev pub IsCheckText : List (List ℕ) → List Procedure → List ℕ → Type 0
-IsCheckText names program text = (lines : List ℕ) × AreProcedureLines names 0 program lines × (text ≡ codes "accepted\n" ++ (lines ++ needs_line (needed Control program) (needed Leaf program)))
+-- returns the names that budgets have: only beside a listing
+abbrev pub shown_names : Places → List (List ℕ) → List (List ℕ)
+shown_names Hidden names = []
+shown_names Shown names = names
 
--- holds for the check of an accepted program; after the listing, if that is requested, it has the names of the text
-abbrev pub IsChecked : Places → Option (List ℕ) → List Procedure → List ℕ → Type 0
-IsChecked Hidden source program text = IsCheckText [] program text
-IsChecked Shown source program text =
-    (listing : List ℕ) × (printed : List ℕ) × (names : List (List ℕ)) × IsListing source program listing × AreSymbols source names × IsCheckText names program printed × (text ≡ listing ++ printed)
+abbrev pub listing_text : Option (List ℕ) → List ℕ
+listing_text None = []
+listing_text (Some listing) = listing
 
--- holds for the check and what else is requested
-abbrev pub IsPrintedByCheck : CheckOrder → Option (List ℕ) → List Procedure → List ℕ → Type 0
-IsPrintedByCheck order source program text =
-    (check : List ℕ) × (lines : List ℕ) × (last : List ℕ) × IsChecked order.places source program check × MayPrintBounds order source program lines × MayPrintOrder order.event_order source program last
-    × (text ≡ check ++ (lines ++ last))
+-- returns the listing, the budgets, the bounds and the order, each if it was found, with these lines about a circle of calls and about the order
+abbrev pub check_text : CheckOrder → CheckAnswer → List ℕ → List ℕ → List ℕ
+check_text order answer circle last =
+    listing_text (option_map (λ t. t.items) answer.listing) ++ (codes "accepted\n"
+    ++ (procedure_lines (shown_names order.places answer.names) answer.procedures.items ++ (needs_line answer.needs.0 answer.needs.1
+    ++ (bounds_text order.bounds answer.names answer.procedures.items answer.bounds circle ++ last))))
 
--- holds for the check in this form: its lines, or an object
-abbrev pub IsInForm : Form → CheckOrder → Option (List ℕ) → List Procedure → List ℕ → Type 0
-IsInForm form.Text order source program text = IsPrintedByCheck order source program text
-IsInForm form.Json order source program text = IsCheckLine order source program text
+abbrev pub IsCheckText : CheckOrder → Option (List ℕ) → CheckAnswer → List ℕ → Type 0
+IsCheckText order source answer text =
+    (circle : List ℕ) × (last : List ℕ) × IsCircleText source (circle_in answer.bounds) circle × MayBeOrderLine source answer.insertion last × (text ≡ check_text order answer circle last)
 
+-- ---- replies
+
+-- holds for the answer in this form: its lines, or an object
+abbrev pub IsInForm : Form → CheckOrder → Option (List ℕ) → List Procedure → CheckAnswer → List ℕ → Type 0
+IsInForm form.Text order source program answer text = IsCheckText order source answer text
+IsInForm form.Json order source program answer text = text ≡ check_line order program answer
+
+abbrev pub IsPrinted : CheckOrder → Option (List ℕ) → List Procedure → List ℕ → Type 0
+IsPrinted order source program text = (answer : CheckAnswer) × IsAnswer order source program answer × IsInForm order.form order source program answer text
+
+-- holds for the check of an admitted program, or for its rejection
 abbrev pub RepliesByCheck : CheckOrder → Option (List ℕ) → List Procedure → Reply → Type 0
-RepliesByCheck order source program r = RepliesIfAdmitted program order.limit order.caps r ((text : List ℕ) × IsInForm order.form order source program text × (r ≡ reply text Success))
-
--- holds for what precedes an error: the program's listing if that is requested
-abbrev pub IsListedBefore : Places → Option (List ℕ) → List Procedure → ℕ → ℕ → List ℕ → Type 0
-IsListedBefore Hidden text program number procedure before = before ≡ []
-IsListedBefore Shown text program number procedure before = IsRefusedListing text program number procedure before
-
--- returns the error of the verifier at a place, with the line in its details
-abbrev pub rejection : VerifyError → ℕ → ℕ → Option ℕ → Failure
-rejection which procedure place line = coded 86 (verify_error_code which) (position.Place procedure place line)
-
--- holds for the reply to the first error, with what precedes and follows its line
-abbrev pub IsRefused : Places → Option (List ℕ) → List Procedure → Reply → Type 0
-IsRefused places text program r =
-    (which : VerifyError) × (procedure : ℕ) × (place : ℕ) × (line : Option ℕ) × (before : List ℕ) × (more : List ℕ) × IsFirstRejection program (verify_error_code which) procedure place
-    × IsListedBefore places text program (verify_error_code which) procedure before × AreDetailsOf text which program procedure place line more
-    × (r ≡ failed_after before (rejection which procedure place line) more)
+RepliesByCheck order source program r =
+    RepliesIfAdmitted order.places source program order.limit order.caps (λ checked. (text : List ℕ) × IsPrinted order source program text × (checked ≡ reply text Success)) r

@@ -1,7 +1,8 @@
 -- The object of an error, made from its value.
 use Rattle.std.specs.Prelude.{◌==◌, ℕ, List, codes, drop, if◌then◌else◌, take, Option, Some, None}
 use Rattle.serde_json.specs.Data as json
-use Rattle.tw_json_output.specs.Texts.{lines_json, whole_json, with_status}
+use Rattle.tw_json_output.specs.Texts.{lines_json, whole_json}
+use Rattle.tw_json_output.specs.Writers.{count_json}
 use Rattle.tw_source.specs.Failure.{code_text, uncoded}
 use Rattle.tw_source.specs.Reply.{Reply}
 use Rattle.tw_source.specs.declared.close.Close.{Close}
@@ -43,7 +44,7 @@ with_code None members = members
 with_code (Some code) members = json.put (codes "code") (whole_json (code_text code)) members
 
 abbrev pub with_number : List ℕ → ℕ → json.Members → json.Members
-with_number name n members = json.put name (json.number (json.unsigned n)) members
+with_number name n members = json.put name (count_json n) members
 
 abbrev pub with_line : Option ℕ → json.Members → json.Members
 with_line None members = members
@@ -67,16 +68,18 @@ failure_members f text = json.put (codes "lines") (lines_json text) (with_positi
 
 -- ---- the object
 
-abbrev pub error_members : Failure → List ℕ → List ℕ → json.Members
-error_members f status text = with_status status (codes "error") (json.object (failure_members f (drop f.before text)))
+-- returns the members of an error's object
+abbrev pub error_members : Reply → json.Members
+error_members r =
+    let failure = or_uncoded (failure_in r.close) in
+    json.put (codes "error") (json.object (failure_members failure (drop failure.before r.text))) (json.put (codes "status") (json.string (error_status r.close)) json.no_members)
 
--- returns the object of an error
 abbrev pub error_json : Reply → json.Data
-error_json r = json.object (error_members (or_uncoded (failure_in r.close)) (error_status r.close) r.text)
+error_json r = json.object (error_members r)
 
--- returns that of an error that comes after a listing; it has the lines of both
-abbrev pub listed_members : Failure → List ℕ → List ℕ → json.Members
-listed_members f status text = json.put (codes "listing") (lines_json (take f.before text)) (error_members f status text)
+-- returns those of an error that comes after a listing; it has the lines of both
+abbrev pub listed_members : Reply → json.Members
+listed_members r = json.put (codes "listing") (lines_json (take (or_uncoded (failure_in r.close)).before r.text)) (error_members r)
 
 abbrev pub listed_error_json : Reply → json.Data
-listed_error_json r = json.object (listed_members (or_uncoded (failure_in r.close)) (error_status r.close) r.text)
+listed_error_json r = json.object (listed_members r)

@@ -7,11 +7,11 @@ use Rattle.tw_code.specs.format.Program.{Versioned}
 use Rattle.tw_code.specs.machine.Holders.{Typings}
 use Rattle.tw_code.specs.machine.Rights.{RightType, Typing, right_at}
 use Rattle.std.specs.Str.Lines.{lines}
-use Rattle.tw_asm.specs.Fault.{LinesSay, ParserState, after_line, at_start}
+use Rattle.tw_asm.specs.Fault.{HaveStatements, ParserState, after_line, at_start}
 use Rattle.tw_asm.specs.Statement.{Statement}
 use Rattle.tw_symbols.specs.Expansion.{ExpandsTo}
 use Rattle.tw_symbols.specs.RightNames.{AreRightNames, named_text, unnamed}
-use Rattle.tw_diagnostics.specs.LineRole.{says_of}
+use Rattle.tw_diagnostics.specs.LineRole.{statement_role}
 use Rattle.tw_diagnostics.specs.declared.parser_state.LineRole.{LineRole}
 use Rattle.tw_diagnostics.specs.declared.parser_state.LineRole.TheVariants as says
 use Rattle.tw_soundness.specs.NoTrap.{AreRight}
@@ -19,6 +19,7 @@ use Rattle.tw_asm.specs.Disassembly.{disassembly, label_at, label_line, label_pl
 use Rattle.tw_asm.specs.Listing.{head_lines, instr_text, right_text}
 use Rattle.tw_order.specs.declared.form.Places.{Places}
 use Rattle.tw_order.specs.declared.form.Places.TheVariants.{Hidden, Shown}
+use Rattle.tw_program_output.specs.Listed.{typings_in}
 use Rattle.tw_verify.specs.Known.{AreFound}
 
 -- ---- columns
@@ -55,9 +56,17 @@ rights_text names (Some typing) = rights_below names typing 16
 
 -- ---- lines
 
+-- returns the line of an instruction with its place, and what is known of the right registers there
+abbrev pub code_line : ℕ → List ℕ → List ℕ → List ℕ
+code_line place text rights = place_column place ++ (beside text rights ++ codes "\n")
+
+-- returns the number of a procedure
+abbrev pub procedure_head : ℕ → List ℕ
+procedure_head number = codes "procedure " ++ (decimal number ++ codes "\n")
+
 -- returns the line of the instruction at a place; the labels are at these places
 abbrev pub place_line : List ℕ → ℕ → Instr → Option Typing → List ℕ
-place_line labels place i typing = place_column place ++ (beside (instr_text labels place i) (rights_text unnamed typing) ++ codes "\n")
+place_line labels place i typing = code_line place (instr_text labels place i) (rights_text unnamed typing)
 
 -- returns the instructions from a place on, with the labels between them and after them
 abbrev pub place_lines : List ℕ → List Typing → ℕ → List Instr → List ℕ
@@ -67,7 +76,7 @@ place_lines labels typings place (i ∷ others) =
 
 abbrev pub procedure_listing : ℕ → Procedure → List Typing → List ℕ
 procedure_listing number p typings =
-    (codes "procedure " ++ decimal number) ++ (codes "\n" ++ (head_lines p ++ place_lines (label_places p.code) typings 0 p.code))
+    procedure_head number ++ (head_lines p ++ place_lines (label_places p.code) typings 0 p.code)
 
 -- returns the procedures from this number on
 abbrev pub listing_from : Typings → ℕ → List Procedure → List ℕ
@@ -76,29 +85,25 @@ listing_from typings number (p ∷ others) = procedure_listing number p (typings
 
 -- ---- programs
 
--- returns no typings: nothing is known of the registers
-abbrev pub no_typings : Typings
-no_typings procedure = []
-
 -- returns the program's assembly text, or its listing
 abbrev pub disassembled : Places → Versioned → List ℕ
 disassembled Hidden program = disassembly program
-disassembled Shown program = listing_from no_typings 0 program.procedures
+disassembled Shown program = listing_from (typings_in []) 0 program.procedures
 
 -- ---- a text's own lines
 
 -- returns a line by its role, in this state of the parser: an instruction with its place and what the right registers of these names hold there; after
 -- the number of a procedure its first line
-abbrev pub said_line : (ℕ → List ℕ) → Typings → ParserState → List ℕ → LineRole → List ℕ
-said_line names typings s line says.Head = (codes "procedure " ++ decimal s.procedures) ++ (codes "\n" ++ (line ++ codes "\n"))
-said_line names typings s line says.Code = place_column s.instructions ++ (beside line (rights_text names (slice_get (typings (s.procedures - 1)) s.instructions)) ++ codes "\n")
-said_line names typings s line other = line ++ codes "\n"
+abbrev pub listed_line : (ℕ → List ℕ) → Typings → ParserState → List ℕ → LineRole → List ℕ
+listed_line names typings s line says.Head = procedure_head s.procedures ++ (line ++ codes "\n")
+listed_line names typings s line says.Code = code_line s.instructions line (rights_text names (slice_get (typings (s.procedures - 1)) s.instructions))
+listed_line names typings s line other = line ++ codes "\n"
 
 -- returns the lines from this number on, which have these statements, with the names at each line
-abbrev pub said_lines : (ℕ → ℕ → List ℕ) → Typings → ℕ → ParserState → List (List ℕ) → List (Option Statement) → List ℕ
-said_lines names typings number s [] said = []
-said_lines names typings number s (line ∷ ls) [] = []
-said_lines names typings number s (line ∷ ls) (x ∷ said) = said_line (names number) typings s line (says_of x) ++ said_lines names typings (number + 1) (after_line number x s) ls said
+abbrev pub listed_lines : (ℕ → ℕ → List ℕ) → Typings → ℕ → ParserState → List (List ℕ) → List (Option Statement) → List ℕ
+listed_lines names typings number s [] said = []
+listed_lines names typings number s (line ∷ ls) [] = []
+listed_lines names typings number s (line ∷ ls) (x ∷ said) = listed_line (names number) typings s line (statement_role x) ++ listed_lines names typings (number + 1) (after_line number x s) ls said
 
 -- ---- programs that are checked
 
@@ -106,14 +111,14 @@ said_lines names typings number s (line ∷ ls) (x ∷ said) = said_line (names 
 abbrev pub IsListed : Option (List ℕ) → List Procedure → Typings → List ℕ → Type 0
 IsListed None program typings listing = listing ≡ listing_from typings 0 program
 IsListed (Some text) program typings listing =
-    (plain : List ℕ) × (said : List (Option Statement)) × (names : ℕ → ℕ → List ℕ) × ExpandsTo text plain × LinesSay 1 at_start (lines plain) said × AreRightNames text names
-    × (listing ≡ said_lines names typings 1 at_start (lines text) said)
+    (plain : List ℕ) × (said : List (Option Statement)) × (names : ℕ → ℕ → List ℕ) × ExpandsTo text plain × HaveStatements 1 at_start (lines plain) said × AreRightNames text names
+    × (listing ≡ listed_lines names typings 1 at_start (lines text) said)
 
 -- holds for the listing with what the registers of an accepted program hold
 abbrev pub IsListing : Option (List ℕ) → List Procedure → List ℕ → Type 0
 IsListing text program listing = (typings : Typings) × AreRight program typings × IsListed text program typings listing
 
 -- holds for the listing with what is known of the registers of a program that is rejected with a code in a procedure
-abbrev pub IsRefusedListing : Option (List ℕ) → List Procedure → ℕ → ℕ → List ℕ → Type 0
-IsRefusedListing text program number refused listing =
+abbrev pub IsRejectedListing : Option (List ℕ) → List Procedure → ℕ → ℕ → List ℕ → Type 0
+IsRejectedListing text program number refused listing =
     (typings : Typings) × ((procedure : ℕ) → procedure < length program → AreFound program number refused procedure (typings procedure)) × IsListed text program typings listing

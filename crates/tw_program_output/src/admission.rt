@@ -1,17 +1,18 @@
 //! Rejects programs whose bounds are above a cap.
 
-ghost use Rattle.std.specs.Prelude.{◌≡◌, ◌++◌, [], true, IfOk, OnOk};
+ghost use Rattle.std.specs.Prelude.{◌≡◌, [], true, IfOk};
 ghost use Rattle.tw_program_output.specs.Admission.{AreExcessLines, StaysWithinCaps, excess, excess_bound, excess_line, excess_lines, has_cap, is_within};
 ghost use Rattle.tw_source.specs.Failure.{coded, failed_with};
 ghost use Rattle.tw_source.specs.Reply.{reply};
 ghost use Rattle.tw_source.specs.declared.failure.Position.TheVariants as position;
+ghost use Rattle.tw_writer.specs.Appended.{IsAppended};
 
 use std::alloc::{AllocError, Global};
 use tw_bounds::{Bound, LimitedBounds, largest_budget, least_bounds};
-use tw_lexer::{put, put_numbered};
 use tw_order::{Caps, EventLimit};
 use tw_source::{Failure, Position, Reply, put_failure_line, refused_by};
 use tw_verify::Verified;
+use tw_writer::{Piece, Writer};
 
 /// Returns whether a bound is at most a cap.
 fn is_within(bound: Bound, most: u64) -> bool
@@ -24,72 +25,48 @@ fn is_within(bound: Bound, most: u64) -> bool
 }
 
 /// Adds a bound that is above its cap.
-fn put_excess_bound(alloc: Global, out: &mut Vec<u8>, bound: Bound) -> Result<(), AllocError>
-    ensures { OnOk result (out.new.items ≡ out.old.items ++ excess_bound bound) }
+fn put_excess_bound(out: &mut Writer, bound: Bound)
+    ensures { IsAppended out.old out.new (excess_bound bound) }
 {
     match bound {
-        Bound::AtMost(number) => put_numbered(alloc, out, "bound ", number as usize),
-        Bound::Over => put(out, "bound over 1000000000000"),
-        Bound::Endless => put(out, "no bound"),
+        Bound::AtMost(number) => out.put_numbered("bound ", number as usize),
+        Bound::Over => out.put("bound over 1000000000000"),
+        Bound::Endless => out.put("no bound"),
     }
 }
 
 /// Adds the line for a bound that is above its cap.
-fn put_excess_line(
-    alloc: Global,
-    out: &mut Vec<u8>,
-    kind: &str,
-    bound: Bound,
-    most: u64,
-) -> Result<(), AllocError>
-    ensures { OnOk result (out.new.items ≡ out.old.items ++ excess_line kind.now bound most) }
+fn put_excess_line(out: &mut Writer, kind: &str, bound: Bound, most: u64)
+    ensures { IsAppended out.old out.new (excess_line kind.now bound most) }
 {
-    put(out, kind)?;
-    put(out, ": ")?;
-    put_excess_bound(alloc, out, bound)?;
-    put_numbered(alloc, out, ", at most ", most as usize)?;
-    put(out, "\n")
+    out.put_all(&[Piece::Text(kind), Piece::Text(": ")]);
+    put_excess_bound(out, bound);
+    out.put_all(&[
+        Piece::Text(", at most "),
+        Piece::Number(most as usize),
+        Piece::Text("\n"),
+    ]);
 }
 
 /// Adds the line for a bound, if it is above its cap.
-fn put_excess(
-    alloc: Global,
-    out: &mut Vec<u8>,
-    kind: &str,
-    bound: Bound,
-    most: u64,
-) -> Result<(), AllocError>
-    ensures { OnOk result (out.new.items ≡ out.old.items ++ excess kind.now bound most) }
+fn put_excess(out: &mut Writer, kind: &str, bound: Bound, most: u64)
+    ensures { IsAppended out.old out.new (excess kind.now bound most) }
 {
-    if is_within(bound, most) {
-        Ok(())
-    } else {
-        put_excess_line(alloc, out, kind, bound, most)
+    if !is_within(bound, most) {
+        put_excess_line(out, kind, bound, most);
     }
 }
 
 /// Adds the lines for the bounds that are above their caps.
-fn put_excess_lines(
-    alloc: Global,
-    out: &mut Vec<u8>,
-    caps: Caps,
-    bounds: LimitedBounds,
-    budget: u64,
-) -> Result<(), AllocError>
-    ensures { OnOk result (out.new.items ≡ out.old.items ++ excess_lines caps bounds budget) }
+fn put_excess_lines(out: &mut Writer, caps: Caps, bounds: LimitedBounds, budget: u64)
+    ensures { IsAppended out.old out.new (excess_lines caps bounds budget) }
 {
-    put_excess(alloc, out, "tasks", bounds.tasks, caps.tasks)?;
-    put_excess(
-        alloc,
-        out,
-        "instructions",
-        bounds.instructions,
-        caps.instructions,
-    )?;
-    put_excess(alloc, out, "data", bounds.data, caps.data)?;
-    put_excess(alloc, out, "bytes", bounds.bytes, caps.bytes)?;
-    put_excess(alloc, out, "budget", Bound::AtMost(budget), caps.budget)?;
-    put_excess(alloc, out, "members", bounds.members, caps.members)
+    put_excess(out, "tasks", bounds.tasks, caps.tasks);
+    put_excess(out, "instructions", bounds.instructions, caps.instructions);
+    put_excess(out, "data", bounds.data, caps.data);
+    put_excess(out, "bytes", bounds.bytes, caps.bytes);
+    put_excess(out, "budget", Bound::AtMost(budget), caps.budget);
+    put_excess(out, "members", bounds.members, caps.members);
 }
 
 /// Returns whether a cap is given.
@@ -125,14 +102,14 @@ fn capped_text(
     ensures admitted { IfOk result (λ text. text.items ≡ [] → StaysWithinCaps verified.now.program limit caps) }
 {
     let bounds = least_bounds(alloc, verified, events_in(limit))?;
-    let mut text = Vec::new(alloc);
-    put_excess_lines(alloc, &mut text, caps, bounds, largest_budget(verified))?;
-    Ok(text)
+    let mut text = Writer::new(alloc);
+    put_excess_lines(&mut text, caps, bounds, largest_budget(verified));
+    text.finish()
 }
 
 /// Returns the lines for the bounds of the program that are above their caps, if a cap is given. The program is admitted if there are
 /// none.
-pub fn excess_text(
+pub(crate) fn excess_text(
     alloc: Global,
     verified: &Verified,
     limit: Option<EventLimit>,
@@ -149,7 +126,7 @@ pub fn excess_text(
 }
 
 /// Returns the reply to a program that isn't admitted, with these lines.
-pub fn excess_reply(alloc: Global, lines: &[u8]) -> Result<Reply, AllocError>
+pub(crate) fn excess_reply(alloc: Global, lines: &[u8]) -> Result<Reply, AllocError>
     ensures { IfOk result (λ r. reply r.text.items r.close ≡ failed_with (coded 79 7 position.Nowhere) lines.now) }
 {
     let failure = Failure::coded(b'O', 7, Position::Nowhere);

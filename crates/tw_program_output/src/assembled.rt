@@ -10,11 +10,12 @@ use std::alloc::{AllocError, Global};
 use tw_asm::{AsmFault, assemble};
 use tw_binary::encode;
 use tw_code::Program;
+use tw_diagnostics::{error_word, text_reason};
 use tw_lexer::put;
 use tw_order::{Assembling, Source};
 use tw_source::{
-    Close, Failure, Position, Reply, failed_reply, not_utf8_reply, parse_error_reply, plain_reply,
-    read_program, word_in,
+    Close, Reply, failed_reply, fault_failure, not_utf8_reply, parse_error_reply, plain_reply,
+    read_program,
 };
 
 /// Returns a program as hex digits, in one line.
@@ -36,10 +37,8 @@ fn hex_reply(alloc: Global, program: &Program) -> Result<Reply, AllocError>
 fn fault_reply(alloc: Global, text: &str, fault: AsmFault) -> Result<Reply, AllocError>
     ensures { IfOk result (λ r. IsFaultReply text.now fault.no fault.line (reply r.text.items r.close)) }
 {
-    let (word, column) = word_in(alloc, text, fault)?;
-    let line = fault.line;
-    let position = Position::Line { line, word, column };
-    failed_reply(alloc, Failure::coded(b'A', fault.no.number(), position))
+    let reason = text_reason(alloc, text, fault)?;
+    failed_reply(alloc, fault_failure(fault, error_word(&reason)))
 }
 
 /// Returns the program of an assembly text as hex digits, or the text's first fault.
@@ -71,7 +70,7 @@ fn named_reply(alloc: Global, input: &[u8]) -> Result<Reply, AllocError>
 {
     match read_program(alloc, Source::Assembly, input) {
         Ok(read) => hex_reply(alloc, &read.program),
-        Err(why) => parse_error_reply(alloc, input, why),
+        Err(why) => parse_error_reply(alloc, &why),
     }
 }
 

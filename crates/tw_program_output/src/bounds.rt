@@ -1,230 +1,185 @@
 //! Output of `check --bounds` about a program's runs.
 
-ghost use Rattle.std.specs.Prelude.{◌≡◌, ◌++◌, OnOk, List, ℕ, map};
-ghost use Rattle.std.specs.List.{flat_map};
+ghost use Rattle.std.specs.Prelude.{◌≡◌, IfOk, IfSome, List};
 ghost use Rattle.tw_code.specs.declared.procedure.Procedure.{Procedure};
 ghost use Rattle.tw_bounds.specs.Circles.{IsCircle};
-ghost use Rattle.tw_bounds.specs.Reports.{AreRunBounds};
-ghost use Rattle.tw_program_output.specs.Bounds.{IsBoundsText, IsCircleText, IsEachBoundsText, IsLimitedText, IsTextOf, IsWhyEndless, MayPrintBounds, bound_row, bound_rows, bound_text, circle_line, named, requested_limit, row_text};
+ghost use Rattle.tw_json_output.specs.Writers.{IsWith};
+ghost use Rattle.tw_program_output.specs.Bounds.{IsCircleText, bound_row, bound_rows, bounds_text, limited_text, main_lines, own_lines};
+ghost use Rattle.tw_program_output.specs.CheckJson.{with_bounds_of, with_circle, with_found, with_limited, with_own_bounds};
 ghost use Rattle.tw_source.specs.Source.{MayBeSource, text_of};
-ghost use Rattle.tw_symbols.specs.Symbols.{name_at};
+ghost use Rattle.tw_symbols.specs.Symbols.{bracketed, name_at};
+ghost use Rattle.tw_writer.specs.Appended.{IsAppended};
 
-use crate::bound_rows::{BoundRow, limit_rows, run_rows};
+use crate::answer::{CheckAnswer, FoundBounds};
+use crate::bound_rows::{limit_rows, put_rows, rows_object, run_rows};
+use crate::place::{placed_text, put_place};
 use std::alloc::{AllocError, Global};
-use tw_bounds::{Bound, Circle, RunBounds, circle_of_calls, limited_bounds, run_bounds};
-use tw_lexer::{put, put_both, put_decimal, put_numbered};
-use tw_order::{BoundsOf, CheckOrder, EventLimit};
-use tw_source::{SourceText, put_place_line, symbols_of};
+use tw_bounds::{Circle, LimitedBounds, RunBounds};
+use tw_json_output::ObjectWriter;
+use tw_order::BoundsOf;
+use tw_source::SourceText;
 use tw_symbols::Symbols;
-use tw_verify::Verified;
+use tw_writer::Writer;
 
-/// Adds a bound, or why there is none.
-fn put_bound(alloc: Global, out: &mut Vec<u8>, bound: Option<Bound>) -> Result<(), AllocError>
-    ensures { OnOk result (out.new.items ≡ out.old.items ++ bound_text bound) }
-{
-    match bound {
-        Some(Bound::AtMost(number)) => put_decimal(alloc, out, number as usize),
-        Some(Bound::Over) => put(out, "over"),
-        Some(Bound::Endless) | None => put(out, "none"),
-    }
-}
-
-/// Adds a bound after its kind, between these texts.
-fn put_row(
+/// Returns why there are no bounds, with the line of the call if there is a text; nothing if there are.
+pub(crate) fn circle_text(
     alloc: Global,
-    out: &mut Vec<u8>,
-    head: &str,
-    row: &BoundRow,
-    tail: &str,
-) -> Result<(), AllocError>
-    ensures { OnOk result (out.new.items ≡ out.old.items ++ row_text head.now tail.now (named row.now)) }
-{
-    put_both(out, head, row.name)?;
-    put(out, " ")?;
-    put_bound(alloc, out, row.bound)?;
-    put(out, tail)
-}
-
-/// Adds bounds after their kinds, each between these texts.
-fn put_rows(
-    alloc: Global,
-    out: &mut Vec<u8>,
-    head: &str,
-    rows: &[BoundRow],
-    tail: &str,
-) -> Result<(), AllocError>
-    ensures { OnOk result (out.new.items ≡ out.old.items ++ flat_map (row_text head.now tail.now) (map named rows.now)) }
-{
-    for row in rows {
-        put_row(alloc, out, head, row, tail)?;
-    }
-    Ok(())
-}
-
-/// Adds the line with the reason why there are no bounds.
-fn put_circle_line(alloc: Global, out: &mut Vec<u8>, circle: Circle) -> Result<(), AllocError>
-    ensures { OnOk result (out.new.items ≡ out.old.items ++ circle_line circle) }
-{
-    put_numbered(alloc, out, "bound none: procedure ", circle.procedure)?;
-    put_numbered(alloc, out, " at place ", circle.place)?;
-    put(out, " leads back to itself\n")
-}
-
-/// Adds why there are no bounds, with the line of the call if there is a text.
-fn put_circle(
-    alloc: Global,
-    out: &mut Vec<u8>,
     source: &Option<SourceText<'_>>,
-    circle: Circle,
-) -> Result<(), AllocError>
-    ensures { (program : List Procedure) → MayBeSource source.now program → IsCircle program circle
-        → OnOk result ((lines : List ℕ) × IsCircleText (text_of source.now) program lines × (out.new.items ≡ out.old.items ++ lines)) }
+    circle: Option<Circle>,
+) -> Result<Vec<u8>, AllocError>
+    ensures { (program : List Procedure) → MayBeSource source.now program → IfSome circle (IsCircle program)
+        → IfOk result (λ text. IsCircleText (text_of source.now) circle text.items) }
 {
-    put_circle_line(alloc, out, circle)?;
-    put_place_line(alloc, out, source, circle.procedure, circle.place)
+    match circle {
+        Some(circle) => placed_text(
+            alloc,
+            source,
+            "bound none: procedure ",
+            circle.procedure,
+            circle.place,
+            " leads back to itself\n",
+        ),
+        None => Ok(Vec::new(alloc)),
+    }
 }
 
-/// Adds main's bounds, or why there are none.
-fn put_bounds(
-    alloc: Global,
-    out: &mut Vec<u8>,
-    source: &Option<SourceText<'_>>,
-    verified: &Verified,
-) -> Result<(), AllocError>
-    requires { MayBeSource source.now verified.now.program }
-    ensures { OnOk result ((lines : List ℕ) × IsBoundsText (text_of source.now) verified.now.program lines × (out.new.items ≡ out.old.items ++ lines)) }
+/// Adds a procedure's name in brackets, if it has one.
+pub(crate) fn put_name(out: &mut Writer, names: &Symbols, number: usize)
+    ensures { IsAppended out.old out.new (bracketed (name_at names.now number)) }
 {
-    let bounds = run_bounds(alloc, verified)?;
-    match circle_of_calls(alloc, verified, &bounds)? {
-        Some(circle) => put_circle(alloc, out, source, circle),
-        None => put_rows(alloc, out, "bound ", &run_rows(&bounds, 0), "\n"),
-    }
+    let done = names.put(&mut out.bytes, number);
+    out.note(done);
 }
 
 /// Adds the line of a procedure's bounds.
-fn put_bound_row(
-    alloc: Global,
-    out: &mut Vec<u8>,
-    names: &Symbols,
-    bounds: &RunBounds,
-    number: usize,
-) -> Result<(), AllocError>
-    ensures { OnOk result (out.new.items ≡ out.old.items ++ bound_row (name_at names.now number) bounds.now number) }
+fn put_bound_row(out: &mut Writer, names: &Symbols, bounds: &RunBounds, number: usize)
+    ensures { IsAppended out.old out.new (bound_row (name_at names.now number) bounds.now number) }
 {
-    put_numbered(alloc, out, "bounds ", number)?;
-    put_rows(alloc, out, " ", &run_rows(bounds, number), "")?;
-    names.put(out, number)?;
-    put(out, "\n")
+    out.put_numbered("bounds ", number);
+    put_rows(out, " ", &run_rows(bounds, number), "");
+    put_name(out, names, number);
+    out.put("\n");
 }
 
-/// Adds the lines of the first procedures.
-fn put_bound_rows(
-    alloc: Global,
-    out: &mut Vec<u8>,
-    names: &Symbols,
-    bounds: &RunBounds,
-    count: usize,
-) -> Result<(), AllocError>
-    ensures { OnOk result (out.new.items ≡ out.old.items ++ bound_rows names.now bounds.now count) }
+/// Adds the lines of the procedures' bounds.
+fn put_bound_rows(out: &mut Writer, answer: &CheckAnswer, bounds: &RunBounds)
+    ensures { IsAppended out.old out.new (bound_rows answer.now.names bounds.now answer.now.procedures.items) }
 {
-    for number in 0..count {
-        put_bound_row(alloc, out, names, bounds, number)?;
-    }
-    Ok(())
-}
-
-/// Adds why main has no bounds, if it has none.
-fn put_why_endless(
-    alloc: Global,
-    out: &mut Vec<u8>,
-    source: &Option<SourceText<'_>>,
-    verified: &Verified,
-    bounds: &RunBounds,
-) -> Result<(), AllocError>
-    requires source { MayBeSource source.now verified.now.program }
-    requires bounds { AreRunBounds verified.now.program bounds.now }
-    ensures { OnOk result ((why : List ℕ) × IsWhyEndless (text_of source.now) verified.now.program why × (out.new.items ≡ out.old.items ++ why)) }
-{
-    match circle_of_calls(alloc, verified, bounds)? {
-        Some(circle) => put_circle(alloc, out, source, circle),
-        None => Ok(()),
+    for row in &answer.procedures {
+        put_bound_row(out, &answer.names, bounds, row.number);
     }
 }
 
-/// Adds the bounds of each procedure, with its name if it has one.
-fn put_each_bounds(
-    alloc: Global,
-    out: &mut Vec<u8>,
-    source: &Option<SourceText<'_>>,
-    verified: &Verified,
-) -> Result<(), AllocError>
-    requires { MayBeSource source.now verified.now.program }
-    ensures { OnOk result ((lines : List ℕ) × IsEachBoundsText (text_of source.now) verified.now.program lines × (out.new.items ≡ out.old.items ++ lines)) }
+/// Adds main's bounds, if its calls end.
+fn put_main_lines(out: &mut Writer, found: &FoundBounds)
+    ensures { IsAppended out.old out.new (main_lines found.now.circle found.now.bounds) }
 {
-    let names = symbols_of(alloc, source)?;
-    let bounds = run_bounds(alloc, verified)?;
-    let count = verified.program().procedures().len();
-    put_bound_rows(alloc, out, &names, &bounds, count)?;
-    put_why_endless(alloc, out, source, verified, &bounds)
+    match found.circle {
+        None => put_rows(out, "bound ", &run_rows(&found.bounds, 0), "\n"),
+        Some(_) => {}
+    }
 }
 
-/// Adds the bounds of these procedures.
-fn put_bounds_of(
-    alloc: Global,
-    out: &mut Vec<u8>,
-    source: &Option<SourceText<'_>>,
-    whose: BoundsOf,
-    verified: &Verified,
-) -> Result<(), AllocError>
-    requires { MayBeSource source.now verified.now.program }
-    ensures { OnOk result ((lines : List ℕ) × IsTextOf whose (text_of source.now) verified.now.program lines × (out.new.items ≡ out.old.items ++ lines)) }
+/// Adds main's bounds, or those of each procedure.
+fn put_own_lines(out: &mut Writer, whose: BoundsOf, answer: &CheckAnswer, found: &FoundBounds)
+    ensures { IsAppended out.old out.new (own_lines whose answer.now.names answer.now.procedures.items found.now) }
 {
     match whose {
-        BoundsOf::NoBounds => Ok(()),
-        BoundsOf::OfMain => put_bounds(alloc, out, source, verified),
-        BoundsOf::OfEach => put_each_bounds(alloc, out, source, verified),
+        BoundsOf::NoBounds | BoundsOf::OfMain => put_main_lines(out, found),
+        BoundsOf::OfEach => put_bound_rows(out, answer, &found.bounds),
     }
 }
 
 /// Adds the bounds by the limit, if there is one.
-fn put_limited(
-    alloc: Global,
-    out: &mut Vec<u8>,
-    limit: Option<EventLimit>,
-    verified: &Verified,
-) -> Result<(), AllocError>
-    ensures { OnOk result ((lines : List ℕ) × IsLimitedText limit verified.now.program lines × (out.new.items ≡ out.old.items ++ lines)) }
+fn put_limited(out: &mut Writer, limited: Option<LimitedBounds>)
+    ensures { IsAppended out.old out.new (limited_text limited) }
 {
-    match limit {
-        Some(limit) => {
-            let bounds = limited_bounds(verified, limit.events() as u32);
-            put_rows(alloc, out, "limited ", &limit_rows(bounds), "\n")
+    match limited {
+        Some(bounds) => put_rows(out, "limited ", &limit_rows(bounds), "\n"),
+        None => {}
+    }
+}
+
+/// Adds the bounds that were found, with these lines about a circle of calls.
+pub(crate) fn put_bounds(out: &mut Writer, whose: BoundsOf, answer: &CheckAnswer, circle: &[u8])
+    ensures { IsAppended out.old out.new (bounds_text whose answer.now.names answer.now.procedures.items answer.now.bounds circle.now) }
+{
+    let Some(found) = &answer.bounds else {
+        return;
+    };
+    put_own_lines(out, whose, answer, found);
+    out.put_bytes(circle);
+    put_limited(out, found.limited);
+}
+
+// ---- JSON
+
+/// Adds the place of a call that leads back to its procedure, if there is one.
+fn put_circle(alloc: Global, object: &mut ObjectWriter, circle: Option<Circle>)
+    ensures { IsWith object.old object.new (with_circle circle) }
+{
+    match circle {
+        Some(circle) => put_place(alloc, object, "circle", circle.procedure, circle.place),
+        None => {}
+    }
+}
+
+/// Adds the bounds by the limit, if there is one.
+fn put_limited_member(alloc: Global, object: &mut ObjectWriter, limited: Option<LimitedBounds>)
+    ensures { IsWith object.old object.new (with_limited limited) }
+{
+    match limited {
+        Some(bounds) => object.put_object("limited", rows_object(alloc, &limit_rows(bounds))),
+        None => {}
+    }
+}
+
+/// Adds main's bounds, a circle of calls and the bounds by the limit, as far as they were found.
+pub(crate) fn put_found(alloc: Global, object: &mut ObjectWriter, found: &Option<FoundBounds>)
+    ensures { IsWith object.old object.new (with_found found.now) }
+{
+    match found {
+        Some(found) => {
+            object.put_object("bounds", rows_object(alloc, &run_rows(&found.bounds, 0)));
+            put_circle(alloc, object, found.circle);
+            put_limited_member(alloc, object, found.limited);
         }
-        None => Ok(()),
+        None => {}
     }
 }
 
-/// Returns the limit, if bounds are requested.
-fn requested_limit(order: CheckOrder) -> Option<EventLimit>
-    ensures { result ≡ requested_limit order }
-{
-    match order.bounds {
-        BoundsOf::NoBounds => None,
-        BoundsOf::OfMain | BoundsOf::OfEach => order.limit,
-    }
-}
-
-/// Adds the bounds that are requested, and those by the limit if there is one.
-pub(crate) fn put_requested_bounds(
+/// Adds a procedure's bounds, if bounds were found.
+fn put_bounds_of(
     alloc: Global,
-    out: &mut Vec<u8>,
-    source: &Option<SourceText<'_>>,
-    order: CheckOrder,
-    verified: &Verified,
-) -> Result<(), AllocError>
-    requires { MayBeSource source.now verified.now.program }
-    ensures { OnOk result ((lines : List ℕ) × MayPrintBounds order (text_of source.now) verified.now.program lines × (out.new.items ≡ out.old.items ++ lines)) }
+    object: &mut ObjectWriter,
+    found: &Option<FoundBounds>,
+    number: usize,
+)
+    ensures { IsWith object.old object.new (with_bounds_of found.now number) }
 {
-    put_bounds_of(alloc, out, source, order.bounds, verified)?;
-    put_limited(alloc, out, requested_limit(order), verified)
+    match found {
+        Some(found) => {
+            object.put_object(
+                "bounds",
+                rows_object(alloc, &run_rows(&found.bounds, number)),
+            )
+        }
+        None => {}
+    }
+}
+
+/// Adds a procedure's bounds, if those of each are requested.
+pub(crate) fn put_own_bounds(
+    alloc: Global,
+    object: &mut ObjectWriter,
+    whose: BoundsOf,
+    found: &Option<FoundBounds>,
+    number: usize,
+)
+    ensures { IsWith object.old object.new (with_own_bounds whose found.now number) }
+{
+    match whose {
+        BoundsOf::NoBounds | BoundsOf::OfMain => {}
+        BoundsOf::OfEach => put_bounds_of(alloc, object, found, number),
+    }
 }

@@ -1,174 +1,144 @@
 //! Output of `check` about a program.
 
-ghost use Rattle.std.specs.Prelude.{◌≡◌, ◌++◌, ℕ, List, IfOk, OnOk, decimal};
+ghost use Rattle.std.specs.Prelude.{◌≡◌, IfOk, List, option_map};
 ghost use Rattle.tw_code.specs.accepting.WellTyped.{IsFirstRejection};
-ghost use Rattle.tw_program_output.specs.Check.{AreProcedureLines, IsCheckText, IsChecked, IsRefused, IsInForm, IsPrintedByCheck, RepliesByCheck, IsListedBefore, kind_text, needs_line, procedure_line, rejection};
+ghost use Rattle.tw_code.specs.declared.procedure.Procedure.{Procedure};
+ghost use Rattle.tw_program_output.specs.Answer.{IsAnswer};
+ghost use Rattle.tw_program_output.specs.Check.{IsCheckText, IsInForm, IsPrinted, RepliesByCheck, check_text, listing_text, needs_line, procedure_line, procedure_lines, shown_names};
+ghost use Rattle.tw_program_output.specs.Rejection.{IsListedBefore, RepliesByRejection, rejection};
 ghost use Rattle.tw_source.specs.Failure.{after};
-ghost use Rattle.tw_order.specs.declared.form.Places.TheVariants.{Shown};
-ghost use Rattle.tw_symbols.specs.Symbols.{name_at};
-ghost use Rattle.tw_program_output.specs.Listing.{IsListing, IsRefusedListing};
 ghost use Rattle.tw_source.specs.Reply.{reply};
 ghost use Rattle.tw_source.specs.Source.{MayBeSource, text_of};
+ghost use Rattle.tw_symbols.specs.Symbols.{name_at};
 ghost use Rattle.tw_verify.specs.Rejection.{verify_error_code};
+ghost use Rattle.tw_writer.specs.Appended.{IsAppended};
 
-use crate::admission::{excess_reply, excess_text};
-use crate::bounds::put_requested_bounds;
+use crate::acceptance::{Admitted, admit};
+use crate::answer::{CheckAnswer, ProcedureRow, check_answer, circle_in, kind_word};
+use crate::bounds::{circle_text, put_bounds, put_name};
 use crate::check_json::check_line;
-use crate::event_order::put_requested_order;
-use crate::listing::{refused_text, typed_text};
-use crate::text_listing::{accepted_lines, refused_lines};
+use crate::event_order::order_text;
+use crate::text_listing::refused_listing;
 use std::alloc::{AllocError, Global};
-use tw_lexer::{put, put_numbered};
+use tw_code::Program;
 use tw_order::{CheckOrder, Form, Places};
 use tw_source::{
     Close, Failure, Position, Reply, SourceText, put_failure_line, put_rejection_details,
-    refused_by, symbols_of,
+    refused_by,
 };
 use tw_symbols::Symbols;
-use tw_types::Kind;
 use tw_verify::{Refused, Verified};
+use tw_writer::{Piece, Writer};
 
-fn put_kind(out: &mut Vec<u8>, kind: Kind) -> Result<(), AllocError>
-    ensures { OnOk result (out.new.items ≡ out.old.items ++ kind_text kind) }
+/// Adds the listing, if there is one.
+fn put_listing(out: &mut Writer, listing: &Option<Vec<u8>>)
+    ensures { IsAppended out.old out.new (listing_text (option_map (λ t. t.items) listing.now)) }
 {
-    match kind {
-        Kind::Control => put(out, " control"),
-        Kind::Leaf => put(out, " leaf"),
+    match listing {
+        Some(text) => out.put_bytes(text),
+        None => {}
     }
 }
 
 /// Adds the line of a procedure.
-fn put_procedure_line(
-    alloc: Global,
-    out: &mut Vec<u8>,
-    names: &Symbols,
-    number: usize,
-    kind: Kind,
-    budget: u64,
-) -> Result<(), AllocError>
-    ensures { OnOk result (out.new.items ≡ out.old.items ++ procedure_line (name_at names.now number) number kind budget) }
+fn put_procedure_line(out: &mut Writer, names: &Symbols, row: ProcedureRow)
+    ensures { IsAppended out.old out.new (procedure_line (name_at names.now row.number) row) }
 {
-    put_numbered(alloc, out, "proc ", number)?;
-    put_kind(out, kind)?;
-    put_numbered(alloc, out, " budget ", budget as usize)?;
-    names.put(out, number)?;
-    put(out, "\n")
+    out.put_all(&[
+        Piece::Text("proc "),
+        Piece::Number(row.number),
+        Piece::Text(" "),
+        Piece::Text(kind_word(row.kind)),
+        Piece::Text(" budget "),
+        Piece::Number(row.budget as usize),
+    ]);
+    put_name(out, names, row.number);
+    out.put("\n");
 }
 
 /// Adds the lines of the procedures.
-fn put_procedure_lines(
-    alloc: Global,
-    out: &mut Vec<u8>,
-    names: &Symbols,
-    verified: &Verified,
-) -> Result<(), AllocError>
-    ensures { OnOk result ((lines : List ℕ) × AreProcedureLines names.now 0 verified.now.program lines × (out.new.items ≡ out.old.items ++ lines)) }
+fn put_procedure_lines(out: &mut Writer, names: &Symbols, answer: &CheckAnswer)
+    ensures { IsAppended out.old out.new (procedure_lines names.now answer.now.procedures.items) }
 {
-    for (number, procedure) in verified.program().procedures().iter().enumerate() {
-        let budget = verified.budget(number);
-        put_procedure_line(alloc, out, names, number, procedure.kind, budget)?;
+    for row in &answer.procedures {
+        put_procedure_line(out, names, *row);
     }
-    Ok(())
+}
+
+/// Adds the lines of the procedures, with their names if the program is listed.
+fn put_budgets(alloc: Global, out: &mut Writer, places: Places, answer: &CheckAnswer)
+    ensures { IsAppended out.old out.new (procedure_lines (shown_names places answer.now.names) answer.now.procedures.items) }
+{
+    match places {
+        Places::Hidden => put_procedure_lines(out, &Symbols::none(alloc), answer),
+        Places::Shown => put_procedure_lines(out, &answer.names, answer),
+    }
 }
 
 /// Adds the line with what the targets need.
-fn put_needs(alloc: Global, out: &mut Vec<u8>, engines: u8, workers: u8) -> Result<(), AllocError>
-    ensures { OnOk result (out.new.items ≡ out.old.items ++ needs_line engines workers) }
+fn put_needs(out: &mut Writer, needs: (u8, u8))
+    ensures { IsAppended out.old out.new (needs_line needs.0 needs.1) }
 {
-    put_numbered(alloc, out, "needs engines ", usize::from(engines))?;
-    put_numbered(alloc, out, " workers ", usize::from(workers))?;
-    put(out, "\n")
+    out.put_all(&[
+        Piece::Text("needs engines "),
+        Piece::Number(usize::from(needs.0)),
+        Piece::Text(" workers "),
+        Piece::Number(usize::from(needs.1)),
+        Piece::Text("\n"),
+    ]);
 }
 
-/// Returns the whole text of the check of an accepted program.
-fn check_text(alloc: Global, names: &Symbols, verified: &Verified) -> Result<Vec<u8>, AllocError>
-    ensures { IfOk result (λ text. IsCheckText names.now verified.now.program text.items) }
+/// Returns the lines of an answer, with these about a circle of calls and about the order of events.
+fn answer_text(
+    alloc: Global,
+    order: &CheckOrder,
+    answer: &CheckAnswer,
+    circle: &[u8],
+    last: &[u8],
+) -> Result<Vec<u8>, AllocError>
+    ensures { IfOk result (λ text. text.items ≡ check_text order.now answer.now circle.now last.now) }
 {
-    let mut text = Vec::new(alloc);
-    put(&mut text, "accepted\n")?;
-    put_procedure_lines(alloc, &mut text, names, verified)?;
-    let (engines, workers) = verified.needs();
-    put_needs(alloc, &mut text, engines, workers)?;
-    Ok(text)
+    let mut text = Writer::new(alloc);
+    put_listing(&mut text, &answer.listing);
+    text.put("accepted\n");
+    put_budgets(alloc, &mut text, order.places, answer);
+    put_needs(&mut text, answer.needs);
+    put_bounds(&mut text, order.bounds, answer, circle);
+    text.put_bytes(last);
+    text.finish()
 }
 
-/// Returns the listing of an accepted program; of its text's lines, if it was read from a text.
-pub(crate) fn accepted_listing(
+/// Returns the text of an answer about the program of this text.
+fn check_text(
     alloc: Global,
     source: &Option<SourceText<'_>>,
-    verified: &Verified,
+    order: &CheckOrder,
+    answer: &CheckAnswer,
 ) -> Result<Vec<u8>, AllocError>
-    requires { MayBeSource source.now verified.now.program }
-    ensures { IfOk result (λ text. IsListing (text_of source.now) verified.now.program text.items) }
+    ensures { (program : List Procedure) → MayBeSource source.now program → IsAnswer order.now (text_of source.now) program answer.now
+        → IfOk result (λ text. IsCheckText order.now (text_of source.now) answer.now text.items) }
 {
-    match source {
-        Some(source) => accepted_lines(alloc, source, verified),
-        None => typed_text(alloc, verified),
+    let circle = circle_text(alloc, source, circle_in(&answer.bounds))?;
+    let last = order_text(alloc, source, answer.insertion)?;
+    answer_text(alloc, order, answer, &circle, &last)
+}
+
+/// Returns an answer about an accepted program in the requested form.
+fn answer_in_form(
+    alloc: Global,
+    source: &Option<SourceText<'_>>,
+    order: &CheckOrder,
+    verified: &Verified,
+    answer: &CheckAnswer,
+) -> Result<Vec<u8>, AllocError>
+    requires source { MayBeSource source.now verified.now.program }
+    requires answer { IsAnswer order.now (text_of source.now) verified.now.program answer.now }
+    ensures { IfOk result (λ text. IsInForm order.now.form order.now (text_of source.now) verified.now.program answer.now text.items) }
+{
+    match order.form {
+        Form::Text => check_text(alloc, source, order, answer),
+        Form::Json => check_line(alloc, order, verified, answer),
     }
-}
-
-/// Like `accepted_listing`, for a rejected program.
-fn refused_listing(
-    alloc: Global,
-    source: &Option<SourceText<'_>>,
-    refused: &Refused,
-) -> Result<Vec<u8>, AllocError>
-    requires { MayBeSource source.now refused.now.program.procedures }
-    ensures { IfOk result (λ text. IsRefusedListing (text_of source.now) refused.now.program.procedures (verify_error_code refused.now.no) refused.now.procedure text.items) }
-{
-    match source {
-        Some(source) => refused_lines(alloc, source, refused),
-        None => refused_text(alloc, refused),
-    }
-}
-
-/// Returns the listing of an accepted program, then its check with the names of its procedures.
-fn listed_text(
-    alloc: Global,
-    source: &Option<SourceText<'_>>,
-    verified: &Verified,
-) -> Result<Vec<u8>, AllocError>
-    requires { MayBeSource source.now verified.now.program }
-    ensures { IfOk result (λ text. IsChecked Shown (text_of source.now) verified.now.program text.items) }
-{
-    let mut text = accepted_listing(alloc, source, verified)?;
-    let names = symbols_of(alloc, source)?;
-    let printed = check_text(alloc, &names, verified)?;
-    text.extend_from_slice(&printed)?;
-    Ok(text)
-}
-
-/// Returns the budgets, after the listing if that is requested.
-fn budgets_text(
-    alloc: Global,
-    source: &Option<SourceText<'_>>,
-    places: Places,
-    verified: &Verified,
-) -> Result<Vec<u8>, AllocError>
-    requires { MayBeSource source.now verified.now.program }
-    ensures { IfOk result (λ text. IsChecked places (text_of source.now) verified.now.program text.items) }
-{
-    match places {
-        Places::Hidden => check_text(alloc, &Symbols::none(alloc), verified),
-        Places::Shown => listed_text(alloc, source, verified),
-    }
-}
-
-/// Returns the output of a check of an accepted program: its budgets, and what else is requested.
-fn checked_text(
-    alloc: Global,
-    source: &Option<SourceText<'_>>,
-    order: CheckOrder,
-    verified: &Verified,
-) -> Result<Vec<u8>, AllocError>
-    requires { MayBeSource source.now verified.now.program }
-    ensures { IfOk result (λ text. IsPrintedByCheck order (text_of source.now) verified.now.program text.items) }
-{
-    let event_order = order.event_order;
-    let mut text = budgets_text(alloc, source, order.places, verified)?;
-    put_requested_bounds(alloc, &mut text, source, order, verified)?;
-    put_requested_order(alloc, &mut text, source, event_order, verified)?;
-    Ok(text)
 }
 
 /// Returns the output of a check of an accepted program, in the requested form.
@@ -179,32 +149,36 @@ fn requested_text(
     verified: &Verified,
 ) -> Result<Vec<u8>, AllocError>
     requires { MayBeSource source.now verified.now.program }
-    ensures { IfOk result (λ text. IsInForm order.form order (text_of source.now) verified.now.program text.items) }
+    ensures { IfOk result (λ text. IsPrinted order (text_of source.now) verified.now.program text.items) }
 {
-    match order.form {
-        Form::Text => checked_text(alloc, source, order, verified),
-        Form::Json => check_line(alloc, source, order, verified),
-    }
+    let answer = check_answer(alloc, source, &order, verified)?;
+    answer_in_form(alloc, source, &order, verified, &answer)
 }
 
-/// Returns the reply to the check of an accepted program.
+/// Verifies a program, and returns the reply to its check.
 pub fn checked_reply(
     alloc: Global,
     source: &Option<SourceText<'_>>,
     order: CheckOrder,
-    verified: &Verified,
+    program: Program,
 ) -> Result<Reply, AllocError>
-    requires { MayBeSource source.now verified.now.program }
-    ensures { IfOk result (λ r. RepliesByCheck order (text_of source.now) verified.now.program (reply r.text.items r.close)) }
+    requires { MayBeSource source.now program.procedures }
+    ensures { IfOk result (λ r. RepliesByCheck order (text_of source.now) program.procedures (reply r.text.items r.close)) }
 {
-    let lines = excess_text(alloc, verified, order.limit, order.caps)?;
-    if lines.is_empty() {
-        return Ok(Reply {
-            text: requested_text(alloc, source, order, verified)?,
+    match admit(
+        alloc,
+        source,
+        order.places,
+        order.limit,
+        order.caps,
+        program,
+    )? {
+        Admitted::Run(verified) => Ok(Reply {
+            text: requested_text(alloc, source, order, &verified)?,
             close: Close::Success,
-        });
+        }),
+        Admitted::Rejected(reply) => Ok(reply),
     }
-    excess_reply(alloc, &lines)
 }
 
 /// Returns what precedes an error: the listing, if it is requested.
@@ -238,7 +212,7 @@ fn failure_at(refused: &Refused, line: Option<usize>, before: usize) -> Failure
 }
 
 /// Returns the reply to a program that isn't accepted.
-pub fn rejection_reply(
+pub(crate) fn rejection_reply(
     alloc: Global,
     source: &Option<SourceText<'_>>,
     places: Places,
@@ -246,7 +220,7 @@ pub fn rejection_reply(
 ) -> Result<Reply, AllocError>
     requires source { MayBeSource source.now refused.now.program.procedures }
     requires first { IsFirstRejection refused.now.program.procedures (verify_error_code refused.now.no) refused.now.procedure refused.now.place }
-    ensures { IfOk result (λ r. IsRefused places (text_of source.now) refused.now.program.procedures (reply r.text.items r.close)) }
+    ensures { IfOk result (λ r. RepliesByRejection places (text_of source.now) refused.now.program.procedures (reply r.text.items r.close)) }
 {
     let mut text = text_before(alloc, source, places, refused)?;
     let before = text.len();

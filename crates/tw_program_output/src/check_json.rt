@@ -1,241 +1,107 @@
-//! Output of `check --json` about an accepted program.
+//! The object of a check's answer, for `check --json`.
 
-ghost use Rattle.std.specs.Prelude.{◌≡◌, IfOk, OnOk, map, option_map};
-ghost use Rattle.serde_json.specs.View.{members_view, view};
-ghost use Rattle.tw_program_output.specs.CheckJson.{AreProcedureObjects, IsCheckLine, MayBeListed, bounds_in, check_members, each_bounds, kind_word, needs_json, needs_members, procedure_json, procedure_members, with_listing, with_name, with_own_bounds};
-ghost use Rattle.tw_source.specs.Source.{MayBeSource, text_of};
+ghost use Rattle.std.specs.Prelude.{◌≡◌, IfOk, option_map};
+ghost use Rattle.tw_json_output.specs.Writers.{HasItems, HasMembers, IsWith};
+ghost use Rattle.tw_program_output.specs.CheckJson.{check_line, check_members, needs_members, procedure_members, procedures_json, with_listing, with_name};
 
-use crate::bounds_json::{FoundBounds, bounds_value, found_bounds, put_found};
-use crate::check::accepted_listing;
-use crate::event_order::{order_answer, put_order_value};
-use serde_json::{Map, Value as Json};
+use crate::answer::{CheckAnswer, ProcedureRow, kind_word};
+use crate::bounds::{put_found, put_own_bounds};
+use crate::event_order::put_order_member;
 use std::alloc::{AllocError, Global};
-use tw_code::main_params;
-use tw_copies::CopyInsertion;
-use tw_json_output::{line_of, lines_value, members_with, text_value};
-use tw_order::{BoundsOf, CheckOrder, Places};
-use tw_source::{SourceText, example_lines, symbols_of};
-use tw_symbols::Symbols;
-use tw_types::Kind;
+use tw_json_output::{ArrayWriter, ObjectWriter};
+use tw_order::{BoundsOf, CheckOrder};
+use tw_source::example_lines;
 use tw_verify::Verified;
 
-fn kind_word(kind: Kind) -> &'static str
-    ensures { result.now ≡ kind_word kind }
-{
-    match kind {
-        Kind::Control => "control",
-        Kind::Leaf => "leaf",
-    }
-}
-
 /// Adds a procedure's name, if it has one.
-fn put_name(alloc: Global, members: &mut Map<String, Json>, name: &[u8]) -> Result<(), AllocError>
-    ensures { OnOk result (members_view members.new.entries ≡ with_name name.now (members_view members.old.entries)) }
+fn put_name(object: &mut ObjectWriter, name: &[u8])
+    ensures { IsWith object.old object.new (with_name name.now) }
 {
     if name.is_empty() {
-        return Ok(());
+        return;
     }
-    let value = text_value(alloc, name)?;
-    serde_json::put(members, alloc, "name", value)
-}
-
-/// Adds the bounds of a procedure, if bounds were found.
-fn put_bounds_of(
-    alloc: Global,
-    members: &mut Map<String, Json>,
-    found: &Option<FoundBounds>,
-    number: usize,
-) -> Result<(), AllocError>
-    ensures { OnOk result (members_view members.new.entries ≡ with_own_bounds (bounds_in found.now) number (members_view members.old.entries)) }
-{
-    match found {
-        Some(found) => {
-            let value = bounds_value(alloc, &found.bounds, number)?;
-            serde_json::put(members, alloc, "bounds", value)
-        }
-        None => Ok(()),
-    }
-}
-
-/// Adds the bounds of a procedure, if those of each are requested.
-fn put_own_bounds(
-    alloc: Global,
-    members: &mut Map<String, Json>,
-    whose: BoundsOf,
-    found: &Option<FoundBounds>,
-    number: usize,
-) -> Result<(), AllocError>
-    ensures { OnOk result (members_view members.new.entries ≡ with_own_bounds (each_bounds whose found.now) number (members_view members.old.entries)) }
-{
-    match whose {
-        BoundsOf::NoBounds | BoundsOf::OfMain => Ok(()),
-        BoundsOf::OfEach => put_bounds_of(alloc, members, found, number),
-    }
-}
-
-/// Returns the members of the object of a procedure.
-fn procedure_members(
-    alloc: Global,
-    name: &[u8],
-    whose: BoundsOf,
-    found: &Option<FoundBounds>,
-    number: usize,
-    kind: Kind,
-    budget: u64,
-) -> Result<Map<String, Json>, AllocError>
-    ensures { IfOk result (λ members. members_view members.entries ≡ procedure_members name.now (each_bounds whose found.now) number kind budget) }
-{
-    let mut members = Map::new(alloc);
-    serde_json::put(&mut members, alloc, "procedure", Json::from(number as u64))?;
-    let kind = Json::try_from_str(alloc, kind_word(kind))?;
-    serde_json::put(&mut members, alloc, "kind", kind)?;
-    serde_json::put(&mut members, alloc, "budget", Json::from(budget))?;
-    put_name(alloc, &mut members, name)?;
-    put_own_bounds(alloc, &mut members, whose, found, number)?;
-    Ok(members)
+    object.put_bytes("name", name);
 }
 
 /// Returns the object of a procedure.
-fn procedure_value(
+fn procedure_object(
     alloc: Global,
-    name: &[u8],
     whose: BoundsOf,
-    found: &Option<FoundBounds>,
-    number: usize,
-    kind: Kind,
-    budget: u64,
-) -> Result<Json, AllocError>
-    ensures { IfOk result (λ value. view value ≡ procedure_json name.now (each_bounds whose found.now) number kind budget) }
+    answer: &CheckAnswer,
+    row: ProcedureRow,
+) -> ObjectWriter
+    ensures { HasMembers result (procedure_members whose answer.now row) }
 {
-    let members = procedure_members(alloc, name, whose, found, number, kind, budget)?;
-    Ok(Json::Object(members))
+    let mut object = ObjectWriter::new(alloc);
+    object.put_number("procedure", row.number as u64);
+    object.put_word("kind", kind_word(row.kind));
+    object.put_number("budget", row.budget);
+    put_name(&mut object, answer.names.procedure(row.number));
+    put_own_bounds(alloc, &mut object, whose, &answer.bounds, row.number);
+    object
 }
 
 /// Returns the objects of the procedures.
-fn procedure_values(
-    alloc: Global,
-    names: &Symbols,
-    whose: BoundsOf,
-    found: &Option<FoundBounds>,
-    verified: &Verified,
-) -> Result<Vec<Json>, AllocError>
-    ensures { IfOk result (λ v. AreProcedureObjects names.now (each_bounds whose found.now) 0 verified.now.program (map view v.items)) }
+fn procedure_array(alloc: Global, whose: BoundsOf, answer: &CheckAnswer) -> ArrayWriter
+    ensures { HasItems result (procedures_json whose answer.now) }
 {
-    let mut values = Vec::new(alloc);
-    for (number, procedure) in verified.program().procedures().iter().enumerate() {
-        let budget = verified.budget(number);
-        let name = names.procedure(number);
-        let value = procedure_value(alloc, name, whose, found, number, procedure.kind, budget)?;
-        values.push(value)?;
+    let mut array = ArrayWriter::new(alloc);
+    for row in &answer.procedures {
+        array.push(procedure_object(alloc, whose, answer, *row));
     }
-    Ok(values)
-}
-
-/// Returns the members of the object of what the targets need.
-fn needs_members(alloc: Global, engines: u8, workers: u8) -> Result<Map<String, Json>, AllocError>
-    ensures { IfOk result (λ members. members_view members.entries ≡ needs_members engines workers) }
-{
-    let mut members = Map::new(alloc);
-    serde_json::put(
-        &mut members,
-        alloc,
-        "engines",
-        Json::from(u64::from(engines)),
-    )?;
-    serde_json::put(
-        &mut members,
-        alloc,
-        "workers",
-        Json::from(u64::from(workers)),
-    )?;
-    Ok(members)
+    array
 }
 
 /// Returns the object of what the targets need.
-fn needs_value(alloc: Global, engines: u8, workers: u8) -> Result<Json, AllocError>
-    ensures { IfOk result (λ value. view value ≡ needs_json engines workers) }
+fn needs_object(alloc: Global, needs: (u8, u8)) -> ObjectWriter
+    ensures { HasMembers result (needs_members needs.0 needs.1) }
 {
-    let members = needs_members(alloc, engines, workers)?;
-    Ok(Json::Object(members))
+    let mut object = ObjectWriter::new(alloc);
+    object.put_number("engines", u64::from(needs.0));
+    object.put_number("workers", u64::from(needs.1));
+    object
 }
 
-/// Returns the listing of an accepted program, if it is requested.
-fn requested_listing(
-    alloc: Global,
-    source: &Option<SourceText<'_>>,
-    places: Places,
-    verified: &Verified,
-) -> Result<Option<Vec<u8>>, AllocError>
-    requires { MayBeSource source.now verified.now.program }
-    ensures { IfOk result (λ text. MayBeListed places (text_of source.now) verified.now.program (option_map (λ t. t.items) text)) }
-{
-    match places {
-        Places::Hidden => Ok(None),
-        Places::Shown => {
-            let text = accepted_listing(alloc, source, verified)?;
-            Ok(Some(text))
-        }
-    }
-}
-
-fn put_listing(
-    alloc: Global,
-    members: &mut Map<String, Json>,
-    listing: &Option<Vec<u8>>,
-) -> Result<(), AllocError>
-    ensures { OnOk result (members_view members.new.entries ≡ with_listing (option_map (λ t. t.items) listing.now) (members_view members.old.entries)) }
+/// Adds the listing, if there is one.
+fn put_listing(object: &mut ObjectWriter, listing: &Option<Vec<u8>>)
+    ensures { IsWith object.old object.new (with_listing (option_map (λ t. t.items) listing.now)) }
 {
     match listing {
-        Some(text) => {
-            let lines = lines_value(alloc, text)?;
-            serde_json::put(members, alloc, "listing", lines)
-        }
-        None => Ok(()),
+        Some(text) => object.put_lines("listing", text),
+        None => {}
     }
 }
 
-/// Returns the members of the object of an accepted program.
-fn check_members(
+/// Returns the object of an accepted program, with inputs that fit it.
+fn check_object(
     alloc: Global,
-    procedures: Vec<Json>,
-    inputs: Json,
-    needs: (u8, u8),
-    listing: &Option<Vec<u8>>,
-    found: &Option<FoundBounds>,
-    answer: Option<Option<CopyInsertion>>,
-) -> Result<Map<String, Json>, AllocError>
-    ensures { IfOk result (λ members. members_view members.entries
-        ≡ check_members (map view procedures.items) (view inputs) needs.0 needs.1 (option_map (λ t. t.items) listing.now) found.now answer) }
+    order: &CheckOrder,
+    inputs: &[u8],
+    answer: &CheckAnswer,
+) -> ObjectWriter
+    ensures { HasMembers result (check_members order.now inputs.now answer.now) }
 {
-    let mut members = members_with(alloc, "accepted", "procedures", Json::from(procedures))?;
-    serde_json::put(&mut members, alloc, "inputs", inputs)?;
-    let needs = needs_value(alloc, needs.0, needs.1)?;
-    serde_json::put(&mut members, alloc, "needs", needs)?;
-    put_listing(alloc, &mut members, listing)?;
-    put_found(alloc, &mut members, found)?;
-    put_order_value(alloc, &mut members, answer)?;
-    Ok(members)
+    let mut object = ObjectWriter::new(alloc);
+    object.put_word("status", "accepted");
+    object.put_array("procedures", procedure_array(alloc, order.bounds, answer));
+    object.put_lines("inputs", inputs);
+    object.put_object("needs", needs_object(alloc, answer.needs));
+    put_listing(&mut object, &answer.listing);
+    put_found(alloc, &mut object, &answer.bounds);
+    put_order_member(alloc, &mut object, answer.insertion);
+    object
 }
 
 /// Returns the JSON line of the check of an accepted program.
 pub(crate) fn check_line(
     alloc: Global,
-    source: &Option<SourceText<'_>>,
-    order: CheckOrder,
+    order: &CheckOrder,
     verified: &Verified,
+    answer: &CheckAnswer,
 ) -> Result<Vec<u8>, AllocError>
-    requires { MayBeSource source.now verified.now.program }
-    ensures { IfOk result (λ line. IsCheckLine order (text_of source.now) verified.now.program line.items) }
+    ensures { IfOk result (λ line. line.items ≡ check_line order.now verified.now.program answer.now) }
 {
-    let names = symbols_of(alloc, source)?;
-    let found = found_bounds(alloc, order.bounds, order.limit, verified)?;
-    let answer = order_answer(alloc, order.event_order, verified)?;
-    let procedures = procedure_values(alloc, &names, order.bounds, &found, verified)?;
-    let listing = requested_listing(alloc, source, order.places, verified)?;
-    let examples = example_lines(alloc, main_params(verified.program().procedures()))?;
-    let inputs = lines_value(alloc, &examples)?;
-    let needs = verified.needs();
-    let members = check_members(alloc, procedures, inputs, needs, &listing, &found, answer)?;
-    let line = line_of(alloc, &Json::Object(members))?;
+    let inputs = example_lines(alloc, verified.signature())?;
+    let line = check_object(alloc, order, &inputs, answer).line()?;
     Ok(line.into_bytes())
 }

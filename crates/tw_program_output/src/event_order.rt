@@ -1,38 +1,41 @@
 //! Output of `check --order`: whether the order of events may show in outputs.
 
-ghost use Rattle.std.specs.Prelude.{◌≡◌, ◌++◌, IfOk, List, OnOk, Option, ℕ};
-ghost use Rattle.serde_json.specs.View.{members_view, view};
+ghost use Rattle.std.specs.Prelude.{◌≡◌, ◌++◌, IfOk, IfSome, List, OnOk, codes, ℕ};
+ghost use Rattle.serde_json.specs.Data as json;
+ghost use Rattle.serde_json.specs.View.{view};
 ghost use Rattle.tw_code.specs.declared.instr.Instr.{Instr};
 ghost use Rattle.tw_code.specs.declared.procedure.Procedure.{Procedure};
-ghost use Rattle.tw_copies.specs.Copies.{IsAt};
-ghost use Rattle.tw_program_output.specs.EventOrder.{IsOrderText, MayBeChecked, MayPrintOrder, insertion_line, insertion_members, order_json, with_order};
+ghost use Rattle.tw_copies.specs.Copies.{IsAt, IsFirstCopyInsertion};
+ghost use Rattle.tw_json_output.specs.Writers.{IsWith};
+ghost use Rattle.tw_program_output.specs.EventOrder.{IsOrderLine, MayBeOrderLine, insertion_line, order_json, with_order};
+ghost use Rattle.tw_program_output.specs.Place.{IsPlaced};
 ghost use Rattle.tw_source.specs.Source.{MayBeSource, text_of};
 ghost use Rattle.tw_source.specs.Text.{IsPlaceText};
 
-use serde_json::{Map, Value as Json};
+use crate::place::{place_object, placed_text, put_place};
+use serde_json::Value as Json;
 use std::alloc::{AllocError, Global};
-use tw_copies::{CopyInsertion, first_copy_insertion};
-use tw_lexer::{put, put_numbered};
-use tw_order::EventOrder;
-use tw_source::{SourceText, put_place_line};
-use tw_verify::Verified;
+use tw_copies::CopyInsertion;
+use tw_json_output::ObjectWriter;
+use tw_source::SourceText;
 
-/// Adds the line of an insertion that may show the order.
-fn put_insertion_line(
+/// Returns the line of an insertion that may show the order, and the insertion's line of the text if there is a text.
+fn insertion_text(
     alloc: Global,
-    out: &mut Vec<u8>,
-    insertion: CopyInsertion,
-) -> Result<(), AllocError>
-    ensures { OnOk result (out.new.items ≡ out.old.items ++ insertion_line insertion) }
+    source: &Option<SourceText<'_>>,
+    at: CopyInsertion,
+) -> Result<Vec<u8>, AllocError>
+    ensures { (program : List Procedure) → MayBeSource source.now program → (i : Instr) → IsAt program at.procedure at.place i
+        → IfOk result (λ text. IsPlaced (text_of source.now) (insertion_line at) at.procedure at.place text.items) }
 {
-    put_numbered(
+    placed_text(
         alloc,
-        out,
+        source,
         "order may show in procedure ",
-        insertion.procedure,
-    )?;
-    put_numbered(alloc, out, " at place ", insertion.place)?;
-    put(out, "\n")
+        at.procedure,
+        at.place,
+        "\n",
+    )
 }
 
 /// Adds that line, and the insertion's line of the text if there is a text.
@@ -45,103 +48,72 @@ pub fn put_insertion(
     ensures { (program : List Procedure) → MayBeSource source.now program → (i : Instr) → IsAt program insertion.procedure insertion.place i
         → OnOk result ((more : List ℕ) × IsPlaceText (text_of source.now) insertion.procedure insertion.place more × (out.new.items ≡ out.old.items ++ (insertion_line insertion ++ more))) }
 {
-    put_insertion_line(alloc, out, insertion)?;
-    put_place_line(alloc, out, source, insertion.procedure, insertion.place)
+    let text = insertion_text(alloc, source, insertion)?;
+    out.extend_from_slice(&text)
 }
 
-/// Adds whether the order may show.
-fn put_order(
+/// Returns the line about the order of events, by the first insertion that may show it.
+fn found_text(
     alloc: Global,
-    out: &mut Vec<u8>,
     source: &Option<SourceText<'_>>,
-    verified: &Verified,
-) -> Result<(), AllocError>
-    requires { MayBeSource source.now verified.now.program }
-    ensures { OnOk result ((lines : List ℕ) × IsOrderText (text_of source.now) verified.now.program lines × (out.new.items ≡ out.old.items ++ lines)) }
+    found: Option<CopyInsertion>,
+) -> Result<Vec<u8>, AllocError>
+    ensures { (program : List Procedure) → MayBeSource source.now program → IsFirstCopyInsertion program found
+        → IfOk result (λ text. IsOrderLine (text_of source.now) found text.items) }
 {
-    let found = first_copy_insertion(alloc, verified)?;
     match found {
-        Some(insertion) => put_insertion(alloc, out, source, insertion),
-        None => put(out, "order same\n"),
+        Some(insertion) => insertion_text(alloc, source, insertion),
+        None => "order same\n".as_bytes().to_vec(alloc),
     }
 }
 
-/// Adds whether the order may show, if that is requested.
-pub(crate) fn put_requested_order(
+/// Returns the line about the order of events, if that is requested.
+pub(crate) fn order_text(
     alloc: Global,
-    out: &mut Vec<u8>,
     source: &Option<SourceText<'_>>,
-    requested: EventOrder,
-    verified: &Verified,
-) -> Result<(), AllocError>
-    requires { MayBeSource source.now verified.now.program }
-    ensures { OnOk result ((lines : List ℕ) × MayPrintOrder requested (text_of source.now) verified.now.program lines × (out.new.items ≡ out.old.items ++ lines)) }
+    answer: Option<Option<CopyInsertion>>,
+) -> Result<Vec<u8>, AllocError>
+    ensures { (program : List Procedure) → MayBeSource source.now program → IfSome answer (IsFirstCopyInsertion program)
+        → IfOk result (λ text. MayBeOrderLine (text_of source.now) answer text.items) }
 {
-    match requested {
-        EventOrder::Ignored => Ok(()),
-        EventOrder::Checked => put_order(alloc, out, source, verified),
+    match answer {
+        Some(found) => found_text(alloc, source, found),
+        None => Ok(Vec::new(alloc)),
     }
 }
 
 // ---- JSON
-
-fn insertion_members(
-    alloc: Global,
-    insertion: CopyInsertion,
-) -> Result<Map<String, Json>, AllocError>
-    ensures { IfOk result (λ members. members_view members.entries ≡ insertion_members insertion) }
-{
-    let mut members = Map::new(alloc);
-    let procedure = Json::from(insertion.procedure as u64);
-    serde_json::put(&mut members, alloc, "procedure", procedure)?;
-    let place = Json::from(insertion.place as u64);
-    serde_json::put(&mut members, alloc, "place", place)?;
-    Ok(members)
-}
 
 /// Returns the word `same`, or the place of the insertion.
 pub fn order_value(alloc: Global, found: Option<CopyInsertion>) -> Result<Json, AllocError>
     ensures { IfOk result (λ value. view value ≡ order_json found) }
 {
     match found {
-        Some(insertion) => {
-            let members = insertion_members(alloc, insertion)?;
-            Ok(Json::Object(members))
-        }
+        Some(insertion) => place_object(alloc, insertion.procedure, insertion.place).finish(),
         None => Json::try_from_str(alloc, "same"),
     }
 }
 
-/// Adds the answer, if there is one.
-pub(crate) fn put_order_value(
-    alloc: Global,
-    members: &mut Map<String, Json>,
-    answer: Option<Option<CopyInsertion>>,
-) -> Result<(), AllocError>
-    ensures { OnOk result (members_view members.new.entries ≡ with_order answer (members_view members.old.entries)) }
+/// Adds the word `same`, or the place of the insertion.
+fn put_found(alloc: Global, object: &mut ObjectWriter, found: Option<CopyInsertion>)
+    ensures { IsWith object.old object.new (json.put (codes "order") (order_json found)) }
 {
-    match answer {
-        Some(found) => {
-            let value = order_value(alloc, found)?;
-            serde_json::put(members, alloc, "order", value)
-        }
-        None => Ok(()),
+    match found {
+        Some(at) => put_place(alloc, object, "order", at.procedure, at.place),
+        None => object.put_word("order", "same"),
     }
 }
 
-/// Returns the first insertion that may show the order, if it is requested.
-pub(crate) fn order_answer(
+/// Adds the answer, if there is one.
+pub(crate) fn put_order_member(
     alloc: Global,
-    requested: EventOrder,
-    verified: &Verified,
-) -> Result<Option<Option<CopyInsertion>>, AllocError>
-    ensures { IfOk result (MayBeChecked requested verified.now.program) }
+    object: &mut ObjectWriter,
+    answer: Option<Option<CopyInsertion>>,
+)
+    ensures { IsWith object.old object.new (with_order answer) }
 {
-    match requested {
-        EventOrder::Ignored => Ok(None),
-        EventOrder::Checked => {
-            let found = first_copy_insertion(alloc, verified)?;
-            Ok(Some(found))
-        }
+    match answer {
+        Some(found) => put_found(alloc, object, found),
+        None => {}
     }
 }

@@ -1,22 +1,23 @@
 //! Disassembly of a program, and its listing by `--places`.
 
-ghost use Rattle.std.specs.Prelude.{◌≡◌, ◌<◌, ◌++◌, ◌^◌, IfOk, None, OnOk, length, replicate, slice_get, Option};
+ghost use Rattle.std.specs.Prelude.{◌≡◌, ◌<◌, ◌++◌, ◌^◌, IfOk, List, [], codes, get_or, slice_get, ℕ};
 ghost use Rattle.std.specs.List.{AllByRecursion};
 ghost use Rattle.tw_code.specs.format.Program.{IsInstr, IsProcedure};
-ghost use Rattle.tw_code.specs.machine.Rights.{right_at};
-ghost use Rattle.tw_symbols.specs.RightNames.{known_names, unnamed};
-ghost use Rattle.tw_program_output.specs.Listing.{IsListing, IsRefusedListing, beside, disassembled, listing_from, no_typings, place_column, place_line, place_lines, procedure_listing, right_column, rights_below, rights_text};
-ghost use Rattle.tw_asm.specs.Listing.{right_text};
-ghost use Rattle.tw_verify.specs.Rejection.{verify_error_code};
+ghost use Rattle.tw_symbols.specs.RightNames.{known_names, named_text, unnamed};
+ghost use Rattle.tw_asm.specs.Disassembly.{label_at, label_line, label_places};
+ghost use Rattle.tw_asm.specs.Listing.{head_lines, right_text};
+ghost use Rattle.tw_program_output.specs.Listed.{typings_in};
+ghost use Rattle.tw_program_output.specs.Listing.{beside, code_line, disassembled, listing_from, place_column, place_line, place_lines, procedure_head, procedure_listing, right_column, rights_below, rights_text};
+ghost use Rattle.tw_writer.specs.Appended.{IsAppended};
 
 use std::alloc::{AllocError, Global};
 use tw_asm::{LabelPlaces, disassemble, put_head_lines, put_right};
 use tw_code::{Instr, Procedure, Program};
-use tw_lexer::{put, put_numbered};
 use tw_order::Places;
 use tw_symbols::{RightNames, put_named};
-use tw_types::Param;
-use tw_verify::{Refused, RightType, Typing, Verified};
+use tw_types::{Items, Param};
+use tw_verify::{RightType, Typing};
+use tw_writer::{Piece, Writer};
 
 /// The number of columns for a place.
 const PLACE_COLUMNS: usize = 5;
@@ -24,23 +25,18 @@ const PLACE_COLUMNS: usize = 5;
 /// The number of columns for an instruction that has something beside it.
 const TEXT_COLUMNS: usize = 30;
 
-fn put_spaces(out: &mut Vec<u8>, count: usize) -> Result<(), AllocError>
-    ensures { OnOk result (out.new.items ≡ out.old.items ++ replicate count 32) }
-{
-    for _ in 0..count {
-        put(out, " ")?;
-    }
-    Ok(())
-}
-
 /// Adds a place, right-aligned in its columns.
-pub fn put_place(alloc: Global, out: &mut Vec<u8>, place: usize) -> Result<(), AllocError>
-    ensures { OnOk result (out.new.items ≡ out.old.items ++ place_column place) }
+fn put_place(out: &mut Writer, place: usize)
+    ensures { IsAppended out.old out.new (place_column place) }
 {
-    let digits = format!(in alloc; "{place}")?;
-    put_spaces(out, PLACE_COLUMNS.saturating_sub(digits.len()))?;
-    put(out, &digits)?;
-    put(out, "  ")
+    match format!(in out.alloc; "{place}") {
+        Ok(digits) => out.put_all(&[
+            Piece::Spaces(PLACE_COLUMNS.saturating_sub(digits.len())),
+            Piece::Text(&digits),
+            Piece::Text("  "),
+        ]),
+        Err(_) => out.fail(),
+    }
 }
 
 /// Returns a register with what it holds.
@@ -56,22 +52,25 @@ fn right_text(alloc: Global, register: u8, right: RightType) -> Result<Vec<u8>, 
     Ok(text)
 }
 
-fn put_right_column(
-    alloc: Global,
-    out: &mut Vec<u8>,
-    name: &[u8],
-    register: u8,
-    right: Option<RightType>,
-) -> Result<(), AllocError>
-    ensures { OnOk result (out.new.items ≡ out.old.items ++ right_column name.now register right) }
+/// Adds a register with what it holds, and its name.
+fn put_named_right(out: &mut Writer, text: &[u8], name: &[u8])
+    ensures { IsAppended out.old out.new (codes "  " ++ named_text name.now text.now) }
+{
+    out.put("  ");
+    let done = put_named(&mut out.bytes, text, name);
+    out.note(done);
+}
+
+/// Adds what a register of this name holds, if it holds anything.
+fn put_right_column(out: &mut Writer, name: &[u8], register: u8, right: Option<RightType>)
+    ensures { IsAppended out.old out.new (right_column name.now register right) }
 {
     match right {
-        None => Ok(()),
-        Some(right) => {
-            let text = right_text(alloc, register, right)?;
-            put(out, "  ")?;
-            put_named(out, &text, name)
-        }
+        None => {}
+        Some(right) => match right_text(out.alloc, register, right) {
+            Ok(text) => put_named_right(out, &text, name),
+            Err(_) => out.fail(),
+        },
     }
 }
 
@@ -79,16 +78,16 @@ fn put_right_column(
 fn rights_of(alloc: Global, names: &RightNames<'_>, typing: &Typing) -> Result<Vec<u8>, AllocError>
     ensures { IfOk result (λ text. text.items ≡ rights_below (known_names names.now) typing.now 16) }
 {
-    let mut text = Vec::new(alloc);
+    let mut text = Writer::new(alloc);
     for register in 0..16u8 {
         let name = names.name(usize::from(register));
-        put_right_column(alloc, &mut text, name, register, typing.right_at(register))?;
+        put_right_column(&mut text, name, register, typing.right_at(register));
     }
-    Ok(text)
+    text.finish()
 }
 
 /// Returns what the right registers of these names hold at a place, if its typing is known.
-pub fn rights_at(
+pub(crate) fn rights_at(
     alloc: Global,
     names: &RightNames<'_>,
     typings: &[Typing],
@@ -110,82 +109,145 @@ fn plain_rights_at(alloc: Global, typings: &[Typing], place: usize) -> Result<Ve
 }
 
 /// Adds a text and what is beside it.
-pub fn put_beside(out: &mut Vec<u8>, text: &[u8], more: &[u8]) -> Result<(), AllocError>
-    ensures { OnOk result (out.new.items ≡ out.old.items ++ beside text.now more.now) }
+fn put_beside(out: &mut Writer, text: &[u8], more: &[u8])
+    ensures { IsAppended out.old out.new (beside text.now more.now) }
 {
-    out.extend_from_slice(text)?;
+    out.put_bytes(text);
     if more.is_empty() {
-        return Ok(());
+        return;
     }
-    put_spaces(out, TEXT_COLUMNS.saturating_sub(text.len()))?;
-    out.extend_from_slice(more)
+    out.put_all(&[
+        Piece::Spaces(TEXT_COLUMNS.saturating_sub(text.len())),
+        Piece::Bytes(more),
+    ]);
+}
+
+/// Adds a text and what is beside it, if that could be written.
+fn put_beside_rights(out: &mut Writer, text: &[u8], rights: Result<Vec<u8>, AllocError>)
+    ensures { (more : List ℕ) → IfOk rights (λ r. r.items ≡ more) → IsAppended out.old out.new (beside text.now more) }
+{
+    match rights {
+        Ok(rights) => put_beside(out, text, &rights),
+        Err(_) => out.fail(),
+    }
+}
+
+/// Adds the line of an instruction with its place, and beside it what is known of the right registers, if that could be written.
+pub(crate) fn put_code_line(
+    out: &mut Writer,
+    place: usize,
+    text: &[u8],
+    rights: Result<Vec<u8>, AllocError>,
+)
+    ensures { (more : List ℕ) → IfOk rights (λ r. r.items ≡ more) → IsAppended out.old out.new (code_line place text.now more) }
+{
+    put_place(out, place);
+    put_beside_rights(out, text, rights);
+    out.put("\n");
 }
 
 /// Adds the line of the instruction at a place.
 fn put_place_line(
-    alloc: Global,
-    out: &mut Vec<u8>,
+    out: &mut Writer,
     labels: &LabelPlaces,
     place: usize,
     instr: &Instr,
     typings: &[Typing],
-) -> Result<(), AllocError>
+)
     requires place { place < 2 ^ 63 }
     requires instr { IsInstr instr.now }
-    ensures { OnOk result (out.new.items ≡ out.old.items ++ place_line labels.now place instr.now (slice_get typings.now place)) }
+    ensures { IsAppended out.old out.new (place_line labels.now place instr.now (slice_get typings.now place)) }
 {
-    let text = labels.instr_text(alloc, place, instr)?;
-    let rights = plain_rights_at(alloc, typings, place)?;
-    put_place(alloc, out, place)?;
-    put_beside(out, &text, &rights)?;
-    put(out, "\n")
+    let alloc = out.alloc;
+    match labels.instr_text(alloc, place, instr) {
+        Ok(text) => put_code_line(out, place, &text, plain_rights_at(alloc, typings, place)),
+        Err(_) => out.fail(),
+    }
+}
+
+/// Adds the label at a place, if there is one.
+fn put_label(out: &mut Writer, labels: &LabelPlaces, place: usize)
+    ensures { IsAppended out.old out.new (label_line (label_at labels.now place)) }
+{
+    let done = labels.put_line(out.alloc, &mut out.bytes, place);
+    out.note(done);
 }
 
 /// Adds the lines of a procedure's code.
-fn put_place_lines(
-    alloc: Global,
-    out: &mut Vec<u8>,
-    labels: &LabelPlaces,
-    code: &[Instr],
-    typings: &[Typing],
-) -> Result<(), AllocError>
+fn put_place_lines(out: &mut Writer, labels: &LabelPlaces, code: &[Instr], typings: &[Typing])
     requires { AllByRecursion IsInstr code.now }
-    ensures { OnOk result (out.new.items ≡ out.old.items ++ place_lines labels.now typings.now 0 code.now) }
+    ensures { IsAppended out.old out.new (place_lines labels.now typings.now 0 code.now) }
 {
     for (place, instr) in code.iter().enumerate() {
-        labels.put_line(alloc, out, place)?;
-        put_place_line(alloc, out, labels, place, instr, typings)?;
+        put_label(out, labels, place);
+        put_place_line(out, labels, place, instr, typings);
     }
-    labels.put_line(alloc, out, code.len())
+    put_label(out, labels, code.len());
+}
+
+/// Adds a procedure's code, with the labels between its lines.
+fn put_code(out: &mut Writer, procedure: &Procedure, typings: &[Typing])
+    requires { IsProcedure procedure.now }
+    ensures { IsAppended out.old out.new (place_lines (label_places procedure.now.code) typings.now 0 procedure.now.code) }
+{
+    match LabelPlaces::new(out.alloc, procedure.code.as_slice()) {
+        Ok(labels) => put_place_lines(out, &labels, procedure.code.as_slice(), typings),
+        Err(_) => out.fail(),
+    }
+}
+
+/// Adds the lines before a procedure's code.
+fn put_head_lines_of(out: &mut Writer, procedure: &Procedure)
+    ensures { IsAppended out.old out.new (head_lines procedure.now) }
+{
+    let done = put_head_lines(&mut out.bytes, procedure);
+    out.note(done);
+}
+
+/// Adds the number of a procedure, before its lines.
+pub(crate) fn put_number(out: &mut Writer, number: usize)
+    ensures { IsAppended out.old out.new (procedure_head number) }
+{
+    out.put_all(&[
+        Piece::Text("procedure "),
+        Piece::Number(number),
+        Piece::Text("\n"),
+    ]);
 }
 
 /// Adds the listing of a procedure.
-fn put_procedure(
-    alloc: Global,
-    out: &mut Vec<u8>,
-    number: usize,
-    procedure: &Procedure,
-    typings: &[Typing],
-) -> Result<(), AllocError>
+fn put_procedure(out: &mut Writer, number: usize, procedure: &Procedure, typings: &[Typing])
     requires { IsProcedure procedure.now }
-    ensures { OnOk result (out.new.items ≡ out.old.items ++ procedure_listing number procedure.now typings.now) }
+    ensures { IsAppended out.old out.new (procedure_listing number procedure.now typings.now) }
 {
-    let labels = LabelPlaces::new(alloc, procedure.code.as_slice())?;
-    put_numbered(alloc, out, "procedure ", number)?;
-    put(out, "\n")?;
-    put_head_lines(out, procedure)?;
-    put_place_lines(alloc, out, &labels, procedure.code.as_slice(), typings)
+    put_number(out, number);
+    put_head_lines_of(out, procedure);
+    put_code(out, procedure, typings);
 }
 
-/// Returns the listing of a program whose typings are unknown.
-fn places_text(alloc: Global, program: &Program) -> Result<Vec<u8>, AllocError>
-    ensures { IfOk result (λ text. text.items ≡ listing_from no_typings 0 program.now.procedures) }
+/// Returns the typings that are known of a procedure; none if there is no such procedure.
+pub(crate) fn typings_at(all: &[Items<Typing>], procedure: usize) -> &[Typing]
+    ensures { result.now ≡ get_or all.now procedure [] }
 {
-    let mut text = Vec::new(alloc);
-    for (number, procedure) in program.procedures().iter().enumerate() {
-        put_procedure(alloc, &mut text, number, procedure, &[])?;
+    match all.get(procedure) {
+        Some(typings) => typings.as_slice(),
+        None => &[],
     }
-    Ok(text)
+}
+
+/// Returns the listing of a program, with these typings of its procedures.
+pub(crate) fn typed_text(
+    alloc: Global,
+    program: &Program,
+    all: &[Items<Typing>],
+) -> Result<Vec<u8>, AllocError>
+    ensures { IfOk result (λ text. text.items ≡ listing_from (typings_in all.now) 0 program.now.procedures) }
+{
+    let mut text = Writer::new(alloc);
+    for (number, procedure) in program.procedures().iter().enumerate() {
+        put_procedure(&mut text, number, procedure, typings_at(all, number));
+    }
+    text.finish()
 }
 
 /// Returns a program's assembly text, or its listing if that is requested.
@@ -197,30 +259,6 @@ pub fn disassembled(alloc: Global, places: Places, program: &Program) -> Result<
             Ok(text) => Ok(text.into_bytes()),
             Err(_) => Err(AllocError),
         },
-        Places::Shown => places_text(alloc, program),
+        Places::Shown => typed_text(alloc, program, &[]),
     }
-}
-
-/// Returns the listing of an accepted program.
-pub fn typed_text(alloc: Global, verified: &Verified) -> Result<Vec<u8>, AllocError>
-    ensures { IfOk result (λ text. IsListing None verified.now.program text.items) }
-{
-    let mut text = Vec::new(alloc);
-    for (number, procedure) in verified.program().procedures().iter().enumerate() {
-        let typings = verified.typings(number);
-        put_procedure(alloc, &mut text, number, procedure, typings)?;
-    }
-    Ok(text)
-}
-
-/// Returns the listing of a rejected program.
-pub fn refused_text(alloc: Global, refused: &Refused) -> Result<Vec<u8>, AllocError>
-    ensures { IfOk result (λ text. IsRefusedListing None refused.now.program.procedures (verify_error_code refused.now.no) refused.now.procedure text.items) }
-{
-    let mut text = Vec::new(alloc);
-    for (number, procedure) in refused.program.procedures().iter().enumerate() {
-        let typings = refused.typings(alloc, number)?;
-        put_procedure(alloc, &mut text, number, procedure, typings.as_slice())?;
-    }
-    Ok(text)
 }

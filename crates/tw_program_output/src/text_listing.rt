@@ -1,26 +1,28 @@
-//! Output of `check --places` about a program that was read from a text: the text's own lines.
+//! Output of `check --places`: a program's listing, by its text's own lines if it was read from a text.
 
-ghost use Rattle.std.specs.Prelude.{◌≡◌, ◌<◌, ◌++◌, ◌-◌, ℕ, List, [], Option, Some, IfOk, OnOk, codes, decimal, get_or, length, slice_get};
+ghost use Rattle.std.specs.Prelude.{◌≡◌, ◌<◌, ◌++◌, ℕ, List, [], Option, IfOk, codes, false, get_or, length, slice_get};
 ghost use Rattle.std.specs.Str.Lines.{lines};
-ghost use Rattle.tw_asm.specs.Fault.{LineSays, LinesSay, ParserState, after_line, at_start};
+ghost use Rattle.tw_asm.specs.Fault.{HasStatement, HaveStatements, ParserState, after_line, at_start};
 ghost use Rattle.tw_asm.specs.Statement.{Statement};
-ghost use Rattle.tw_diagnostics.specs.LineRole.{says_of};
+ghost use Rattle.tw_diagnostics.specs.LineRole.{statement_role};
 ghost use Rattle.tw_program_output.specs.Listed.{counts_of, typings_in};
-ghost use Rattle.tw_program_output.specs.Listing.{IsListing, IsRefusedListing, beside, place_column, rights_text, said_line, said_lines};
-ghost use Rattle.tw_source.specs.Source.{IsSource};
+ghost use Rattle.tw_program_output.specs.Listing.{IsListed, IsListing, IsRejectedListing, code_line, procedure_head, rights_text, listed_line, listed_lines};
+ghost use Rattle.tw_source.specs.Source.{MayBeSource, text_of};
 ghost use Rattle.tw_symbols.specs.RightNames.{AreRightNames, known_names};
 ghost use Rattle.tw_verify.specs.Known.{AreFound};
 ghost use Rattle.tw_verify.specs.Rejection.{verify_error_code};
 ghost use Rattle.tw_verify.specs.Typed.{typings_of};
+ghost use Rattle.tw_writer.specs.Appended.{IsAppended};
 
-use crate::listing::{put_beside, put_place, rights_at};
+use crate::listing::{put_code_line, put_number, rights_at, typed_text, typings_at};
 use std::alloc::{AllocError, Global};
+use tw_code::Program;
 use tw_diagnostics::{LineRole, line_role};
-use tw_lexer::{put, put_numbered};
 use tw_source::SourceText;
 use tw_symbols::RightNames;
 use tw_types::Items;
 use tw_verify::{Refused, Typing, Verified};
+use tw_writer::{Piece, Writer};
 
 /// How many procedures have begun, and how many instructions the last of them has.
 #[derive(Clone, Copy)]
@@ -32,7 +34,7 @@ struct Counts {
 impl Counts {
     /// Returns the counts after a line with this role. No text of a program has so many that they saturate.
     fn advanced(self, says: LineRole) -> Counts
-        ensures { (number : ℕ) (s : ParserState) (line : List ℕ) (said : Option Statement) → self ≡ counts_of s → LineSays s line said → says ≡ says_of said
+        ensures { (number : ℕ) (s : ParserState) (line : List ℕ) (said : Option Statement) → self ≡ counts_of s → HasStatement s line said → says ≡ statement_role said
             → result ≡ counts_of (after_line number said s) }
     {
         match says {
@@ -50,66 +52,46 @@ impl Counts {
     }
 }
 
-/// Returns the typings that are known of a procedure; none if there is no such procedure.
-fn typings_at(all: &[Items<Typing>], procedure: usize) -> &[Typing]
-    ensures { result.now ≡ get_or all.now procedure [] }
+/// Adds a line as it is written.
+fn put_line(out: &mut Writer, line: &str)
+    ensures { IsAppended out.old out.new (line.now ++ codes "\n") }
 {
-    match all.get(procedure) {
-        Some(typings) => typings.as_slice(),
-        None => &[],
-    }
-}
-
-fn put_line(out: &mut Vec<u8>, line: &str) -> Result<(), AllocError>
-    ensures { OnOk result (out.new.items ≡ out.old.items ++ (line.now ++ codes "\n")) }
-{
-    put(out, line)?;
-    put(out, "\n")
+    out.put_all(&[Piece::Text(line), Piece::Text("\n")]);
 }
 
 /// Adds a line that begins a procedure, after the procedure's number.
-fn put_head(alloc: Global, out: &mut Vec<u8>, number: usize, line: &str) -> Result<(), AllocError>
-    ensures { OnOk result (out.new.items ≡ out.old.items ++ ((codes "procedure " ++ decimal number) ++ (codes "\n" ++ (line.now ++ codes "\n")))) }
+fn put_head(out: &mut Writer, number: usize, line: &str)
+    ensures { IsAppended out.old out.new (procedure_head number ++ (line.now ++ codes "\n")) }
 {
-    put_numbered(alloc, out, "procedure ", number)?;
-    put(out, "\n")?;
-    put_line(out, line)
+    put_number(out, number);
+    put_line(out, line);
 }
 
 /// Adds the line of an instruction, with its place and what the right registers hold there.
-fn put_code(
-    alloc: Global,
-    out: &mut Vec<u8>,
-    names: &RightNames<'_>,
-    place: usize,
-    line: &str,
-    typings: &[Typing],
-) -> Result<(), AllocError>
-    ensures { OnOk result (out.new.items ≡ out.old.items ++ (place_column place ++ (beside line.now (rights_text (known_names names.now) (slice_get typings.now place)) ++ codes "\n"))) }
+fn put_code(out: &mut Writer, names: &RightNames<'_>, place: usize, line: &str, typings: &[Typing])
+    ensures { IsAppended out.old out.new (code_line place line.now (rights_text (known_names names.now) (slice_get typings.now place))) }
 {
-    let rights = rights_at(alloc, names, typings, place)?;
-    put_place(alloc, out, place)?;
-    put_beside(out, line.as_bytes(), &rights)?;
-    put(out, "\n")
+    let rights = rights_at(out.alloc, names, typings, place);
+    put_code_line(out, place, line.as_bytes(), rights);
 }
 
 /// Adds a line with this role, if the lines before it have these counts.
 fn put_role_line(
-    alloc: Global,
-    out: &mut Vec<u8>,
+    out: &mut Writer,
     names: &RightNames<'_>,
     all: &[Items<Typing>],
     counts: Counts,
     line: &str,
     says: LineRole,
-) -> Result<(), AllocError>
-    ensures { OnOk result ((s : ParserState) → counts ≡ counts_of s → out.new.items ≡ out.old.items ++ said_line (known_names names.now) (typings_in all.now) s line.now says) }
+)
+    ensures fine { out.new.is_short ≡ false → out.old.is_short ≡ false }
+    ensures line { (s : ParserState) → counts ≡ counts_of s → IsAppended out.old out.new (listed_line (known_names names.now) (typings_in all.now) s line.now says) }
 {
     match says {
-        LineRole::Head => put_head(alloc, out, counts.procedures, line),
+        LineRole::Head => put_head(out, counts.procedures, line),
         LineRole::Code => {
             let typings = typings_at(all, counts.procedures.saturating_sub(1));
-            put_code(alloc, out, names, counts.instructions, line, typings)
+            put_code(out, names, counts.instructions, line, typings);
         }
         LineRole::Nothing | LineRole::Version(_) | LineRole::Registers | LineRole::Label =>
             put_line(out, line),
@@ -124,11 +106,11 @@ fn said_text(
     plain: &str,
     all: &[Items<Typing>],
 ) -> Result<Vec<u8>, AllocError>
-    ensures { IfOk result (λ listing. (names : ℕ → ℕ → List ℕ) × AreRightNames text.now names × ((said : List (Option Statement)) → LinesSay 1 at_start (lines plain.now) said
-        → length (lines plain.now) ≡ length (lines text.now) → listing.items ≡ said_lines names (typings_in all.now) 1 at_start (lines text.now) said)) }
+    ensures { IfOk result (λ listing. (names : ℕ → ℕ → List ℕ) × AreRightNames text.now names × ((said : List (Option Statement)) → HaveStatements 1 at_start (lines plain.now) said
+        → length (lines plain.now) ≡ length (lines text.now) → listing.items ≡ listed_lines names (typings_in all.now) 1 at_start (lines text.now) said)) }
 {
     let mut names = RightNames::of(alloc, text)?;
-    let mut out = Vec::new(alloc);
+    let mut out = Writer::new(alloc);
     let mut counts = Counts {
         procedures: 0,
         instructions: 0,
@@ -136,12 +118,13 @@ fn said_text(
     for (index, (line, own)) in text.lines().zip(plain.lines()).enumerate() {
         names.read(alloc, index + 1, line)?;
         let says = line_role(alloc, own)?;
-        put_role_line(alloc, &mut out, &names, all, counts, line, says)?;
+        put_role_line(&mut out, &names, all, counts, line, says);
         counts = counts.advanced(says);
     }
-    Ok(out)
+    out.finish()
 }
 
+/// Returns a copy of typings.
 fn copied(alloc: Global, typings: &[Typing]) -> Result<Items<Typing>, AllocError>
     ensures { IfOk result (λ own. own ≡ typings.now) }
 {
@@ -173,29 +156,44 @@ fn refused_typings(alloc: Global, refused: &Refused) -> Result<Vec<Items<Typing>
     Ok(all)
 }
 
-/// Returns the listing of an accepted program by its text's lines.
-pub fn accepted_lines(
+/// Returns the listing of a program with these typings of its procedures; of its text's lines, if it was read from a text.
+fn listed(
     alloc: Global,
-    source: &SourceText<'_>,
-    verified: &Verified,
+    source: &Option<SourceText<'_>>,
+    program: &Program,
+    all: &[Items<Typing>],
 ) -> Result<Vec<u8>, AllocError>
-    requires { IsSource source.now verified.now.program }
-    ensures { IfOk result (λ listing. IsListing (Some source.now.text.now) verified.now.program listing.items) }
+    requires { MayBeSource source.now program.now.procedures }
+    ensures { IfOk result (λ text. IsListed (text_of source.now) program.now.procedures (typings_in all.now) text.items) }
 {
-    let _program = verified.program();
-    let all = accepted_typings(alloc, verified)?;
-    said_text(alloc, source.text, source.plain(), &all)
+    match source {
+        Some(source) => said_text(alloc, source.text, source.plain(), all),
+        None => typed_text(alloc, program, all),
+    }
 }
 
-/// Returns the listing of a rejected program by its text's lines.
-pub fn refused_lines(
+/// Returns the listing of an accepted program.
+pub(crate) fn accepted_listing(
     alloc: Global,
-    source: &SourceText<'_>,
+    source: &Option<SourceText<'_>>,
+    verified: &Verified,
+) -> Result<Vec<u8>, AllocError>
+    requires { MayBeSource source.now verified.now.program }
+    ensures { IfOk result (λ text. IsListing (text_of source.now) verified.now.program text.items) }
+{
+    let all = accepted_typings(alloc, verified)?;
+    listed(alloc, source, verified.program(), &all)
+}
+
+/// Returns the listing of a rejected program.
+pub(crate) fn refused_listing(
+    alloc: Global,
+    source: &Option<SourceText<'_>>,
     refused: &Refused,
 ) -> Result<Vec<u8>, AllocError>
-    requires { IsSource source.now refused.now.program.procedures }
-    ensures { IfOk result (λ listing. IsRefusedListing (Some source.now.text.now) refused.now.program.procedures (verify_error_code refused.now.no) refused.now.procedure listing.items) }
+    requires { MayBeSource source.now refused.now.program.procedures }
+    ensures { IfOk result (λ text. IsRejectedListing (text_of source.now) refused.now.program.procedures (verify_error_code refused.now.no) refused.now.procedure text.items) }
 {
     let all = refused_typings(alloc, refused)?;
-    said_text(alloc, source.text, source.plain(), &all)
+    listed(alloc, source, &refused.program, &all)
 }

@@ -1,8 +1,10 @@
 -- Pieces that are appended one after another.
-use Rattle.std.proofs.Common.{◌≡◌, ◌<◌, ◌≤◌, ◌+◌, ◌∙◌, ◌++◌, ◌∷◌, ℕ, List, [], ap, append_assoc, get_or, length, subst, sym, take}
+use Rattle.std.proofs.Common.{Err, Global, IfOk, Ok, Result, Vec, false, ◌≡◌, ◌<◌, ◌≤◌, ◌+◌, ◌∙◌, ◌++◌, ◌∷◌, ℕ, List, [], ap, append_assoc, get_or, length, refl, subst, sym, take}
 use Rattle.std.proofs.lemmas.List.{append-nil, flat_map_more, take_all, take_more}
 use Rattle.std.specs.List.{flat_map}
-use Rattle.tw_writer.specs.Appended.{IsAppended}
+use Rattle.std.specs.declared.alloc.AllocError.{AllocError}
+use Rattle.tw_writer.specs.Appended.{Holds, IsAppended, piece_text, pieces_text}
+use Rattle.tw_writer.specs.declared.writer.Piece.{Piece}
 use Rattle.tw_writer.specs.declared.writer.Writer.{Writer}
 
 pub none_added : (w : Writer) → IsAppended w w []
@@ -21,6 +23,16 @@ both_added a b c first rest one two = record {
 pub same_added : (a b : Writer) (one two : List ℕ) → one ≡ two → IsAppended a b one → IsAppended a b two
 same_added a b one two same added = subst (λ (t : List ℕ). IsAppended a b t) same added
 
+-- what a writer holds that was empty
+pub from_empty : (a b : Writer) (text : List ℕ) → a.bytes.items ≡ [] → IsAppended a b text → Holds b text
+from_empty a b text none added = λ fine. added.added fine ∙ ap (λ (t : List ℕ). t ++ text) none
+
+-- what holds of a writer's bytes if no piece is missing holds of what it returns
+pub finished : (result : Result (Vec ℕ Global) AllocError) (w : Writer) (P : List ℕ → Type 0) → IfOk result (λ bytes. bytes ≡ w.bytes) → IfOk result (λ bytes. w.is_short ≡ false) → (w.is_short ≡ false → P w.bytes.items)
+    → IfOk result (λ bytes. P bytes.items)
+finished (Ok bytes) w P all fine holds = subst P (sym (ap (λ (v : Vec ℕ Global). v.items) all)) (holds fine)
+finished (Err e) w P all fine holds = tt
+
 -- ---- loops
 
 module _ {X : Type 0} (text : X → List ℕ) (xs : List X) (i : ℕ) where
@@ -34,3 +46,10 @@ module _ {X : Type 0} (text : X → List ℕ) (xs : List X) (i : ℕ) where
   -- has added the texts of all
   pub all_of : (a b : Writer) → length xs ≤ i → IsAppended a b (flat_map text (take i xs)) → IsAppended a b (flat_map text xs)
   all_of a b last before = same_added a b _ _ (ap (λ (ys : List X). flat_map text ys) (take_all i xs last)) before
+
+-- ---- lines
+
+pub pieces_are : (ps : List Piece) → flat_map piece_text ps ≡ pieces_text ps
+pieces_are [] = refl
+pieces_are (p ∷ []) = append-nil (piece_text p)
+pieces_are (p ∷ q ∷ others) = ap (λ (t : List ℕ). piece_text p ++ t) (pieces_are (q ∷ others))

@@ -3,4 +3,4 @@
 
 mod writer;
 
-pub use writer::Writer;
+pub use writer::{Piece, Writer};

@@ -1,10 +1,21 @@
 //! A writer, and the pieces that it takes.
 
-ghost use Rattle.std.specs.Prelude.{◌≡◌, ◌++◌, [], decimal, false, true, IfOk, OnErr};
+ghost use Rattle.std.specs.Prelude.{◌≡◌, ◌++◌, [], decimal, false, true, IfOk, OnErr, replicate};
 ghost use Rattle.std.specs.Result.{IsOk};
-ghost use Rattle.tw_writer.specs.Appended.{IsAppended};
+ghost use Rattle.tw_writer.specs.Appended.{IsAppended, piece_text, pieces_text};
 
 use std::alloc::{AllocError, Global};
+
+/// A piece of a line.
+#[derive(Clone, Copy)]
+pub enum Piece<'a> {
+    Text(&'a str),
+    Bytes(&'a [u8]),
+    /// A number in decimal digits.
+    Number(usize),
+    /// A number of spaces.
+    Spaces(usize),
+}
 
 /// Bytes to which pieces are appended. That an allocation failed is noted, and reported by `finish`.
 #[derive(Drop)]
@@ -85,6 +96,36 @@ impl Writer {
     {
         self.put(front);
         self.put_decimal(number)
+    }
+
+    /// Appends so many spaces.
+    fn put_spaces(&mut self, count: usize)
+        ensures { IsAppended self.old self.new (replicate count 32) }
+    {
+        for _ in 0..count {
+            self.put(" ");
+        }
+    }
+
+    /// Appends a piece.
+    fn put_piece(&mut self, piece: Piece<'_>)
+        ensures { IsAppended self.old self.new (piece_text piece.entry) }
+    {
+        match piece {
+            Piece::Text(text) => self.put(text),
+            Piece::Bytes(bytes) => self.put_bytes(bytes),
+            Piece::Number(number) => self.put_decimal(number),
+            Piece::Spaces(count) => self.put_spaces(count),
+        }
+    }
+
+    /// Appends pieces, one after another.
+    pub fn put_all(&mut self, pieces: &[Piece<'_>])
+        ensures { IsAppended self.old self.new (pieces_text pieces.now) }
+    {
+        for piece in pieces {
+            self.put_piece(*piece);
+        }
     }
 
     /// Returns the bytes if all pieces were appended.

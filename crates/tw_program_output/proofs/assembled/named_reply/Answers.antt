@@ -1,7 +1,9 @@
-use Rattle.std.proofs.Common.{inl}
+use Rattle.std.proofs.Common.{◌≢◌, inl}
 use Rattle.tw_program_output.specs.Assembled.{IsWritten}
 use Rattle.tw_program_output.proofs.ReplyNames.{Assembly, IfOk-weaker, RepliesBySource, Reply, reply}
-use Rattle.tw_source.proofs.Nones.{PrintsWhy, none_printed}
+use Rattle.tw_source.proofs.Nones.{none_printed}
+use Rattle.tw_source.specs.Program.{PrintsNone}
+use Rattle.tw_source.specs.declared.program.NoProgram.TheVariants.{NoMemory}
 use Rattle.tw_program_output.proofs.assembled.named_reply.Goals as goal
 
 pub returns-in-Ok : goal.returns-in-Ok
@@ -9,6 +11,6 @@ returns-in-Ok c = IfOk-weaker _ _ _ (λ (r : Reply) h. inl (c.in-Ok.read.program
 
 pub returns-in-Err : goal.returns-in-Err
 returns-in-Err c =
-    let input = c.args.input.now in
-    IfOk-weaker c.parse_error_reply.result (λ (r : Reply). PrintsWhy input c.in-Err.why (reply r.text.items r.close)) (λ (r : Reply). RepliesBySource Assembly input IsWritten (reply r.text.items r.close))
-    (λ (r : Reply) h. none_printed Assembly input c.in-Err.why IsWritten (reply r.text.items r.close) c.in-Err.ensures.none h) c.parse_error_reply.ensures
+    let why = c.in-Err.why in
+    IfOk-weaker _ (λ (r : Reply). (why ≢ NoMemory) × PrintsNone why (reply r.text.items r.close)) (λ (r : Reply). RepliesBySource Assembly c.args.input.now IsWritten (reply r.text.items r.close))
+    (λ (r : Reply) h. none_printed Assembly c.args.input.now why IsWritten (reply r.text.items r.close) c.in-Err.ensures.none h) c.parse_error_reply.ensures

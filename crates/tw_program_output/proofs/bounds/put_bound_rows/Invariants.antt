@@ -1,7 +1,7 @@
-use Rattle.std.proofs.Common.{◌≡◌, ◌++◌}
+use Rattle.std.proofs.Common.{take}
 use Rattle.tw_program_output.specs.Bounds.{bound_rows}
+use Rattle.tw_writer.specs.Appended.{IsAppended}
 use Rattle.tw_program_output.proofs.bounds.put_bound_rows.Given as goal
 
--- the lines so far
-abbrev pub invariant-loop-number : goal.invariant-loop-number
-invariant-loop-number l = l.out.items ≡ l.fn.out.items ++ bound_rows l.names l.bounds l.number
+abbrev pub invariant-loop-row : goal.invariant-loop-row
+invariant-loop-row l = IsAppended l.fn.out l.out (bound_rows l.answer.names l.bounds (take l.row-index l.answer.procedures.items))

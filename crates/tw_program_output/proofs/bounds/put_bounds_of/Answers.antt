@@ -1,7 +1,12 @@
+use Rattle.std.proofs.Common.{List, Option, subst, ℕ}
+use Rattle.tw_bounds.specs.declared.bound.Bound.{Bound}
+use Rattle.tw_json_output.specs.Writers.{HasMembers}
+use Rattle.tw_program_output.specs.Bounds.{run_rows}
+use Rattle.tw_program_output.specs.CheckJson.{rows_members}
 use Rattle.tw_program_output.proofs.bounds.put_bounds_of.Goals as goal
 
-pub returns-in-OfMain : goal.returns-in-OfMain
-returns-in-OfMain c = rw c.in-OfMain.is c.put_bounds.ensures
-
-pub returns-in-OfEach : goal.returns-in-OfEach
-returns-in-OfEach c = rw c.in-OfEach.is c.put_each_bounds.ensures
+pub returns-in-Some : goal.returns-in-Some
+returns-in-Some c =
+    let has = subst (λ (rs : List (List ℕ × Option Bound)). HasMembers c.rows_object.result (rows_members rs)) c.run_rows.ensures c.rows_object.ensures in
+    let put = c.put_object.ensures (rows_members (run_rows c.in-Some.found.bounds c.args.number)) has in
+    rw c.in-Some.is (record { fine = put.fine; changed = put.changed })

@@ -1,8 +1,11 @@
-use Rattle.std.proofs.Common.{◌∙◌}
-use Rattle.tw_program_output.proofs.Checks.{read_line}
+use Rattle.std.proofs.Common.{List, length, subst, ◌≤◌}
+use Rattle.tw_program_output.specs.Check.{procedure_line}
+use Rattle.tw_program_output.specs.declared.answer.ProcedureRow.{ProcedureRow}
+use Rattle.tw_symbols.specs.Symbols.{name_at}
+use Rattle.tw_writer.proofs.Pieces.{all_of}
 use Rattle.tw_program_output.proofs.check.put_procedure_lines.Goals as goal
 
-pub loop-number-preserved : goal.loop-number-preserved
-loop-number-preserved c =
-    read_line c.args.names.now c.args.verified.now.program c.procedures-procedure-items.result.now c.loop-number.number c.budget-budget.result c.procedure-item.result c.args.out.now.items c.loop-number.out.items c.put_procedure_line.new.out.items
-    (c.procedures-procedure-items.ensures.is ∙ c.program.ensures.is) c.loop-number.invariant c.loop-number-test.true c.procedure-item.is c.budget-budget.ensures.is c.in_ok-put_procedure_line.ensures
+pub returns : goal.returns
+returns c =
+    let last = subst (λ (rows : List ProcedureRow). length rows ≤ c.loop-row.row-index) c.deref-row-items.ensures.value c.loop-row-test.false in
+    all_of (λ (row : ProcedureRow). procedure_line (name_at c.args.names.now row.number) row) c.args.answer.now.procedures.items c.loop-row.row-index _ _ last c.loop-row.invariant

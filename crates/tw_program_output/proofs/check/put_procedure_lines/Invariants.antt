@@ -1,5 +1,7 @@
-use Rattle.tw_program_output.proofs.Checks.{HasLines}
+use Rattle.std.proofs.Common.{take}
+use Rattle.tw_program_output.specs.Check.{procedure_lines}
+use Rattle.tw_writer.specs.Appended.{IsAppended}
 use Rattle.tw_program_output.proofs.check.put_procedure_lines.Given as goal
 
-abbrev pub invariant-loop-number : goal.invariant-loop-number
-invariant-loop-number l = HasLines l.names l.fn.verified.program l.number l.fn.out.items l.out.items
+abbrev pub invariant-loop-row : goal.invariant-loop-row
+invariant-loop-row l = IsAppended l.fn.out l.out (procedure_lines l.names (take l.row-index l.answer.procedures.items))

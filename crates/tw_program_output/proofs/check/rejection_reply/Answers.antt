@@ -1,5 +1,5 @@
 use Rattle.std.proofs.Common.{◌≡◌, ◌∙◌, ◌++◌, ℕ, List, None, ap, append_assoc}
-use Rattle.tw_program_output.specs.Check.{rejection}
+use Rattle.tw_program_output.specs.Rejection.{rejection}
 use Rattle.tw_source.specs.Failure.{after}
 use Rattle.tw_program_output.proofs.ReplyNames.{Failure, Refused, failure_line, reply, verify_error_code}
 use Rattle.tw_program_output.proofs.Places.{placed}

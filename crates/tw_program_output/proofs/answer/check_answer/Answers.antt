@@ -1,0 +1,12 @@
+use Rattle.tw_program_output.proofs.answer.check_answer.Goals as goal
+
+pub returns : goal.returns
+returns c = record {
+  names = c.in_ok-names.ensures;
+  listing = c.in_ok-listing.ensures;
+  procedures = c.in_ok-procedure_rows.ensures;
+  engines = c.needs.ensures.engines;
+  workers = c.needs.ensures.workers;
+  bounds = c.in_ok-bounds.ensures;
+  insertion = c.in_ok-insertion.ensures;
+}
