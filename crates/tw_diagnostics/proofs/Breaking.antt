@@ -8,7 +8,7 @@ use Rattle.tw_lexer.specs.Quoted.{BeginsQuoted, IsInside, IsPiece, backslash, he
 use Rattle.tw_lexer.specs.Words.{Bare, IsAtWord, IsBroken}
 use Rattle.tw_lexer.proofs.FirstWords.{bare_first}
 use Rattle.tw_lexer.proofs.Insides.{not_eq}
-use Rattle.tw_diagnostics.specs.Breaks.{BeginsPiece, IsBreak, IsUpTo, SaysQuoted, after_digits, after_escape, after_piece}
+use Rattle.tw_diagnostics.specs.Breaks.{BeginsPiece, IsBreak, IsUpTo, DecidesQuoted, after_digits, after_escape, after_piece}
 use Rattle.tw_diagnostics.specs.declared.breaks.Break.TheVariants.{Escape, Unclosed}
 use Rattle.tw_diagnostics.proofs.GoingOn.{untrue}
 
@@ -129,6 +129,6 @@ unclosed_break bytes (b ∷ rest) begins (text, front, is, parts) none e unread 
     by false f = absurd (none rest (b, b ∷ [], plain b (differ b 34 f) (differ b 92 e), refl))
 
 -- a result of reading a quoted text says whether there is one
-pub quoted_said : {A : Type 0} (bytes : List ℕ) (text rest : A → List ℕ) (read : Option A) → MatchOption read ((text rest : List ℕ) → BeginsQuoted text bytes rest → ⊥) (λ a. BeginsQuoted (text a) bytes (rest a)) → SaysQuoted bytes (is_some read)
+pub quoted_said : {A : Type 0} (bytes : List ℕ) (text rest : A → List ℕ) (read : Option A) → MatchOption read ((text rest : List ℕ) → BeginsQuoted text bytes rest → ⊥) (λ a. BeginsQuoted (text a) bytes (rest a)) → DecidesQuoted bytes (is_some read)
 quoted_said bytes text rest None none = none
 quoted_said bytes text rest (Some a) is = (text a, rest a, is)

@@ -1,7 +1,7 @@
 -- A line continues word by word exactly if some statement continues so.
 use Rattle.std.proofs.Common.{◌≡◌, ◌+◌, ◌&&◌, ◌||◌, ℕ, zero, suc, Bool, true, false, not, cond, List, [], ◌∷◌, drop, length, Option, None, Some, Result, Ok, Err, refl, sym, ap, ◌∙◌, add-one}
 use Rattle.std.specs.Cmp.{second_so}
-use Rattle.tw_diagnostics.proofs.ReasonNames.{Bare, Form, Limit, Operand, Quoted, Scalar, TokenError, Version, Word, after_operand, as_is, each, ends_at, form_at_place, go_on, goal, goes, has_form, is_quoted, is_sum, line_in, line_of, literal, map_in, more, nat_lt, natural, number, only_if, operand_in, right, slice_get, target, type_in, value}
+use Rattle.tw_diagnostics.proofs.ReasonNames.{Bare, Form, Limit, Operand, Quoted, Scalar, TokenError, Version, Word, after_operand, as_is, each, ends_at, form_at_place, continues, goal, completes, has_form, is_quoted, is_sum, line_in, line_of, literal, map_in, more, nat_lt, natural, number, only_if, operand_in, right, slice_get, target, type_in, value}
 use Rattle.std.specs.Borrow.{Bor}
 use Rattle.tw_types.specs.DataType.{is_scalar, map_of, scalar_type, sums_of}
 use Rattle.tw_code.specs.declared.form.Form.{Form as OperandForm}
@@ -20,7 +20,7 @@ use Rattle.tw_diagnostics.proofs.Forms.{all_form, and_false, and_true, form_both
 pub untrue : false ≡ true → ⊥
 untrue e = cc
 
-pub on_if : (b : Bool) (next : Read) (g : Read → Bool) → go_on (only_if b next) g ≡ (b && g next)
+pub on_if : (b : Bool) (next : Read) (g : Read → Bool) → continues (only_if b next) g ≡ (b && g next)
 on_if true next g = refl
 on_if false next g = refl
 
@@ -180,7 +180,7 @@ pub tail_lasts : (f : OperandForm) (fs : List OperandForm) → lasts (f ∷ fs) 
 tail_lasts f [] l = refl
 tail_lasts f (g ∷ fs) l = second_so (not (is_last_form f)) (lasts (g ∷ fs)) l
 
-type_on : (s m c : Bool) (ended values inside : Read) (g : Read → Bool) → go_on (cond s (Some ended) (cond m (Some values) (only_if c inside))) g ≡ cond s (g ended) (cond m (g values) (c && g inside))
+type_on : (s m c : Bool) (ended values inside : Read) (g : Read → Bool) → continues (cond s (Some ended) (cond m (Some values) (only_if c inside))) g ≡ cond s (g ended) (cond m (g values) (c && g inside))
 type_on true m c ended values inside g = refl
 type_on false true c ended values inside g = refl
 type_on false false c ended values inside g = on_if c inside g
@@ -192,37 +192,37 @@ module _ (version : Version) (name : Bor (List ℕ)) where
   -- returns whether the words from a place on are right, if this operand is due there
   abbrev by_form : ℕ → Option OperandForm → List Word → Bool
   by_form k f [] = ends_at f
-  by_form k f (w ∷ ws) = go_on (after_operand version name k w f) (λ next. goes version next ws)
+  by_form k f (w ∷ ws) = continues (after_operand version name k w f) (λ next. completes version next ws)
 
-  goes_by : (k : ℕ) (ws : List Word) → goes version (at k) ws ≡ by_form k (form_at_place version name.now k) ws
+  goes_by : (k : ℕ) (ws : List Word) → completes version (at k) ws ≡ by_form k (form_at_place version name.now k) ws
   goes_by k [] = refl
   goes_by k (w ∷ ws) = refl
 
   module _ (forms : List OperandForm) (have : (k : ℕ) → form_at_place version name.now k ≡ slice_get forms k) where
-    goes_due : (k : ℕ) (fs : List OperandForm) → drop k forms ≡ fs → (ws : List Word) → goes version (at k) ws ≡ by_form k (first_in fs) ws
+    goes_due : (k : ℕ) (fs : List OperandForm) → drop k forms ≡ fs → (ws : List Word) → completes version (at k) ws ≡ by_form k (first_in fs) ws
     goes_due k fs cut ws = goes_by k ws ∙ ap (λ (f : Option OperandForm). by_form k f ws) (have k ∙ (at_drop forms k ∙ ap first_in cut))
 
     next_cut : (k : ℕ) (f : OperandForm) (fs : List OperandForm) → drop k forms ≡ f ∷ fs → drop (k + 1) forms ≡ fs
     next_cut k f fs cut = ap (λ (n : ℕ). drop n forms) (add-one k) ∙ drop_more forms k f fs cut
 
-    end_goes : (k : ℕ) → drop k forms ≡ [] → (ws : List Word) → is_end ws ≡ goes version (at k) ws
+    end_goes : (k : ℕ) → drop k forms ≡ [] → (ws : List Word) → is_end ws ≡ completes version (at k) ws
     end_goes k cut [] = sym (goes_due k [] cut [])
     end_goes k cut (w ∷ ws) = sym (goes_due k [] cut (w ∷ ws))
 
     -- an operand of one word, and what follows it
     word_goes : (f : OperandForm) (o : Operand) (fs : List OperandForm) (k : ℕ) → drop k forms ≡ f ∷ fs → ends_at (Some f) ≡ false
-        → ((w : Word) (ws : List Word) → by_form k (Some f) (w ∷ ws) ≡ go_on (only_if (has_form (operand_in o w)) (at (k + 1))) (λ next. goes version next ws))
-        → ((ws : List Word) → has_form (line_in (line_of version fs) ws) ≡ goes version (at (k + 1)) ws) → (ws : List Word) → has_form (line_in (more o (line_of version fs)) ws) ≡ goes version (at k) ws
+        → ((w : Word) (ws : List Word) → by_form k (Some f) (w ∷ ws) ≡ continues (only_if (has_form (operand_in o w)) (at (k + 1))) (λ next. completes version next ws))
+        → ((ws : List Word) → has_form (line_in (line_of version fs) ws) ≡ completes version (at (k + 1)) ws) → (ws : List Word) → has_form (line_in (more o (line_of version fs)) ws) ≡ completes version (at k) ws
     word_goes f o fs k cut on is rest [] = sym on ∙ sym (goes_due k (f ∷ fs) cut [])
     word_goes f o fs k cut on is rest (w ∷ ws) =
         form_both (operand_in o w) (line_in (line_of version fs) ws)
         ∙ ap (λ (b : Bool). has_form (operand_in o w) && b) (rest ws)
-        ∙ sym (on_if (has_form (operand_in o w)) (at (k + 1)) (λ next. goes version next ws))
+        ∙ sym (on_if (has_form (operand_in o w)) (at (k + 1)) (λ next. completes version next ws))
         ∙ sym (is w ws)
         ∙ sym (goes_due k (f ∷ fs) cut (w ∷ ws))
 
     -- a type, and the rest of one after the word of a map
-    type_goes_on : (k : ℕ) → drop k forms ≡ form.TypeOf ∷ [] → (ws : List Word) → (has_form (type_in version ws) ≡ goes version (at k) ws) × (in_map (type_from version ws) ≡ goes version (read.MapOperand name (k + 1)) ws)
+    type_goes_on : (k : ℕ) → drop k forms ≡ form.TypeOf ∷ [] → (ws : List Word) → (has_form (type_in version ws) ≡ completes version (at k) ws) × (in_map (type_from version ws) ≡ completes version (read.MapOperand name (k + 1)) ws)
     type_goes_on k cut [] = (sym (goes_due k (form.TypeOf ∷ []) cut []), refl)
     type_goes_on k cut (w ∷ ws) =
         let rest = type_goes_on k cut ws in
@@ -230,31 +230,31 @@ module _ (version : Version) (name : Bor (List ℕ)) where
         let end = nothing_end version ws ∙ end_goes (k + 1) (next_cut k form.TypeOf [] cut) ws in (
           more.0
               ∙ ap (λ (b : Bool). cond (has_form (scalar_in w)) b (cond (has_form (map_in version w)) (in_map (type_from version ws)) (has_form (container_in version w) && has_form (type_in version ws)))) end
-              ∙ ap (λ (b : Bool). cond (has_form (scalar_in w)) (goes version (at (k + 1)) ws) (cond (has_form (map_in version w)) b (has_form (container_in version w) && has_form (type_in version ws)))) rest.1
-              ∙ ap (λ (b : Bool). cond (has_form (scalar_in w)) (goes version (at (k + 1)) ws) (cond (has_form (map_in version w)) (goes version (read.MapOperand name (k + 1)) ws) (has_form (container_in version w) && b))) rest.0
-              ∙ sym (type_on (has_form (scalar_in w)) (has_form (map_in version w)) (has_form (container_in version w)) (at (k + 1)) (read.MapOperand name (k + 1)) (at k) (λ next. goes version next ws))
+              ∙ ap (λ (b : Bool). cond (has_form (scalar_in w)) (completes version (at (k + 1)) ws) (cond (has_form (map_in version w)) b (has_form (container_in version w) && has_form (type_in version ws)))) rest.1
+              ∙ ap (λ (b : Bool). cond (has_form (scalar_in w)) (completes version (at (k + 1)) ws) (cond (has_form (map_in version w)) (completes version (read.MapOperand name (k + 1)) ws) (has_form (container_in version w) && b))) rest.0
+              ∙ sym (type_on (has_form (scalar_in w)) (has_form (map_in version w)) (has_form (container_in version w)) (at (k + 1)) (read.MapOperand name (k + 1)) (at k) (λ next. completes version next ws))
               ∙ sym (goes_due k (form.TypeOf ∷ []) cut (w ∷ ws)),
           more.1
               ∙ ap (λ (b : Bool). (has_form (scalar_in w) || is_sum w) && b) end
-              ∙ sym (on_if (has_form (scalar_in w) || is_sum w) (at (k + 1)) (λ next. goes version next ws)),
+              ∙ sym (on_if (has_form (scalar_in w) || is_sum w) (at (k + 1)) (λ next. completes version next ws)),
         )
 
-    type_goes : (k : ℕ) → drop k forms ≡ form.TypeOf ∷ [] → (ws : List Word) → has_form (type_in version ws) ≡ goes version (at k) ws
+    type_goes : (k : ℕ) → drop k forms ≡ form.TypeOf ∷ [] → (ws : List Word) → has_form (type_in version ws) ≡ completes version (at k) ws
     type_goes k cut ws = (type_goes_on k cut ws).0
 
-    args_go : (k : ℕ) → drop k forms ≡ form.Args ∷ [] → (ws : List Word) → all_form (natural_in 0 15) ws ≡ goes version (at k) ws
+    args_go : (k : ℕ) → drop k forms ≡ form.Args ∷ [] → (ws : List Word) → all_form (natural_in 0 15) ws ≡ completes version (at k) ws
     args_go k cut [] = sym (goes_due k (form.Args ∷ []) cut [])
     args_go k cut (w ∷ ws) =
         ap (λ (b : Bool). has_form (natural_in 0 15 w) && b) (args_go k cut ws)
-        ∙ sym (on_if (has_form (natural_in 0 15 w)) (at k) (λ next. goes version next ws))
+        ∙ sym (on_if (has_form (natural_in 0 15 w)) (at k) (λ next. completes version next ws))
         ∙ sym (goes_due k (form.Args ∷ []) cut (w ∷ ws))
 
-    skip_goes : (k : ℕ) → drop k forms ≡ form.Skip ∷ [] → (ws : List Word) → has_form (line_in goal ws) ≡ goes version (at k) ws
+    skip_goes : (k : ℕ) → drop k forms ≡ form.Skip ∷ [] → (ws : List Word) → has_form (line_in goal ws) ≡ completes version (at k) ws
     skip_goes k cut [] = sym (goes_due k (form.Skip ∷ []) cut [])
     skip_goes k cut (w ∷ ws) =
         by ws
         ∙ ap (λ (b : Bool). has_form (goal_in w) && b) (end_goes (k + 1) (next_cut k form.Skip [] cut) ws)
-        ∙ sym (on_if (has_form (goal_in w)) (at (k + 1)) (λ next. goes version next ws))
+        ∙ sym (on_if (has_form (goal_in w)) (at (k + 1)) (λ next. completes version next ws))
         ∙ sym (goes_due k (form.Skip ∷ []) cut (w ∷ ws))
       where
         by : (vs : List Word) → has_form (line_in goal (w ∷ vs)) ≡ (has_form (goal_in w) && is_end vs)
@@ -262,14 +262,14 @@ module _ (version : Version) (name : Bor (List ℕ)) where
         by (x ∷ vs) = sym (and_false (has_form (goal_in w)))
 
     -- an instruction's operands from a place on
-    pub line_goes : (fs : List OperandForm) (k : ℕ) → drop k forms ≡ fs → lasts fs ≡ true → (ws : List Word) → has_form (line_in (line_of version fs) ws) ≡ goes version (at k) ws
+    pub line_goes : (fs : List OperandForm) (k : ℕ) → drop k forms ≡ fs → lasts fs ≡ true → (ws : List Word) → has_form (line_in (line_of version fs) ws) ≡ completes version (at k) ws
     line_goes [] k cut l [] = sym (goes_due k [] cut [])
     line_goes [] k cut l (w ∷ ws) = sym (goes_due k [] cut (w ∷ ws))
     line_goes (form.Value ∷ fs) k cut l ws = word_goes form.Value value fs k cut refl (λ v vs. refl) (line_goes fs (k + 1) (next_cut k form.Value fs cut) (tail_lasts form.Value fs l)) ws
     line_goes (form.Right ∷ fs) k cut l ws = word_goes form.Right right fs k cut refl (λ v vs. refl) (line_goes fs (k + 1) (next_cut k form.Right fs cut) (tail_lasts form.Right fs l)) ws
     line_goes (form.Number ∷ fs) k cut l ws = word_goes form.Number number fs k cut refl (λ v vs. refl) (line_goes fs (k + 1) (next_cut k form.Number fs cut) (tail_lasts form.Number fs l)) ws
     line_goes (form.Iterations ∷ fs) k cut l ws = word_goes form.Iterations (natural 1 1000) fs k cut refl (λ v vs. refl) (line_goes fs (k + 1) (next_cut k form.Iterations fs cut) (tail_lasts form.Iterations fs l)) ws
-    line_goes (form.Literal ∷ fs) k cut l ws = word_goes form.Literal literal fs k cut refl (λ v vs. ap (λ (b : Bool). go_on (only_if b (at (k + 1))) (λ next. goes version next vs)) (sym (literal_form v))) (line_goes fs (k + 1) (next_cut k form.Literal fs cut) (tail_lasts form.Literal fs l)) ws
+    line_goes (form.Literal ∷ fs) k cut l ws = word_goes form.Literal literal fs k cut refl (λ v vs. ap (λ (b : Bool). continues (only_if b (at (k + 1))) (λ next. completes version next vs)) (sym (literal_form v))) (line_goes fs (k + 1) (next_cut k form.Literal fs cut) (tail_lasts form.Literal fs l)) ws
     line_goes (form.TypeOf ∷ []) k cut l ws = type_goes k cut ws
     line_goes (form.TypeOf ∷ g ∷ fs) k cut l ws = absurd (untrue l)
     line_goes (form.Skip ∷ []) k cut l ws = skip_goes k cut ws

@@ -1,8 +1,8 @@
 -- The first line that begins a procedure, and lines up to one.
 use Rattle.std.proofs.Common.{◌≡◌, ◌+◌, ◌-◌, ℕ, suc, true, false, List, [], ◌∷◌, ◌++◌, length, take, Option, Some, None, refl, sym, ap, subst, ◌∙◌, arith}
 use Rattle.std.proofs.lemmas.List.{take_at}
-use Rattle.tw_diagnostics.proofs.ReasonNames.{AllByRecursion, Code, Head, Label, LineSays, LinesSay, OfVersion, Registers, ParserState, Statement, after_line, at_start, lines, situation, situation_from}
-use Rattle.tw_diagnostics.specs.LineRole.{HasNoHead, IsFirstHead, is_head, says_of}
+use Rattle.tw_diagnostics.proofs.ReasonNames.{AllByRecursion, Code, Head, Label, HasStatement, HaveStatements, OfVersion, Registers, ParserState, Statement, after_line, at_start, lines, situation, situation_from}
+use Rattle.tw_diagnostics.specs.LineRole.{HasNoHead, IsFirstHead, is_head, statement_role}
 use Rattle.tw_diagnostics.specs.declared.parser_state.LineRole.{LineRole}
 use Rattle.tw_diagnostics.proofs.Saying.{split_last}
 
@@ -21,11 +21,11 @@ pub record SplitAt (number : ℕ) (s : ParserState) (ls : List (List ℕ)) (line
   pub here : Option Statement
   pub after : List (Option Statement)
   pub is : said ≡ before ++ (here ∷ after)
-  pub say : LinesSay number s ls before
-  pub says : LineSays (situation_from number s before) line here
+  pub say : HaveStatements number s ls before
+  pub says : HasStatement (situation_from number s before) line here
   pub count : length before ≡ length ls
 
-pub split_at : (number : ℕ) (s : ParserState) (ls : List (List ℕ)) (line : List ℕ) (others : List (List ℕ)) (said : List (Option Statement)) → LinesSay number s (ls ++ (line ∷ others)) said → SplitAt number s ls line said
+pub split_at : (number : ℕ) (s : ParserState) (ls : List (List ℕ)) (line : List ℕ) (others : List (List ℕ)) (said : List (Option Statement)) → HaveStatements number s (ls ++ (line ∷ others)) said → SplitAt number s ls line said
 split_at number s [] line others [] h = absurd h
 split_at number s [] line others (x ∷ said) h = record { before = []; here = x; after = said; is = refl; say = tt; says = h.0; count = refl }
 split_at number s (l ∷ ls) line others [] h = absurd h
@@ -44,29 +44,29 @@ split_at number s (l ∷ ls) line others (x ∷ said) h =
 -- ---- heads
 
 abbrev pub NoHeads : List (List ℕ) → Type 0
-NoHeads ls = (said : List (Option Statement)) → LinesSay 1 at_start ls said → HasNoHead said
+NoHeads ls = (said : List (Option Statement)) → HaveStatements 1 at_start ls said → HasNoHead said
 
 pub all_more : {A : Type 0} (P : A → Type 0) (xs : List A) (x : A) → AllByRecursion P xs → P x → AllByRecursion P (xs ++ (x ∷ []))
 all_more P [] x all p = (p, tt)
 all_more P (y ∷ xs) x all p = (all.0, all_more P xs x all.1 p)
 
-pub none_on : (ls : List (List ℕ)) (line : List ℕ) (role : LineRole) → NoHeads ls → ((s : ParserState) (said : Option Statement) → LineSays s line said → role ≡ says_of said) → is_head role ≡ false → NoHeads (ls ++ (line ∷ []))
+pub none_on : (ls : List (List ℕ)) (line : List ℕ) (role : LineRole) → NoHeads ls → ((s : ParserState) (said : Option Statement) → HasStatement s line said → role ≡ statement_role said) → is_head role ≡ false → NoHeads (ls ++ (line ∷ []))
 none_on ls line role before prints nohead said say =
     let split = split_last 1 at_start ls line said say in
-    let here : is_head (says_of split.last) ≡ false = ap is_head (sym (prints (situation split.before) split.last split.says)) ∙ nohead in
-    subst HasNoHead (sym split.is) (all_more (λ (s : Option Statement). is_head (says_of s) ≡ false) split.before split.last (before split.before split.say) here)
+    let here : is_head (statement_role split.last) ≡ false = ap is_head (sym (prints (situation split.before) split.last split.says)) ∙ nohead in
+    subst HasNoHead (sym split.is) (all_more (λ (s : Option Statement). is_head (statement_role s) ≡ false) split.before split.last (before split.before split.say) here)
 
 pub first_head : (text : List ℕ) (ls : List (List ℕ)) (line : List ℕ) (others : List (List ℕ)) (role : LineRole) (index : ℕ) (said : List (Option Statement)) → lines text ≡ ls ++ (line ∷ others) → index ≡ length ls → NoHeads ls
-    → ((s : ParserState) (x : Option Statement) → LineSays s line x → role ≡ says_of x) → is_head role ≡ true → LinesSay 1 at_start (lines text) said → IsFirstHead text (index + 1)
+    → ((s : ParserState) (x : Option Statement) → HasStatement s line x → role ≡ statement_role x) → is_head role ≡ true → HaveStatements 1 at_start (lines text) said → IsFirstHead text (index + 1)
 first_head text ls line others role index said parts index_is none prints headed say = by split.here (ap is_head (sym (prints (situation split.before) split.here split.says)) ∙ headed) split.is
   where
     split : SplitAt 1 at_start ls line said
-    split = split_at 1 at_start ls line others said (subst (λ (all : List (List ℕ)). LinesSay 1 at_start all said) parts say)
+    split = split_at 1 at_start ls line others said (subst (λ (all : List (List ℕ)). HaveStatements 1 at_start all said) parts say)
 
     no : false ≡ true → ⊥
     no e = cc
 
-    by : (x : Option Statement) → is_head (says_of x) ≡ true → said ≡ split.before ++ (x ∷ split.after) → IsFirstHead text (index + 1)
+    by : (x : Option Statement) → is_head (statement_role x) ≡ true → said ≡ split.before ++ (x ∷ split.after) → IsFirstHead text (index + 1)
     by None e is = absurd (no e)
     by (Some (OfVersion version)) e is = absurd (no e)
     by (Some (Head kind params)) e is = record {

@@ -2,7 +2,7 @@
 use Rattle.std.proofs.Common.{◌≡◌, true, false, ℕ, List, ◌∷◌, Result, Ok, Err, sym}
 use Rattle.tw_diagnostics.proofs.ReasonNames.{AllByRecursion, AnyName, AnyShortName, Bare, TokenError, Form, HaveForm, Limit, Version, Word, has_form, statement_in}
 use Rattle.tw_asm.proofs.Answered.{Judged}
-use Rattle.tw_asm.proofs.Once.{spells_more}
+use Rattle.tw_asm.proofs.Once.{encodes_more}
 use Rattle.tw_asm.proofs.OperandWords.{IsFine}
 use Rattle.tw_asm.proofs.Steps.{read_says}
 use Rattle.tw_asm.proofs.Whole.{judged}
@@ -12,7 +12,7 @@ differs : true ≡ false → ⊥
 differs e = cc
 
 formed_by : (version : Version) (words : List Word) (r : Result Read TokenError) → Judged version r words → has_form r ≡ true → HaveForm version words
-formed_by version words (Ok read) j e = let say = read_says version read words j in (read.statement, spells_more AnyShortName AnyName (λ skip name h. h.0) read.statement words say.0)
+formed_by version words (Ok read) j e = let say = read_says version read words j in (read.statement, encodes_more AnyShortName AnyName (λ skip name h. h.0) read.statement words say.0)
 formed_by version words (Err Form) j e = absurd (differs (sym e))
 formed_by version words (Err Limit) j e = j.0
 

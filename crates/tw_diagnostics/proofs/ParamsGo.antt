@@ -1,6 +1,6 @@
 -- Parameters continue word by word as they are read.
 use Rattle.std.proofs.Common.{◌≡◌, ◌&&◌, ◌||◌, Bool, true, false, cond, if◌then◌else◌, List, [], ◌∷◌, Option, None, Some, Result, Ok, Err, refl, sym, ap, ◌∙◌}
-use Rattle.tw_diagnostics.proofs.ReasonNames.{TokenError, Form, Limit, Params, Scalar, Version, Word, as_is, contained, container_in, ended, go_on, goes, has_form, is_sum, map_in, mode_in, nat_lt, only_if, param_of, params_from, put_first, scalar_in, taken, under}
+use Rattle.tw_diagnostics.proofs.ReasonNames.{TokenError, Form, Limit, Params, Scalar, Version, Word, as_is, contained, container_in, ended, continues, completes, has_form, is_sum, map_in, mode_in, nat_lt, only_if, param_of, params_from, put_first, scalar_in, taken, under}
 use Rattle.tw_types.specs.DataType.{container_of, depth_of, is_scalar, map_of, sums_of}
 use Rattle.tw_types.specs.Nesting.{NestedScalar}
 use Rattle.tw_types.specs.declared.param.Mode.{Mode}
@@ -8,7 +8,7 @@ use Rattle.tw_types.specs.declared.param.Mode.TheVariants.{Val, Closed, Ref, Wri
 use Rattle.tw_types.specs.declared.param.Param.{Param}
 use Rattle.tw_asm.specs.declared.gathering.Begun.{Begun}
 use Rattle.tw_asm.specs.declared.gathering.Begun.TheVariants as so_far
-use Rattle.tw_asm.specs.reading.Lines.{begins, goes_on, with_type}
+use Rattle.tw_asm.specs.reading.Lines.{begins, params_with, with_type}
 use Rattle.tw_diagnostics.specs.Going.{after_mode}
 use Rattle.tw_diagnostics.specs.declared.step.Read.{Read}
 use Rattle.tw_diagnostics.specs.declared.step.Read.TheVariants as read
@@ -47,8 +47,8 @@ map_form whole (so_far.Type ty) = is_scalar_form ty && has_form whole
 
 abbrev GoesSo : Version → List Word → Params → Type 0
 GoesSo version ws p =
-    (goes version read.Params ws ≡ whole_form p.whole p.begun) × (goes version read.RightMode ws ≡ right_form p.whole p.begun) × (goes version read.Val ws ≡ value_form p.whole p.begun)
-    × (goes version read.RightMap ws ≡ map_form p.whole p.begun)
+    (completes version read.Params ws ≡ whole_form p.whole p.begun) × (completes version read.RightMode ws ≡ right_form p.whole p.begun) × (completes version read.Val ws ≡ value_form p.whole p.begun)
+    × (completes version read.RightMap ws ≡ map_form p.whole p.begun)
 
 -- ---- types
 
@@ -84,12 +84,12 @@ after_type_by s c m = if has_form s then Some read.Params else if has_form m the
 abbrev taken_by : Result Scalar TokenError → Result Scalar TokenError → Result Scalar TokenError → Bool → Result Mode TokenError → Result (List Param) TokenError → Begun → Params
 taken_by s c m u o whole so_far.Nothing = begins whole u s
 taken_by s c m u o whole so_far.Sum = with_type whole (as_is sums_of m)
-taken_by s c m u o whole (so_far.Type ty) = goes_on whole ty c m o
+taken_by s c m u o whole (so_far.Type ty) = params_with whole ty c m o
 
 abbrev Continues : Version → List Word → Option Read → Option Read → Option Read → Option Read → Params → Type 0
 Continues version ws whole right value inside p =
-    (go_on whole (λ next. goes version next ws) ≡ whole_form p.whole p.begun) × (go_on right (λ next. goes version next ws) ≡ right_form p.whole p.begun)
-    × (go_on value (λ next. goes version next ws) ≡ value_form p.whole p.begun) × (go_on inside (λ next. goes version next ws) ≡ map_form p.whole p.begun)
+    (continues whole (λ next. completes version next ws) ≡ whole_form p.whole p.begun) × (continues right (λ next. completes version next ws) ≡ right_form p.whole p.begun)
+    × (continues value (λ next. completes version next ws) ≡ value_form p.whole p.begun) × (continues inside (λ next. completes version next ws) ≡ map_form p.whole p.begun)
 
 GoesBy : Version → List Word → Result Scalar TokenError → Result Scalar TokenError → Result Scalar TokenError → Bool → Result Mode TokenError → Result (List Param) TokenError → Begun → Type 0
 GoesBy version ws s c m u o whole begun = Continues version ws (after_mode o) (after_type_by s c m) (only_if (has_form s) read.Params) (only_if (has_form s || u) read.Params) (taken_by s c m u o whole begun)
@@ -118,7 +118,7 @@ module _ (version : Version) (ws : List Word) (whole : Result (List Param) Token
   by_map by so_far.Sum (p, r, v, m) = (refl, m, refl, refl)
   by_map by (so_far.Type (Ok ty)) (p, r, v, m) = at (is_scalar ty) m
     where
-      at : (b : Bool) → goes version read.RightMap ws ≡ (b && has_form whole) → Continues version ws None (Some read.RightMap) None None (with_type whole (cond b (Ok (map_of by ty.scalar)) (Err Form)))
+      at : (b : Bool) → completes version read.RightMap ws ≡ (b && has_form whole) → Continues version ws None (Some read.RightMap) None None (with_type whole (cond b (Ok (map_of by ty.scalar)) (Err Form)))
       at true e = (refl, e, refl, refl)
       at false e = (refl, e, refl, refl)
   by_map by (so_far.Type (Err e)) (p, r, v, m) = (refl, m, refl, refl)
@@ -171,7 +171,7 @@ goes_so version (w ∷ ws) =
     let p = params_from version ws in
     step version w ws p.whole p.begun (by_class version w ws p.whole p.begun (class_of version w) (goes_so version ws))
 
-pub params_go : (version : Version) (ws : List Word) → has_form (ended (params_from version ws)) ≡ goes version read.Params ws
+pub params_go : (version : Version) (ws : List Word) → has_form (ended (params_from version ws)) ≡ completes version read.Params ws
 params_go version ws = by (params_from version ws).begun ∙ sym (goes_so version ws).0
   where
     by : (begun : Begun) → has_form (ended (record { whole = (params_from version ws).whole; begun = begun })) ≡ whole_form (params_from version ws).whole begun

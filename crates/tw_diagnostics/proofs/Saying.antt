@@ -1,18 +1,18 @@
 -- A line's first word decides the line's role.
 use Rattle.std.proofs.Common.{◌≡◌, ◌≢◌, ◌+◌, ℕ, suc, Bool, true, false, List, [], ◌∷◌, ◌++◌, length, map, codes, Option, Some, None, refl, sym, ap, subst, ◌∙◌, arith}
-use Rattle.tw_diagnostics.proofs.ReasonNames.{AnyShortName, Bare, Code, Head, IsLine, IsRead, Label, LineSays, LinesSay, OfVersion, Quoted, Registers, Say, ParserState, SpellParts, Spells, Statement, Version, Word, after_line, at_start, before_colon, broken_no_line, bytes_eq, flat_map, line_once, opcode_in, seen, situation, situation_from, version_by}
+use Rattle.tw_diagnostics.proofs.ReasonNames.{AnyShortName, Bare, Code, Head, IsLine, IsRead, Label, HasStatement, HaveStatements, OfVersion, Quoted, Registers, EncodesInLimits, ParserState, EncodeParts, Encodes, Statement, Version, Word, after_line, at_start, before_colon, broken_no_line, bytes_eq, flat_map, line_once, opcode_in, seen, situation, situation_from, version_by}
 use Rattle.std.proofs.lemmas.Slice.Eq.{bytes_eq-Decides}
 use Rattle.tw_code.specs.declared.opcode.Opcode.{Opcode}
 use Rattle.tw_asm.specs.Statement.{IsVersionNumber}
 use Rattle.tw_code.specs.format.Table.{row, word_of}
-use Rattle.tw_lexer.specs.Number.{SpellsDigits}
+use Rattle.tw_lexer.specs.Number.{EncodesDigits}
 use Rattle.tw_lexer.specs.declared.word.Word as words
 use Rattle.tw_asm.specs.Parts.{Name, Natural, kind_word, operand_parts, param_parts, register_part}
 use Rattle.tw_asm.proofs.Answered.{first_is, none_some, proc_is_none, regs_is_none, version_is_none}
 use Rattle.tw_asm.proofs.Sayings.{code_first, no_label}
 use Rattle.tw_asm.proofs.Spelled.{bare_is}
 use Rattle.tw_asm.proofs.Table.{found_back, no_colon}
-use Rattle.tw_diagnostics.specs.LineRole.{advanced, says_of, situation_of}
+use Rattle.tw_diagnostics.specs.LineRole.{advanced, statement_role, situation_of}
 use Rattle.tw_diagnostics.specs.declared.parser_state.LineRole.{LineRole}
 use Rattle.tw_diagnostics.specs.declared.parser_state.LineRole.TheVariants as says
 use Rattle.tw_diagnostics.specs.declared.parser_state.ParserState as declared
@@ -20,17 +20,17 @@ use Rattle.tw_diagnostics.specs.declared.parser_state.ParserState as declared
 -- ---- the first word of a statement
 
 abbrev pub IsFirst : Version → Statement → Word → List Word → Type 0
-IsFirst version (OfVersion number) w ws = (w ≡ Bare (codes "version")) × ((text : List ℕ) × SpellsDigits number text × (ws ≡ Bare text ∷ [])) × IsVersionNumber number
+IsFirst version (OfVersion number) w ws = (w ≡ Bare (codes "version")) × ((text : List ℕ) × EncodesDigits number text × (ws ≡ Bare text ∷ [])) × IsVersionNumber number
 IsFirst version (Head kind params) w ws = w ≡ Bare (codes "proc")
 IsFirst version (Registers registers) w ws = w ≡ Bare (codes "regs")
 IsFirst version (Label name) w ws = w ≡ Bare (name ++ codes ":")
 IsFirst version (Code i) w ws = (word : List ℕ) × (o : Opcode) × (w ≡ Bare word) × (opcode_in version word ≡ Some o)
 
-one_number : (number : ℕ) (ws : List Word) → SpellParts AnyShortName (Natural number ∷ []) ws → (text : List ℕ) × SpellsDigits number text × (ws ≡ Bare text ∷ [])
+one_number : (number : ℕ) (ws : List Word) → EncodeParts AnyShortName (Natural number ∷ []) ws → (text : List ℕ) × EncodesDigits number text × (ws ≡ Bare text ∷ [])
 one_number number ws (first, others, cut, (digits, spells, is), none) =
     (digits, spells, cut ∙ ap (λ (f : List Word). f ++ others) is ∙ ap (λ (o : List Word). Bare digits ∷ o) none)
 
-pub first_said : (version : Version) (statement : Statement) (w : Word) (ws : List Word) → Say version statement (w ∷ ws) → IsFirst version statement w ws
+pub first_said : (version : Version) (statement : Statement) (w : Word) (ws : List Word) → EncodesInLimits version statement (w ∷ ws) → IsFirst version statement w ws
 first_said version (OfVersion number) w ws say =
     let h = first_is AnyShortName (codes "version") (Natural number ∷ []) w ws say.0.parts in
     (h.0, one_number number ws h.1, say.1)
@@ -40,7 +40,7 @@ first_said version (Label name) w ws say = (first_is AnyShortName (name ++ codes
 first_said version (Code i) w ws say =
     let word = word_of (row i).0 in
     let h = first_is AnyShortName word (flat_map operand_parts (row i).1) w ws say.0.parts in
-    let k = code_first version AnyShortName i word ws (subst (λ (v : Word). Spells version AnyShortName (Code i) (v ∷ ws)) h.0 say.0) in
+    let k = code_first version AnyShortName i word ws (subst (λ (v : Word). Encodes version AnyShortName (Code i) (v ∷ ws)) h.0 say.0) in
     (word, k.0, h.0, k.1)
 
 pub quoted_apart : (text word : List ℕ) → Quoted text ≡ Bare word → ⊥
@@ -58,17 +58,17 @@ pub is_word : (a b : List ℕ) → bytes_eq a b ≡ true → a ≡ b
 is_word a b e = (bytes_eq-Decides a b).0 e
 
 abbrev pub SaysRole : Version → List ℕ → List Word → LineRole → Type 0
-SaysRole version first ws said = (statement : Statement) → Say version statement (Bare first ∷ ws) → said ≡ says_of (Some statement)
+SaysRole version first ws said = (statement : Statement) → EncodesInLimits version statement (Bare first ∷ ws) → said ≡ statement_role (Some statement)
 
 -- a word that is none of an instruction
 no_code : {Z : Type 0} (version : Version) (first other : List ℕ) (i : (word : List ℕ) × (o : Opcode) × (Bare first ≡ Bare word) × (opcode_in version word ≡ Some o)) → first ≡ other → opcode_in version other ≡ None → Z
 no_code version first other (word, o, is, found) e none = absurd (none_some o (sym none ∙ (ap (opcode_in version) (sym e ∙ bare_is first word is) ∙ found)))
 
 module _ (version : Version) (first : List ℕ) (ws : List Word) where
-  pub version_role : (v : Version) → first ≡ codes "version" → ((number : ℕ) (text : List ℕ) → ws ≡ Bare text ∷ [] → SpellsDigits number text → IsVersionNumber number → v ≡ version_by number) → SaysRole version first ws (says.Version v)
+  pub version_role : (v : Version) → first ≡ codes "version" → ((number : ℕ) (text : List ℕ) → ws ≡ Bare text ∷ [] → EncodesDigits number text → IsVersionNumber number → v ≡ version_by number) → SaysRole version first ws (says.Version v)
   version_role v e is statement say = by statement (first_said version statement (Bare first) ws say)
     where
-      by : (s : Statement) → IsFirst version s (Bare first) ws → says.Version v ≡ says_of (Some s)
+      by : (s : Statement) → IsFirst version s (Bare first) ws → says.Version v ≡ statement_role (Some s)
       by (OfVersion number) f = ap says.Version (is number f.1.0 f.1.2 f.1.1 f.2)
       by (Head kind params) f = absurd (apart (codes "version") (codes "proc") refl (sym e ∙ bare_is first (codes "proc") f))
       by (Registers registers) f = absurd (apart (codes "version") (codes "regs") refl (sym e ∙ bare_is first (codes "regs") f))
@@ -78,7 +78,7 @@ module _ (version : Version) (first : List ℕ) (ws : List Word) where
   pub head_role : first ≡ codes "proc" → SaysRole version first ws says.Head
   head_role e statement say = by statement (first_said version statement (Bare first) ws say)
     where
-      by : (s : Statement) → IsFirst version s (Bare first) ws → says.Head ≡ says_of (Some s)
+      by : (s : Statement) → IsFirst version s (Bare first) ws → says.Head ≡ statement_role (Some s)
       by (OfVersion number) f = absurd (apart (codes "proc") (codes "version") refl (sym e ∙ bare_is first (codes "version") f.0))
       by (Head kind params) f = refl
       by (Registers registers) f = absurd (apart (codes "proc") (codes "regs") refl (sym e ∙ bare_is first (codes "regs") f))
@@ -88,7 +88,7 @@ module _ (version : Version) (first : List ℕ) (ws : List Word) where
   pub registers_role : first ≡ codes "regs" → SaysRole version first ws says.Registers
   registers_role e statement say = by statement (first_said version statement (Bare first) ws say)
     where
-      by : (s : Statement) → IsFirst version s (Bare first) ws → says.Registers ≡ says_of (Some s)
+      by : (s : Statement) → IsFirst version s (Bare first) ws → says.Registers ≡ statement_role (Some s)
       by (OfVersion number) f = absurd (apart (codes "regs") (codes "version") refl (sym e ∙ bare_is first (codes "version") f.0))
       by (Head kind params) f = absurd (apart (codes "regs") (codes "proc") refl (sym e ∙ bare_is first (codes "proc") f))
       by (Registers registers) f = refl
@@ -98,7 +98,7 @@ module _ (version : Version) (first : List ℕ) (ws : List Word) where
   pub label_role : (front : List ℕ) → first ≡ front ++ codes ":" → SaysRole version first ws says.Label
   label_role front e statement say = by statement (first_said version statement (Bare first) ws say)
     where
-      by : (s : Statement) → IsFirst version s (Bare first) ws → says.Label ≡ says_of (Some s)
+      by : (s : Statement) → IsFirst version s (Bare first) ws → says.Label ≡ statement_role (Some s)
       by (OfVersion number) f = absurd (no_label (codes "version") front refl (sym (bare_is first (codes "version") f.0) ∙ e))
       by (Head kind params) f = absurd (no_label (codes "proc") front refl (sym (bare_is first (codes "proc") f) ∙ e))
       by (Registers registers) f = absurd (no_label (codes "regs") front refl (sym (bare_is first (codes "regs") f) ∙ e))
@@ -110,7 +110,7 @@ module _ (version : Version) (first : List ℕ) (ws : List Word) where
   pub code_role : first ≢ codes "version" → first ≢ codes "proc" → first ≢ codes "regs" → ((front : List ℕ) → first ≢ front ++ codes ":") → SaysRole version first ws says.Code
   code_role no_version no_head no_registers no_colon' statement say = by statement (first_said version statement (Bare first) ws say)
     where
-      by : (s : Statement) → IsFirst version s (Bare first) ws → says.Code ≡ says_of (Some s)
+      by : (s : Statement) → IsFirst version s (Bare first) ws → says.Code ≡ statement_role (Some s)
       by (OfVersion number) f = absurd (no_version (bare_is first (codes "version") f.0))
       by (Head kind params) f = absurd (no_head (bare_is first (codes "proc") f))
       by (Registers registers) f = absurd (no_registers (bare_is first (codes "regs") f))
@@ -127,15 +127,15 @@ nothing_seen : (ws : List words.Word) → map seen ws ≡ [] → ws ≡ []
 nothing_seen [] e = refl
 nothing_seen (w ∷ ws) e = absurd cc
 
-pub role_of_line : (ws : List words.Word) (whole : Bool) (line : List ℕ) (role : LineRole) → IsRead (map seen ws) whole line → (ws ≡ [] → role ≡ says_of None)
-    → ((version : Version) (statement : Statement) → Say version statement (map seen ws) → role ≡ says_of (Some statement)) → (s : ParserState) (said : Option Statement) → LineSays s line said → role ≡ says_of said
+pub role_of_line : (ws : List words.Word) (whole : Bool) (line : List ℕ) (role : LineRole) → IsRead (map seen ws) whole line → (ws ≡ [] → role ≡ statement_role None)
+    → ((version : Version) (statement : Statement) → EncodesInLimits version statement (map seen ws) → role ≡ statement_role (Some statement)) → (s : ParserState) (said : Option Statement) → HasStatement s line said → role ≡ statement_role said
 role_of_line ws whole line role read nothing says s None is = nothing (nothing_seen ws (words_are (map seen ws) [] whole line read is))
 role_of_line ws whole line role read nothing says s (Some statement) ((vs, is, say), may) =
-    says s.version statement (subst (λ (us : List Word). Say s.version statement us) (sym (words_are (map seen ws) vs whole line read is)) say)
+    says s.version statement (subst (λ (us : List Word). EncodesInLimits s.version statement us) (sym (words_are (map seen ws) vs whole line read is)) say)
 
 -- ---- the parser's state, line by line
 
-pub advanced_is : (number : ℕ) (s : ParserState) (said : Option Statement) (line : List ℕ) → LineSays s line said → advanced (situation_of s) (says_of said) ≡ situation_of (after_line number said s)
+pub advanced_is : (number : ℕ) (s : ParserState) (said : Option Statement) (line : List ℕ) → HasStatement s line said → advanced (situation_of s) (statement_role said) ≡ situation_of (after_line number said s)
 advanced_is number s None line says = refl
 advanced_is number s (Some (OfVersion version)) line says = refl
 advanced_is number s (Some (Head kind params)) line says = refl
@@ -148,11 +148,11 @@ pub record SplitLast (number : ℕ) (s : ParserState) (ls : List (List ℕ)) (li
   pub before : List (Option Statement)
   pub last : Option Statement
   pub is : said ≡ before ++ (last ∷ [])
-  pub say : LinesSay number s ls before
-  pub says : LineSays (situation_from number s before) line last
+  pub say : HaveStatements number s ls before
+  pub says : HasStatement (situation_from number s before) line last
   pub leads : situation_from number s said ≡ after_line (number + length before) last (situation_from number s before)
 
-pub split_last : (number : ℕ) (s : ParserState) (ls : List (List ℕ)) (line : List ℕ) (said : List (Option Statement)) → LinesSay number s (ls ++ (line ∷ [])) said → SplitLast number s ls line said
+pub split_last : (number : ℕ) (s : ParserState) (ls : List (List ℕ)) (line : List ℕ) (said : List (Option Statement)) → HaveStatements number s (ls ++ (line ∷ [])) said → SplitLast number s ls line said
 split_last number s [] line [] h = absurd h
 split_last number s [] line (x ∷ []) h =
     let e : number ≡ number + 0 = omega arith in
@@ -173,9 +173,9 @@ split_last number s (l ∷ ls) line (x ∷ said) h =
 
 -- holds if this is the parser's state after these lines, whatever they say that can follow
 abbrev pub IsReached : List (List ℕ) → declared.ParserState → Type 0
-IsReached ls now = (said : List (Option Statement)) → LinesSay 1 at_start ls said → now ≡ situation_of (situation said)
+IsReached ls now = (said : List (Option Statement)) → HaveStatements 1 at_start ls said → now ≡ situation_of (situation said)
 
-pub state_after_line : (ls : List (List ℕ)) (line : List ℕ) (now next : declared.ParserState) (role : LineRole) → IsReached ls now → ((s : ParserState) (said : Option Statement) → LineSays s line said → role ≡ says_of said) → next ≡ advanced now role
+pub state_after_line : (ls : List (List ℕ)) (line : List ℕ) (now next : declared.ParserState) (role : LineRole) → IsReached ls now → ((s : ParserState) (said : Option Statement) → HasStatement s line said → role ≡ statement_role said) → next ≡ advanced now role
     → IsReached (ls ++ (line ∷ [])) next
 state_after_line ls line now next role before prints is said say =
     let split = split_last 1 at_start ls line said say in

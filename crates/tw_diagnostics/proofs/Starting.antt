@@ -1,6 +1,6 @@
 -- After its first word a line continues word by word exactly if some statement continues so; wherever it is, some words end it.
 use Rattle.std.proofs.Common.{◌≡◌, ◌&&◌, ℕ, zero, suc, Bool, true, false, cond, List, [], ◌∷◌, codes, drop, Option, None, Some, refl, sym, ap, ◌∙◌, inl, inr}
-use Rattle.tw_diagnostics.proofs.ReasonNames.{AllByRecursion, Bare, IsExpected, IsLabelWord, Operand, Quoted, Version, Word, after_operand, bytes_eq, ends_at, first_read, form_at_place, go_on, goes, has_form, literal, more, natural, number, operand_in, right, slice_get, target, value}
+use Rattle.tw_diagnostics.proofs.ReasonNames.{AllByRecursion, Bare, IsExpected, IsLabelWord, Operand, Quoted, Version, Word, after_operand, bytes_eq, ends_at, first_read, form_at_place, continues, completes, has_form, literal, more, natural, number, operand_in, right, slice_get, target, value}
 use Rattle.std.specs.Borrow.{Bor}
 use Rattle.std.specs.Option.{is_some, option_and_then}
 use Rattle.std.proofs.lemmas.Str.{IsUtf8-nil}
@@ -31,26 +31,26 @@ use Rattle.tw_diagnostics.proofs.ParamsGo.{params_go}
 
 -- ---- heads, registers and versions
 
-head_goes : (version : Version) (ws : List Word) → has_form (head_in version ws) ≡ goes version read.Head ws
+head_goes : (version : Version) (ws : List Word) → has_form (head_in version ws) ≡ completes version read.Head ws
 head_goes version [] = refl
 head_goes version (w ∷ ws) =
     form_as_is head_read (both (kind_in w) (few 8 (ended (params_from version ws))))
     ∙ form_both (kind_in w) (few 8 (ended (params_from version ws)))
     ∙ ap (λ (b : Bool). has_form (kind_in w) && b) (form_few 8 (ended (params_from version ws)) ∙ params_go version ws)
-    ∙ sym (on_if (has_form (kind_in w)) read.Params (λ next. goes version next ws))
+    ∙ sym (on_if (has_form (kind_in w)) read.Params (λ next. completes version next ws))
 
-all_go : (version : Version) (ws : List Word) → all_form scalar_in ws ≡ goes version read.Registers ws
+all_go : (version : Version) (ws : List Word) → all_form scalar_in ws ≡ completes version read.Registers ws
 all_go version [] = refl
-all_go version (w ∷ ws) = ap (λ (b : Bool). has_form (scalar_in w) && b) (all_go version ws) ∙ sym (on_if (has_form (scalar_in w)) read.Registers (λ next. goes version next ws))
+all_go version (w ∷ ws) = ap (λ (b : Bool). has_form (scalar_in w) && b) (all_go version ws) ∙ sym (on_if (has_form (scalar_in w)) read.Registers (λ next. completes version next ws))
 
-registers_go : (version : Version) (ws : List Word) → has_form (registers_in ws) ≡ goes version read.Registers ws
+registers_go : (version : Version) (ws : List Word) → has_form (registers_in ws) ≡ completes version read.Registers ws
 registers_go version ws = form_as_is registers_read (few 16 (each scalar_in ws)) ∙ form_few 16 (each scalar_in ws) ∙ form_each scalar_in ws ∙ all_go version ws
 
-version_goes : (version : Version) (ws : List Word) → has_form (version_in ws) ≡ goes version read.Version ws
+version_goes : (version : Version) (ws : List Word) → has_form (version_in ws) ≡ completes version read.Version ws
 version_goes version [] = refl
 version_goes version (w ∷ []) =
-    form_as_is version_read (version_known (natural_in 1 4 w)) ∙ sym (and_true (has_form (version_known (natural_in 1 4 w)))) ∙ sym (on_if (has_form (version_known (natural_in 1 4 w))) read.Whole (λ next. goes version next []))
-version_goes version (w ∷ x ∷ ws) = sym (and_false (has_form (version_known (natural_in 1 4 w)))) ∙ sym (on_if (has_form (version_known (natural_in 1 4 w))) read.Whole (λ next. goes version next (x ∷ ws)))
+    form_as_is version_read (version_known (natural_in 1 4 w)) ∙ sym (and_true (has_form (version_known (natural_in 1 4 w)))) ∙ sym (on_if (has_form (version_known (natural_in 1 4 w))) read.Whole (λ next. completes version next []))
+version_goes version (w ∷ x ∷ ws) = sym (and_false (has_form (version_known (natural_in 1 4 w)))) ∙ sym (on_if (has_form (version_known (natural_in 1 4 w))) read.Whole (λ next. completes version next (x ∷ ws)))
 
 -- ---- instructions and labels
 
@@ -61,7 +61,7 @@ forms_last o = refl
 line_by_row : (version : Version) (r : table.Row) → tables.line_by (row_by version r) ≡ line_of version (forms_in r)
 line_by_row version (a_row code forms make) = refl
 
-code_goes : (version : Version) (word : Bor (List ℕ)) (o : Opcode) (ws : List Word) → opcode_in version word.now ≡ Some o → has_form (as_is code_read (draft_in version o ws)) ≡ goes version (read.Operands word 0) ws
+code_goes : (version : Version) (word : Bor (List ℕ)) (o : Opcode) (ws : List Word) → opcode_in version word.now ≡ Some o → has_form (as_is code_read (draft_in version o ws)) ≡ completes version (read.Operands word 0) ws
 code_goes version word o ws e =
     form_as_is code_read (draft_in version o ws)
     ∙ ap has_form (draft_is version o ws)
@@ -72,12 +72,12 @@ code_goes version word o ws e =
 no_form_there : (version : Version) (name : List ℕ) (k : ℕ) → opcode_in version name ≡ None → form_at_place version name k ≡ None
 no_form_there version name k e = ap (option_and_then (λ (p : Opcode). slice_get (forms_of p) k)) e
 
-label_goes : (version : Version) (word : Bor (List ℕ)) (ws : List Word) → opcode_in version word.now ≡ None → IsLabelWord word.now → has_form (label_line word.now ws) ≡ goes version (read.Operands word 0) ws
+label_goes : (version : Version) (word : Bor (List ℕ)) (ws : List Word) → opcode_in version word.now ≡ None → IsLabelWord word.now → has_form (label_line word.now ws) ≡ completes version (read.Operands word 0) ws
 label_goes version word [] e (name, is, same) =
     ap (λ (r : Option (List ℕ)). has_form (named_in r)) (ap before_colon same ∙ before name)
     ∙ form_as_is label_read (name_in name) ∙ name_form name ∙ (name_decide name).1 is
     ∙ sym (ap ends_at (no_form_there version word.now 0 e))
-label_goes version word (w ∷ ws) e label = sym (ap (λ (f : Option OperandForm). go_on (after_operand version word 0 w f) (λ next. goes version next ws)) (no_form_there version word.now 0 e))
+label_goes version word (w ∷ ws) e label = sym (ap (λ (f : Option OperandForm). continues (after_operand version word 0 w f) (λ next. completes version next ws)) (no_form_there version word.now 0 e))
 
 -- ---- after the first word
 
@@ -90,17 +90,17 @@ is_label version first.Body word (inl label) p r v none = label
 is_label version first.Body word (inr instr) p r v none = absurd (untrue (sym (ap is_some none) ∙ (named_word version word (is_some (opcode_in version word)) refl).1 instr))
 
 body_goes : (version : Version) (expected : First) (word : Bor (List ℕ)) (ws : List Word) (found : Option Opcode) → opcode_in version word.now ≡ found → IsExpected version expected word.now
-    → bytes_eq word.now (codes "proc") ≡ false → bytes_eq word.now (codes "regs") ≡ false → bytes_eq word.now (codes "version") ≡ false → has_form (body_in version found word.now ws) ≡ goes version (read.Operands word 0) ws
+    → bytes_eq word.now (codes "proc") ≡ false → bytes_eq word.now (codes "regs") ≡ false → bytes_eq word.now (codes "version") ≡ false → has_form (body_in version found word.now ws) ≡ completes version (read.Operands word 0) ws
 body_goes version expected word ws None e is p r v = label_goes version word ws e (is_label version expected word.now is p r v e)
 body_goes version expected word ws (Some o) e is p r v = code_goes version word o ws e
 
-pub starts : (version : Version) (expected : First) (word : Bor (List ℕ)) (ws : List Word) → IsExpected version expected word.now → has_form (statement_in version (Bare word.now ∷ ws)) ≡ goes version (first_read word) ws
+pub starts : (version : Version) (expected : First) (word : Bor (List ℕ)) (ws : List Word) → IsExpected version expected word.now → has_form (statement_in version (Bare word.now ∷ ws)) ≡ completes version (first_read word) ws
 unfolding statement_in
 starts version expected word ws is = by (bytes_eq word.now (codes "proc")) (bytes_eq word.now (codes "regs")) (bytes_eq word.now (codes "version")) refl refl refl
   where
     by : (p r v : Bool) → bytes_eq word.now (codes "proc") ≡ p → bytes_eq word.now (codes "regs") ≡ r → bytes_eq word.now (codes "version") ≡ v
         → has_form (cond p (head_in version ws) (cond r (registers_in ws) (cond v (version_in ws) (body_in version (opcode_in version word.now) word.now ws))))
-        ≡ goes version (cond p read.Head (cond r read.Registers (cond v read.Version (read.Operands word 0)))) ws
+        ≡ completes version (cond p read.Head (cond r read.Registers (cond v read.Version (read.Operands word 0)))) ws
     by true r v _ _ _ = head_goes version ws
     by false true v _ _ _ = registers_go version ws
     by false false true _ _ _ = version_goes version ws
@@ -168,7 +168,7 @@ drop_lasts (f ∷ fs) zero l = l
 drop_lasts (f ∷ fs) (suc k) l = drop_lasts fs k (tail_lasts f fs l)
 
 abbrev pub CanEnd : Version → Read → Type 0
-CanEnd version r = (ws : List Word) × (goes version r ws ≡ true) × AllByRecursion IsFine ws
+CanEnd version r = (ws : List Word) × (completes version r ws ≡ true) × AllByRecursion IsFine ws
 
 operands_end : (version : Version) (name : Bor (List ℕ)) (k : ℕ) (found : Option Opcode) → opcode_in version name.now ≡ found → CanEnd version (read.Operands name k)
 operands_end version name k None e = ([], ap ends_at (no_form_there version name.now k e), tt)
@@ -180,7 +180,7 @@ operands_end version name k (Some o) e =
 pub can_end : (version : Version) (r : Read) → CanEnd version r
 can_end version (read.Operands name k) = operands_end version name k (opcode_in version name.now) refl
 can_end version (read.MapOperand name k) = let (ws, goes_on, fine) = operands_end version name k (opcode_in version name.now) refl in (Bare (codes "int") ∷ ws, goes_on, (tt, fine))
-can_end version read.Version = (Bare (codes "1") ∷ [], on_if (has_form (version_known (natural_in 1 4 (Bare (codes "1"))))) read.Whole (λ next. goes version next []) ∙ ap (λ (b : Bool). b && true) version_fits, (tt, tt))
+can_end version read.Version = (Bare (codes "1") ∷ [], on_if (has_form (version_known (natural_in 1 4 (Bare (codes "1"))))) read.Whole (λ next. completes version next []) ∙ ap (λ (b : Bool). b && true) version_fits, (tt, tt))
 can_end version read.Head = (Bare (codes "leaf") ∷ [], refl, (tt, tt))
 can_end version read.Params = ([], refl, tt)
 can_end version read.RightMode = (Bare (codes "int") ∷ [], refl, (tt, tt))

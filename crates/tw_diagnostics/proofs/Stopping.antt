@@ -5,7 +5,7 @@ use Rattle.std.specs.Prelude.{MatchOption}
 use Rattle.tw_diagnostics.proofs.ReasonNames.{AllByRecursion, AreFirstWords, Bare, Begin, Ends, HasWords, HaveForm, IsBlank, IsExpected, IsFirstWord, IsFound, IsText, Quoted, Version, Word, append-nil, blank_no_word, first_word_once, first_words_more, length-append, statement_in}
 use Rattle.tw_asm.specs.declared.statement.First.{First}
 use Rattle.tw_asm.proofs.OperandWords.{IsFine}
-use Rattle.tw_diagnostics.specs.Going.{after, first_read, go_on, goes, has_form, may_end}
+use Rattle.tw_diagnostics.specs.Going.{after, first_read, continues, completes, has_form, may_end}
 use Rattle.tw_diagnostics.specs.declared.step.Read.{Read}
 use Rattle.tw_diagnostics.specs.declared.error_position.Token.{Token}
 use Rattle.tw_diagnostics.specs.declared.error_position.Token.TheVariants as found
@@ -35,7 +35,7 @@ pub record Follows (version : Version) (first line rest : List ℕ) (count : ℕ
   pub are : AreFirstWords (Bare word.now ∷ others) line rest
   pub many : count ≡ length (Bare word.now ∷ others)
   pub fine : AllByRecursion IsFine others
-  pub goes_on : (more : List Word) → goes version (first_read word) (others ++ more) ≡ goes version now more
+  pub goes_on : (more : List Word) → completes version (first_read word) (others ++ more) ≡ completes version now more
 
 pub follows_first : (version : Version) (first : Bor (List ℕ)) (line rest : List ℕ) (now : Read) → IsFirstWord (Bare first.now) line rest → now ≡ first_read first → Follows version first.now line rest 1 now
 follows_first version first line rest now is e = record {
@@ -45,7 +45,7 @@ follows_first version first line rest now is e = record {
   are = (rest, is, refl);
   many = refl;
   fine = tt;
-  goes_on = λ more. ap (λ (r : Read). goes version r more) (sym e);
+  goes_on = λ more. ap (λ (r : Read). completes version r more) (sym e);
 }
 
 pub follows_on : (version : Version) (first line rest advanced : List ℕ) (count : ℕ) (now next : Read) (w : Word) → Follows version first line rest count now → IsFirstWord w rest advanced → IsFine w
@@ -58,7 +58,7 @@ follows_on version first line rest advanced count now next w f is fine e = recor
   many = ap (λ (n : ℕ). n + 1) f.many ∙ sym (length-append (Bare f.word.now ∷ f.others) (w ∷ []));
   fine = fine_both f.others (w ∷ []) f.fine (fine, tt);
   goes_on = λ more.
-      ap (goes version (first_read f.word)) (append_assoc f.others (w ∷ []) more) ∙ f.goes_on (w ∷ more) ∙ ap (λ (o : Option Read). go_on o (λ r. goes version r more)) e;
+      ap (completes version (first_read f.word)) (append_assoc f.others (w ∷ []) more) ∙ f.goes_on (w ∷ more) ∙ ap (λ (o : Option Read). continues o (λ r. completes version r more)) e;
 }
 
 -- another fact if there is no position
@@ -67,7 +67,7 @@ ended P Q R None f h = f h
 ended P Q R (Some stop) f h = h
 
 module _ (version : Version) (expected : First) (first line rest : List ℕ) (count : ℕ) (now : Read) (is : IsExpected version expected first) (f : Follows version first line rest count now) where
-  form_is : (more : List Word) → has_form (statement_in version (Bare f.word.now ∷ (f.others ++ more))) ≡ goes version now more
+  form_is : (more : List Word) → has_form (statement_in version (Bare f.word.now ∷ (f.others ++ more))) ≡ completes version now more
   form_is more = starts version expected f.word (f.others ++ more) (subst (IsExpected version expected) (sym f.word_is) is) ∙ f.goes_on more
 
   pub begins : Begin version (Bare f.word.now ∷ f.others)
@@ -77,7 +77,7 @@ module _ (version : Version) (expected : First) (first line rest : List ℕ) (co
   vain_word text here advanced w first_is fine none word after_it others reached texts =
       let same = (first_word_once word w here after_it advanced reached first_is).0 in
       subst (λ (v : Word). HaveForm version (Bare f.word.now ∷ (f.others ++ v ∷ others)) → ⊥) (sym same)
-      (unformed version f.word.now (f.others ++ w ∷ others) (fine_both f.others (w ∷ others) f.fine (fine, fine_text others texts)) (form_is (w ∷ others) ∙ ap (λ (o : Option Read). go_on o (λ r. goes version r others)) none))
+      (unformed version f.word.now (f.others ++ w ∷ others) (fine_both f.others (w ∷ others) f.fine (fine, fine_text others texts)) (form_is (w ∷ others) ∙ ap (λ (o : Option Read). continues o (λ r. completes version r others)) none))
 
   -- the token that is found at a word that can't come next
   pub vain_found : (x : Token) (here advanced : List ℕ) (w : Word) → IsFound x here → IsFirstWord w here advanced → IsFine w → after version now w ≡ None → Ends version (Bare f.word.now ∷ f.others) here x
@@ -95,7 +95,7 @@ module _ (version : Version) (expected : First) (first line rest : List ℕ) (co
     where
       by : (r : Option Read) → after version now w ≡ r → is_some r ≡ true
       by None e =
-          absurd (unformed version f.word.now (f.others ++ w ∷ others) (fine_both f.others (w ∷ others) f.fine (fine_text (w ∷ others) (text, texts))) (form_is (w ∷ others) ∙ ap (λ (o : Option Read). go_on o (λ r. goes version r others)) e) form)
+          absurd (unformed version f.word.now (f.others ++ w ∷ others) (fine_both f.others (w ∷ others) f.fine (fine_text (w ∷ others) (text, texts))) (form_is (w ∷ others) ∙ ap (λ (o : Option Read). continues o (λ r. completes version r others)) e) form)
       by (Some next) e = refl
 
   all : (w : Word) → IsText w → is_some (after version now w) ≡ true → Begin version (Bare f.word.now ∷ (f.others ++ w ∷ []))
@@ -105,7 +105,7 @@ module _ (version : Version) (expected : First) (first line rest : List ℕ) (co
       by None e g = absurd (untrue g)
       by (Some next) e g =
           let (ws, ends, fine) = can_end version next in
-          let goes_on = form_is (w ∷ ws) ∙ ap (λ (o : Option Read). go_on o (λ r. goes version r ws)) e ∙ ends in
+          let goes_on = form_is (w ∷ ws) ∙ ap (λ (o : Option Read). continues o (λ r. completes version r ws)) e ∙ ends in
           let both = fine_both f.others (w ∷ ws) f.fine (fine_both (w ∷ []) ws (fine_text (w ∷ []) (text, tt)) fine) in
           (ws, subst (λ (vs : List Word). HaveForm version (Bare f.word.now ∷ vs)) (sym (append_assoc f.others (w ∷ []) ws)) (formed version f.word.now (f.others ++ w ∷ ws) both goes_on))
 

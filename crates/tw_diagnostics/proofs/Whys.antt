@@ -1,17 +1,17 @@
 -- Why a line is rejected, by what is printed of it.
 use Rattle.std.proofs.Common.{◌≡◌, ◌+◌, ◌++◌, ℕ, Bool, true, false, Bor, List, [], codes, length, Option, None, refl, sym, ap, subst, ◌∙◌}
-use Rattle.tw_diagnostics.proofs.ReasonNames.{Bare, Begins, HasWords, IsExpected, IsFirstStop, IsFirstWord, IsLine, IsErrorPosition, LineFault, LinesSay, ParserState, Statement, Version, Word, append-nil, at_start, before_colon, empty, instructions, label_twice, limit, lines, operand, procedures, situation, word}
+use Rattle.tw_diagnostics.proofs.ReasonNames.{Bare, Begins, HasWords, IsExpected, IsFirstStop, IsFirstWord, IsLine, IsErrorPosition, LineFault, HaveStatements, ParserState, Statement, Version, Word, append-nil, at_start, before_colon, empty, instructions, label_twice, limit, lines, operand, procedures, situation, word}
 use Rattle.tw_asm.specs.declared.fault.FaultNo.{FaultNo}
 use Rattle.tw_asm.specs.declared.fault.FaultNo.TheVariants as fault
 use Rattle.tw_asm.specs.declared.statement.First.{First}
-use Rattle.tw_diagnostics.specs.Assignment.{SaysAssignment}
+use Rattle.tw_diagnostics.specs.Assignment.{DecidesAssignment}
 use Rattle.tw_diagnostics.specs.Hints.{first_hint, hint_text}
 use Rattle.tw_diagnostics.specs.Labels.{IsLabelBefore, IsTwinBefore}
 use Rattle.tw_diagnostics.specs.LineRole.{situation_of, stage_text}
 use Rattle.tw_diagnostics.specs.declared.hints.Hint.{Hint}
 use Rattle.tw_diagnostics.specs.declared.hints.Hint.TheVariants as hint
 use Rattle.tw_diagnostics.specs.declared.parser_state.ParserState as declared
-use Rattle.tw_diagnostics.specs.Diagnostics.{IsBefore, IsIn, IsPast, IsPastFirst, IsWhy, due_said, expected_text, found_word, is_long_label, limit_text, line_text, said_text}
+use Rattle.tw_diagnostics.specs.Diagnostics.{IsBefore, IsIn, IsPast, IsPastFirst, IsWhy, due_diagnostic, expected_text, found_word, is_long_label, limit_text, line_text, printed_text}
 use Rattle.tw_diagnostics.specs.declared.error_position.ErrorPosition.{ErrorPosition}
 use Rattle.tw_diagnostics.specs.declared.diagnostic.Diagnostic.{Diagnostic}
 use Rattle.tw_diagnostics.specs.declared.diagnostic.Diagnostic.TheVariants.{Expected, Limit}
@@ -19,7 +19,7 @@ use Rattle.tw_diagnostics.specs.declared.diagnostic.Reason.{Reason}
 use Rattle.tw_diagnostics.specs.declared.diagnostic.Reason.TheVariants.{At, Nothing}
 
 abbrev pub IsStateThere : List ℕ → ℕ → declared.ParserState → Type 0
-IsStateThere text number now = (before others : List (List ℕ)) (said : List (Option Statement)) → lines text ≡ before ++ others → number ≡ length before + 1 → LinesSay 1 at_start before said → now ≡ situation_of (situation said)
+IsStateThere text number now = (before others : List (List ℕ)) (said : List (Option Statement)) → lines text ≡ before ++ others → number ≡ length before + 1 → HaveStatements 1 at_start before said → now ≡ situation_of (situation said)
 
 situation_is : (text : List ℕ) (number : ℕ) (now : declared.ParserState) (s : ParserState) → IsStateThere text number now → IsBefore text number s → now ≡ situation_of s
 situation_is text number now s reached (before, others, said, parts, count, saying, here) = reached before others said parts count saying ∙ ap situation_of (sym here)
@@ -27,7 +27,7 @@ situation_is text number now s reached (before, others, said, parts, count, sayi
 -- ---- A01
 
 -- the first word, what may begin the line, and which instruction was meant
-pub first_why : (text : List ℕ) (number : ℕ) (line : List ℕ) (stop : ErrorPosition) (expected : Bor (List ℕ)) (hint : Hint) (assigns : Bool) (now : declared.ParserState) → IsErrorPosition line stop → stop.word ≡ 1 → SaysAssignment line assigns
+pub first_why : (text : List ℕ) (number : ℕ) (line : List ℕ) (stop : ErrorPosition) (expected : Bor (List ℕ)) (hint : Hint) (assigns : Bool) (now : declared.ParserState) → IsErrorPosition line stop → stop.word ≡ 1 → DecidesAssignment line assigns
     → expected.now ≡ stage_text now.stage → hint_text hint ≡ first_hint assigns now.stage now.version (found_word stop.found) → IsStateThere text number now → IsWhy text fault.Word number line (At stop (Expected expected None hint))
 first_why text number line stop expected hint assigns now is one says staged hinted reached =
     (is, (one, (assigns, says, λ s before. said ∙ ap first_said (situation_is text number now s reached before))))
@@ -36,7 +36,7 @@ first_why text number line stop expected hint assigns now is one says staged hin
     first_said : declared.ParserState → List ℕ
     first_said state = expected_text (stage_text state.stage) stop.found ++ first_hint assigns state.stage state.version (found_word stop.found)
 
-    said : said_text (Expected expected None hint) stop.found ≡ first_said now
+    said : printed_text (Expected expected None hint) stop.found ≡ first_said now
     said = ap (λ (t : List ℕ). expected_text t stop.found ++ hint_text hint) staged ∙ ap (λ (t : List ℕ). expected_text (stage_text now.stage) stop.found ++ t) hinted
 
 -- ---- A02
@@ -62,7 +62,7 @@ known_there text number line now s Holds reached before wrong known =
     subst Holds v (known expected first rest is_first (subst (λ (x : Version). IsExpected x expected first) (sym v) is_expected))
 
 pub operand_why : (text : List ℕ) (number : ℕ) (line : List ℕ) (first stop : ErrorPosition) (say : Diagnostic) (now : declared.ParserState) → IsErrorPosition line first → first.word ≡ 1 → IsErrorPosition line stop
-    → Known now.version line (λ v. IsFirstStop v line stop) → IsStateThere text number now → said_text say stop.found ≡ due_said (found_word first.found) stop.due stop.found → IsWhy text fault.Operand number line (At stop say)
+    → Known now.version line (λ v. IsFirstStop v line stop) → IsStateThere text number now → printed_text say stop.found ≡ due_diagnostic (found_word first.found) stop.due stop.found → IsWhy text fault.Operand number line (At stop say)
 operand_why text number line first stop say now begins one is known reached said =
     (is, λ s before wrong. (first, begins, one, (known_there text number line now s (λ v. IsFirstStop v line stop) reached before wrong known, said)))
 
@@ -77,7 +77,7 @@ abbrev pub IsLastOf : List ℕ → ErrorPosition → Type 0
 IsLastOf line stop = (words : List Word) → IsLine words line → stop.word ≡ length words
 
 -- what is printed without a hint
-plainly : (stop : ErrorPosition) (expected : Bor (List ℕ)) (at : Option ℕ) → said_text (Expected expected at hint.Nothing) stop.found ≡ expected_text expected.now stop.found ++ line_text at
+plainly : (stop : ErrorPosition) (expected : Bor (List ℕ)) (at : Option ℕ) → printed_text (Expected expected at hint.Nothing) stop.found ≡ expected_text expected.now stop.found ++ line_text at
 plainly stop expected at = ap (λ (t : List ℕ). expected_text expected.now stop.found ++ t) (append-nil (line_text at))
 
 pub unknown_why : (line : List ℕ) (stop : ErrorPosition) (expected : Bor (List ℕ)) → IsErrorPosition line stop → IsLastOf line stop → expected.now ≡ codes "a label of this procedure"

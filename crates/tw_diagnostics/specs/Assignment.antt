@@ -11,14 +11,14 @@ abbrev pub BeginsEquals : List ℕ → Type 0
 BeginsEquals bytes = (rest : List ℕ) × IsFirstWord (Bare (codes "=")) bytes rest
 
 -- holds if this says whether they begin so
-abbrev pub SaysEquals : List ℕ → Bool → Type 0
-SaysEquals bytes true = BeginsEquals bytes
-SaysEquals bytes false = BeginsEquals bytes → ⊥
+abbrev pub DecidesEquals : List ℕ → Bool → Type 0
+DecidesEquals bytes true = BeginsEquals bytes
+DecidesEquals bytes false = BeginsEquals bytes → ⊥
 
 abbrev pub IsAssignment : List ℕ → Type 0
 IsAssignment line = (word : List ℕ) × (rest : List ℕ) × AreFirstWords (Bare word ∷ Bare (codes "=") ∷ []) line rest
 
 -- holds if this says whether the line is one
-abbrev pub SaysAssignment : List ℕ → Bool → Type 0
-SaysAssignment line true = IsAssignment line
-SaysAssignment line false = IsAssignment line → ⊥
+abbrev pub DecidesAssignment : List ℕ → Bool → Type 0
+DecidesAssignment line true = IsAssignment line
+DecidesAssignment line false = IsAssignment line → ⊥

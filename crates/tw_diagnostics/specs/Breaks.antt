@@ -14,9 +14,9 @@ abbrev pub IsUpTo : List ℕ → List ℕ → Type 0
 IsUpTo inside rest = (text : List ℕ) × (front : List ℕ) × IsInside text front × (inside ≡ front ++ rest)
 
 -- holds if this says whether the bytes begin with a quoted text
-abbrev pub SaysQuoted : List ℕ → Bool → Type 0
-SaysQuoted bytes true = (text : List ℕ) × (rest : List ℕ) × BeginsQuoted text bytes rest
-SaysQuoted bytes false = (text rest : List ℕ) → BeginsQuoted text bytes rest → ⊥
+abbrev pub DecidesQuoted : List ℕ → Bool → Type 0
+DecidesQuoted bytes true = (text : List ℕ) × (rest : List ℕ) × BeginsQuoted text bytes rest
+DecidesQuoted bytes false = (text rest : List ℕ) → BeginsQuoted text bytes rest → ⊥
 
 -- holds if all bytes after the quote are text; or up to a `\` that escapes nothing; or up to a second quote, and no word ends there
 abbrev pub IsBreak : Break → List ℕ → Type 0

@@ -6,11 +6,11 @@ use Rattle.std.specs.Str.{bytes_eq}
 use Rattle.tw_lexer.specs.Names.{before_colon, is_name}
 use Rattle.tw_lexer.specs.Shown.{shortened}
 use Rattle.tw_lexer.specs.Words.{IsLine, Word}
-use Rattle.tw_asm.specs.Fault.{LineFault, LinesSay, ParserState, at_start, situation}
+use Rattle.tw_asm.specs.Fault.{LineFault, HaveStatements, ParserState, at_start, situation}
 use Rattle.tw_asm.specs.Statement.{Statement}
 use Rattle.tw_asm.specs.declared.fault.FaultNo.{FaultNo}
 use Rattle.tw_asm.specs.declared.fault.FaultNo.TheVariants as fault
-use Rattle.tw_diagnostics.specs.Assignment.{SaysAssignment}
+use Rattle.tw_diagnostics.specs.Assignment.{DecidesAssignment}
 use Rattle.tw_diagnostics.specs.DueWords.{due_text, limit_of}
 use Rattle.tw_diagnostics.specs.Hints.{first_hint, hint_text, word_hint}
 use Rattle.tw_diagnostics.specs.Labels.{IsLabelBefore, IsTwinBefore}
@@ -92,10 +92,10 @@ line_text None = []
 line_text (Some line) = codes " of line " ++ decimal line
 
 -- returns what was expected, with the line of a label, and what was meant; or that there is one word too many; or which limit is exceeded
-abbrev pub said_text : Diagnostic → Token → List ℕ
-said_text (said.Expected expected line hint) found = expected_text expected.now found ++ (line_text line ++ hint_text hint)
-said_text (said.TooMany hint) found = too_many_text found ++ hint_text hint
-said_text (said.Limit limit) found = limit_text limit.now found
+abbrev pub printed_text : Diagnostic → Token → List ℕ
+printed_text (said.Expected expected line hint) found = expected_text expected.now found ++ (line_text line ++ hint_text hint)
+printed_text (said.TooMany hint) found = too_many_text found ++ hint_text hint
+printed_text (said.Limit limit) found = limit_text limit.now found
 
 -- returns the line for a position, with this text about it
 abbrev pub stop_line : ErrorPosition → List ℕ → List ℕ
@@ -103,7 +103,7 @@ stop_line stop printed = where_text stop ++ (printed ++ codes "\n")
 
 -- returns what is printed of a reason
 abbrev pub reason_text : Reason → List ℕ
-reason_text (reason.At stop say) = stop_line stop (said_text say stop.found)
+reason_text (reason.At stop say) = stop_line stop (printed_text say stop.found)
 reason_text (reason.Whole whole) = whole.now ++ codes "\n"
 reason_text reason.Nothing = []
 
@@ -114,7 +114,7 @@ IsIn line other = Unit {0}
 
 -- holds if it has a position with such a text about it
 abbrev pub IsAt : Reason → (ErrorPosition → List ℕ → Type 0) → Type 0
-IsAt (reason.At stop say) IsSaid = IsSaid stop (said_text say stop.found)
+IsAt (reason.At stop say) IsSaid = IsSaid stop (printed_text say stop.found)
 IsAt other IsSaid = ⊥
 
 -- ---- by the parser's state before the line
@@ -123,22 +123,22 @@ IsAt other IsSaid = ⊥
 abbrev pub IsBefore : List ℕ → ℕ → ParserState → Type 0
 IsBefore text number s =
     (before : List (List ℕ)) × (others : List (List ℕ)) × (said : List (Option Statement))
-    × (lines text ≡ before ++ others) × (number ≡ length before + 1) × LinesSay 1 at_start before said × (s ≡ situation said)
+    × (lines text ≡ before ++ others) × (number ≡ length before + 1) × HaveStatements 1 at_start before said × (s ≡ situation said)
 
 -- holds for A01: the first word, what may begin the line, and which instruction was meant
 abbrev pub IsFirst : List ℕ → ℕ → List ℕ → Reason → Type 0
-IsFirst text number line r = IsAt r (λ stop said. (stop.word ≡ 1) × ((assigns : Bool) × SaysAssignment line assigns × ((s : ParserState) → IsBefore text number s
+IsFirst text number line r = IsAt r (λ stop said. (stop.word ≡ 1) × ((assigns : Bool) × DecidesAssignment line assigns × ((s : ParserState) → IsBefore text number s
     → said ≡ expected_text (stage_text (stage_of s.stage)) stop.found ++ first_hint assigns (stage_of s.stage) s.version (found_word stop.found))))
 
 -- returns what is printed of the word at which a line with this first word stops, by what may come there
-abbrev pub due_said : List ℕ → Option Due → Token → List ℕ
-due_said first None found = too_many_text found ++ word_hint first None (found_word found)
-due_said first (Some due) found = expected_text (due_text due) found ++ word_hint first (Some due) (found_word found)
+abbrev pub due_diagnostic : List ℕ → Option Due → Token → List ℕ
+due_diagnostic first None found = too_many_text found ++ word_hint first None (found_word found)
+due_diagnostic first (Some due) found = expected_text (due_text due) found ++ word_hint first (Some due) (found_word found)
 
 -- holds for A02: the first word with which the line doesn't continue as a statement, or its end if it has too few words
 abbrev pub IsOperand : ParserState → List ℕ → Reason → Type 0
 IsOperand s line r = (first : ErrorPosition) × IsErrorPosition line first × (first.word ≡ 1)
-    × IsAt r (λ stop said. IsFirstStop s.version line stop × (said ≡ due_said (found_word first.found) stop.due stop.found))
+    × IsAt r (λ stop said. IsFirstStop s.version line stop × (said ≡ due_diagnostic (found_word first.found) stop.due stop.found))
 
 -- ---- by the line's last word, which is the goal of a skip
 
@@ -178,7 +178,7 @@ whole_limit first =
 -- the whole
 abbrev pub IsPast : List ℕ → ℕ → List ℕ → List ℕ → Reason → Type 0
 IsPast text number line first (reason.At stop say) =
-    ((s : ParserState) → IsBefore text number s → IsFirstExcess s.version line stop) × (said_text say stop.found ≡ limit_text (limit_of stop.due) stop.found)
+    ((s : ParserState) → IsBefore text number s → IsFirstExcess s.version line stop) × (printed_text say stop.found ≡ limit_text (limit_of stop.due) stop.found)
 IsPast text number line first (reason.Whole whole) = ((s : ParserState) → IsBefore text number s → HasNoExcess s.version line) × (whole.now ≡ whole_limit first)
 IsPast text number line first reason.Nothing = ⊥
 
@@ -221,6 +221,17 @@ abbrev pub shown_line : Option (List ℕ) → List ℕ
 shown_line None = []
 shown_line (Some line) = shortened line ++ codes "\n"
 
--- holds for the line, if the text has it, and why it is rejected
-abbrev pub IsTextReason : List ℕ → FaultNo → ℕ → List ℕ → Type 0
-IsTextReason text which number more = (r : Reason) × IsWhy text which number (or_empty (line_at text number)) r × (more ≡ shown_line (line_at text number) ++ reason_text r)
+-- holds if this is why the text's line with this number is rejected with a fault
+abbrev pub IsTextReason : List ℕ → FaultNo → ℕ → Reason → Type 0
+IsTextReason text which number r = IsWhy text which number (or_empty (line_at text number)) r
+
+-- returns the line, if the text has it, and why it is rejected
+abbrev pub diagnostic_text : List ℕ → ℕ → Reason → List ℕ
+diagnostic_text text number r = shown_line (line_at text number) ++ reason_text r
+
+-- ---- as numbers
+
+-- returns the number of the word at which a line is rejected, and its column; zeros if it is at no word
+abbrev pub error_word : Reason → ℕ × ℕ
+error_word (reason.At stop say) = (stop.word, stop.column)
+error_word other = (0, 0)

@@ -106,14 +106,14 @@ may_end version read.Val = false
 may_end version read.Registers = true
 may_end version read.Whole = true
 
-abbrev pub go_on : Option Read → (Read → Bool) → Bool
-go_on None more = false
-go_on (Some next) more = more next
+abbrev pub continues : Option Read → (Read → Bool) → Bool
+continues None more = false
+continues (Some next) more = more next
 
 -- returns whether these words continue and end a statement of which this has been read
-abbrev pub goes : Version → Read → List Word → Bool
-goes version r [] = may_end version r
-goes version r (w ∷ ws) = go_on (after version r w) (λ next. goes version next ws)
+abbrev pub completes : Version → Read → List Word → Bool
+completes version r [] = may_end version r
+completes version r (w ∷ ws) = continues (after version r w) (λ next. completes version next ws)
 
 -- returns what has been read after the first word
 abbrev pub first_read : Bor (List ℕ) → Read

@@ -17,6 +17,4 @@ pub mod MayCome
 pub mod Since
 pub mod Stops
 pub mod Diagnostics
--- The word of an error, in numbers.
-pub mod ErrorWord
 pub mod Words

@@ -5,7 +5,7 @@ use Rattle.std.specs.Str.Lines.{lines}
 use Rattle.tw_types.specs.declared.actor.Kind.{Kind}
 use Rattle.tw_types.specs.declared.param.Param.{Param}
 use Rattle.tw_code.specs.declared.version.Version.{Version}
-use Rattle.tw_asm.specs.Fault.{LinesSay, ParserState, at_start, situation}
+use Rattle.tw_asm.specs.Fault.{HaveStatements, ParserState, at_start, situation}
 use Rattle.tw_asm.specs.Fault as asm
 use Rattle.tw_asm.specs.Statement.{Statement, OfVersion, Head, Registers, Label, Code, version_by}
 use Rattle.tw_diagnostics.specs.declared.parser_state.LineRole.{LineRole}
@@ -14,13 +14,13 @@ use Rattle.tw_diagnostics.specs.declared.parser_state.ParserState as declared
 use Rattle.tw_diagnostics.specs.declared.parser_state.Stage.{Stage}
 use Rattle.tw_diagnostics.specs.declared.parser_state.Stage.TheVariants as stage
 
-abbrev pub says_of : Option Statement → LineRole
-says_of None = says.Nothing
-says_of (Some (OfVersion number)) = says.Version (version_by number)
-says_of (Some (Head kind params)) = says.Head
-says_of (Some (Registers registers)) = says.Registers
-says_of (Some (Label name)) = says.Label
-says_of (Some (Code i)) = says.Code
+abbrev pub statement_role : Option Statement → LineRole
+statement_role None = says.Nothing
+statement_role (Some (OfVersion number)) = says.Version (version_by number)
+statement_role (Some (Head kind params)) = says.Head
+statement_role (Some (Registers registers)) = says.Registers
+statement_role (Some (Label name)) = says.Label
+statement_role (Some (Code i)) = says.Code
 
 -- ---- the parser's state
 
@@ -69,12 +69,12 @@ is_head says.Code = false
 
 -- holds if none of these lines begins a procedure
 abbrev pub HasNoHead : List (Option Statement) → Type 0
-HasNoHead said = AllByRecursion (λ s. is_head (says_of s) ≡ false) said
+HasNoHead said = AllByRecursion (λ s. is_head (statement_role s) ≡ false) said
 
 -- the number of the first line that begins a procedure, counted from 1
 pub record IsFirstHead (text : List ℕ) (number : ℕ) : Type 0 where
   pub said : List (Option Statement)
-  pub say : LinesSay 1 at_start (lines text) said
+  pub say : HaveStatements 1 at_start (lines text) said
   pub before : List (Option Statement)
   pub kind : Kind
   pub params : List Param

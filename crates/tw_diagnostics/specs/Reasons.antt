@@ -22,7 +22,7 @@ use Rattle.tw_verify.specs.declared.rejection.VerifyError.TheVariants as rejecti
 use Rattle.tw_diagnostics.specs.RegisterCheck.{checks_at, first_unmet}
 use Rattle.tw_diagnostics.specs.Meetings.{IsChange, IsMeeting}
 use Rattle.tw_diagnostics.specs.Since.{IsEmptySince}
-use Rattle.tw_diagnostics.specs.Words.{asked_text, held_text, param_text, right_text}
+use Rattle.tw_diagnostics.specs.Words.{unmet_text, held_text, param_text, right_text}
 use Rattle.tw_diagnostics.specs.declared.register_check.RegisterCheck.{RegisterCheck}
 use Rattle.tw_diagnostics.specs.declared.register_check.RegisterState.TheVariants as held
 use Rattle.tw_diagnostics.specs.declared.meeting.Difference.{Difference}
@@ -41,14 +41,14 @@ since_text lines procedure None = []
 since_text lines procedure (Some place) = codes " after " ++ place_text (at_place lines procedure place) place
 
 -- returns the line of an unmet check
-abbrev pub asked_line : List (List ℕ) → ℕ → Option ℕ → RegisterCheck → List ℕ
-asked_line lines procedure since a = held_text a.register a.held ++ (since_text lines procedure since ++ asked_text a.wanted a.held)
+abbrev pub unmet_line : List (List ℕ) → ℕ → Option ℕ → RegisterCheck → List ℕ
+unmet_line lines procedure since a = held_text a.register a.held ++ (since_text lines procedure since ++ unmet_text a.wanted a.held)
 
 -- holds for that line, with the place at which the register lost its right, if it is empty
 abbrev pub PrintsCheck : List (List ℕ) → Procedure → ℕ → ℕ → List Typing → Option RegisterCheck → List ℕ → Type 0
 PrintsCheck lines p procedure place typings None text = text ≡ []
 PrintsCheck lines p procedure place typings (Some a) text =
-    (since : Option ℕ) × IsEmptySince p.code typings place a.register a.held since × (text ≡ asked_line lines procedure since a)
+    (since : Option ℕ) × IsEmptySince p.code typings place a.register a.held since × (text ≡ unmet_line lines procedure since a)
 
 -- holds for the line of the first unmet check with this code, if the typing of the place is known
 abbrev pub PrintsUnmet : ℕ → List (List ℕ) → List Procedure → Procedure → ℕ → ℕ → Instr → List Typing → Option Typing → List ℕ → Type 0
@@ -186,12 +186,12 @@ AddsDiagnostic which lines program procedure place old new = (text : List ℕ) �
 
 -- ---- V16
 
-abbrev pub unwanted_text : Bool → List ℕ
-unwanted_text true = codes ", required: closed, ref or write\n"
-unwanted_text false = codes ", required: a scalar or a container of scalars\n"
+abbrev pub param_required_text : Bool → List ℕ
+param_required_text true = codes ", required: closed, ref or write\n"
+param_required_text false = codes ", required: a scalar or a container of scalars\n"
 
 abbrev pub param_line : ℕ → Param → List ℕ
-param_line number param = codes "parameter " ++ (decimal number ++ (codes " is " ++ (param_text param ++ unwanted_text (is_val param.mode))))
+param_line number param = codes "parameter " ++ (decimal number ++ (codes " is " ++ (param_text param ++ param_required_text (is_val param.mode))))
 
 -- returns the line of the first parameter from this number on that main may not have
 abbrev pub params_line : ℕ → List Param → List ℕ

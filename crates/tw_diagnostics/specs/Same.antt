@@ -5,13 +5,13 @@ use Rattle.tw_types.specs.declared.param.Param.{Param}
 use Rattle.tw_code.specs.declared.instr.DataInstr.{DataInstr}
 use Rattle.tw_code.specs.declared.instr.LocalInstr.{LocalInstr}
 use Rattle.tw_code.specs.declared.instr.Priority.{Priority}
-use Rattle.tw_code.specs.accepting.Typing.{asks_args, asks_data, asks_local, asks_priority}
+use Rattle.tw_code.specs.accepting.Typing.{requires_args, requires_data, requires_local, requires_priority}
 use Rattle.tw_code.specs.machine.Rights.{Typing}
 use Rattle.tw_diagnostics.specs.RegisterCheck.{checks_args, checks_data, checks_local, checks_priority, question_of}
 
 pub record RegisterChecksAgree : Type 0 where
-  pub local : (registers : List Scalar) (i : LocalInstr) → map question_of (checks_local registers i) ≡ asks_local registers i
-  pub on_data : (registers : List Scalar) (i : DataInstr) (typing : Typing) → map question_of (checks_data registers i typing) ≡ asks_data registers i typing
-  pub priority : (registers : List Scalar) (priority : Priority) → map question_of (checks_priority registers priority) ≡ asks_priority registers priority
+  pub local : (registers : List Scalar) (i : LocalInstr) → map question_of (checks_local registers i) ≡ requires_local registers i
+  pub on_data : (registers : List Scalar) (i : DataInstr) (typing : Typing) → map question_of (checks_data registers i typing) ≡ requires_data registers i typing
+  pub priority : (registers : List Scalar) (priority : Priority) → map question_of (checks_priority registers priority) ≡ requires_priority registers priority
   pub args : (waits : Bool) (registers : List Scalar) (params : List Param) (args : List ℕ) (typing left : Typing)
-      → map question_of (checks_args waits registers params args typing left) ≡ asks_args waits registers params args left
+      → map question_of (checks_args waits registers params args typing left) ≡ requires_args waits registers params args left

@@ -59,26 +59,26 @@ abbrev pub sums_text : Option Scalar → List ℕ
 sums_text None = codes "map"
 sums_text (Some by) = map_word by ++ codes " sum"
 
-abbrev pub wanted_text : Requirement → List ℕ
-wanted_text wanted.AnyScalar = codes "int or text"
-wanted_text (wanted.Scalar ty) = scalar_word ty
-wanted_text wanted.Empty = codes "empty"
-wanted_text wanted.TwoRegisters = codes "two registers"
-wanted_text (wanted.WriteScalar ty) = codes "write " ++ scalar_text ty
-wanted_text (wanted.ClosedScalar ty) = codes "closed " ++ scalar_text ty
-wanted_text (wanted.WriteContainer by) = codes "write " ++ container_word by
-wanted_text (wanted.ClosedContainer by) = codes "closed " ++ container_word by
-wanted_text (wanted.ClosedSubscripts by) = codes "closed " ++ container_word by
-wanted_text (wanted.WriteMap by ty) = codes "write " ++ map_text by ty
-wanted_text (wanted.WriteSums by) = codes "write " ++ sums_text by
-wanted_text (wanted.ClosedMap by ty) = codes "closed " ++ map_text by ty
-wanted_text wanted.AnyClosedContainer = codes "closed cont or tcont"
-wanted_text wanted.AnyWrite = codes "write of a container"
-wanted_text wanted.AnyContainerWrite = codes "write of a container"
-wanted_text wanted.AnyRead = codes "closed or ref"
-wanted_text (wanted.ReadOf None) = codes "closed or ref"
-wanted_text (wanted.ReadOf (Some ty)) = codes "closed or ref " ++ type_text ty
-wanted_text (wanted.Param waits param) = requirement_text waits param.mode ++ (codes " " ++ type_text param.ty)
+abbrev pub required_text : Requirement → List ℕ
+required_text wanted.AnyScalar = codes "int or text"
+required_text (wanted.Scalar ty) = scalar_word ty
+required_text wanted.Empty = codes "empty"
+required_text wanted.TwoRegisters = codes "two registers"
+required_text (wanted.WriteScalar ty) = codes "write " ++ scalar_text ty
+required_text (wanted.ClosedScalar ty) = codes "closed " ++ scalar_text ty
+required_text (wanted.WriteContainer by) = codes "write " ++ container_word by
+required_text (wanted.ClosedContainer by) = codes "closed " ++ container_word by
+required_text (wanted.ClosedSubscripts by) = codes "closed " ++ container_word by
+required_text (wanted.WriteMap by ty) = codes "write " ++ map_text by ty
+required_text (wanted.WriteSums by) = codes "write " ++ sums_text by
+required_text (wanted.ClosedMap by ty) = codes "closed " ++ map_text by ty
+required_text wanted.AnyClosedContainer = codes "closed cont or tcont"
+required_text wanted.AnyWrite = codes "write of a container"
+required_text wanted.AnyContainerWrite = codes "write of a container"
+required_text wanted.AnyRead = codes "closed or ref"
+required_text (wanted.ReadOf None) = codes "closed or ref"
+required_text (wanted.ReadOf (Some ty)) = codes "closed or ref " ++ type_text ty
+required_text (wanted.Param waits param) = requirement_text waits param.mode ++ (codes " " ++ type_text param.ty)
 
 abbrev pub closing_text : Bool → List ℕ
 closing_text true = codes "; pass it to a procedure with a closed parameter, by RULE"
@@ -90,5 +90,5 @@ way_out wanted.AnyContainerWrite state = codes "; STORE it, or pass it on"
 way_out want (held.Right (Some right)) = closing_text (lacks_closing want right)
 way_out want state = []
 
-abbrev pub asked_text : Requirement → RegisterState → List ℕ
-asked_text want state = codes ", required: " ++ (wanted_text want ++ (way_out want state ++ codes "\n"))
+abbrev pub unmet_text : Requirement → RegisterState → List ℕ
+unmet_text want state = codes ", required: " ++ (required_text want ++ (way_out want state ++ codes "\n"))

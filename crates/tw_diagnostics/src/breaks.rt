@@ -5,7 +5,7 @@ ghost use Rattle.std.specs.Option.{SomeIff, option_map};
 ghost use Rattle.std.specs.Char.{digit_value};
 ghost use Rattle.tw_lexer.specs.Quoted.{BeginsQuoted};
 ghost use Rattle.tw_lexer.specs.Words.{IsAtWord, IsBroken};
-ghost use Rattle.tw_diagnostics.specs.Breaks.{BeginsPiece, IsBreak, IsUpTo, SaysQuoted, after_digits, after_escape, after_piece};
+ghost use Rattle.tw_diagnostics.specs.Breaks.{BeginsPiece, IsBreak, IsUpTo, DecidesQuoted, after_digits, after_escape, after_piece};
 
 use crate::hints::later_letters;
 use std::alloc::{AllocError, Global};
@@ -13,7 +13,7 @@ use tw_lexer::quoted_text;
 
 /// A reason why something is no word.
 #[derive(Clone, Copy, PartialEq, Eq)]
-pub(crate) enum Break {
+pub enum Break {
     /// The second quote is missing.
     Unclosed,
     /// A `\` precedes something that it can't escape.
@@ -22,6 +22,7 @@ pub(crate) enum Break {
     AfterQuote,
 }
 
+/// Returns the value of a digit of base 16 in a quoted text that is broken.
 fn hex_value(byte: u8) -> Option<u8>
     ensures { SomeIff result (digit_value byte < 16) (digit_value byte) }
 {
@@ -33,7 +34,7 @@ fn hex_value(byte: u8) -> Option<u8>
     }
 }
 
-/// Returns whether a byte is a hexadecimal digit of less than this.
+/// Returns whether a byte of an escape is a hexadecimal digit of less than this.
 fn is_digit_below(most: u8, byte: u8) -> bool
     requires { most ≤ 16 }
     ensures { result ≡ nat_lt (digit_value byte) most }
@@ -61,7 +62,7 @@ fn after_digits<'a>(bytes: &'a [u8]) -> Option<&'a [u8]>
     }
 }
 
-/// Returns whether a `\` can precede this byte, and nothing more belongs to it.
+/// Returns whether a `\` in a quoted text can precede this byte, and nothing more belongs to it.
 fn is_escaped(byte: u8) -> bool
     ensures { result ≡ ((byte == 34 || byte == 92) || byte == 110) }
 {
@@ -86,7 +87,7 @@ fn after_escape<'a>(bytes: &'a [u8]) -> Option<&'a [u8]>
     }
 }
 
-/// Returns the bytes after the form of one byte between quotes.
+/// Returns the bytes after the form of one byte of a quoted text that is broken.
 fn after_piece<'a>(bytes: &'a [u8]) -> Option<&'a [u8]>
     ensures { option_map (λ after. after.now) result ≡ after_piece bytes.entry.now }
 {
@@ -104,7 +105,7 @@ fn after_piece<'a>(bytes: &'a [u8]) -> Option<&'a [u8]>
     }
 }
 
-/// Returns the bytes from the first on that is no text between quotes.
+/// Returns the bytes of a broken quoted text from the first on that can't be in it.
 fn text_end<'a>(inside: &'a [u8]) -> &'a [u8]
     ensures text { IsUpTo inside.entry.now result.now }
     ensures end { (after : List ℕ) → BeginsPiece result.now after → ⊥ }
@@ -118,6 +119,7 @@ fn text_end<'a>(inside: &'a [u8]) -> &'a [u8]
     }
 }
 
+/// Returns whether the bytes at which a quoted text stops begin with `\`.
 fn is_at_escape(bytes: &[u8]) -> bool
     ensures { result ≡ (get_or bytes.now 0 0 == 92) }
 {
@@ -140,10 +142,10 @@ fn unread_break(here: &[u8]) -> Break
     }
 }
 
-/// Returns whether bytes begin with a quoted text.
+/// Returns whether bytes begin with a whole quoted text.
 fn begins_quoted(alloc: Global, bytes: &[u8]) -> Result<bool, AllocError>
     requires { IsUtf8 bytes.now }
-    ensures { IfOk result (SaysQuoted bytes.now) }
+    ensures { IfOk result (DecidesQuoted bytes.now) }
 {
     Ok(quoted_text(alloc, bytes)?.is_some())
 }
@@ -151,7 +153,7 @@ fn begins_quoted(alloc: Global, bytes: &[u8]) -> Result<bool, AllocError>
 /// Returns why bytes that begin with a quote are no word, if `quoted` says whether they begin with a quoted text.
 fn break_by(quoted: bool, here: &[u8]) -> Break
     requires quote { get_or here.now 0 0 ≡ 34 }
-    requires says { SaysQuoted here.now quoted }
+    requires says { DecidesQuoted here.now quoted }
     ensures { IsBreak result here.now }
 {
     if quoted {

@@ -2,7 +2,7 @@
 
 ghost use Rattle.std.specs.Prelude.{◌≡◌, ◌++◌, ℕ, List, OnOk};
 ghost use Rattle.tw_code.specs.format.Program.{IsInstr, IsProcedure};
-ghost use Rattle.tw_diagnostics.specs.Reasons.{AddsUnmet, PrintsCheck, asked_line, since_text};
+ghost use Rattle.tw_diagnostics.specs.Reasons.{AddsUnmet, PrintsCheck, unmet_line, since_text};
 
 use crate::find::unmet_at;
 use crate::meeting_diagnostic::put_place;
@@ -14,7 +14,7 @@ use tw_code::{Instr, Procedure};
 use tw_lexer::put;
 use tw_verify::Typing;
 
-/// Adds at which place a register lost its right.
+/// Adds to a diagnostic at which place a register lost its right.
 fn put_since(
     alloc: Global,
     out: &mut Vec<u8>,
@@ -33,7 +33,7 @@ fn put_since(
     }
 }
 
-/// Adds what a register holds, and what is required of it.
+/// Adds to a diagnostic what a register holds, and what is required of it.
 fn put_check(
     alloc: Global,
     out: &mut Vec<u8>,
@@ -42,14 +42,14 @@ fn put_check(
     check: &RegisterCheck,
     since: Option<usize>,
 ) -> Result<(), AllocError>
-    ensures { OnOk result (out.new.items ≡ out.old.items ++ asked_line lines.now.procedures procedure since check.now) }
+    ensures { OnOk result (out.new.items ≡ out.old.items ++ unmet_line lines.now.procedures procedure since check.now) }
 {
     put_held(alloc, out, check.register, check.held)?;
     put_since(alloc, out, lines, procedure, since)?;
     put_asked(out, check)
 }
 
-/// Adds an unmet check of a register at a place.
+/// Adds to a diagnostic an unmet check of a register at a place.
 #[rattlefmt::skip]
 fn put_unmet(alloc: Global, out: &mut Vec<u8>, lines: &LineNumbers, number: usize, procedure: &Procedure, place: usize, typings: &[Typing], check: Option<RegisterCheck>) -> Result<(), AllocError>
     requires { IsProcedure procedure.now }

@@ -11,6 +11,7 @@ use tw_code::DataInstr;
 use tw_types::{DataType, Scalar};
 use tw_verify::{RightType, Typing};
 
+/// Returns the type of the scalars in a right's datum, for a check of STORE or GET.
 fn right_scalar(right: Option<RightType>) -> Option<Scalar>
     ensures { result ≡ right_scalar right }
 {
@@ -44,6 +45,7 @@ fn value_of(
     )
 }
 
+/// Returns the type of the subscripts of a right's map, for a check of an instruction on maps.
 fn right_subscripts(right: Option<RightType>) -> Option<Scalar>
     ensures { result ≡ right_subscripts right }
 {
@@ -81,6 +83,7 @@ fn entry_of(
     )
 }
 
+/// Returns the type of the members of a right's container, for a check of INS.
 fn member_type(right: Option<RightType>) -> Option<DataType>
     ensures { result ≡ member_type right }
 {
@@ -90,6 +93,7 @@ fn member_type(right: Option<RightType>) -> Option<DataType>
     }
 }
 
+/// Returns the check of INS that a register holds a read right on a member of the container.
 fn member(typing: &Typing, container: u8, member: u8) -> RegisterCheck
     requires container { container < 16 }
     requires member { member < 16 }

@@ -1,7 +1,7 @@
 //! Why a line is rejected, as text: mostly the position at which it stops being a statement.
 
 ghost use Rattle.std.specs.Prelude.{◌≡◌, ◌++◌, OnOk, codes};
-ghost use Rattle.tw_diagnostics.specs.Diagnostics.{break_text, expected_text, found_text, has_part, hidden_text, line_text, reason_text, said_text, stop_line, too_many_text, where_text, word_text};
+ghost use Rattle.tw_diagnostics.specs.Diagnostics.{break_text, expected_text, found_text, has_part, hidden_text, line_text, reason_text, printed_text, stop_line, too_many_text, where_text, word_text};
 
 use crate::breaks::Break;
 use crate::error_position::{ErrorPosition, Token};
@@ -11,7 +11,7 @@ use tw_lexer::{put, put_both, put_numbered, put_shortened};
 
 // ---- words that were found
 
-/// Returns whether bytes contain a part.
+/// Returns whether the bytes of a word contain those of an invisible character.
 #[tactic(auto, using(crate::proofs::Lines::has_part_here))]
 fn has_part(part: &[u8], bytes: &[u8]) -> bool
     ensures { result ≡ has_part part.now bytes.now }
@@ -41,7 +41,7 @@ fn hidden_text(word: &[u8]) -> &'static str
     }
 }
 
-/// Adds a word, shortened if it is long, after the name of an invisible character in it.
+/// Adds the word that was found to a diagnostic, shortened if it is long, after the name of an invisible character in it.
 fn put_word(out: &mut Vec<u8>, word: &[u8]) -> Result<(), AllocError>
     ensures { OnOk result (out.new.items ≡ out.old.items ++ word_text word.now) }
 {
@@ -49,6 +49,7 @@ fn put_word(out: &mut Vec<u8>, word: &[u8]) -> Result<(), AllocError>
     put_shortened(out, word)
 }
 
+/// Returns what a diagnostic says of a quoted text that is broken, by the way in which it is.
 fn break_text(broken: Break) -> &'static str
     ensures { result.now ≡ break_text broken }
 {
@@ -89,6 +90,7 @@ fn put_expected(out: &mut Vec<u8>, expected: &str, found: &Token<'_>) -> Result<
     }
 }
 
+/// Adds the word that was found instead to a diagnostic, if there is one.
 fn put_found(out: &mut Vec<u8>, found: &Token<'_>) -> Result<(), AllocError>
     ensures { OnOk result (out.new.items ≡ out.old.items ++ found_text found.now) }
 {
@@ -102,6 +104,7 @@ fn put_found(out: &mut Vec<u8>, found: &Token<'_>) -> Result<(), AllocError>
     }
 }
 
+/// Adds to a diagnostic that a line has one word too many, and which.
 fn put_too_many(out: &mut Vec<u8>, found: &Token<'_>) -> Result<(), AllocError>
     ensures { OnOk result (out.new.items ≡ out.old.items ++ too_many_text found.now) }
 {
@@ -111,7 +114,7 @@ fn put_too_many(out: &mut Vec<u8>, found: &Token<'_>) -> Result<(), AllocError>
 
 /// A diagnostic of the position at which a line stops.
 #[derive(Clone, Copy)]
-pub(crate) enum Diagnostic<'a> {
+pub enum Diagnostic<'a> {
     /// This was expected, with the line of a label, and the word that was meant.
     Expected(&'a str, Option<usize>, Hint),
     /// There is one word too many, with what is to be known about it.
@@ -119,6 +122,7 @@ pub(crate) enum Diagnostic<'a> {
     Limit(&'a str),
 }
 
+/// Adds the number of another line to which a diagnostic refers, if there is one.
 fn put_line_of(alloc: Global, out: &mut Vec<u8>, line: Option<usize>) -> Result<(), AllocError>
     ensures { OnOk result (out.new.items ≡ out.old.items ++ line_text line) }
 {
@@ -128,13 +132,14 @@ fn put_line_of(alloc: Global, out: &mut Vec<u8>, line: Option<usize>) -> Result<
     }
 }
 
+/// Adds why a line stops: what is expected with a hint, one word too many, or a limit.
 fn put_diagnostic(
     alloc: Global,
     out: &mut Vec<u8>,
     said: &Diagnostic<'_>,
     found: &Token<'_>,
 ) -> Result<(), AllocError>
-    ensures { OnOk result (out.new.items ≡ out.old.items ++ said_text said.now found.now) }
+    ensures { OnOk result (out.new.items ≡ out.old.items ++ printed_text said.now found.now) }
 {
     match said {
         Diagnostic::Expected(expected, line, hint) => {
@@ -155,7 +160,7 @@ fn put_diagnostic(
 
 /// Why a line is rejected.
 #[derive(Clone, Copy)]
-pub(crate) enum Reason<'a> {
+pub enum Reason<'a> {
     /// The position at which it stops.
     At(ErrorPosition<'a>, Diagnostic<'a>),
     /// A limit of the whole line or text.
@@ -171,14 +176,14 @@ fn put_stop(
     stop: &ErrorPosition<'_>,
     said: &Diagnostic<'_>,
 ) -> Result<(), AllocError>
-    ensures { OnOk result (out.new.items ≡ out.old.items ++ stop_line stop.now (said_text said.now stop.now.found)) }
+    ensures { OnOk result (out.new.items ≡ out.old.items ++ stop_line stop.now (printed_text said.now stop.now.found)) }
 {
     put_where(alloc, out, stop)?;
     put_diagnostic(alloc, out, said, &stop.found)?;
     put(out, "\n")
 }
 
-/// Adds why a line is rejected.
+/// Adds to a text's diagnostic why a line is rejected.
 pub(crate) fn put_reason(
     alloc: Global,
     out: &mut Vec<u8>,

@@ -7,7 +7,7 @@ use tw_code::Form;
 
 /// A kind of words that may come next in a line.
 #[derive(Clone, Copy, PartialEq, Eq)]
-pub(crate) enum Due {
+pub enum Due {
     /// An operand of this form.
     Operand(Form),
     /// The number of a version.
@@ -26,6 +26,7 @@ pub(crate) enum Due {
     Register,
 }
 
+/// Returns the words by which a diagnostic names the operand that may come next.
 fn operand_text(form: Form) -> &'static str
     ensures { result.now ≡ operand_text form }
 {
@@ -43,6 +44,7 @@ fn operand_text(form: Form) -> &'static str
     }
 }
 
+/// Returns the words by which a diagnostic names the limit of an operand.
 fn operand_limit(form: Form) -> &'static str
     ensures { result.now ≡ operand_limit form }
 {
@@ -61,7 +63,7 @@ fn operand_limit(form: Form) -> &'static str
 }
 
 impl Due {
-    /// Names the words that may come next.
+    /// Returns the words by which a diagnostic names what may come next.
     pub(crate) fn text(self) -> &'static str
         ensures { result.now ≡ due_text self }
     {
@@ -76,7 +78,7 @@ impl Due {
         }
     }
 
-    /// Names the limit of how much of this there may be.
+    /// Returns the words by which a diagnostic names the limit of how much of this there may be.
     pub(crate) fn limit(self) -> &'static str
         ensures { result.now ≡ due_limit self }
     {
@@ -91,7 +93,7 @@ impl Due {
     }
 }
 
-/// Names the limit of a word, by what may come there. If nothing may, the limit is one statement.
+/// Returns the words for the limit of a word, by what may come there. If nothing may, the limit is one statement.
 pub(crate) fn limit_of(due: Option<Due>) -> &'static str
     ensures { result.now ≡ limit_of due }
 {

@@ -27,7 +27,7 @@ use tw_lexer::{Next, Word, before_colon, begins_character, is_name, next_word, w
 
 /// A token at which a line stops.
 #[derive(Clone, Copy)]
-pub(crate) enum Token<'a> {
+pub enum Token<'a> {
     /// The line's end, or a comment.
     End,
     /// A word, as it is written in the line.
@@ -38,7 +38,7 @@ pub(crate) enum Token<'a> {
 
 /// A position at which a line stops.
 #[derive(Clone, Copy)]
-pub(crate) struct ErrorPosition<'a> {
+pub struct ErrorPosition<'a> {
     /// The number of the word at this position, from 1.
     pub(crate) word: usize,
     /// The column, counted in characters from 1.
@@ -48,7 +48,7 @@ pub(crate) struct ErrorPosition<'a> {
     pub(crate) due: Option<Due>,
 }
 
-/// Returns the column after these bytes, counted in characters from 1.
+/// Returns the column of an error after these bytes of its line, counted in characters from 1.
 fn column_after(front: &[u8]) -> usize
     ensures { result ≡ column_after front.now }
 {
@@ -177,7 +177,7 @@ fn found_in<'a>(alloc: Global, here: &'a [u8]) -> Result<Token<'a>, AllocError>
     }
 }
 
-/// Returns the position of a line's first word. Call it if the line stops there.
+/// Returns the position of a line's first word, at which the line stops being a statement.
 pub(crate) fn first_stop<'a>(alloc: Global, line: &'a [u8]) -> Result<ErrorPosition<'a>, AllocError>
     requires { IsUtf8 line.now }
     ensures reached { IfOk result (λ stop. IsErrorPosition line.entry.now stop) }
@@ -267,7 +267,7 @@ pub(crate) fn found_word<'a>(found: &Token<'a>) -> &'a [u8]
     }
 }
 
-/// Returns whether a word is a label that is too long.
+/// Returns whether the word at which a line stops is a label that is too long.
 pub(crate) fn is_long_label(word: &[u8]) -> bool
     ensures { result ≡ is_long_label (before_colon word.now) }
 {

@@ -16,7 +16,7 @@ use tw_code::{Action, Instr, Priority, Procedure};
 use tw_types::{Param, Scalar};
 use tw_verify::Typing;
 
-/// Returns the first check if there is one, else the second.
+/// Returns the first unmet check of a register if there is one, else the second.
 fn first_or(first: Option<RegisterCheck>, second: Option<RegisterCheck>) -> Option<RegisterCheck>
     ensures { (number : ℕ) (xs ys : List RegisterCheck) → first ≡ first_unmet number xs → second ≡ first_unmet number ys → result ≡ first_unmet number (xs ++ ys) }
 {
@@ -54,6 +54,7 @@ fn right_check(waits: bool, param: &Param, arg: u8, typing: &Typing, left: &Typi
     }
 }
 
+/// Returns the unmet check of one argument, a value or a right, if those before it have left these rights.
 fn unmet_by_argument(
     number: u8,
     waits: bool,
@@ -102,6 +103,7 @@ fn unmet_by_arguments(
     }
 }
 
+/// Returns the unmet check of the register of a computed priority.
 fn unmet_by_priority(number: u8, registers: &[Scalar], priority: Priority) -> Option<RegisterCheck>
     ensures { result ≡ first_unmet number (checks_priority registers.now priority) }
 {
@@ -111,6 +113,7 @@ fn unmet_by_priority(number: u8, registers: &[Scalar], priority: Priority) -> Op
     }
 }
 
+/// Returns the parameters of a called procedure for a diagnostic, or none if it isn't known.
 fn params_of(procedures: &[Procedure], number: u8) -> &[Param]
     ensures { result.now ≡ params_of procedures.now number }
 {
@@ -120,6 +123,7 @@ fn params_of(procedures: &[Procedure], number: u8) -> &[Param]
     }
 }
 
+/// Returns the first unmet check of a RULE (`waits`) or PUT: of its priority, or of its arguments.
 fn unmet_by_action(
     number: u8,
     waits: bool,
@@ -178,6 +182,7 @@ fn unmet_by_params(
     }
 }
 
+/// Returns the first unmet check of an instruction at its typing that has this code.
 fn unmet_by_instr(
     number: u8,
     procedures: &[Procedure],

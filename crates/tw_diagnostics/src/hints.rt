@@ -12,7 +12,7 @@ use tw_lexer::{before_colon, put, put_both};
 
 /// A hint at the word that was meant.
 #[derive(Clone, Copy)]
-pub(crate) enum Hint {
+pub enum Hint {
     Nothing,
     /// This is to be known about the word.
     Note(&'static str),
@@ -20,14 +20,14 @@ pub(crate) enum Hint {
     Meant(&'static str),
 }
 
-/// Returns the first letter, if there is one.
+/// Returns the first letter of a word that may be mistyped, if there is one.
 fn first_letter(word: &[u8]) -> &[u8]
     ensures { result.now ≡ take 1 word.now }
 {
     if word.is_empty() { word } else { &word[..1] }
 }
 
-/// Returns the letters after the first.
+/// Returns the letters after the first of a word that may be mistyped.
 pub(crate) fn later_letters(word: &[u8]) -> &[u8]
     ensures { result.now ≡ drop 1 word.now }
 {
@@ -54,7 +54,7 @@ fn is_one_edit(name: &[u8], word: &[u8]) -> bool
     name_rest == word_rest || name_rest == word || name == word_rest || is_swapped(name, word)
 }
 
-/// Returns whether a word is this name with at most one mistake.
+/// Returns whether a word is this name with at most one mistake, so that a hint names it.
 pub fn is_near(name: &[u8], word: &[u8]) -> bool
     ensures { result ≡ is_near name.now word.now }
 {
@@ -82,6 +82,7 @@ fn opcode_near(version: Version, word: &[u8]) -> Option<Opcode>
         && is_near(word_of(*opcode).as_bytes(), word))
 }
 
+/// Returns the hint that names an instruction, if there is one.
 fn opcode_hint(opcode: Option<Opcode>) -> Hint
     ensures { hint_text result ≡ opcode_text opcode }
 {
@@ -91,7 +92,7 @@ fn opcode_hint(opcode: Option<Opcode>) -> Hint
     }
 }
 
-/// Returns the instruction that was meant by a word in upper case.
+/// Returns the hint with the instruction that was meant by a word in upper case.
 fn capitals_hint(version: Version, word: &[u8]) -> Hint
     ensures { hint_text result ≡ capitals_hint version word.now }
 {
@@ -102,7 +103,7 @@ fn capitals_hint(version: Version, word: &[u8]) -> Hint
     }
 }
 
-/// Returns the instruction that was meant by a word.
+/// Returns the hint with the instruction that was meant by a word.
 fn instruction_hint(alloc: Global, version: Version, word: &[u8]) -> Result<Hint, AllocError>
     ensures { IfOk result (λ hint. hint_text hint ≡ instruction_hint version word.now) }
 {
@@ -116,14 +117,14 @@ fn instruction_hint(alloc: Global, version: Version, word: &[u8]) -> Result<Hint
     Ok(capitals_hint(version, &capitals))
 }
 
-/// Returns whether a comment begins so in other languages.
+/// Returns whether a word begins a comment in other languages, for a hint.
 fn is_comment_sign(word: &[u8]) -> bool
     ensures { result ≡ is_comment_sign word.now }
 {
     word.starts_with(b"#") || word.starts_with(b"//")
 }
 
-/// Returns what was meant where an instruction may be, in an assignment or another line.
+/// Returns the hint for a line where an instruction may be: an assignment or another one.
 fn body_hint(
     alloc: Global,
     assigns: bool,
@@ -139,6 +140,7 @@ fn body_hint(
     }
 }
 
+/// Returns the hint for a line's first word by the parser's stage: in a body only.
 fn stage_hint(
     alloc: Global,
     assigns: bool,
@@ -153,7 +155,7 @@ fn stage_hint(
     }
 }
 
-/// Returns what was meant by the first word of a line.
+/// Returns the hint for the first word of a line.
 pub(crate) fn first_hint(
     alloc: Global,
     assigns: bool,
@@ -169,6 +171,7 @@ pub(crate) fn first_hint(
     }
 }
 
+/// Returns the hint that this name was meant, if a word is near it, else the other hint.
 fn near_or(name: &'static str, word: &[u8], other: Hint) -> Hint
     ensures { hint_text result ≡ near_text name.now word.now (hint_text other) }
 {
@@ -179,37 +182,42 @@ fn near_or(name: &'static str, word: &[u8], other: Hint) -> Hint
     }
 }
 
+/// Returns the hint for a word near `int` or `text`, else the other hint.
 fn scalar_hint(word: &[u8], other: Hint) -> Hint
     ensures { hint_text result ≡ scalar_hint word.now (hint_text other) }
 {
     near_or("int", word, near_or("text", word, other))
 }
 
+/// Returns the hint for a word in the place of a map's values: near `int`, `text` or `sum`.
 fn values_hint(word: &[u8]) -> Hint
     ensures { hint_text result ≡ due_hint dues.Values word.now }
 {
     scalar_hint(word, near_or("sum", word, Hint::Nothing))
 }
 
+/// Returns the hint for a word near `cont` or `tcont`.
 fn container_hint(word: &[u8]) -> Hint
     ensures { hint_text result ≡ container_hint word.now }
 {
     near_or("cont", word, near_or("tcont", word, Hint::Nothing))
 }
 
+/// Returns the hint for a word near one of a type: a scalar's or a container's.
 fn known_hint(word: &[u8]) -> Hint
     ensures { hint_text result ≡ known_hint word.now }
 {
     scalar_hint(word, container_hint(word))
 }
 
-/// Returns whether it is a word of maps.
+/// Returns whether a word in the place of a type begins a map, for a hint.
 fn is_map_word(word: &[u8]) -> bool
     ensures { result ≡ is_map_word word.now }
 {
     word == b"map".as_slice() || (word == b"tmap".as_slice() || word == b"sum".as_slice())
 }
 
+/// Returns the hint for a word in the place of a type: the version that has it, or one near.
 fn type_hint(word: &[u8]) -> Hint
     ensures { hint_text result ≡ type_hint word.now }
 {
@@ -222,7 +230,7 @@ fn type_hint(word: &[u8]) -> Hint
     }
 }
 
-/// Returns whether a word begins like a number.
+/// Returns whether a word in the place of a value register begins like a number, for a hint.
 fn begins_number(word: &[u8]) -> bool
     ensures { result ≡ begins_number word.now }
 {
@@ -254,6 +262,7 @@ fn iterations_hint(word: &[u8]) -> Hint
     }
 }
 
+/// Returns the hint for a word in the place of an operand of this form.
 fn operand_hint(form: Form, word: &[u8]) -> Hint
     ensures { hint_text result ≡ operand_hint form word.now }
 {
@@ -265,6 +274,7 @@ fn operand_hint(form: Form, word: &[u8]) -> Hint
     }
 }
 
+/// Returns the hint for a word near a parameter's mode.
 fn mode_hint(word: &[u8]) -> Hint
     ensures { hint_text result ≡ due_hint dues.Param word.now }
 {
@@ -272,12 +282,14 @@ fn mode_hint(word: &[u8]) -> Hint
     near_or("val", word, near_or("closed", word, right))
 }
 
+/// Returns the hint for a word near `control` or `leaf`.
 fn kind_hint(word: &[u8]) -> Hint
     ensures { hint_text result ≡ due_hint dues.Kind word.now }
 {
     near_or("control", word, near_or("leaf", word, Hint::Nothing))
 }
 
+/// Returns the hint for a word by what may come in its place alone.
 fn small_hint(due: Due, word: &[u8]) -> Hint
     ensures { hint_text result ≡ due_hint due word.now }
 {
@@ -302,7 +314,7 @@ fn end_hint(first: &[u8]) -> Hint
     }
 }
 
-/// Returns what was meant by a word of a line with this first word, if this may come there.
+/// Returns the hint for a word of a line with this first word, if this may come there.
 pub(crate) fn word_hint(
     alloc: Global,
     first: &[u8],
@@ -320,6 +332,7 @@ pub(crate) fn word_hint(
     }
 }
 
+/// Adds a name between two texts of a hint.
 fn put_around(out: &mut Vec<u8>, front: &str, name: &str, back: &str) -> Result<(), AllocError>
     ensures { OnOk result (out.new.items ≡ out.old.items ++ (front.now ++ (name.now ++ back.now))) }
 {
@@ -328,13 +341,14 @@ fn put_around(out: &mut Vec<u8>, front: &str, name: &str, back: &str) -> Result<
     put(out, back)
 }
 
+/// Adds the hint `did you mean` with a name.
 fn put_meant(out: &mut Vec<u8>, name: &str) -> Result<(), AllocError>
     ensures { OnOk result (out.new.items ≡ out.old.items ++ meant_text name.now) }
 {
     put_around(out, "; did you mean ", name, "?")
 }
 
-/// Adds the text of a hint.
+/// Adds the text of a hint to a diagnostic.
 pub(crate) fn put_hint(out: &mut Vec<u8>, hint: Hint) -> Result<(), AllocError>
     ensures { OnOk result (out.new.items ≡ out.old.items ++ hint_text hint) }
 {

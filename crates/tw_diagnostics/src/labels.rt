@@ -9,7 +9,7 @@ ghost use Rattle.tw_diagnostics.specs.LabelWords.{is_label};
 use std::alloc::{AllocError, Global};
 use tw_lexer::{Next, Word, before_colon, next_word};
 
-/// Returns whether a word is the label with this name.
+/// Returns whether the first word of a line is the label with this name, for a diagnostic.
 fn is_label(word: &Word<'_>, name: &[u8]) -> bool
     ensures { result ≡ is_label name.now (seen word.now) }
 {

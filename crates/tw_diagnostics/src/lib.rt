@@ -1,6 +1,6 @@
 //! Diagnostics of a rejected assembly text or program: lines that are printed after the error.
 //!
-//! * Of a text: `put_text_diagnostic` adds the line, and at which word and column it stops being a statement.
+//! * Of a text: `text_reason` finds at which word and column a line stops being a statement; `put_text_diagnostic` adds the line and this.
 //! * Of a program: `put_program_diagnostic` adds the register that is wrong, what it holds and what is required of it.
 #![tactic(auto)]
 
@@ -31,10 +31,11 @@ mod text_diagnostic;
 mod theorems;
 mod words;
 
+pub use diagnostic::Reason;
 pub use hints::is_near;
 pub use main_diagnostic::put_main_diagnostic;
 pub use parser_state::{LineRole, head_line, line_role};
 pub use program_diagnostic::put_program_diagnostic;
 pub use rights::put_type;
-pub use text_diagnostic::{error_word, put_text_diagnostic};
+pub use text_diagnostic::{error_word, put_shown_line, put_text_diagnostic, text_reason};
 pub use theorems::register_checks_agree;

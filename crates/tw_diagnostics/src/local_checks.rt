@@ -7,19 +7,21 @@ use crate::register_check::*;
 use tw_code::LocalInstr;
 use tw_types::Scalar;
 
+/// Returns whether a register's check has this code and is unmet.
 pub(crate) fn is_unmet(number: u8, check: &RegisterCheck) -> bool
     ensures { result ≡ is_unmet number check.now }
 {
     check.number == number && !check.is_met
 }
 
-/// Returns the first of these checks that is unmet and has this code.
+/// Returns the first of these checks of registers that is unmet and has this code.
 pub(crate) fn first_of(number: u8, check: &[RegisterCheck]) -> Option<RegisterCheck>
     ensures { result ≡ first_unmet number check.now }
 {
     check.iter().copied().find(|check| is_unmet(number, check))
 }
 
+/// Returns the unmet check of a value register: it is declared, and of this type.
 pub(crate) fn value(
     number: u8,
     registers: &[Scalar],
@@ -37,6 +39,7 @@ pub(crate) fn value(
     )
 }
 
+/// Returns the first unmet check of two value registers: they are declared, each of its type.
 #[rattlefmt::skip]
 fn two_values(number: u8, registers: &[Scalar], first: u8, ty: Scalar, second: u8, other: Scalar) -> Option<RegisterCheck>
     ensures { result ≡ first_unmet number (checks_two registers.now first ty second other) }
@@ -47,6 +50,7 @@ fn two_values(number: u8, registers: &[Scalar], first: u8, ty: Scalar, second: u
     ])
 }
 
+/// Returns the first unmet check of three value registers: they are declared, all of one type.
 #[rattlefmt::skip]
 fn three_values(number: u8, registers: &[Scalar], to: u8, left: u8, right: u8, ty: Scalar) -> Option<RegisterCheck>
     ensures { result ≡ first_unmet number (checks_three registers.now to left right ty) }
@@ -58,6 +62,7 @@ fn three_values(number: u8, registers: &[Scalar], to: u8, left: u8, right: u8, t
     ])
 }
 
+/// Returns the first unmet check of two value registers: they are declared, and of the same type.
 #[rattlefmt::skip]
 fn alike(number: u8, registers: &[Scalar], first: u8, second: u8) -> Option<RegisterCheck>
     ensures { result ≡ first_unmet number (checks_alike registers.now first second) }

@@ -13,7 +13,7 @@ use crate::meeting::{Difference, first_difference};
 use tw_code::{Flow, Instr, flow_at};
 use tw_verify::Typing;
 
-/// Returns whether an instruction ends the loop outside `inner` others.
+/// Returns whether an instruction is the END of the loop outside `inner` others.
 fn is_end(inner: usize, flow: Flow) -> bool
     ensures { result ≡ is_end inner flow }
 {
@@ -91,7 +91,7 @@ fn change_by(code: &[Instr], typings: &[Typing], begin: usize, place: usize) -> 
     }
 }
 
-/// Returns what is changed by the loop whose END is at a place.
+/// Returns the register that is changed by the loop whose END is at a place, with both rights.
 pub(crate) fn changed_at(code: &[Instr], typings: &[Typing], place: usize) -> Option<Difference>
     requires { length code.now ≤ 4096 }
     ensures { MatchOption result

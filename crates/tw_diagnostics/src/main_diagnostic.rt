@@ -1,7 +1,7 @@
 //! Finds why a procedure can't be main.
 
 ghost use Rattle.std.specs.Prelude.{◌≡◌, ◌<◌, ◌+◌, ◌++◌, length, OnOk};
-ghost use Rattle.tw_diagnostics.specs.Reasons.{param_line, params_line, shape_line, unwanted_text};
+ghost use Rattle.tw_diagnostics.specs.Reasons.{param_line, params_line, shape_line, param_required_text};
 
 use crate::rights::put_param;
 use std::alloc::{AllocError, Global};
@@ -9,8 +9,9 @@ use tw_code::Procedure;
 use tw_lexer::{put, put_numbered};
 use tw_types::{Kind, Param};
 
-fn unwanted_text(is_val: bool) -> &'static str
-    ensures { result.now ≡ unwanted_text is_val }
+/// Returns the words for what is required of a parameter of main instead.
+fn param_required_text(is_val: bool) -> &'static str
+    ensures { result.now ≡ param_required_text is_val }
 {
     if is_val {
         ", required: closed, ref or write\n"
@@ -19,6 +20,7 @@ fn unwanted_text(is_val: bool) -> &'static str
     }
 }
 
+/// Adds the line on one parameter that main may not have.
 fn put_param_line(
     alloc: Global,
     out: &mut Vec<u8>,
@@ -30,7 +32,7 @@ fn put_param_line(
     put_numbered(alloc, out, "parameter ", number)?;
     put(out, " is ")?;
     put_param(out, *param)?;
-    put(out, unwanted_text(param.mode.is_val()))
+    put(out, param_required_text(param.mode.is_val()))
 }
 
 /// Adds the first parameter from one on that main may not have.

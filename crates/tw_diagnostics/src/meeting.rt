@@ -25,14 +25,14 @@ pub(crate) struct Difference {
     pub(crate) second: Option<RightType>,
 }
 
-/// Returns whether two registers hold the same.
+/// Returns whether a register holds the same on two paths that meet.
 fn hold_same(first: Option<RightType>, second: Option<RightType>) -> bool
     ensures { result ≡ option_eq same_right first second }
 {
     first == second
 }
 
-/// Returns whether two typings differ on a register.
+/// Returns whether two typings that meet differ on a register.
 fn differ(first: &Typing, second: &Typing, register: u8) -> bool
     requires { register < 16 }
     ensures alike { result ≡ false → right_at first.now register ≡ right_at second.now register }

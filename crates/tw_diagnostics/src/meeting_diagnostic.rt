@@ -12,7 +12,7 @@ use tw_asm::LineNumbers;
 use tw_lexer::{put, put_numbered};
 use tw_verify::RightType;
 
-/// Adds the line of the text from which the instruction at a place comes; if it isn't known, adds the place.
+/// Adds the line of the text from which the instruction at a place of a path comes; if it isn't known, adds the place.
 pub(crate) fn put_place(
     alloc: Global,
     out: &mut Vec<u8>,
@@ -28,6 +28,7 @@ pub(crate) fn put_place(
     }
 }
 
+/// Adds the right that a register holds on one path, or `empty`.
 fn put_holding(out: &mut Vec<u8>, right: Option<RightType>) -> Result<(), AllocError>
     ensures { OnOk result (out.new.items ≡ out.old.items ++ holding_text right) }
 {
@@ -94,7 +95,7 @@ fn put_held_before(out: &mut Vec<u8>, right: Option<RightType>) -> Result<(), Al
     put(out, ", as where the loop begins\n")
 }
 
-/// Adds what a register holds, and what it held where the loop begins.
+/// Adds what a register holds at a loop's END, and what it held where the loop begins.
 pub(crate) fn put_changed(
     alloc: Global,
     out: &mut Vec<u8>,

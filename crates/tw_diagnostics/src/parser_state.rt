@@ -2,13 +2,13 @@
 
 ghost use Rattle.std.specs.Prelude.{◌≡◌, ◌+◌, ◌++◌, [], ◌∷◌, ℕ, List, Option, None, Some, IfOk, MatchOption, length, map};
 ghost use Rattle.std.specs.Str.Lines.{lines};
-ghost use Rattle.tw_lexer.specs.Number.{SpellsDigits};
+ghost use Rattle.tw_lexer.specs.Number.{EncodesDigits};
 ghost use Rattle.tw_lexer.specs.Seen.{seen};
 ghost use Rattle.tw_lexer.specs.Words.{Bare};
-ghost use Rattle.tw_asm.specs.Fault.{LineSays, LinesSay, ParserState as Standing, at_start, situation};
-ghost use Rattle.tw_asm.specs.Statement.{IsVersionNumber, Say, Statement, version_by};
+ghost use Rattle.tw_asm.specs.Fault.{HasStatement, HaveStatements, ParserState as Standing, at_start, situation};
+ghost use Rattle.tw_asm.specs.Statement.{IsVersionNumber, EncodesInLimits, Statement, version_by};
 ghost use Rattle.tw_code.specs.declared.version.Version.{Version as AVersion};
-ghost use Rattle.tw_diagnostics.specs.LineRole.{HasNoHead, IsFirstHead, advanced, is_head, says_of, situation_of, stage_after, stage_text, version_after};
+ghost use Rattle.tw_diagnostics.specs.LineRole.{HasNoHead, IsFirstHead, advanced, is_head, statement_role, situation_of, stage_after, stage_text, version_after};
 
 use std::alloc::{AllocError, Global};
 use tw_asm::is_plainly_blank;
@@ -42,6 +42,7 @@ pub(crate) enum Stage {
 }
 
 impl Stage {
+    /// Returns the words by which a diagnostic names what may begin the next line.
     pub(crate) fn text(self) -> &'static str
         ensures { result.now ≡ stage_text self }
     {
@@ -61,6 +62,7 @@ pub(crate) struct ParserState {
     pub(crate) stage: Stage,
 }
 
+/// Returns the version that a line `version` sets with this number.
 fn version_by(number: u64) -> Version
     ensures { result ≡ version_by number }
 {
@@ -71,9 +73,9 @@ fn version_by(number: u64) -> Version
     }
 }
 
-/// Returns the version with this number, 1, 2 or 4.
+/// Returns the version with the number 1, 2 or 4 in this word.
 fn version_in(text: &[u8]) -> Version
-    ensures { (number : ℕ) → SpellsDigits number text.now → IsVersionNumber number → result ≡ version_by number }
+    ensures { (number : ℕ) → EncodesDigits number text.now → IsVersionNumber number → result ≡ version_by number }
 {
     match digits(text, 1, 4) {
         Ok(number) => version_by(number),
@@ -83,7 +85,7 @@ fn version_in(text: &[u8]) -> Version
 
 /// Returns the version with the number after `version`.
 fn version_after(others: &[Word<'_>]) -> Version
-    ensures { (number : ℕ) (text : List ℕ) → map seen others.now ≡ Bare text ∷ [] → SpellsDigits number text → IsVersionNumber number → result ≡ version_by number }
+    ensures { (number : ℕ) (text : List ℕ) → map seen others.now ≡ Bare text ∷ [] → EncodesDigits number text → IsVersionNumber number → result ≡ version_by number }
 {
     match others {
         [] => Version::One,
@@ -96,7 +98,7 @@ fn version_after(others: &[Word<'_>]) -> Version
 
 /// Returns the role of these words, if they are a statement.
 fn words_role(first: &[u8], others: &[Word<'_>]) -> LineRole
-    ensures { (version : AVersion) (statement : Statement) → Say version statement (Bare first.now ∷ map seen others.now) → result ≡ says_of (Some statement) }
+    ensures { (version : AVersion) (statement : Statement) → EncodesInLimits version statement (Bare first.now ∷ map seen others.now) → result ≡ statement_role (Some statement) }
 {
     if first == b"version".as_slice() {
         return LineRole::Version(version_after(others));
@@ -113,9 +115,10 @@ fn words_role(first: &[u8], others: &[Word<'_>]) -> LineRole
     }
 }
 
+/// Returns the role of a line with these words; one that begins with a quoted text counts as code.
 fn said_in(words: &[Word<'_>]) -> LineRole
-    ensures nothing { words.now ≡ [] → result ≡ says_of None }
-    ensures says { (version : AVersion) (statement : Statement) → Say version statement (map seen words.now) → result ≡ says_of (Some statement) }
+    ensures nothing { words.now ≡ [] → result ≡ statement_role None }
+    ensures says { (version : AVersion) (statement : Statement) → EncodesInLimits version statement (map seen words.now) → result ≡ statement_role (Some statement) }
 {
     match words {
         [] => LineRole::Nothing,
@@ -128,7 +131,7 @@ fn said_in(words: &[Word<'_>]) -> LineRole
 
 /// Returns the role of a line, if it can follow the lines before it.
 pub fn line_role(alloc: Global, line: &str) -> Result<LineRole, AllocError>
-    ensures { IfOk result (λ says. (s : Standing) (said : Option Statement) → LineSays s line.now said → says ≡ says_of said) }
+    ensures { IfOk result (λ says. (s : Standing) (said : Option Statement) → HasStatement s line.now said → says ≡ statement_role said) }
 {
     if is_plainly_blank(line) {
         return Ok(said_in(&[]));
@@ -137,6 +140,7 @@ pub fn line_role(alloc: Global, line: &str) -> Result<LineRole, AllocError>
     Ok(said_in(&read.words))
 }
 
+/// Returns how far the parser is after a line with this role.
 fn stage_after(stage: Stage, says: LineRole) -> Stage
     ensures { result ≡ stage_after stage says }
 {
@@ -149,6 +153,7 @@ fn stage_after(stage: Stage, says: LineRole) -> Stage
     }
 }
 
+/// Returns the text's version after a line with this role.
 fn version_after_line(version: Version, says: LineRole) -> Version
     ensures { result ≡ version_after version says }
 {
@@ -179,7 +184,7 @@ pub(crate) fn situation_before(
     number: usize,
 ) -> Result<ParserState, AllocError>
     ensures { IfOk result (λ s. (before others : List (List ℕ)) (said : List (Option Statement)) → lines text.now ≡ before ++ others → number ≡ length before + 1
-        → LinesSay 1 at_start before said → s ≡ situation_of (situation said)) }
+        → HaveStatements 1 at_start before said → s ≡ situation_of (situation said)) }
 {
     let mut current = ParserState {
         version: Version::One,
@@ -192,6 +197,7 @@ pub(crate) fn situation_before(
     Ok(current)
 }
 
+/// Returns whether a line with this role begins a procedure.
 fn is_head(says: LineRole) -> bool
     ensures { result ≡ is_head says }
 {
@@ -205,9 +211,9 @@ fn is_head(says: LineRole) -> bool
     }
 }
 
-/// Returns the number of the line that begins the first procedure, from 1, if there is one.
+/// Returns the number of the line that begins a text's first procedure, from 1, if there is one.
 pub fn head_line(alloc: Global, text: &str) -> Result<Option<usize>, AllocError>
-    ensures { IfOk result (λ found. (said : List (Option Statement)) → LinesSay 1 at_start (lines text.now) said → MatchOption found (HasNoHead said) (IsFirstHead text.now)) }
+    ensures { IfOk result (λ found. (said : List (Option Statement)) → HaveStatements 1 at_start (lines text.now) said → MatchOption found (HasNoHead said) (IsFirstHead text.now)) }
 {
     for (index, line) in text.lines().enumerate() {
         let says = line_role(alloc, line)?;

@@ -19,6 +19,7 @@ use tw_verify::{Refused, Typing, VerifyError};
 
 // ---- goals, ends and calls
 
+/// Returns how many instructions an instruction may skip, or 0, for the verifier's diagnostic.
 fn skip_of(flow: Flow) -> usize
     ensures is { result ≡ skip_of flow }
     ensures small { result < 65536 }
@@ -29,6 +30,7 @@ fn skip_of(flow: Flow) -> usize
     }
 }
 
+/// Adds what an END or a REPEAT lacks: its REPEAT, or its END within four loops.
 fn put_unmatched(out: &mut Vec<u8>, flow: Flow) -> Result<(), AllocError>
     ensures { OnOk result (out.new.items ≡ out.old.items ++ unmatched_line flow) }
 {
@@ -38,6 +40,7 @@ fn put_unmatched(out: &mut Vec<u8>, flow: Flow) -> Result<(), AllocError>
     }
 }
 
+/// Adds why RET may not be here, or that the last instruction must be RET.
 fn put_misplaced(out: &mut Vec<u8>, flow: Flow) -> Result<(), AllocError>
     ensures { OnOk result (out.new.items ≡ out.old.items ++ misplaced_line flow) }
 {
@@ -47,7 +50,7 @@ fn put_misplaced(out: &mut Vec<u8>, flow: Flow) -> Result<(), AllocError>
     }
 }
 
-/// Returns the procedure that an instruction names, and how many arguments it passes.
+/// Returns the procedure that an instruction names, and how many arguments it passes, for a diagnostic.
 fn named_by(instr: &Instr) -> (usize, usize)
     ensures { result ≡ named_by instr.now }
 {
@@ -66,6 +69,7 @@ fn put_last(alloc: Global, out: &mut Vec<u8>, last: usize) -> Result<(), AllocEr
     put(out, "\n")
 }
 
+/// Adds the line that says which unknown procedure is called, and which is the last.
 fn put_unknown(
     alloc: Global,
     out: &mut Vec<u8>,
@@ -78,13 +82,14 @@ fn put_unknown(
     put_last(alloc, out, last)
 }
 
-/// Returns the number of the last procedure.
+/// Returns the number of the program's last procedure, for a diagnostic.
 fn last_of(procedures: &[Procedure]) -> usize
     ensures { result ≡ length procedures.now - 1 }
 {
     procedures.len().saturating_sub(1)
 }
 
+/// Returns how many parameters a procedure has; none if it isn't known.
 fn param_count(procedures: &[Procedure], procedure: usize) -> usize
     ensures { result ≡ length (params_of procedures.now procedure) }
 {
@@ -94,6 +99,7 @@ fn param_count(procedures: &[Procedure], procedure: usize) -> usize
     }
 }
 
+/// Returns the word ` argument` for a diagnostic, in the singular or plural.
 fn arguments_text(args: usize) -> &'static str
     ensures { result.now ≡ arguments_text args }
 {
@@ -108,6 +114,7 @@ fn put_params(alloc: Global, out: &mut Vec<u8>, params: usize) -> Result<(), All
     put(out, "\n")
 }
 
+/// Adds the line that says how many arguments are passed, and how many parameters there are.
 fn put_count(alloc: Global, out: &mut Vec<u8>, args: usize, params: usize) -> Result<(), AllocError>
     ensures { OnOk result (out.new.items ≡ out.old.items ++ count_line args params) }
 {
@@ -118,7 +125,7 @@ fn put_count(alloc: Global, out: &mut Vec<u8>, args: usize, params: usize) -> Re
 
 // ---- a place
 
-/// Adds where two ways meet whose typings differ.
+/// Adds to the verifier's diagnostic where two ways meet whose typings differ.
 #[rattlefmt::skip]
 fn put_differing(alloc: Global, out: &mut Vec<u8>, lines: &LineNumbers, procedures: &[Procedure], number: usize, procedure: &Procedure, place: usize, instr: &Instr, typings: &[Typing]) -> Result<(), AllocError>
     requires { IsProcedure procedure.now }
@@ -130,7 +137,7 @@ fn put_differing(alloc: Global, out: &mut Vec<u8>, lines: &LineNumbers, procedur
     }
 }
 
-/// Adds which register a loop changes.
+/// Adds to the verifier's diagnostic which register a loop changes.
 #[rattlefmt::skip]
 fn put_loop(alloc: Global, out: &mut Vec<u8>, lines: &LineNumbers, procedures: &[Procedure], number: usize, procedure: &Procedure, place: usize, instr: &Instr, typings: &[Typing]) -> Result<(), AllocError>
     requires { IsProcedure procedure.now }
@@ -142,7 +149,7 @@ fn put_loop(alloc: Global, out: &mut Vec<u8>, lines: &LineNumbers, procedures: &
     }
 }
 
-/// Adds the meaning of the verifier's error; each row is an error.
+/// Adds the diagnostic of the verifier's error at a place; each row is an error.
 #[rattlefmt::skip]
 fn put_at(alloc: Global, out: &mut Vec<u8>, lines: &LineNumbers, refused: &Refused, procedure: &Procedure, instr: &Instr, typings: &[Typing]) -> Result<(), AllocError>
     requires is { IsProcedure procedure.now }
@@ -173,6 +180,7 @@ fn put_at(alloc: Global, out: &mut Vec<u8>, lines: &LineNumbers, refused: &Refus
     }
 }
 
+/// Adds the diagnostic of the verifier's error in a procedure, with the typings that were found.
 fn put_in(
     alloc: Global,
     out: &mut Vec<u8>,

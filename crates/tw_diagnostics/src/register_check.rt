@@ -2,7 +2,7 @@
 
 ghost use Rattle.std.specs.Prelude.{◌≡◌, ◌<◌, ◌++◌, OnOk, decimal, slice_get};
 ghost use Rattle.tw_diagnostics.specs.RegisterCheck.{are_two, has_type, holds, if_needed, is_declared, is_of, scalar_requirement};
-ghost use Rattle.tw_diagnostics.specs.Words.{asked_text, closing_text, held_text, way_out};
+ghost use Rattle.tw_diagnostics.specs.Words.{unmet_text, closing_text, held_text, way_out};
 
 use crate::requirement::{Requirement, put_required};
 use crate::rights::{put_right, scalar_word};
@@ -32,6 +32,7 @@ pub(crate) struct RegisterCheck {
     pub(crate) wanted: Requirement,
 }
 
+/// Returns the requirement of a value register for a check: of this type, or of any.
 fn scalar_requirement(ty: Option<Scalar>) -> Requirement
     ensures { result ≡ scalar_requirement ty }
 {
@@ -41,13 +42,14 @@ fn scalar_requirement(ty: Option<Scalar>) -> Requirement
     }
 }
 
-/// Returns the type of a value register, if it is declared.
+/// Returns the type of a value register for a check, if it is declared.
 pub(crate) fn declared(registers: &[Scalar], register: u8) -> Option<Scalar>
     ensures { result ≡ slice_get registers.now register }
 {
     registers.get(usize::from(register)).copied()
 }
 
+/// Returns whether a value register is declared with this type, for a check.
 pub(crate) fn has_type(registers: &[Scalar], register: u8, ty: Scalar) -> bool
     ensures { result ≡ has_type registers.now register ty }
 {
@@ -88,7 +90,7 @@ pub(crate) fn is_of(registers: &[Scalar], register: u8, ty: Option<Scalar>) -> R
     }
 }
 
-/// Returns a check that is met unless it is needed.
+/// Returns a check of a register that is met unless it is needed.
 pub(crate) fn if_needed(needed: bool, check: RegisterCheck) -> RegisterCheck
     ensures { result ≡ if_needed needed check }
 {
@@ -128,6 +130,7 @@ pub(crate) fn are_two(first: u8, second: u8) -> RegisterCheck
 
 // ---- as text
 
+/// Adds a register to a diagnostic: its bank and number, and more words.
 fn put_register(
     alloc: Global,
     out: &mut Vec<u8>,
@@ -141,7 +144,7 @@ fn put_register(
     put(out, more)
 }
 
-/// Adds what a register holds.
+/// Adds to a diagnostic what a register holds.
 pub(crate) fn put_held(
     alloc: Global,
     out: &mut Vec<u8>,
@@ -165,6 +168,7 @@ pub(crate) fn put_held(
     }
 }
 
+/// Returns the words that say how to get a `closed` right, if the register lacks only that.
 fn closing_text(lacks_closing: bool) -> &'static str
     ensures { result.now ≡ closing_text lacks_closing }
 {
@@ -186,9 +190,9 @@ fn way_out(wanted: Requirement, held: RegisterState) -> &'static str
     }
 }
 
-/// Adds the end of a line: what is required of a register, and what else can be done with it.
+/// Adds the end of a diagnostic's line: what is required of a register, and what else can be done with it.
 pub(crate) fn put_asked(out: &mut Vec<u8>, check: &RegisterCheck) -> Result<(), AllocError>
-    ensures { OnOk result (out.new.items ≡ out.old.items ++ asked_text check.now.wanted check.now.held) }
+    ensures { OnOk result (out.new.items ≡ out.old.items ++ unmet_text check.now.wanted check.now.held) }
 {
     put_required(out, check.wanted, way_out(check.wanted, check.held))
 }

@@ -4,7 +4,7 @@ ghost use Rattle.std.specs.Prelude.{◌≡◌, ◌++◌, OnOk, codes};
 ghost use Rattle.tw_code.specs.accepting.Typing.{reads, right_fits_param, writes_scalar};
 ghost use Rattle.tw_types.specs.declared.param.Mode.TheVariants.{Closed};
 ghost use Rattle.tw_diagnostics.specs.RegisterCheck.{accepts, is_met_by, lacks_closing};
-ghost use Rattle.tw_diagnostics.specs.Words.{map_text, requirement_text, scalar_text, sums_text, type_text, wanted_text};
+ghost use Rattle.tw_diagnostics.specs.Words.{map_text, requirement_text, scalar_text, sums_text, type_text, required_text};
 
 use crate::rights::{container_word, map_word, put_type, scalar_word};
 use std::alloc::AllocError;
@@ -45,19 +45,22 @@ pub(crate) enum Requirement {
     Param(bool, Param),
 }
 
+/// Returns whether a right is a read right, which a register may be required to hold.
 fn reads(right: RightType) -> bool
     ensures { result ≡ reads right }
 {
     matches!(right.mode(), Mode::Closed | Mode::Ref)
 }
 
+/// Returns whether a right is a write right on a scalar, which a register may be required to hold.
 fn writes_scalar(right: RightType) -> bool
     ensures { result ≡ writes_scalar right }
 {
     right.mode().is_write() && right.ty().is_scalar()
 }
 
-/// Returns whether a parameter accepts a right; a `closed` one accepts any read, if the task waits for its data.
+/// Returns whether a parameter accepts a right, for a requirement; a `closed` one accepts any read, if the task waits for its
+/// data.
 fn right_fits_param(waits: bool, param: Param, right: RightType) -> bool
     ensures { result ≡ right_fits_param waits param right }
 {
@@ -144,6 +147,7 @@ impl Requirement {
 
 // ---- as text
 
+/// Returns the words for the type that is required of a value register.
 fn scalar_text(ty: Option<Scalar>) -> &'static str
     ensures { result.now ≡ scalar_text ty }
 {
@@ -153,6 +157,7 @@ fn scalar_text(ty: Option<Scalar>) -> &'static str
     }
 }
 
+/// Returns the words for the modes that a parameter accepts.
 fn requirement_text(waits: bool, mode: Mode) -> &'static str
     ensures { result.now ≡ requirement_text waits mode }
 {
@@ -164,6 +169,7 @@ fn requirement_text(waits: bool, mode: Mode) -> &'static str
     }
 }
 
+/// Adds words for the required mode, and the words of a type.
 fn put_of_type(out: &mut Vec<u8>, front: &str, ty: DataType) -> Result<(), AllocError>
     ensures { OnOk result (out.new.items ≡ out.old.items ++ (front.now ++ (codes " " ++ type_text ty))) }
 {
@@ -207,9 +213,9 @@ fn put_sums(out: &mut Vec<u8>, by: Option<Scalar>) -> Result<(), AllocError>
     }
 }
 
-/// Adds what is required of a register.
+/// Adds to a diagnostic what is required of a register.
 fn put_requirement(out: &mut Vec<u8>, wanted: Requirement) -> Result<(), AllocError>
-    ensures { OnOk result (out.new.items ≡ out.old.items ++ wanted_text wanted) }
+    ensures { OnOk result (out.new.items ≡ out.old.items ++ required_text wanted) }
 {
     match wanted {
         Requirement::AnyScalar => put(out, "int or text"),
@@ -244,7 +250,7 @@ pub(crate) fn put_required(
     wanted: Requirement,
     way: &str,
 ) -> Result<(), AllocError>
-    ensures { OnOk result (out.new.items ≡ out.old.items ++ (codes ", required: " ++ (wanted_text wanted ++ (way.now ++ codes "\n")))) }
+    ensures { OnOk result (out.new.items ≡ out.old.items ++ (codes ", required: " ++ (required_text wanted ++ (way.now ++ codes "\n")))) }
 {
     put(out, ", required: ")?;
     put_requirement(out, wanted)?;

@@ -12,6 +12,7 @@ use tw_lexer::put;
 use tw_types::{DataType, Mode, Param, Scalar};
 use tw_verify::RightType;
 
+/// Returns the word of a scalar's type in diagnostics.
 pub(crate) fn scalar_word(scalar: Scalar) -> &'static str
     ensures { result.now ≡ scalar_word scalar }
 {
@@ -21,6 +22,7 @@ pub(crate) fn scalar_word(scalar: Scalar) -> &'static str
     }
 }
 
+/// Returns the word of a mode in diagnostics.
 pub(crate) fn mode_word(mode: Mode) -> &'static str
     ensures { result.now ≡ mode_word mode }
 {
@@ -32,7 +34,7 @@ pub(crate) fn mode_word(mode: Mode) -> &'static str
     }
 }
 
-/// Returns the word for a container with such subscripts.
+/// Returns the word in diagnostics for a container with such subscripts.
 pub(crate) fn container_word(by: Scalar) -> &'static str
     ensures { result.now ≡ container_word by }
 {
@@ -42,7 +44,7 @@ pub(crate) fn container_word(by: Scalar) -> &'static str
     }
 }
 
-/// Returns the word for a map with such subscripts.
+/// Returns the word in diagnostics for a map with such subscripts.
 pub(crate) fn map_word(by: Scalar) -> &'static str
     ensures { result.now ≡ map_word by }
 {
@@ -52,7 +54,7 @@ pub(crate) fn map_word(by: Scalar) -> &'static str
     }
 }
 
-/// Returns the word for a map's sums. There are none of texts.
+/// Returns the word in diagnostics for a map's sums. There are none of texts.
 fn sum_word(scalar: Scalar) -> &'static str
     ensures { result.now ≡ sum_word scalar }
 {
@@ -62,7 +64,7 @@ fn sum_word(scalar: Scalar) -> &'static str
     }
 }
 
-/// Returns the word of a map's values, or of its sums.
+/// Returns the word in diagnostics of a map's values, or of its sums.
 fn word_of_values(ty: DataType) -> &'static str
     ensures { result.now ≡ (if has_sums ty.map then sum_word ty.scalar else scalar_word ty.scalar) }
 {
@@ -73,7 +75,7 @@ fn word_of_values(ty: DataType) -> &'static str
     }
 }
 
-/// Adds the words of a type without containers.
+/// Adds to a diagnostic the words of a type without containers.
 #[tactic(auto, using(crate::proofs::Types::more_type))]
 fn put_leaf(out: &mut Vec<u8>, ty: DataType) -> Result<(), AllocError>
     ensures { OnOk result (out.new.items ≡ out.old.items ++ join_with_byte 32 (leaf_words ty.map ty.scalar)) }
@@ -88,7 +90,7 @@ fn put_leaf(out: &mut Vec<u8>, ty: DataType) -> Result<(), AllocError>
     }
 }
 
-/// Returns the type of a container's subscripts.
+/// Returns the type of a container's subscripts, for the words of its type.
 fn outermost(ty: DataType) -> Scalar
     ensures { result ≡ (if is_container_by Text ty then Text else Int) }
 {
@@ -99,8 +101,8 @@ fn outermost(ty: DataType) -> Scalar
     }
 }
 
+/// Adds to a diagnostic the words of a type, with a space between.
 #[tactic(auto, using(crate::proofs::Types::more_type))]
-/// Adds the words of a type, with a space between.
 pub fn put_type(out: &mut Vec<u8>, ty: DataType) -> Result<(), AllocError>
     ensures { OnOk result (out.new.items ≡ out.old.items ++ type_text ty) }
 {
@@ -114,7 +116,7 @@ pub fn put_type(out: &mut Vec<u8>, ty: DataType) -> Result<(), AllocError>
     }
 }
 
-/// Adds a parameter: its mode and type.
+/// Adds to a diagnostic a parameter: its mode and type.
 pub(crate) fn put_param(out: &mut Vec<u8>, param: Param) -> Result<(), AllocError>
     ensures { OnOk result (out.new.items ≡ out.old.items ++ param_text param) }
 {
@@ -123,7 +125,7 @@ pub(crate) fn put_param(out: &mut Vec<u8>, param: Param) -> Result<(), AllocErro
     put_type(out, param.ty)
 }
 
-/// Adds a right: its mode and type.
+/// Adds to a diagnostic a right: its mode and type.
 pub(crate) fn put_right(out: &mut Vec<u8>, right: RightType) -> Result<(), AllocError>
     ensures { OnOk result (out.new.items ≡ out.old.items ++ right_text right) }
 {

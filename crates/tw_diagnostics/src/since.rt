@@ -9,7 +9,7 @@ use crate::register_check::RegisterState;
 use tw_code::{Instr, Way};
 use tw_verify::Typing;
 
-/// Returns whether one place leads to a later one.
+/// Returns whether one place of a code leads to a later one.
 fn leads(code: &[Instr], before: usize, place: usize) -> bool
     requires limit { length code.now ≤ 4096 }
     requires earlier { before < place }

@@ -12,13 +12,14 @@ use tw_asm::LineNumbers;
 use tw_code::Instr;
 use tw_lexer::{put, put_numbered};
 
+/// Returns whether the goal of a skip is in the code, for a diagnostic.
 fn is_inside(goal: usize, count: usize) -> bool
     ensures { result ≡ nat_lt goal count }
 {
     goal < count
 }
 
-/// Adds the END that ends an iteration, if there is one.
+/// Adds to a skip's diagnostic the END that ends an iteration, if there is one.
 fn put_end(
     alloc: Global,
     out: &mut Vec<u8>,
@@ -38,7 +39,7 @@ fn put_end(
     }
 }
 
-/// Adds the end of a line: how many instructions there are.
+/// Adds the end of a line of a skip's diagnostic: how many instructions the procedure has.
 fn put_size(alloc: Global, out: &mut Vec<u8>, count: usize) -> Result<(), AllocError>
     ensures { OnOk result (out.new.items ≡ out.old.items ++ (codes ", the code has " ++ (decimal count ++ codes "\n"))) }
 {

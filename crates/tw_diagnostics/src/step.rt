@@ -47,6 +47,7 @@ pub(crate) struct LineProgress<'a> {
     depth: usize,
 }
 
+/// Returns what has been read of a line after its first word: a head, `regs`, `version` or an instruction.
 fn first_read<'a>(word: &'a [u8]) -> Read<'a>
     ensures { result ≡ first_read word.entry }
 {
@@ -61,6 +62,7 @@ fn first_read<'a>(word: &'a [u8]) -> Read<'a>
     }
 }
 
+/// Returns whether the line may end where an operand of this form may come: there is none, or arguments.
 fn ends_at(form: Option<Form>) -> bool
     ensures { result ≡ ends_at form }
 {
@@ -82,7 +84,7 @@ impl<'a> LineProgress<'a> {
         }
     }
 
-    /// Returns what may come next, if anything.
+    /// Returns what may come next in a line, by its progress, if anything.
     pub(crate) fn due(self, version: Version) -> Option<Due>
         ensures { result ≡ due_after version self.entry.read }
     {
@@ -102,7 +104,7 @@ impl<'a> LineProgress<'a> {
         }
     }
 
-    /// Returns whether the line may end.
+    /// Returns whether the line may end where its progress is.
     pub(crate) fn may_end(self, version: Version) -> bool
         ensures { result ≡ may_end version self.entry.read }
     {
@@ -114,6 +116,7 @@ impl<'a> LineProgress<'a> {
         }
     }
 
+    /// Returns the progress of a line with this read, and outside of containers.
     fn with(self, read: Read<'a>) -> LineProgress<'a>
         ensures { result ≡ with_read self.entry read.entry }
     {
@@ -196,6 +199,7 @@ impl<'a> LineProgress<'a> {
         self.only_if(has_form(scalar_of(word)) || is_sum(word), whole)
     }
 
+    /// Returns the progress of a line after a word in the place of an operand of this form.
     fn after_operand(
         self,
         ask: Ask,
@@ -222,6 +226,7 @@ impl<'a> LineProgress<'a> {
         }
     }
 
+    /// Returns the progress of a line after the mode of a parameter, if there are at most eight.
     fn after_mode(self, ask: Ask, mode: Result<Mode, TokenError>) -> Option<LineProgress<'a>>
         ensures { result ≡ mode_on ask self.entry mode }
     {

@@ -2,8 +2,7 @@
 
 ghost use Rattle.std.specs.Prelude.{◌≡◌, ◌++◌, ℕ, List, IfOk, IsUtf8, OnOk};
 ghost use Rattle.tw_asm.specs.declared.fault.FaultNo.TheVariants as fault;
-ghost use Rattle.tw_diagnostics.specs.Diagnostics.{IsIn, IsPast, IsTextReason, IsWhy, due_said, found_word, line_at, or_empty, said_text, shown_line, whole_limit};
-ghost use Rattle.tw_diagnostics.specs.ErrorWord.{IsErrorWord, numbers_of};
+ghost use Rattle.tw_diagnostics.specs.Diagnostics.{IsIn, IsPast, IsTextReason, IsWhy, diagnostic_text, due_diagnostic, error_word as error_word_is, found_word, line_at, or_empty, printed_text, shown_line, whole_limit};
 ghost use Rattle.tw_diagnostics.specs.Hints.{hint_text, word_hint};
 ghost use Rattle.tw_diagnostics.specs.declared.error_position.Token.{Token as AFound};
 
@@ -37,8 +36,9 @@ fn first_reason<'a>(
     Ok(Reason::At(stop, said))
 }
 
+/// Returns the diagnostic for what may come next, or for one word too many.
 fn said_of(due: Option<Due>, hint: Hint) -> Diagnostic<'static>
-    ensures { (first : List ℕ) (found : AFound) → hint_text hint ≡ word_hint first due (found_word found) → said_text result found ≡ due_said first due found }
+    ensures { (first : List ℕ) (found : AFound) → hint_text hint ≡ word_hint first due (found_word found) → printed_text result found ≡ due_diagnostic first due found }
 {
     match due {
         Some(due) => Diagnostic::Expected(due.text(), None, hint),
@@ -167,7 +167,7 @@ fn limit_reason<'a>(
     }
 }
 
-/// Returns why a line is rejected.
+/// Returns why a line is rejected, by the code of the assembler's fault.
 fn reason_of<'a>(
     alloc: Global,
     text: &str,
@@ -188,6 +188,7 @@ fn reason_of<'a>(
     }
 }
 
+/// Returns the bytes of the line with this number, or none if the text has no such line.
 fn line_or_empty(text: &str, number: usize) -> &[u8]
     ensures is { result.now ≡ or_empty (line_at text.now number) }
     ensures utf8 { IsUtf8 result.now }
@@ -198,8 +199,8 @@ fn line_or_empty(text: &str, number: usize) -> &[u8]
     }
 }
 
-/// Adds a line, shortened if it is long.
-fn put_line(out: &mut Vec<u8>, text: &str, number: usize) -> Result<(), AllocError>
+/// Adds the line with this number, shortened if it is long, if the text has one.
+pub fn put_shown_line(out: &mut Vec<u8>, text: &str, number: usize) -> Result<(), AllocError>
     ensures { OnOk result (out.new.items ≡ out.old.items ++ shown_line (line_at text.now number)) }
 {
     match line_numbered(text, number) {
@@ -211,38 +212,38 @@ fn put_line(out: &mut Vec<u8>, text: &str, number: usize) -> Result<(), AllocErr
     }
 }
 
-/// Adds the rejected line, shortened if it is long, and why it is rejected.
+/// Returns why a line of a text is rejected.
+pub fn text_reason<'a>(
+    alloc: Global,
+    text: &'a str,
+    fault: AsmFault,
+) -> Result<Reason<'a>, AllocError>
+    ensures { IfOk result (IsTextReason text.entry.now fault.no fault.line) }
+{
+    reason_of(alloc, text, fault, line_or_empty(text, fault.line))
+}
+
+/// Adds the line that is rejected for this reason, shortened if it is long, and the reason.
 pub fn put_text_diagnostic(
     alloc: Global,
     out: &mut Vec<u8>,
     text: &str,
-    fault: AsmFault,
+    line: usize,
+    reason: &Reason<'_>,
 ) -> Result<(), AllocError>
-    ensures { OnOk result ((more : List ℕ) × IsTextReason text.now fault.no fault.line more × (out.new.items ≡ out.old.items ++ more)) }
+    ensures { OnOk result (out.new.items ≡ out.old.items ++ diagnostic_text text.now line reason.now) }
 {
-    let reason = reason_of(alloc, text, fault, line_or_empty(text, fault.line))?;
-    put_line(out, text, fault.line)?;
-    put_reason(alloc, out, &reason)
+    put_shown_line(out, text, line)?;
+    put_reason(alloc, out, reason)
 }
 
-fn numbers_of(reason: &Reason<'_>) -> Option<(usize, usize)>
-    ensures { result ≡ numbers_of reason.now }
+/// Returns the word of a line at which it is rejected, and the column of this word, both from 1; zeros if it is at none.
+pub fn error_word(reason: &Reason<'_>) -> (usize, usize)
+    ensures { result ≡ error_word_is reason.now }
 {
     match reason {
-        Reason::At(stop, _) => Some((stop.word, stop.column)),
-        Reason::Whole(_) => None,
-        Reason::Nothing => None,
+        Reason::At(stop, _) => (stop.word, stop.column),
+        Reason::Whole(_) => (0, 0),
+        Reason::Nothing => (0, 0),
     }
-}
-
-/// Returns the word of a fault's line at which the fault is, and the column of this word, both from 1, if it is at one.
-pub fn error_word(
-    alloc: Global,
-    text: &str,
-    fault: AsmFault,
-) -> Result<Option<(usize, usize)>, AllocError>
-    ensures { IfOk result (IsErrorWord text.now fault.no fault.line) }
-{
-    let reason = reason_of(alloc, text, fault, line_or_empty(text, fault.line))?;
-    Ok(numbers_of(&reason))
 }

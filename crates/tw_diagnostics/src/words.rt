@@ -17,7 +17,7 @@ pub(crate) enum Ask {
     Limits,
 }
 
-/// Returns whether a word has the form of what was read; whether it is within its limits isn't tested.
+/// Returns whether a word of a line has the form of what was read; whether it is within its limits isn't tested.
 pub(crate) fn has_form<N: Drop>(read: Result<N, TokenError>) -> bool
     ensures { result ≡ has_form read }
 {
@@ -28,7 +28,7 @@ pub(crate) fn has_form<N: Drop>(read: Result<N, TokenError>) -> bool
 }
 
 impl Ask {
-    /// Returns whether what was read passes.
+    /// Returns whether what was read of a word passes: by its form alone, or within its limits.
     pub(crate) fn takes<N: Drop>(self, read: Result<N, TokenError>) -> bool
         ensures { result ≡ fits self read }
     {
@@ -48,7 +48,7 @@ impl Ask {
         }
     }
 
-    /// Returns the count with one more item, of which `most` are allowed. By form alone nothing is counted.
+    /// Returns the count of a line's items with one more, of which `most` are allowed. By form alone nothing is counted.
     pub(crate) fn counted(self, count: usize, most: usize) -> Option<usize>
         ensures { result ≡ counted self count most }
     {
@@ -59,13 +59,14 @@ impl Ask {
     }
 }
 
+/// Returns whether a word passes as a number between these limits, or by its form alone.
 pub(crate) fn is_natural(ask: Ask, low: u8, high: u8, word: &Word<'_>) -> bool
     ensures { result ≡ fits ask (natural_in low high (seen word.now)) }
 {
     ask.takes(byte_of(low, high, word))
 }
 
-/// Returns whether a word is a text between quotes.
+/// Returns whether a word of a line is a text between quotes.
 fn is_literal(ask: Ask, word: &Word<'_>) -> bool
     ensures { result ≡ fits_literal ask (seen word.now) }
 {

@@ -1,46 +1,34 @@
 -- Replies to a program and the lines that are read with it.
 use Rattle.std.proofs.Common.{◌≡◌, ◌∙◌, Bool, Bor, ℕ, List, Option, ap, codes, inl, inr, map, subst, sym}
 use Rattle.std.specs.Prelude.{MatchOption}
-use Rattle.tw_code.specs.format.Program.{Versioned}
 use Rattle.tw_order.specs.declared.order.Source.{Source}
 use Rattle.tw_order.specs.declared.runs.EachOrder.{EachOrder}
 use Rattle.tw_source.specs.Inputs.{lines_in}
-use Rattle.tw_source.specs.Program.{Spells, source_text}
+use Rattle.tw_source.specs.Program.{source_text}
 use Rattle.tw_source.specs.Reply.{Reply, reply}
+use Rattle.tw_source.specs.Source.{text_of}
 use Rattle.tw_source.specs.declared.close.Close.TheVariants.{CommandLine}
 use Rattle.tw_source.specs.declared.reply.Reply.{Reply as MadeReply}
+use Rattle.tw_source.specs.declared.source.SourceText.{SourceText}
 use Rattle.tw_verify.specs.Typed.{TypedProgram}
 use Rattle.tw_each.specs.Answers.{AreAnswers, Way}
-use Rattle.tw_each.specs.Ready.{IsEachInput, IsReady, IsReadyText, IsRejectedText}
-use Rattle.tw_each.specs.Reply.{IsRejected, RepliesByEach, RepliesByParts, close_of, way_of}
+use Rattle.tw_each.specs.Ready.{IsEachInput, IsReady}
+use Rattle.tw_each.specs.Reply.{RepliesByEach, RepliesByParts, close_of, way_of}
 use Rattle.tw_each.specs.declared.together.LineParts.{LineParts}
-use Rattle.tw_each.specs.declared.reply.Ready.{Ready}
 use Rattle.tw_each.specs.declared.reply.Ready.TheVariants as ready
 use Rattle.tw_each.specs.declared.together.EachInput.TheVariants.{Parts, Rejected}
 
 -- ---- a program
 
--- a program that was read is ready if it is verified, or it is rejected
-pub read_ready : (source : Source) (order : EachOrder) (input : List ℕ) (program : Versioned) (text : Option (List ℕ)) (next : Ready) → Spells source input program
-    → text ≡ source_text source input → IsReady text order program.procedures next → IsReadyText source order input text next
-read_ready source order input program text (ready.Run verified) spells is h = (program, spells, is, h.0, h.1)
-read_ready source order input program text (ready.Rejected r) spells is h =
-    inl (program, spells, subst (λ (t : Option (List ℕ)). IsRejected t order program.procedures (reply r.text.items r.close)) is h)
-
 -- the reply to an admitted program is the answers to its lines
-pub answered : (source : Source) (order : EachOrder) (input : List ℕ) (given : List (List ℕ)) (text : Option (List ℕ)) (verified : TypedProgram) (w : Way) (answers : List ℕ)
-    (refused : Bool) (r : Reply) → IsReadyText source order input text (ready.Run verified) → w ≡ way_of text order verified → AreAnswers w 0 given answers refused → r.text ≡ answers
+pub answered : (source : Source) (order : EachOrder) (input : List ℕ) (given : List (List ℕ)) (text : Option SourceText) (verified : TypedProgram) (w : Way) (answers : List ℕ)
+    (refused : Bool) (r : Reply) → IsReady source order input (ready.Run text verified) → w ≡ way_of (text_of text) order verified → AreAnswers w 0 given answers refused → r.text ≡ answers
     → r.close ≡ close_of refused → RepliesByParts source order input given r
-answered source order input given text verified w answers refused r (program, spells, is, kept, admitted) way_is made text_is closes =
+answered source order input given text verified w answers refused r (program, read, is, kept) way_is made text_is closes =
     let way : w ≡ way_of (source_text source input) order verified = way_is ∙ ap (λ (t : Option (List ℕ)). way_of t order verified) is in
     let whole = subst (λ (way : Way). AreAnswers way 0 given answers refused) way made in
     let printed = subst (λ (t : List ℕ). AreAnswers (way_of (source_text source input) order verified) 0 given t refused) (sym text_is) whole in
-    inl (program, spells, inl (admitted, (verified, refused, kept, printed, closes)))
-
--- or its rejection
-pub rejected : (source : Source) (order : EachOrder) (input : List ℕ) (given : List (List ℕ)) (r : Reply) → IsRejectedText source order input r → RepliesByParts source order input given r
-rejected source order input given r (inl (program, spells, h)) = inl (program, spells, inr h)
-rejected source order input given r (inr h) = inr h
+    inl (program, read, (verified, refused, kept, printed, closes))
 
 -- ---- a program and lines
 

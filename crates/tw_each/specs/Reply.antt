@@ -1,25 +1,21 @@
 -- The reply to a program and the lines of inputs after it.
-use Rattle.std.specs.Prelude.{◌≡◌, ◌≢◌, ◌⊎◌, ℕ, Bool, true, false, List, [], Option, Some, MatchOption, codes, is_some, IsUtf8}
+use Rattle.std.specs.Prelude.{◌≡◌, ◌⊎◌, ℕ, Bool, true, false, List, Option, Some, MatchOption, codes, is_some, IsUtf8}
 use Rattle.tw_code.specs.declared.procedure.Procedure.{Procedure}
 use Rattle.tw_code.specs.format.Program.{Versioned}
-use Rattle.tw_code.specs.accepting.WellTyped.{IsAccepted}
 use Rattle.tw_verify.specs.Typed.{TypedProgram}
 use Rattle.tw_order.specs.declared.runs.EachOrder.{EachOrder}
 use Rattle.tw_order.specs.declared.form.Places.TheVariants.{Hidden}
 use Rattle.tw_order.specs.declared.order.Source.{Source}
 use Rattle.tw_json_output.specs.Run.{json_line}
-use Rattle.tw_program_output.specs.Admission.{AreExcessLines, StaysWithinCaps, has_cap}
-use Rattle.tw_program_output.specs.Check.{IsRefused}
+use Rattle.tw_program_output.specs.Admission.{IsAdmitted, IsRejected}
 use Rattle.tw_program_output.specs.ErrorJson.{error_json}
-use Rattle.tw_source.specs.Failure.{coded, failed, failed_with, uncoded}
-use Rattle.tw_source.specs.declared.failure.Failure.{Failure}
+use Rattle.tw_source.specs.Failure.{coded, failed, uncoded}
 use Rattle.tw_source.specs.declared.failure.Position.TheVariants as position
 use Rattle.tw_source.specs.Inputs.{cut_inputs, lines_in}
-use Rattle.tw_source.specs.Program.{AreParseErrorDetails, IsFailure, Spells, SpellsNone, source_text}
+use Rattle.tw_source.specs.Program.{RepliesBySource, HasProgram, source_text}
 use Rattle.tw_source.specs.Reply.{Reply, reply}
 use Rattle.tw_source.specs.declared.close.Close.{Close}
 use Rattle.tw_source.specs.declared.close.Close.TheVariants.{CommandLine, Refused, Success}
-use Rattle.tw_source.specs.declared.program.NoProgram.{NoProgram}
 use Rattle.tw_each.specs.Answers.{AreAnswers, Way, too_long}
 
 -- returns an error's reply as a JSON object
@@ -39,32 +35,23 @@ abbrev pub IsAnswered : Option (List ℕ) → EachOrder → List Procedure → L
 IsAnswered text order program given r =
     (verified : TypedProgram) × (refused : Bool) × (verified.program ≡ program) × AreAnswers (way_of text order verified) 0 given r.text refused × (r.close ≡ close_of refused)
 
--- holds for an accepted program no bound of which is above its cap
-abbrev pub IsAdmitted : EachOrder → List Procedure → Type 0
-IsAdmitted order program = IsAccepted program × AreExcessLines (has_cap order.caps) program (Some order.limit) order.caps [] × StaysWithinCaps program (Some order.limit) order.caps
+-- holds for a program that is read and admitted
+abbrev pub IsRead : Source → EachOrder → List ℕ → Versioned → Type 0
+IsRead source order input program = HasProgram source input program × IsAdmitted program.procedures (Some order.limit) order.caps
 
--- holds for the object with the lines for the bounds of an accepted program that are above their caps, or for the program's rejection
-abbrev pub IsRejected : Option (List ℕ) → EachOrder → List Procedure → Reply → Type 0
-IsRejected text order program r =
-    (IsAccepted program
-    × ((excess : List ℕ) × AreExcessLines (has_cap order.caps) program (Some order.limit) order.caps excess × (excess ≢ []) × (r ≡ json_reply (failed_with (coded 79 7 position.Nowhere) excess))))
-    ⊎ ((error : Reply) × IsRefused Hidden text program error × (r ≡ json_reply error))
+-- holds for the text that rejects what is read, or says why it is no program
+abbrev pub IsRejectionText : Source → EachOrder → List ℕ → Reply → Type 0
+IsRejectionText source order input error =
+    RepliesBySource source input (λ program. IsRejected Hidden (source_text source input) program.procedures (Some order.limit) order.caps) error
 
--- holds for the reply to an admitted program, or for the program's rejection
-abbrev pub RepliesByLines : Option (List ℕ) → EachOrder → List Procedure → List (List ℕ) → Reply → Type 0
-RepliesByLines text order program given r = (IsAdmitted order program × IsAnswered text order program given r) ⊎ IsRejected text order program r
+-- holds for it as a JSON object
+abbrev pub IsRejectionLine : Source → EachOrder → List ℕ → Reply → Type 0
+IsRejectionLine source order input r = (error : Reply) × IsRejectionText source order input error × (r ≡ json_reply error)
 
--- holds for the reason why there is no program
-abbrev pub IsNoProgram : Source → List ℕ → Reply → Type 0
-IsNoProgram source input r =
-    (error : Reply) × (why : NoProgram) × (failure : Failure) × (more : List ℕ) × SpellsNone source input why × IsFailure input why failure × AreParseErrorDetails input why more
-    × (error ≡ failed_with failure more)
-    × (r ≡ json_reply error)
-
--- holds for the reply to a program and lines of inputs, or for the reason why there is no program
+-- holds for the reply to a program and lines of inputs
 abbrev pub RepliesByParts : Source → EachOrder → List ℕ → List (List ℕ) → Reply → Type 0
 RepliesByParts source order input given r =
-    ((program : Versioned) × Spells source input program × RepliesByLines (source_text source input) order program.procedures given r) ⊎ IsNoProgram source input r
+    ((program : Versioned) × IsRead source order input program × IsAnswered (source_text source input) order program.procedures given r) ⊎ IsRejectionLine source order input r
 
 -- holds for the reply to a program and the lines after its line `inputs`; without that line the command line is rejected
 abbrev pub RepliesInUtf8 : Source → EachOrder → List ℕ → Reply → Type 0

@@ -2,16 +2,15 @@
 use Rattle.std.specs.Prelude.{◌≡◌, ◌⊎◌, ◌==◌, ◌++◌, ◌+◌, ◌||◌, ℕ, Bool, List, [], ◌∷◌, Option, Result, Ok, Err, IfOk, IfSome, MatchResult, length, take, nat_lt, if◌then◌else◌}
 use Rattle.std.specs.Io.KnownBytes.{Appends, Consumes, Keeps}
 use Rattle.std.specs.List.{slice_split}
-use Rattle.tw_code.specs.declared.procedure.Procedure.{Procedure}
 use Rattle.tw_code.specs.format.Program.{Versioned}
 use Rattle.tw_order.specs.declared.runs.EachOrder.{EachOrder}
 use Rattle.tw_order.specs.declared.order.Source.{Source}
 use Rattle.tw_source.specs.Input.{most_bytes}
-use Rattle.tw_source.specs.Program.{Spells, source_text}
+use Rattle.tw_source.specs.Program.{source_text}
 use Rattle.tw_source.specs.Reply.{Reply, reply}
 use Rattle.tw_verify.specs.Typed.{TypedProgram}
 use Rattle.tw_each.specs.Answers.{AreAnswers, Way}
-use Rattle.tw_each.specs.Reply.{IsAdmitted, IsNoProgram, IsRejected, too_long_reply, way_of}
+use Rattle.tw_each.specs.Reply.{IsRead, IsRejectionLine, too_long_reply, way_of}
 use Rattle.tw_each.specs.declared.stream.AnsweredLines.{AnsweredLines}
 use Rattle.tw_each.specs.declared.stream.StreamError.{StreamError}
 use Rattle.tw_each.specs.declared.stream.StreamError.TheVariants.{NoMemory, Read, Write}
@@ -97,11 +96,6 @@ AnswersAll w from left old new result =
 
 -- ---- a program and lines
 
--- holds if the program is admitted, and run on the lines
-abbrev pub RunsOn : Option (List ℕ) → EachOrder → List Procedure → Option (List ℕ) → Option (List ℕ) → Option (List ℕ) → Option (List ℕ) → Result Bool StreamError → Type 0
-RunsOn text order program from left old new result =
-    IsAdmitted order program × ((verified : TypedProgram) × (verified.program ≡ program) × AnswersAll (way_of text order verified) from left old new result)
-
 -- holds if an allocation failed before anything was read
 abbrev pub BreaksFirst : Option (List ℕ) → Option (List ℕ) → Option (List ℕ) → Option (List ℕ) → StreamError → Type 0
 BreaksFirst from left old new why = (why ≡ NoMemory) × Keeps from left × Keeps old new
@@ -112,19 +106,15 @@ Becomes Runs Rejects from left old new (Ok (Answered refused)) = Runs (Ok refuse
 Becomes Runs Rejects from left old new (Ok (Rejected r)) = Rejects (reply r.text.items r.close) × Keeps from left × Keeps old new
 Becomes Runs Rejects from left old new (Err why) = Runs (Err why) ⊎ BreaksFirst from left old new why
 
-abbrev pub StreamsProgram : Option (List ℕ) → EachOrder → List Procedure → Option (List ℕ) → Option (List ℕ) → Option (List ℕ) → Option (List ℕ) → Result Streamed StreamError → Type 0
-StreamsProgram text order program from left old new result = Becomes (RunsOn text order program from left old new) (IsRejected text order program) from left old new result
-
--- holds for the reply to a program of too many bytes, to one that is rejected, or to what is no program
+-- holds for the reply to a program of too many bytes, or to one that is rejected
 abbrev pub IsRejection : Source → EachOrder → List ℕ → Reply → Type 0
-IsRejection source order input r =
-    ((nat_lt most_bytes (length input) ≡ Bool.true) × (r ≡ too_long_reply))
-    ⊎ (((program : Versioned) × Spells source input program × IsRejected (source_text source input) order program.procedures r) ⊎ IsNoProgram source input r)
+IsRejection source order input r = ((nat_lt most_bytes (length input) ≡ Bool.true) × (r ≡ too_long_reply)) ⊎ IsRejectionLine source order input r
 
 -- holds if what is read is a program that is admitted, and run on the lines
 abbrev pub RunsOnLines : Source → EachOrder → List ℕ → Option (List ℕ) → Option (List ℕ) → Option (List ℕ) → Option (List ℕ) → Result Bool StreamError → Type 0
 RunsOnLines source order input from left old new result =
-    (program : Versioned) × Spells source input program × RunsOn (source_text source input) order program.procedures from left old new result
+    (program : Versioned) × IsRead source order input program
+    × ((verified : TypedProgram) × (verified.program ≡ program.procedures) × AnswersAll (way_of (source_text source input) order verified) from left old new result)
 
 -- holds for what becomes of what is read as a program, and of the lines
 abbrev pub Streams : Source → EachOrder → List ℕ → Option (List ℕ) → Option (List ℕ) → Option (List ℕ) → Option (List ℕ) → Result Streamed StreamError → Type 0

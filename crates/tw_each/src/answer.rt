@@ -47,6 +47,7 @@ pub struct AnswerLine {
     pub refused: bool,
 }
 
+/// Returns the parameters for which a line has inputs.
 fn params_of<'a>(run: &EachRun<'a>) -> &'a [Param]
     ensures { result.now ≡ main_params run.now.verified.now.program }
 {

@@ -1,7 +1,6 @@
 //! The answers to all lines, in their order.
 
 ghost use Rattle.std.specs.Prelude.{◌≡◌, ◌+◌, ◌^◌, ◌<◌, ◌++◌, List, ℕ, IfOk, length, map};
-ghost use Rattle.tw_source.specs.Input.{is_gap_byte};
 ghost use Rattle.tw_each.specs.Answers.{AreAnswers, IsLine, IsShortLine, is_blank, other_bytes as other_bytes_is, too_long as too_long_is, way};
 
 use crate::answer::{EachRun, put_answer, put_unread};
@@ -9,7 +8,7 @@ use crate::line_count::LineCount;
 use crate::runs_line::RunsLine;
 use std::alloc::{AllocError, Global};
 use tw_inputs::Scratch;
-use tw_source::{Failure, Position};
+use tw_source::{Failure, Position, is_gap};
 
 /// The maximum number of bytes of a line.
 pub(crate) const MOST_BYTES: usize = 16_777_216;
@@ -33,12 +32,6 @@ pub(crate) fn too_long() -> Failure
     ensures { result ≡ too_long_is }
 {
     Failure::coded(b'H', 2, Position::Nowhere)
-}
-
-fn is_gap(byte: u8) -> bool
-    ensures { result ≡ is_gap_byte byte }
-{
-    byte == b' ' || byte == b'\t' || byte == b'\r' || byte == b'\n'
 }
 
 /// Returns whether a line has no other characters than blanks.

@@ -25,6 +25,7 @@ pub(crate) struct Begun {
 }
 
 impl Begun {
+    /// Notes when a batch of lines begins.
     pub(crate) fn now(clock: &impl Clock) -> Begun {
         Begun {
             at: Instant::now(clock),

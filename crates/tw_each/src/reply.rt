@@ -1,26 +1,22 @@
 //! How a program becomes ready to run on lines, or the reply that rejects it.
 
-ghost use Rattle.std.specs.Prelude.{◌≡◌, ◌≢◌, IfOk, List, ℕ, Option};
-ghost use Rattle.tw_order.specs.declared.order.Source.{Source as ReadAs};
-ghost use Rattle.tw_code.specs.accepting.WellTyped.{IsAccepted};
-ghost use Rattle.tw_source.specs.Program.{SpellsNone};
+ghost use Rattle.std.specs.Prelude.{◌≡◌, IfOk};
 ghost use Rattle.tw_source.specs.Reply.{reply};
-ghost use Rattle.tw_source.specs.Source.{MayBeSource, text_of};
+ghost use Rattle.tw_source.specs.Source.{text_of};
 ghost use Rattle.tw_each.specs.Answers.{way};
-ghost use Rattle.tw_each.specs.Ready.{IsReady, IsReadyText};
-ghost use Rattle.tw_each.specs.Reply.{IsNoProgram, close_of, json_reply, way_of, too_long_reply as too_long_reply_is};
+ghost use Rattle.tw_each.specs.Ready.{IsReady};
+ghost use Rattle.tw_each.specs.Reply.{close_of, json_reply, way_of, too_long_reply as too_long_reply_is};
 
 use crate::answer::EachRun;
 use crate::lines::too_long;
 use std::alloc::{AllocError, Global};
-use tw_code::Program;
 use tw_order::{EachOrder, Places, Source};
-use tw_program_output::{error_line, excess_reply, excess_text, rejection_reply};
+use tw_program_output::{Admitted, admit, error_line};
 use tw_source::{
-    Close, Failure, NoProgram, Position, ReadProgram, Reply, SourceText, failed_reply,
-    parse_error_reply, read_program,
+    Close, Failure, Position, ReadProgram, Reply, SourceText, failed_reply, parse_error_reply,
+    read_program,
 };
-use tw_verify::{Verified, VerifyError, verify};
+use tw_verify::Verified;
 
 /// Returns an error's reply as a JSON object.
 pub(crate) fn json_reply(alloc: Global, error: Reply) -> Result<Reply, AllocError>
@@ -44,58 +40,39 @@ pub fn close_of(refused: bool) -> Close
     }
 }
 
-/// The next step of a program: it is run, or an error's reply.
+/// A program that may be run on lines, with the text from which it was read, if from any; or the text that rejects it.
 #[derive(Drop)]
-pub(crate) enum Ready {
-    Run(Verified),
+pub(crate) enum Ready<'a> {
+    Run(Option<SourceText<'a>>, Verified),
     Rejected(Reply),
 }
 
-/// Returns an accepted program, unless a bound is above its cap.
-fn capped(alloc: Global, order: &EachOrder, verified: Verified) -> Result<Ready, AllocError>
-    requires { IsAccepted verified.program }
-    ensures { IfOk result (λ r. (text : Option (List ℕ)) → IsReady text order.now verified.program r) }
-{
-    let excess = excess_text(alloc, &verified, Some(order.limit), order.caps)?;
-    if excess.is_empty() {
-        return Ok(Ready::Run(verified));
-    }
-    let error = excess_reply(alloc, &excess)?;
-    Ok(Ready::Rejected(json_reply(alloc, error)?))
-}
-
-/// Verifies a program.
-pub(crate) fn admit(
+/// Reads a program, verifies it, and compares its bounds with their caps.
+pub(crate) fn read_ready<'a>(
     alloc: Global,
-    source: &Option<SourceText<'_>>,
+    source: Source,
     order: &EachOrder,
-    program: Program,
-) -> Result<Ready, AllocError>
-    requires { MayBeSource source.now program.procedures }
-    ensures { IfOk result (IsReady (text_of source.now) order.now program.procedures) }
+    input: &'a [u8],
+) -> Result<Ready<'a>, AllocError>
+    ensures { IfOk result (IsReady source order.now input.entry.now) }
 {
-    match verify(alloc, program) {
-        Ok(verified) => capped(alloc, order, verified),
-        Err(refused) => match refused.no {
-            VerifyError::NoMemory => Err(AllocError),
-            _ => {
-                let error = rejection_reply(alloc, source, Places::Hidden, &refused)?;
-                Ok(Ready::Rejected(json_reply(alloc, error)?))
+    match read_program(alloc, source, input) {
+        Ok(read) => {
+            let ReadProgram {
+                program,
+                source: text,
+            } = read;
+            let (places, limit) = (Places::Hidden, Some(order.limit));
+            match admit(alloc, &text, places, limit, order.caps, program)? {
+                Admitted::Run(verified) => Ok(Ready::Run(text, verified)),
+                Admitted::Rejected(error) => Ok(Ready::Rejected(error)),
             }
-        },
+        }
+        Err(why) => {
+            let error = parse_error_reply(alloc, &why)?;
+            Ok(Ready::Rejected(error))
+        }
     }
-}
-
-/// Returns the reply with the reason why there is no program, as a JSON object.
-pub(crate) fn no_program_reply(
-    alloc: Global,
-    input: &[u8],
-    why: NoProgram<'_>,
-) -> Result<Reply, AllocError>
-    ensures { IfOk result (λ r. (source : ReadAs) → (why.entry ≢ NoProgram.NoMemory → SpellsNone source input.now why.entry) → IsNoProgram source input.now (reply r.text.items r.close)) }
-{
-    let error = parse_error_reply(alloc, input, why)?;
-    json_reply(alloc, error)
 }
 
 /// Returns how a program is run on lines.
@@ -112,41 +89,6 @@ pub(crate) fn each_run<'a>(
         layout: order.layout,
         limit: order.limit.events(),
         seconds: order.seconds,
-    }
-}
-
-/// A program's text, if it was read from one, and the program's next step.
-#[derive(Drop)]
-pub(crate) struct ReadyText<'a> {
-    pub(crate) text: Option<SourceText<'a>>,
-    pub(crate) ready: Ready,
-}
-
-/// Reads a program, and verifies it.
-pub(crate) fn ready_text<'a>(
-    alloc: Global,
-    source: Source,
-    order: &EachOrder,
-    input: &'a [u8],
-) -> Result<ReadyText<'a>, AllocError>
-    ensures { IfOk result (λ r. IsReadyText source order.now input.entry.now (text_of r.text) r.ready) }
-{
-    match read_program(alloc, source, input) {
-        Ok(read) => {
-            let ReadProgram {
-                program,
-                source: text,
-            } = read;
-            let ready = admit(alloc, &text, order, program)?;
-            Ok(ReadyText { text, ready })
-        }
-        Err(why) => {
-            let reply = no_program_reply(alloc, input, why)?;
-            Ok(ReadyText {
-                text: None,
-                ready: Ready::Rejected(reply),
-            })
-        }
     }
 }
 

@@ -1,20 +1,21 @@
 //! The answers of a program to lines that are read.
 
 ghost use Rattle.std.specs.Prelude.{◌≡◌};
-ghost use Rattle.tw_source.specs.Source.{MayBeSource, text_of};
-ghost use Rattle.tw_each.specs.Stream.{Streams, StreamsProgram};
+ghost use Rattle.tw_source.specs.Source.{text_of};
+ghost use Rattle.tw_each.specs.Reply.{way_of};
+ghost use Rattle.tw_each.specs.Stream.{AnswersAll, Streams};
 
 use crate::lines::MOST_BYTES;
-use crate::reply::{Ready, admit, each_run, no_program_reply, too_long_reply};
+use crate::reply::{Ready, each_run, json_reply, read_ready, too_long_reply};
 use crate::stream::{LineWork, StreamError, answer_stream};
 use crate::team::{LineCrew, LineTeam};
 use crate::threads::LineThreads;
 use std::io::{Read, Write};
 use std::thread::Threads;
 use std::time::Clock;
-use tw_code::Program;
 use tw_order::{EachOrder, Source};
-use tw_source::{ReadProgram, Reply, SourceText, read_program};
+use tw_source::{Reply, SourceText};
+use tw_verify::Verified;
 
 /// The end of a program that is run on lines.
 #[derive(Drop)]
@@ -25,29 +26,20 @@ pub enum Streamed {
     Rejected(Reply),
 }
 
-/// Verifies a program, and runs it on the lines that are read.
-fn stream_program<H: Threads + Sync, C: Clock + Sync, R: Read, W: Write>(
+/// Runs a program on the lines that are read. Returns whether any line was refused.
+fn stream_lines<H: Threads + Sync, C: Clock + Sync, R: Read, W: Write>(
     crew: &LineCrew<'_, H, C>,
     order: &EachOrder,
     source: &Option<SourceText<'_>>,
-    program: Program,
+    verified: &Verified,
     reader: &mut R,
     writer: &mut W,
-) -> Result<Streamed, StreamError>
-    requires source { MayBeSource source.now program.procedures }
-    requires few { crew.now.team.now.jobs ≡ order.now.jobs }
-    ensures { StreamsProgram (text_of source.now) order.now program.procedures (R.remaining reader.old) (R.remaining reader.new) (W.contents writer.old) (W.contents writer.new) result }
+) -> Result<bool, StreamError>
+    ensures { AnswersAll (way_of (text_of source.now) order.now verified.now) (R.remaining reader.old) (R.remaining reader.new) (W.contents writer.old) (W.contents writer.new) result }
 {
-    let ready = admit(crew.alloc, source, order, program)?;
-    match ready {
-        Ready::Run(verified) => {
-            let run = each_run(source, order, &verified);
-            let work = LineWork { crew, run: &run };
-            let refused = answer_stream(&work, reader, writer)?;
-            Ok(Streamed::Answered(refused))
-        }
-        Ready::Rejected(reply) => Ok(Streamed::Rejected(reply)),
-    }
+    let run = each_run(source, order, verified);
+    let work = LineWork { crew, run: &run };
+    answer_stream(&work, reader, writer)
 }
 
 /// Reads a program, and runs it on the lines that are read.
@@ -66,16 +58,13 @@ fn stream_source<H: Threads + Sync, C: Clock + Sync, R: Read, W: Write>(
         let reply = too_long_reply(crew.alloc)?;
         return Ok(Streamed::Rejected(reply));
     }
-    match read_program(crew.alloc, source, input) {
-        Ok(read) => {
-            let ReadProgram {
-                program,
-                source: text,
-            } = read;
-            stream_program(crew, order, &text, program, reader, writer)
+    match read_ready(crew.alloc, source, order, input)? {
+        Ready::Run(text, verified) => {
+            let refused = stream_lines(crew, order, &text, &verified, reader, writer)?;
+            Ok(Streamed::Answered(refused))
         }
-        Err(why) => {
-            let reply = no_program_reply(crew.alloc, input, why)?;
+        Ready::Rejected(error) => {
+            let reply = json_reply(crew.alloc, error)?;
             Ok(Streamed::Rejected(reply))
         }
     }

@@ -8,7 +8,7 @@ ghost use Rattle.tw_each.specs.Reply.{RepliesByEach, RepliesByParts, close_of as
 use crate::line_count::LineCount;
 use crate::lines::{Answers, answer_lines};
 use crate::parts::parts_of;
-use crate::reply::{Ready, ReadyText, close_of, each_run, json_reply, ready_text};
+use crate::reply::{Ready, close_of, each_run, json_reply, read_ready};
 use crate::runs_line::WithoutClock;
 use crate::team::{LineCrew, LineTeam};
 use crate::threads::{LineThreads, divided};
@@ -83,14 +83,13 @@ fn parts_reply<H: Threads + Sync, C: Clock + Sync>(
     requires { crew.now.team.now.jobs ≡ order.now.jobs }
     ensures { IfOk result (λ r. RepliesByParts source order.now parts.now.program.now (map (λ line. line.now) parts.now.lines.items) (reply r.text.items r.close)) }
 {
-    let ReadyText { text, ready } = ready_text(crew.alloc, source, order, parts.program)?;
-    match ready {
-        Ready::Run(verified) => {
+    match read_ready(crew.alloc, source, order, parts.program)? {
+        Ready::Run(text, verified) => {
             let run = each_run(&text, order, &verified);
             let answers = divided(crew, &run, 0, &parts.lines)?;
             Ok(answered_reply(answers))
         }
-        Ready::Rejected(reply) => Ok(reply),
+        Ready::Rejected(error) => json_reply(crew.alloc, error),
     }
 }
 
@@ -103,9 +102,8 @@ fn parts_reply_in_turn(
 ) -> Result<Reply, AllocError>
     ensures { IfOk result (λ r. RepliesByParts source order.now parts.now.program.now (map (λ line. line.now) parts.now.lines.items) (reply r.text.items r.close)) }
 {
-    let ReadyText { text, ready } = ready_text(alloc, source, order, parts.program)?;
-    match ready {
-        Ready::Run(verified) => {
+    match read_ready(alloc, source, order, parts.program)? {
+        Ready::Run(text, verified) => {
             let run = each_run(&text, order, &verified);
             let answers = answer_lines(
                 alloc,
@@ -117,7 +115,7 @@ fn parts_reply_in_turn(
             )?;
             Ok(answered_reply(answers))
         }
-        Ready::Rejected(reply) => Ok(reply),
+        Ready::Rejected(error) => json_reply(alloc, error),
     }
 }
 

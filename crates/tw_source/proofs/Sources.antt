@@ -1,16 +1,16 @@
 -- The line of a text that is printed.
 use Rattle.std.proofs.Common.{◌≡◌, ℕ, zero, suc, ◌+◌, ◌-◌, ◌<◌, true, false, List, [], ◌∷◌, ◌++◌, length, Option, Some, None, MatchOption, refl, subst, ap, ◌∙◌, arith}
-use Rattle.tw_source.proofs.ReplyNames.{AreOrigins, ComesFrom, ArePlaceDetails, AreTextDetails, LinesSay, Procedure, ParserState, ExpandsTo, after_line, at_place, at_start, instr_at, length-append, lines}
+use Rattle.tw_source.proofs.ReplyNames.{AreOrigins, ComesFrom, ArePlaceDetails, AreTextDetails, HaveStatements, Procedure, ParserState, ExpandsTo, after_line, at_place, at_start, instr_at, length-append, lines}
 use Rattle.std.specs.List.{slice_get}
 use Rattle.tw_asm.specs.Fault.{situation, situation_from}
 use Rattle.tw_asm.specs.Statement.{Statement, Code, Head, Label, OfVersion, Registers}
-use Rattle.tw_diagnostics.specs.LineRole.{HasNoHead, IsFirstHead, is_head, says_of}
+use Rattle.tw_diagnostics.specs.LineRole.{HasNoHead, IsFirstHead, is_head, statement_role}
 use Rattle.tw_symbols.proofs.LineByLine.{as_many}
 use Rattle.tw_verify.specs.declared.rejection.VerifyError.{VerifyError}
 use Rattle.tw_verify.specs.declared.rejection.VerifyError.TheVariants as rejection
 
 -- the lines are as many as their statements
-pub said_length : (number : ℕ) (s : ParserState) (ls : List (List ℕ)) (said : List (Option Statement)) → LinesSay number s ls said → length said ≡ length ls
+pub said_length : (number : ℕ) (s : ParserState) (ls : List (List ℕ)) (said : List (Option Statement)) → HaveStatements number s ls said → length said ≡ length ls
 said_length number s [] [] h = refl
 said_length number s [] (x ∷ said) h = absurd h
 said_length number s (line ∷ ls) [] h = absurd h
@@ -62,7 +62,7 @@ none_begun : (number : ℕ) (s : ParserState) (said : List (Option Statement)) �
 none_begun number s [] h = refl
 none_begun number s (x ∷ said) h = none_begun (number + 1) (after_line number x s) said h.1 ∙ by x h.0
   where
-    by : (y : Option Statement) → is_head (says_of y) ≡ false → (after_line number y s).procedures ≡ s.procedures
+    by : (y : Option Statement) → is_head (statement_role y) ≡ false → (after_line number y s).procedures ≡ s.procedures
     by None e = refl
     by (Some (OfVersion version)) e = refl
     by (Some (Head kind params)) e = absurd (untrue e)

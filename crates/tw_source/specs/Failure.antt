@@ -1,5 +1,7 @@
 -- Errors as values, and their first lines.
 use Rattle.std.specs.Prelude.{ℕ, ◌==◌, ◌+◌, ◌/◌, ◌%◌, if◌then◌else◌, List, [], ◌∷◌, ◌++◌, codes, decimal, Option, Some, None, length}
+use Rattle.tw_asm.specs.Fault as asm
+use Rattle.tw_asm.specs.declared.fault.FaultNo.{FaultNo}
 use Rattle.tw_source.specs.declared.failure.ErrorCode.{ErrorCode}
 use Rattle.tw_source.specs.declared.failure.Failure.{Failure}
 use Rattle.tw_source.specs.declared.failure.Position.{Position}
@@ -14,6 +16,10 @@ coded letter number at = record { code = Some (record { letter = letter; number 
 
 abbrev pub uncoded : Position → Failure
 uncoded at = record { code = None; position = at; before = 0 }
+
+-- returns the error of a fault in a line of an assembly text, at this word and column
+abbrev pub fault_failure : FaultNo → ℕ → (ℕ × ℕ) → Failure
+fault_failure which line at = coded 65 (asm.fault_number which) (position.Line line at.0 at.1)
 
 -- ---- their first lines
 

@@ -7,7 +7,7 @@ use Rattle.clap.specs.Words.{Text}
 use Rattle.tw_types.specs.declared.input.Input.{Input}
 use Rattle.tw_inputs.specs.declared.json_inputs.Place.{Place}
 use Rattle.tw_inputs.specs.declared.json_inputs.Place.TheVariants as place
-use Rattle.tw_inputs.specs.InputWords.{AreSpelled, IsRefusedWord, RefusedWord}
+use Rattle.tw_inputs.specs.InputWords.{AreEncoded, IsRejectedWord, RejectedWord}
 use Rattle.tw_source.specs.Failure.{uncoded}
 use Rattle.tw_source.specs.declared.failure.Position.{Position}
 use Rattle.tw_source.specs.declared.failure.Position.TheVariants as position
@@ -48,7 +48,7 @@ abbrev pub input_word_line : ℕ → List ℕ
 input_word_line number = codes "input word " ++ (decimal number ++ codes " refused\n")
 
 -- holds for the line with the first input word that can't be parsed, and the one with the reason
-abbrev pub PrintsInputWord : RefusedWord → Reply → Type 0
+abbrev pub PrintsInputWord : RejectedWord → Reply → Type 0
 PrintsInputWord refused r = r ≡ reply (input_word_line refused.number ++ refused.reason) (Unreadable (uncoded (position.Input refused.number)))
 
 -- returns where a fault of JSON inputs is: in one input, or in all
@@ -64,4 +64,4 @@ unreadable at text = reply text (Unreadable (uncoded (fault_position at)))
 -- holds if each word encodes its input, and this is the reply to these; or if one encodes none
 abbrev pub RepliesByWords : List Text → (List Input → Reply → Type 0) → Reply → Type 0
 RepliesByWords words Answers r =
-    ((given : List Input) × AreSpelled given words × Answers given r) ⊎ ((refused : RefusedWord) × IsRefusedWord words refused × PrintsInputWord refused r)
+    ((given : List Input) × AreEncoded given words × Answers given r) ⊎ ((refused : RejectedWord) × IsRejectedWord words refused × PrintsInputWord refused r)

@@ -1,9 +1,9 @@
--- Programs and inputs that are read, and their errors. Replies are in Reply, errors in Failure, their words in FaultWord and NamePlace, lines of a text in Text and symbolic assembly in Names.
+-- Programs and inputs that are read, and their errors. Replies are in Reply, errors in Failure, their words in FaultyText and NamePlace, lines of a text in Text and symbolic assembly in Names.
 -- NameHint has what was meant by a name. Program has the program that is read, Inputs the inputs, Examples words that encode such.
 pub mod Input
 pub mod Reply
 pub mod Failure
-pub mod FaultWord
+pub mod FaultyText
 pub mod NamePlace
 pub mod NameHint
 pub mod Examples

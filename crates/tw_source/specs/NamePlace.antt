@@ -1,5 +1,5 @@
 -- The place of a name in a line of a text.
-use Rattle.std.specs.Prelude.{◌≡◌, ◌⊎◌, ◌==◌, ◌<◌, ◌≤◌, ◌+◌, ◌-◌, ◌&&◌, ◌||◌, ℕ, Bool, false, true, IsUtf8, List, Option, None, Some, drop, get_or, if◌then◌else◌, length, nat_eq, nat_le, slice_get, take}
+use Rattle.std.specs.Prelude.{◌≡◌, ◌⊎◌, ◌==◌, ◌<◌, ◌≤◌, ◌+◌, ◌-◌, ◌&&◌, ◌||◌, ℕ, Bool, false, true, List, Option, None, Some, drop, get_or, if◌then◌else◌, length, nat_eq, nat_le, slice_get, take}
 use Rattle.std.specs.List.{before_first, list_any, starts_with}
 use Rattle.std.specs.Str.Lines.{lines}
 use Rattle.tw_diagnostics.specs.Stops.{column_after}
@@ -62,4 +62,4 @@ IsPlaceInSome (Some line) name at = IsPlaceIn line (without_comment line) name a
 
 -- holds if this is the place in the text's line of this number
 abbrev pub IsNamePlace : List ℕ → ℕ → List ℕ → (ℕ × ℕ) → Type 0
-IsNamePlace source number name at = IsUtf8 source → IsPlaceInSome (slice_get (lines source) (number - 1)) name at
+IsNamePlace text number name at = IsPlaceInSome (slice_get (lines text) (number - 1)) name at

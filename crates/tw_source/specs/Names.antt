@@ -1,12 +1,6 @@
--- Output about symbolic assembly and its expanded text.
-use Rattle.std.specs.Prelude.{◌≡◌, ◌⊎◌, ◌==◌, ◌++◌, ◌-◌, ℕ, Bool, true, false, nat_eq, if◌then◌else◌, List, [], codes, slice_get, Option, Some, None}
+-- Output about symbolic assembly that can't be expanded.
+use Rattle.std.specs.Prelude.{◌≡◌, ◌++◌, ◌==◌, ℕ, nat_eq, if◌then◌else◌, List, [], codes}
 use Rattle.std.specs.List.{ends_with, list_any}
-use Rattle.std.specs.Str.{bytes_eq}
-use Rattle.std.specs.Str.Lines.{lines}
-use Rattle.tw_asm.specs.declared.fault.FaultNo.{FaultNo}
-use Rattle.tw_asm.specs.declared.fault.FaultNo.TheVariants as fault
-use Rattle.tw_symbols.specs.Answers.{name_number}
-use Rattle.tw_symbols.specs.Expansion.{HasNames, IsFirstRejection, Rejection, ExpandsTo}
 use Rattle.tw_symbols.specs.declared.meaning.Expected.{Expected}
 use Rattle.tw_symbols.specs.declared.meaning.Expected.TheVariants as asked
 use Rattle.tw_symbols.specs.declared.meaning.Bank.TheVariants as bank
@@ -14,22 +8,9 @@ use Rattle.tw_symbols.specs.declared.meaning.Binding.{Binding}
 use Rattle.tw_symbols.specs.declared.meaning.Binding.TheVariants as binding
 use Rattle.tw_symbols.specs.declared.rejection.NameNo.{NameNo}
 use Rattle.tw_symbols.specs.declared.rejection.NameNo.TheVariants as no
-use Rattle.tw_diagnostics.specs.Diagnostics.{IsTextReason}
 use Rattle.tw_source.specs.NameHint.{IsHeadIf, IsNameHint, is_argument}
-use Rattle.tw_source.specs.NamePlace.{IsNamePlace}
+use Rattle.tw_diagnostics.specs.Diagnostics.{line_at, shown_line}
 use Rattle.tw_lexer.specs.Shown.{shortened}
-use Rattle.tw_source.specs.Failure.{coded, failed_with}
-use Rattle.tw_source.specs.declared.failure.Position.TheVariants as position
-use Rattle.tw_source.specs.Reply.{Reply, reply}
-use Rattle.tw_source.specs.Text.{RepliesByUtf8}
-use Rattle.tw_source.specs.declared.close.Close.TheVariants.{Success}
-
--- returns a line of a text, shortened if it is long, if there is one
-abbrev pub line_text : Option (List ℕ) → List ℕ
-line_text None = []
-line_text (Some line) = shortened line ++ codes "\n"
-
--- ---- a name error
 
 -- returns what a name means
 abbrev pub binding_words : Binding → List ℕ
@@ -103,42 +84,4 @@ word_diagnostic word which hint = word_reason word which ++ (hint ++ codes "\n")
 abbrev pub AreNameDetails : List ℕ → NameNo → ℕ → List ℕ → List ℕ → Type 0
 AreNameDetails text which line word more =
     (hint : List ℕ) × (head : List ℕ) × IsNameHint text which word hint × IsHeadIf (is_argument which) text line head
-    × (more ≡ line_text (slice_get (lines text) (line - 1)) ++ (word_diagnostic word which hint ++ head))
-
--- ---- a fault of the expanded text
-
--- returns whether two lines are the same
-abbrev pub is_same_line : Option (List ℕ) → Option (List ℕ) → Bool
-is_same_line None other = false
-is_same_line (Some line) None = false
-is_same_line (Some line) (Some other) = bytes_eq line other
-
--- returns the line as it was written, if its expanded line is another
-abbrev pub written_text : Option (List ℕ) → Option (List ℕ) → List ℕ
-written_text line other = if is_same_line line other then [] else line_text line ++ codes "expands to: "
-
--- returns whether operands are wrong
-abbrev pub is_operand : FaultNo → Bool
-is_operand fault.Operand = true
-is_operand which = false
-
--- holds for what precedes the reason and for what follows it: that line, and the head of the procedure that is called, if there are names
-abbrev pub IsWrittenAround : List ℕ → List ℕ → FaultNo → ℕ → List ℕ → List ℕ → Type 0
-IsWrittenAround text plain which line before head =
-    ((HasNames (lines text) → ⊥) × (before ≡ []) × (head ≡ []))
-    ⊎ (HasNames (lines text) × (before ≡ written_text (slice_get (lines text) (line - 1)) (slice_get (lines plain) (line - 1))) × IsHeadIf (is_operand which) text line head)
-
--- holds for that, and for why the expanded line is rejected
-abbrev pub AreFaultDetails : List ℕ → FaultNo → ℕ → List ℕ → Type 0
-AreFaultDetails text which line more =
-    (plain : List ℕ) × (before : List ℕ) × (reason : List ℕ) × (head : List ℕ) × ExpandsTo text plain × IsWrittenAround text plain which line before head × IsTextReason plain which line reason
-    × (more ≡ before ++ (reason ++ head))
-
--- ---- the expanded text itself
-
--- holds if it is printed, or the first name error
-abbrev pub RepliesByPlain : List ℕ → Reply → Type 0
-RepliesByPlain text r =
-    RepliesByUtf8 text (((plain : List ℕ) × ExpandsTo text plain × (r ≡ reply plain Success))
-    ⊎ ((rejection : Rejection) × (at : ℕ × ℕ) × (more : List ℕ) × IsFirstRejection text rejection × IsNamePlace text rejection.line rejection.word at
-    × AreNameDetails text rejection.no rejection.line rejection.word more × (r ≡ failed_with (coded 78 (name_number rejection.no) (position.Line rejection.line at.0 at.1)) more))) r
+    × (more ≡ shown_line (line_at text line) ++ (word_diagnostic word which hint ++ head))

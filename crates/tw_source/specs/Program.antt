@@ -1,80 +1,99 @@
 -- The program that is read: hex text of its bytes, or assembly text, with names or without.
-use Rattle.std.specs.Prelude.{◌≡◌, ◌⊎◌, ℕ, List, [], IsUtf8, Option, Some, None, Ok, Err}
+use Rattle.std.specs.Prelude.{◌≡◌, ◌⊎◌, ℕ, List, [], IsUtf8, Option, Some, None, Ok, Err, String, string_bytes}
 use Rattle.std.specs.Result.{IsErr}
+use Rattle.std.specs.Str.Lines.{lines}
+use Rattle.std.specs.declared.alloc.Global.{Global}
 use Rattle.hex.specs.Hex.{decode_of}
 use Rattle.tw_asm.specs.Answers.{HasFault}
-use Rattle.tw_asm.specs.Fault as asm
-use Rattle.tw_asm.specs.Spelling.{SpellsProgram}
+use Rattle.tw_asm.specs.Spelling.{EncodesProgram}
 use Rattle.tw_binary.specs.Fault as fault
 use Rattle.tw_code.specs.format.Program.{Versioned}
 use Rattle.tw_binary.specs.Reading.{program_of}
+use Rattle.tw_diagnostics.specs.declared.diagnostic.Reason.{Reason}
 use Rattle.tw_order.specs.declared.order.Source.{Source}
 use Rattle.tw_order.specs.declared.order.Source.TheVariants.{Hex, Assembly}
-use Rattle.tw_asm.specs.declared.fault.FaultNo.{FaultNo}
 use Rattle.tw_symbols.specs.Answers.{name_number, seen_rejection}
-use Rattle.tw_symbols.specs.Expansion.{IsFirstRejection, ExpandsTo}
-use Rattle.tw_source.specs.Failure.{coded, failed_with}
+use Rattle.tw_symbols.specs.Expansion.{ExpandsTo, HasNames, IsFirstRejection}
+use Rattle.tw_source.specs.Failure.{coded, failed_with, fault_failure}
+use Rattle.tw_source.specs.FaultyText.{AreFaultDetails, IsReasonIn, fault_word, plain_in}
 use Rattle.tw_source.specs.Input.{digits_in}
-use Rattle.tw_source.specs.FaultWord.{IsFaultWord}
 use Rattle.tw_source.specs.NamePlace.{IsNamePlace}
-use Rattle.tw_source.specs.Names.{AreFaultDetails, AreNameDetails}
-use Rattle.tw_source.specs.Reply.{Reply}
+use Rattle.tw_source.specs.Names.{AreNameDetails}
+use Rattle.tw_source.specs.Reply.{Reply, reply}
+use Rattle.tw_source.specs.Text.{RepliesByUtf8}
+use Rattle.tw_source.specs.declared.close.Close.TheVariants.{Success}
+use Rattle.tw_source.specs.declared.faulty_text.FaultyText.{FaultyText}
+use Rattle.tw_source.specs.declared.names.UnexpandedText.{UnexpandedText}
 use Rattle.tw_source.specs.declared.program.NoProgram.{NoProgram}
 use Rattle.tw_source.specs.declared.program.NoProgram.TheVariants.{NotHex, NotUtf8, Bytes, Text, Named, NoMemory}
 use Rattle.tw_source.specs.declared.failure.Failure.{Failure}
 use Rattle.tw_source.specs.declared.failure.Position.TheVariants as position
 
 -- holds if the expanded text encodes the program
-abbrev pub SpellsText : List ℕ → Versioned → Type 0
-SpellsText text program = (plain : List ℕ) × ExpandsTo text plain × SpellsProgram program plain
+abbrev pub TextHasProgram : List ℕ → Versioned → Type 0
+TextHasProgram text program = (plain : List ℕ) × ExpandsTo text plain × EncodesProgram program plain
 
-abbrev pub TextHasFault : List ℕ → FaultNo → ℕ → Type 0
-TextHasFault text which line = (plain : List ℕ) × ExpandsTo text plain × HasFault plain which line
+-- holds for the expanded text of a text that has names, or if it has none
+abbrev pub IsExpansion : List ℕ → Option (String Global) → Type 0
+IsExpansion text None = ExpandsTo text text × (HasNames (lines text) → ⊥)
+IsExpansion text (Some plain) = ExpandsTo text (string_bytes plain) × HasNames (lines text)
+
+-- hold for what is kept of a text that encodes no program: its expansion has this first fault, or this is its first name error
+abbrev pub IsFaulty : List ℕ → FaultyText → Type 0
+IsFaulty text f = (f.text.now ≡ text) × IsExpansion text f.plain × HasFault (plain_in f) f.fault.no f.fault.line
+
+abbrev pub IsUnexpanded : List ℕ → UnexpandedText → Type 0
+IsUnexpanded text f = (f.text.now ≡ text) × IsFirstRejection text (seen_rejection f.error)
 
 -- holds if the input encodes the program
-abbrev pub Spells : Source → List ℕ → Versioned → Type 0
-Spells Hex input program = (bytes : List ℕ) × (decode_of (digits_in input) ≡ Ok bytes) × (program_of bytes ≡ Ok program)
-Spells Assembly input program = IsUtf8 input × SpellsText input program
+abbrev pub HasProgram : Source → List ℕ → Versioned → Type 0
+HasProgram Hex input program = (bytes : List ℕ) × (decode_of (digits_in input) ≡ Ok bytes) × (program_of bytes ≡ Ok program)
+HasProgram Assembly input program = IsUtf8 input × TextHasProgram input program
 
 -- holds if it encodes none, for this reason
-abbrev pub SpellsNone : Source → List ℕ → NoProgram → Type 0
-SpellsNone Hex input NotHex = IsErr (decode_of (digits_in input))
-SpellsNone Hex input (Bytes f) = (bytes : List ℕ) × (decode_of (digits_in input) ≡ Ok bytes) × (program_of bytes ≡ Err f)
-SpellsNone Hex input NotUtf8 = ⊥
-SpellsNone Hex input (Text f) = ⊥
-SpellsNone Hex input (Named f) = ⊥
-SpellsNone Hex input NoMemory = ⊥
-SpellsNone Assembly input NotHex = ⊥
-SpellsNone Assembly input (Bytes f) = ⊥
-SpellsNone Assembly input NotUtf8 = IsUtf8 input → ⊥
-SpellsNone Assembly input (Text f) = IsUtf8 input × TextHasFault input f.no f.line
-SpellsNone Assembly input (Named f) = IsUtf8 input × IsFirstRejection input (seen_rejection f)
-SpellsNone Assembly input NoMemory = ⊥
+abbrev pub HasNoProgram : Source → List ℕ → NoProgram → Type 0
+HasNoProgram Hex input NotHex = IsErr (decode_of (digits_in input))
+HasNoProgram Hex input (Bytes f) = (bytes : List ℕ) × (decode_of (digits_in input) ≡ Ok bytes) × (program_of bytes ≡ Err f)
+HasNoProgram Hex input NotUtf8 = ⊥
+HasNoProgram Hex input (Text f) = ⊥
+HasNoProgram Hex input (Named f) = ⊥
+HasNoProgram Hex input NoMemory = ⊥
+HasNoProgram Assembly input NotHex = ⊥
+HasNoProgram Assembly input (Bytes f) = ⊥
+HasNoProgram Assembly input NotUtf8 = IsUtf8 input → ⊥
+HasNoProgram Assembly input (Text f) = IsUtf8 input × IsFaulty input f
+HasNoProgram Assembly input (Named f) = IsUtf8 input × IsUnexpanded input f
+HasNoProgram Assembly input NoMemory = ⊥
 
 -- holds for the error, with the word of a text at which it is
-abbrev pub IsFailure : List ℕ → NoProgram → Failure → Type 0
-IsFailure input NotHex failure = failure ≡ coded 72 1 position.Nowhere
-IsFailure input NotUtf8 failure = failure ≡ coded 72 3 position.Nowhere
-IsFailure input (Bytes f) failure = failure ≡ coded 70 (fault.fault_number f.no) (position.Byte f.offset)
-IsFailure input (Text f) failure = (at : ℕ × ℕ) × IsFaultWord input f.no f.line at × (failure ≡ coded 65 (asm.fault_number f.no) (position.Line f.line at.0 at.1))
-IsFailure input (Named f) failure = (at : ℕ × ℕ) × IsNamePlace input f.line f.word.now at × (failure ≡ coded 78 (name_number f.no) (position.Line f.line at.0 at.1))
-IsFailure input NoMemory failure = ⊥
+abbrev pub IsFailure : NoProgram → Failure → Type 0
+IsFailure NotHex failure = failure ≡ coded 72 1 position.Nowhere
+IsFailure NotUtf8 failure = failure ≡ coded 72 3 position.Nowhere
+IsFailure (Bytes f) failure = failure ≡ coded 70 (fault.fault_number f.no) (position.Byte f.offset)
+IsFailure (Text f) failure = (r : Reason) × IsReasonIn f r × (failure ≡ fault_failure f.fault.no f.fault.line (fault_word f r))
+IsFailure (Named f) failure =
+    (at : ℕ × ℕ) × IsNamePlace f.text.now f.error.line f.error.word.now at × (failure ≡ coded 78 (name_number f.error.no) (position.Line f.error.line at.0 at.1))
+IsFailure NoMemory failure = ⊥
 
 -- holds for what follows its first line: the line of a rejected text, and the reason
-abbrev pub AreParseErrorDetails : List ℕ → NoProgram → List ℕ → Type 0
-AreParseErrorDetails input NotHex more = more ≡ []
-AreParseErrorDetails input NotUtf8 more = more ≡ []
-AreParseErrorDetails input (Bytes f) more = more ≡ []
-AreParseErrorDetails input (Text f) more = AreFaultDetails input f.no f.line more
-AreParseErrorDetails input (Named f) more = AreNameDetails input f.no f.line f.word.now more
-AreParseErrorDetails input NoMemory more = more ≡ []
+abbrev pub AreParseErrorDetails : NoProgram → List ℕ → Type 0
+AreParseErrorDetails (Text f) more = (r : Reason) × IsReasonIn f r × AreFaultDetails f r more
+AreParseErrorDetails (Named f) more = AreNameDetails f.text.now f.error.no f.error.line f.error.word.now more
+AreParseErrorDetails other more = more ≡ []
+
+-- holds for the reply with the reason why there is no program
+abbrev pub PrintsNone : NoProgram → Reply → Type 0
+PrintsNone why r = (failure : Failure) × (more : List ℕ) × IsFailure why failure × AreParseErrorDetails why more × (r ≡ failed_with failure more)
 
 -- holds if this is the reply to the program, or has the reason why there is none
 abbrev pub RepliesBySource : Source → List ℕ → (Versioned → Reply → Type 0) → Reply → Type 0
 RepliesBySource source input Answers r =
-    ((program : Versioned) × Spells source input program × Answers program r)
-    ⊎ ((why : NoProgram) × (failure : Failure) × (more : List ℕ) × SpellsNone source input why × IsFailure input why failure × AreParseErrorDetails input why more
-    × (r ≡ failed_with failure more))
+    ((program : Versioned) × HasProgram source input program × Answers program r) ⊎ ((why : NoProgram) × HasNoProgram source input why × PrintsNone why r)
+
+-- holds if the expanded text itself is printed, or the first name error
+abbrev pub RepliesByPlain : List ℕ → Reply → Type 0
+RepliesByPlain text r =
+    RepliesByUtf8 text (((plain : List ℕ) × ExpandsTo text plain × (r ≡ reply plain Success)) ⊎ ((f : UnexpandedText) × IsUnexpanded text f × PrintsNone (Named f) r)) r
 
 -- returns the text as it is written, if the program was read from one
 abbrev pub source_text : Source → List ℕ → Option (List ℕ)

@@ -6,7 +6,7 @@ use Rattle.tw_code.specs.declared.procedure.Procedure.{Procedure}
 use Rattle.tw_code.specs.declared.version.Version.{Version}
 use Rattle.tw_code.specs.format.Program.{IsProgram}
 use Rattle.tw_asm.specs.Origins.{AreOrigins, instr_at}
-use Rattle.tw_asm.specs.Spelling.{SpellsProgram}
+use Rattle.tw_asm.specs.Spelling.{EncodesProgram}
 use Rattle.tw_source.specs.declared.source.SourceText.{SourceText}
 
 -- returns the text as it is written, if there is one
@@ -24,13 +24,13 @@ abbrev pub plain_of : SourceText → List ℕ
 plain_of source = plain_or source.text.now source.plain
 
 -- holds if the text encodes a program of these procedures
-abbrev pub IsSpelled : List ℕ → List Procedure → Type 0
-IsSpelled text program = (version : Version) × SpellsProgram (record { version = version; procedures = program }) text
+abbrev pub IsTextOf : List ℕ → List Procedure → Type 0
+IsTextOf text program = (version : Version) × EncodesProgram (record { version = version; procedures = program }) text
 
 -- holds if the text and the lines are those of the program
 abbrev pub IsSource : SourceText → List Procedure → Type 0
 IsSource source program =
-    IsProgram program × AreOrigins (plain_of source) program source.lines.procedures × IsSpelled (plain_of source) program × ExpandsTo source.text.now (plain_of source)
+    IsProgram program × AreOrigins (plain_of source) program source.lines.procedures × IsTextOf (plain_of source) program × ExpandsTo source.text.now (plain_of source)
 
 abbrev pub MayBeSource : Option SourceText → List Procedure → Type 0
 MayBeSource source program = IfSome source (λ s. IsSource s program)

@@ -3,7 +3,8 @@
 ghost use Rattle.std.specs.Prelude.{◌≡◌};
 ghost use Rattle.tw_source.specs.Input.{digits_in, is_gap_byte};
 
-fn is_gap(byte: u8) -> bool
+/// Returns whether a byte is a space, a tab, a carriage return or a line feed.
+pub fn is_gap(byte: u8) -> bool
     ensures { result ≡ is_gap_byte byte }
 {
     byte == b' ' || byte == b'\t' || byte == b'\r' || byte == b'\n'

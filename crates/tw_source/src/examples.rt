@@ -8,6 +8,7 @@ use std::alloc::{AllocError, Global};
 use tw_lexer::put;
 use tw_types::{DataType, Param, Scalar};
 
+/// Returns a word that encodes an int or a text.
 fn scalar_word(scalar: Scalar) -> &'static str
     ensures { result.now ≡ scalar_word scalar }
 {
@@ -17,6 +18,7 @@ fn scalar_word(scalar: Scalar) -> &'static str
     }
 }
 
+/// Returns a word that encodes a container, by whether its subscripts are texts.
 fn container_word(by_text: bool, scalar: Scalar) -> &'static str
     ensures { result.now ≡ container_word by_text scalar }
 {

@@ -4,7 +4,7 @@ ghost use Rattle.std.specs.Prelude.{◌≡◌, ◌++◌, List, map, IfOk, OnOk};
 ghost use Rattle.std.specs.Option.{option_map};
 ghost use Rattle.std.specs.Str.Lines.{lines};
 ghost use Rattle.clap.specs.Words.{Text};
-ghost use Rattle.tw_inputs.specs.InputWords.{IsRefusedWord, RefusedWord, refused_word};
+ghost use Rattle.tw_inputs.specs.InputWords.{IsRejectedWord, RejectedWord, refused_word};
 ghost use Rattle.tw_inputs.specs.WordErrors.{IsInputReason};
 ghost use Rattle.tw_source.specs.Inputs.{PrintsInputWord, begins_inputs as begins_inputs_is, cut_inputs as cut_inputs_is, fault_position, input_word_line, lines_in, unreadable, words_in as words_in_is};
 ghost use Rattle.tw_source.specs.FirstLine.{IsFirstLine};
@@ -90,6 +90,7 @@ pub fn input_word_reply(alloc: Global, number: usize, reason: &[u8]) -> Result<R
     })
 }
 
+/// Returns where a fault of JSON inputs is: in one input, or in all.
 fn fault_position(place: Place) -> Position
     ensures { result ≡ fault_position place }
 {
@@ -113,7 +114,7 @@ pub fn unreadable_reply(text: Vec<u8>, place: Place) -> Reply
 /// Returns the reply to input words of which one can't be parsed.
 pub fn refused_words_reply(alloc: Global, why: WordError) -> Result<Reply, AllocError>
     ensures { IfOk result (λ r. (words : List Text) → IsInputReason words why
-        → (refused : RefusedWord) × IsRefusedWord words refused × PrintsInputWord refused (reply r.text.items r.close)) }
+        → (refused : RejectedWord) × IsRejectedWord words refused × PrintsInputWord refused (reply r.text.items r.close)) }
 {
     match why {
         WordError::Refused(number, reason) => input_word_reply(alloc, number, reason.as_slice()),

@@ -5,7 +5,7 @@ mod close;
 mod digits;
 mod examples;
 mod failure;
-mod fault_word;
+mod faulty_text;
 mod inputs;
 mod name_hint;
 mod name_place;
@@ -16,11 +16,12 @@ mod source;
 mod text_lines;
 
 pub use close::Close;
+pub use digits::is_gap;
 pub use examples::{example_lines, example_word, put_examples};
 pub use failure::{ErrorCode, Failure, Position, put_code, put_failure_line};
-pub use fault_word::word_in;
+pub use faulty_text::{FaultyText, fault_failure};
 pub use inputs::{cut_inputs, input_word_reply, refused_words_reply, unreadable_reply, words_in};
-pub use names::plain_reply;
+pub use names::{UnexpandedText, plain_reply};
 pub use program::{NoProgram, ReadProgram, parse_error_reply, parse_failure, read_program};
 pub use reply::{Reply, failed_reply, fixed_reply, not_utf8_reply, refused_by};
 pub use source::{

@@ -76,6 +76,7 @@ fn put_around(out: &mut Vec<u8>, front: &str, name: &[u8], back: &str) -> Result
     put(out, back)
 }
 
+/// Adds the name that was meant, as a question, if there is one.
 fn put_meant(out: &mut Vec<u8>, name: Option<&[u8]>) -> Result<(), AllocError>
     ensures { OnOk result (out.new.items ≡ out.old.items ++ meant (option_map (λ name. name.now) name.entry)) }
 {

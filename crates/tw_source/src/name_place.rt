@@ -1,11 +1,10 @@
 //! The place of an error's name in its line. The error has the name alone.
 
-ghost use Rattle.std.specs.Prelude.{◌≡◌, ◌==◌, ◌-◌, ◌≤◌, ℕ, IfOk, IsUtf8, List, MatchOption, length, slice_get, take};
+ghost use Rattle.std.specs.Prelude.{◌≡◌, ◌==◌, ◌≤◌, ℕ, IfOk, IsUtf8, List, MatchOption, length, take};
 ghost use Rattle.std.specs.List.{before_first, list_any};
-ghost use Rattle.std.specs.Str.Lines.{lines};
 ghost use Rattle.tw_diagnostics.specs.Stops.{column_after};
 ghost use Rattle.tw_lexer.specs.Words.{IsFirstWord, Word as AWord};
-ghost use Rattle.tw_source.specs.NamePlace.{IsNamePlace, IsOnly, IsPlaceIn, IsPlaceInSome, IsWordAt, begins_at, ends_at, ends_name, is_at, parts_names, without_comment};
+ghost use Rattle.tw_source.specs.NamePlace.{IsNamePlace, IsOnly, IsPlaceIn, IsWordAt, begins_at, ends_at, ends_name, is_at, parts_names, without_comment};
 
 use std::alloc::{AllocError, Global};
 use tw_lexer::{Next, begins_character, line_numbered, next_word};
@@ -19,12 +18,14 @@ fn parts_names(byte: u8) -> bool
     byte == b' ' || byte == b'\t' || byte == b'\r' || byte == b'(' || byte == b')' || byte == b','
 }
 
+/// Returns whether a name ends before a byte: at a separator, a colon or a semicolon.
 fn ends_name(byte: u8) -> bool
     ensures { result ≡ ends_name byte }
 {
     parts_names(byte) || byte == b':' || byte == b';'
 }
 
+/// Returns whether a name may begin at an index of a line.
 fn begins_at(line: &[u8], index: usize) -> bool
     requires { index ≤ length line.now }
     ensures { result ≡ begins_at line.now index }
@@ -32,6 +33,7 @@ fn begins_at(line: &[u8], index: usize) -> bool
     index == 0 || parts_names(line[index - 1])
 }
 
+/// Returns whether a name may end before an index of a line.
 fn ends_at(line: &[u8], index: usize) -> bool
     ensures { result ≡ ends_at line.now index }
 {
@@ -46,6 +48,7 @@ fn is_at(line: &[u8], word: &[u8], index: usize) -> bool
     begins_at(line, index) && line[index..].starts_with(word) && ends_at(line, index + word.len())
 }
 
+/// Returns whether a word has a byte that separates names.
 fn is_parted(word: &[u8]) -> bool
     ensures { result ≡ list_any parts_names word.now }
 {
@@ -163,25 +166,10 @@ pub(crate) fn text_place(
     number: usize,
     name: &[u8],
 ) -> Result<(usize, usize), AllocError>
-    ensures { IfOk result (IsPlaceInSome (slice_get (lines text.now) (number - 1)) name.now) }
+    ensures { IfOk result (IsNamePlace text.now number name.now) }
 {
     match line_numbered(text, number) {
         Some(line) => place_in(alloc, line, without_comment(line), name),
         None => Ok((0, 0)),
-    }
-}
-
-/// Like `text_place`, for bytes that may not be UTF-8.
-pub(crate) fn name_place(
-    alloc: Global,
-    source: &[u8],
-    number: usize,
-    name: &[u8],
-) -> Result<(usize, usize), AllocError>
-    ensures { IfOk result (IsNamePlace source.now number name.now) }
-{
-    match str::from_utf8(source) {
-        Ok(text) => text_place(alloc, text, number, name),
-        Err(_) => Ok((0, 0)),
     }
 }

@@ -1,12 +1,10 @@
 //! Output about symbolic assembly and its expanded text.
 
-ghost use Rattle.std.specs.Prelude.{◌≡◌, ◌++◌, ◌-◌, ℕ, List, IfOk, OnOk, codes, option_map, slice_get};
-ghost use Rattle.std.specs.Str.Lines.{lines};
-ghost use Rattle.tw_diagnostics.specs.Diagnostics.{IsTextReason};
-ghost use Rattle.tw_symbols.specs.Answers.{seen_rejection};
-ghost use Rattle.tw_symbols.specs.Expansion.{IsFirstRejection, ExpandsTo};
-ghost use Rattle.tw_source.specs.NameHint.{IsHeadIf, IsNameHint};
-ghost use Rattle.tw_source.specs.Names.{AreFaultDetails, AreNameDetails, RepliesByPlain, expected_words, fixed_diagnostic, form_diagnostic, is_operand, is_same_line, kind_diagnostic, kind_hint, line_text, name_diagnostic, binding_words, separator, unknown_diagnostic, word_diagnostic, word_reason, written_text};
+ghost use Rattle.std.specs.Prelude.{◌≡◌, ◌++◌, ℕ, List, IfOk, OnOk};
+ghost use Rattle.tw_source.specs.NameHint.{IsNameHint};
+ghost use Rattle.tw_source.specs.Names.{AreNameDetails, expected_words, fixed_diagnostic, form_diagnostic, kind_diagnostic, kind_hint, name_diagnostic, binding_words, separator, unknown_diagnostic, word_diagnostic, word_reason};
+ghost use Rattle.tw_source.specs.Program.{IsFailure, PrintsNone, RepliesByPlain};
+ghost use Rattle.tw_source.specs.declared.program.NoProgram.TheVariants.{Named};
 ghost use Rattle.tw_lexer.specs.Shown.{shortened};
 ghost use Rattle.tw_source.specs.Reply.{reply};
 
@@ -16,24 +14,18 @@ use crate::name_hint::{is_argument, put_head_if, put_name_hint};
 use crate::name_place::text_place;
 use crate::reply::{Reply, fixed_reply, not_utf8_reply, refused_by};
 use std::alloc::{AllocError, Global};
-use tw_asm::{AsmFault, FaultNo};
-use tw_diagnostics::put_text_diagnostic;
-use tw_lexer::{line_numbered, put, put_both, put_shortened};
+use tw_diagnostics::put_shown_line;
+use tw_lexer::{put, put_both, put_shortened};
 use tw_symbols::{Bank, Binding, Expected, NameError, NameNo, expanded_text};
 
-/// Adds the line with this number, shortened if it is long, if the text has one.
-fn put_line(out: &mut Vec<u8>, text: &str, number: usize) -> Result<(), AllocError>
-    ensures { OnOk result (out.new.items ≡ out.old.items ++ line_text (slice_get (lines text.now) (number - 1))) }
-{
-    match line_numbered(text, number) {
-        Some(line) => {
-            put_shortened(out, line.as_bytes())?;
-            put(out, "\n")
-        }
-        None => Ok(()),
-    }
+/// A symbolic assembly text that can't be expanded, and its first error.
+#[derive(Clone, Copy)]
+pub struct UnexpandedText<'a> {
+    pub text: &'a str,
+    pub error: NameError<'a>,
 }
 
+/// Returns what a name means, in words.
 fn binding_words(binding: Binding) -> &'static str
     ensures { result.now ≡ binding_words binding }
 {
@@ -45,6 +37,7 @@ fn binding_words(binding: Binding) -> &'static str
     }
 }
 
+/// Returns what is required in a name's place, in words.
 fn expected_words(asked: Expected) -> &'static str
     ensures { result.now ≡ expected_words asked }
 {
@@ -108,6 +101,7 @@ fn unknown_diagnostic(asked: Expected) -> &'static str
     }
 }
 
+/// Says what is wrong with a word, for errors that have one text.
 fn fixed_diagnostic(no: NameNo) -> &'static str
     ensures { result.now ≡ fixed_diagnostic no }
 {
@@ -168,7 +162,7 @@ fn put_word_diagnostic(
 }
 
 /// Adds the rejected line as it was written, what is wrong with which word of it, and the head of the procedure that is called.
-pub fn put_name_details(
+fn put_name_details(
     alloc: Global,
     out: &mut Vec<u8>,
     text: &str,
@@ -176,90 +170,36 @@ pub fn put_name_details(
 ) -> Result<(), AllocError>
     ensures { OnOk result ((more : List ℕ) × AreNameDetails text.now rejection.entry.no rejection.entry.line rejection.entry.word.now more × (out.new.items ≡ out.old.items ++ more)) }
 {
-    put_line(out, text, rejection.line)?;
+    put_shown_line(out, text, rejection.line)?;
     put_word_diagnostic(alloc, out, text, rejection.word, rejection.no)?;
     put_head_if(alloc, out, is_argument(rejection.no), text, rejection.line)
 }
 
-/// Returns whether operands are wrong.
-fn is_operand(no: FaultNo) -> bool
-    ensures { result ≡ is_operand no }
-{
-    match no {
-        FaultNo::Operand => true,
-        _ => false,
-    }
-}
-
-fn is_same_line(line: Option<&str>, other: Option<&str>) -> bool
-    ensures { result ≡ is_same_line (option_map (λ line. line.now) line.entry) (option_map (λ line. line.now) other.entry) }
-{
-    match line {
-        None => false,
-        Some(line) => match other {
-            None => false,
-            Some(other) => line == other,
-        },
-    }
-}
-
-/// Adds the line as it was written, unless it is the same as its expanded line.
-fn put_written(out: &mut Vec<u8>, text: &str, plain: &str, number: usize) -> Result<(), AllocError>
-    ensures { OnOk result (out.new.items ≡ out.old.items ++ written_text (slice_get (lines text.now) (number - 1)) (slice_get (lines plain.now) (number - 1))) }
-{
-    if is_same_line(line_numbered(text, number), line_numbered(plain, number)) {
-        return Ok(());
-    }
-    put_line(out, text, number)?;
-    put(out, "expands to: ")
-}
-
-/// Adds the line as it was written, why its expanded line is rejected, and the head of the procedure that is called.
-fn put_written_fault(
+/// Returns the error of symbolic assembly that can't be expanded, at the name's place.
+pub(crate) fn name_failure(
     alloc: Global,
-    out: &mut Vec<u8>,
-    text: &str,
-    plain: &str,
-    fault: AsmFault,
-) -> Result<(), AllocError>
-    ensures { OnOk result ((reason : List ℕ) × (head : List ℕ) × IsTextReason plain.now fault.no fault.line reason × IsHeadIf (is_operand fault.no) text.now fault.line head
-        × (out.new.items ≡ out.old.items ++ (written_text (slice_get (lines text.now) (fault.line - 1)) (slice_get (lines plain.now) (fault.line - 1)) ++ (reason ++ head)))) }
+    unexpanded: &UnexpandedText<'_>,
+) -> Result<Failure, AllocError>
+    ensures { IfOk result (IsFailure (Named unexpanded.now)) }
 {
-    put_written(out, text, plain, fault.line)?;
-    put_text_diagnostic(alloc, out, plain, fault)?;
-    put_head_if(alloc, out, is_operand(fault.no), text, fault.line)
-}
-
-/// Adds the line of a fault in the expanded text, with the line as it was written if there are names, and the reason.
-pub fn put_fault_details(
-    alloc: Global,
-    out: &mut Vec<u8>,
-    text: &str,
-    fault: AsmFault,
-) -> Result<(), AllocError>
-    ensures { OnOk result ((plain : List ℕ) → ExpandsTo text.now plain → (more : List ℕ) × AreFaultDetails text.now fault.no fault.line more × (out.new.items ≡ out.old.items ++ more)) }
-{
-    match expanded_text(alloc, text) {
-        Ok(None) => put_text_diagnostic(alloc, out, text, fault),
-        Ok(Some(plain)) => put_written_fault(alloc, out, text, &plain, fault),
-        Err(rejection) => match rejection.no {
-            NameNo::NoMemory => Err(AllocError),
-            _ => Ok(()),
-        },
-    }
-}
-
-/// Returns the reply to rejected symbolic assembly.
-fn named_reply(alloc: Global, text: &str, rejection: NameError<'_>) -> Result<Reply, AllocError>
-    ensures { IfOk result (λ r. IsFirstRejection text.now (seen_rejection rejection.entry) → RepliesByPlain text.now (reply r.text.items r.close)) }
-{
-    let line = rejection.line;
-    let (word, column) = text_place(alloc, text, line, rejection.word)?;
+    let error = unexpanded.error;
+    let line = error.line;
+    let (word, column) = text_place(alloc, unexpanded.text, line, error.word)?;
     let position = Position::Line { line, word, column };
-    let failure = Failure::coded(b'N', rejection.no.number(), position);
+    Ok(Failure::coded(b'N', error.no.number(), position))
+}
+
+/// Returns the reply to symbolic assembly that can't be expanded.
+pub(crate) fn unexpanded_reply(
+    alloc: Global,
+    unexpanded: &UnexpandedText<'_>,
+) -> Result<Reply, AllocError>
+    ensures { IfOk result (λ r. PrintsNone (Named unexpanded.now) (reply r.text.items r.close)) }
+{
+    let failure = name_failure(alloc, unexpanded)?;
     let mut out = Vec::new(alloc);
     put_failure_line(alloc, &mut out, failure)?;
-    put_name_details(alloc, &mut out, text, rejection)?;
+    put_name_details(alloc, &mut out, unexpanded.text, unexpanded.error)?;
     Ok(refused_by(out, failure))
 }
 
@@ -273,9 +213,9 @@ fn text_plain_reply(alloc: Global, text: &str) -> Result<Reply, AllocError>
             close: Close::Success,
         }),
         Ok(None) => fixed_reply(alloc, text, Close::Success),
-        Err(rejection) => match rejection.no {
+        Err(error) => match error.no {
             NameNo::NoMemory => Err(AllocError),
-            _ => named_reply(alloc, text, rejection),
+            _ => unexpanded_reply(alloc, &UnexpandedText { text, error }),
         },
     }
 }

@@ -4,7 +4,7 @@ ghost use Rattle.std.specs.Prelude.{◌≡◌, ◌++◌, ◌<◌, ◌-◌, ℕ, 
 ghost use Rattle.std.specs.Str.Lines.{lines};
 ghost use Rattle.tw_asm.specs.Origins.{AreOrigins, ComesFrom, instr_at};
 ghost use Rattle.tw_code.specs.declared.procedure.Procedure.{Procedure as Section};
-ghost use Rattle.tw_source.specs.Source.{IsSourceAt, MayBeSourceAt, plain_of, text_of};
+ghost use Rattle.tw_source.specs.Source.{IsSourceAt, MayBeSourceAt, plain_of, plain_or, text_of};
 ghost use Rattle.tw_symbols.specs.Registers.{IsWithName};
 ghost use Rattle.tw_symbols.specs.Expansion.{ExpandsTo};
 ghost use Rattle.tw_symbols.specs.Symbols.{AreSymbols};
@@ -31,15 +31,22 @@ pub struct SourceText<'a> {
     pub lines: LineNumbers,
 }
 
+/// Returns the expanded text, which is the text itself if it has no names.
+pub(crate) fn plain_or<'b>(text: &'b str, plain: &'b Option<String>) -> &'b str
+    ensures { result.now ≡ plain_or text.entry.now plain.entry.now }
+{
+    match plain {
+        Some(plain) => plain.as_str(),
+        None => text,
+    }
+}
+
 impl SourceText<'_> {
     /// Returns the expanded text.
     pub fn plain(&self) -> &str
         ensures { result.now ≡ plain_of self.now }
     {
-        match &self.plain {
-            Some(plain) => plain.as_str(),
-            None => self.text,
-        }
+        plain_or(self.text, &self.plain)
     }
 }
 

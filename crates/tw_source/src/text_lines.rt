@@ -31,7 +31,7 @@ impl<'a> TextLines<'a> {
         self.lines.get(number.saturating_sub(1)).copied()
     }
 
-    /// Returns the line with this number, counted from 1, without white space around it.
+    /// Looks up the line with this number, counted from 1, and returns it without white space around it.
     pub fn trimmed(&self, number: usize) -> Option<&'a str>
         ensures { MatchOption result (slice_get (map (λ line. line.now) self.now.lines.items) (number - 1) ≡ None) (λ line. IsLineAt (map (λ line. line.now) self.now.lines.items) number line.now) }
     {

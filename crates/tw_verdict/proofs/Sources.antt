@@ -8,7 +8,7 @@ use Rattle.tw_order.specs.declared.order.Source.{Source}
 use Rattle.tw_order.specs.declared.order.Source.TheVariants.{Hex, Assembly}
 use Rattle.tw_code.specs.declared.procedure.Procedure.{Procedure}
 use Rattle.tw_code.specs.format.Program.{Versioned}
-use Rattle.tw_source.specs.Program.{Spells, SpellsNone, source_text}
+use Rattle.tw_source.specs.Program.{HasProgram, HasNoProgram, source_text}
 use Rattle.tw_source.specs.Source.{MayBeSource, plain_of, text_of}
 use Rattle.tw_source.proofs.Sources.{comes_from}
 use Rattle.tw_source.specs.declared.program.NoProgram.{NoProgram}
@@ -84,11 +84,11 @@ origin Assembly input None program procedure place line is same at = cc
 origin Assembly input (Some text) program procedure place line is same at =
     (plain_of text, (let e : text.text.now ≡ input = cc in subst (λ (x : List ℕ). ExpandsTo x (plain_of text)) e is.3), at)
 
-encodes : (from : Source) (input : List ℕ) (program : Versioned) → Spells from input program → Encodes (format_of_source from) input program
+encodes : (from : Source) (input : List ℕ) (program : Versioned) → HasProgram from input program → Encodes (format_of_source from) input program
 encodes Hex input program is = is
 encodes Assembly input program is = is
 
-pub accepted_is : (from : Source) (input : List ℕ) (read : ReadProgram) (found : Option TypedProgram) (v : SourceVerdict) → Spells from input read.program → MayBeSource read.source read.program.procedures
+pub accepted_is : (from : Source) (input : List ℕ) (read : ReadProgram) (found : Option TypedProgram) (v : SourceVerdict) → HasProgram from input read.program → MayBeSource read.source read.program.procedures
     → text_of read.source ≡ source_text from input → IsSourceAcceptance read found v → IsSourceReading (format_of_source from) input found v
 accepted_is from input read (Some verified) v spells is text (program, version, right, e) =
     (record { read = read.program; encodes = encodes from input read.program spells; program = program; version = version; accepted_is = right }, e)
@@ -108,7 +108,7 @@ accepted_is from input read None v spells is text (inl (number, procedure, place
 )
 accepted_is from input read None v spells is text (inr e, some) = (inr (inr e), some)
 
-none_of : (from : Source) (input : List ℕ) (why : NoProgram) → SpellsNone from input why → EncodesNone (format_of_source from) input why
+none_of : (from : Source) (input : List ℕ) (why : NoProgram) → HasNoProgram from input why → EncodesNone (format_of_source from) input why
 none_of Hex input why is = is
 none_of Assembly input why is = is
 
@@ -118,21 +118,21 @@ has_letter v n other is zero =
     let same : nat_eq n 0 ≡ true = ap (λ (x : ℕ). nat_eq x 0) (sym is ∙ zero) in
     let clash : true ≡ false = sym same ∙ other in cc
 
-letter_of : (input : List ℕ) (why : NoProgram) (v : SourceVerdict) → IsUnreadable input why v → v.verdict.letter ≢ 0
-letter_of input NotHex v (f, same, is) = has_letter v 72 refl (ap (λ (x : SourceVerdict). x.verdict.letter) (is ∙ ap failure_in_numbers same))
-letter_of input NotUtf8 v (f, same, is) = has_letter v 72 refl (ap (λ (x : SourceVerdict). x.verdict.letter) (is ∙ ap failure_in_numbers same))
-letter_of input (Bytes x) v (f, same, is) = has_letter v 70 refl (ap (λ (x : SourceVerdict). x.verdict.letter) (is ∙ ap failure_in_numbers same))
-letter_of input (Text x) v (f, (at, word, same), is) = has_letter v 65 refl (ap (λ (x : SourceVerdict). x.verdict.letter) (is ∙ ap failure_in_numbers same))
-letter_of input (Named x) v (f, (at, place, same), is) = has_letter v 78 refl (ap (λ (x : SourceVerdict). x.verdict.letter) (is ∙ ap failure_in_numbers same))
-letter_of input NoMemory v (f, same, is) = absurd same
+letter_of : (why : NoProgram) (v : SourceVerdict) → IsUnreadable why v → v.verdict.letter ≢ 0
+letter_of NotHex v (f, same, is) = has_letter v 72 refl (ap (λ (x : SourceVerdict). x.verdict.letter) (is ∙ ap failure_in_numbers same))
+letter_of NotUtf8 v (f, same, is) = has_letter v 72 refl (ap (λ (x : SourceVerdict). x.verdict.letter) (is ∙ ap failure_in_numbers same))
+letter_of (Bytes x) v (f, same, is) = has_letter v 70 refl (ap (λ (x : SourceVerdict). x.verdict.letter) (is ∙ ap failure_in_numbers same))
+letter_of (Text x) v (f, (at, word, same), is) = has_letter v 65 refl (ap (λ (x : SourceVerdict). x.verdict.letter) (is ∙ ap failure_in_numbers same))
+letter_of (Named x) v (f, (at, place, same), is) = has_letter v 78 refl (ap (λ (x : SourceVerdict). x.verdict.letter) (is ∙ ap failure_in_numbers same))
+letter_of NoMemory v (f, same, is) = absurd same
 
-pub unreadable : (from : Source) (input : List ℕ) (why : NoProgram) (v : SourceVerdict) → (why ≢ NoMemory → SpellsNone from input why) → IsUnreadable input why v ⊎ (v ≡ without_line no_memory)
+pub unreadable : (from : Source) (input : List ℕ) (why : NoProgram) (v : SourceVerdict) → (why ≢ NoMemory → HasNoProgram from input why) → IsUnreadable why v ⊎ (v ≡ without_line no_memory)
     → IsSourceReading (format_of_source from) input None v
 unreadable from input why v none (inr e) = (inr (inr e), has_letter v 77 refl (ap (λ (x : SourceVerdict). x.verdict.letter) e))
 unreadable from input why v none (inl is) =
-    (inr (inl (record { why = why; none = none_of from input why (none (readable why is)); verdict_is = is })), letter_of input why v is)
+    (inr (inl (record { why = why; none = none_of from input why (none (readable why is)); verdict_is = is })), letter_of why v is)
   where
-    readable : (w : NoProgram) → IsUnreadable input w v → w ≢ NoMemory
+    readable : (w : NoProgram) → IsUnreadable w v → w ≢ NoMemory
     readable NotHex h = λ e. cc
     readable NotUtf8 h = λ e. cc
     readable (Bytes x) h = λ e. cc

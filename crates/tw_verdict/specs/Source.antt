@@ -8,7 +8,7 @@ use Rattle.tw_order.specs.declared.order.Source.TheVariants as from
 use Rattle.tw_code.specs.accepting.WellTyped.{IsAccepted, IsFirstRejection}
 use Rattle.tw_code.specs.declared.procedure.Procedure.{Procedure}
 use Rattle.tw_code.specs.format.Program.{Versioned}
-use Rattle.tw_source.specs.Program.{IsFailure, Spells, SpellsNone}
+use Rattle.tw_source.specs.Program.{IsFailure, HasProgram, HasNoProgram}
 use Rattle.tw_source.specs.declared.failure.ErrorCode.{ErrorCode}
 use Rattle.tw_source.specs.declared.failure.Failure.{Failure}
 use Rattle.tw_source.specs.declared.failure.Position.{Position}
@@ -34,8 +34,8 @@ use Rattle.tw_verdict.specs.declared.verdict.Verdict.{Verdict}
 -- the source encodes the program: by its bytes, or as `tw` reads hex text and assembly text
 abbrev pub Encodes : Format → List ℕ → Versioned → Type 0
 Encodes format.Bytes source program = program_of source ≡ Ok program
-Encodes format.Hex source program = Spells from.Hex source program
-Encodes format.Assembly source program = Spells from.Assembly source program
+Encodes format.Hex source program = HasProgram from.Hex source program
+Encodes format.Assembly source program = HasProgram from.Assembly source program
 
 -- the program that the source encodes, and it is accepted
 pub record HasSource (form : Format) (source : List ℕ) (verified : TypedProgram) : Type 0 where
@@ -76,14 +76,14 @@ abbrev pub failure_in_numbers : Failure → SourceVerdict
 failure_in_numbers f = coded_numbers f.code f.position
 
 -- holds for the verdict if the source encodes no program: the error in numbers
-abbrev pub IsUnreadable : List ℕ → NoProgram → SourceVerdict → Type 0
-IsUnreadable source why v = (f : Failure) × IsFailure source why f × (v ≡ failure_in_numbers f)
+abbrev pub IsUnreadable : NoProgram → SourceVerdict → Type 0
+IsUnreadable why v = (f : Failure) × IsFailure why f × (v ≡ failure_in_numbers f)
 
 -- the source encodes no program, for this reason
 abbrev pub EncodesNone : Format → List ℕ → NoProgram → Type 0
 EncodesNone format.Bytes source why = (f : Fault) × (why ≡ Bytes f) × (program_of source ≡ Err f)
-EncodesNone format.Hex source why = SpellsNone from.Hex source why
-EncodesNone format.Assembly source why = SpellsNone from.Assembly source why
+EncodesNone format.Hex source why = HasNoProgram from.Hex source why
+EncodesNone format.Assembly source why = HasNoProgram from.Assembly source why
 
 -- the line from which the instruction at a place comes; 0 if there is no such instruction
 abbrev pub IsLineOf : List ℕ → List Procedure → ℕ → ℕ → ℕ → Type 0
@@ -138,7 +138,7 @@ pub record IsRejected (form : Format) (source : List ℕ) (v : SourceVerdict) : 
 pub record HasNone (form : Format) (source : List ℕ) (v : SourceVerdict) : Type 0 where
   pub why : NoProgram
   pub none : EncodesNone form source why
-  pub verdict_is : IsUnreadable source why v
+  pub verdict_is : IsUnreadable why v
 
 -- or an allocation failed
 abbrev pub IsSourceError : Format → List ℕ → SourceVerdict → Type 0

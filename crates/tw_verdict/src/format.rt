@@ -15,6 +15,7 @@ pub enum Format {
     Assembly,
 }
 
+/// Returns whether a byte is a hex digit or white space.
 fn is_hex_byte(byte: &u8) -> bool
     ensures { result ≡ is_hex_byte_is byte.now }
 {
@@ -28,6 +29,7 @@ fn is_hex_byte(byte: &u8) -> bool
         || (b'a' <= byte && byte <= b'f')
 }
 
+/// Returns whether a source has hex digits and white space alone.
 fn is_hex_text(source: &[u8]) -> bool
     ensures { result ≡ list_all is_hex_byte_is source.now }
 {

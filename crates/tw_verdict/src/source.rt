@@ -87,7 +87,7 @@ fn read_text(alloc: Global, source: Source, input: &[u8]) -> (Option<Verified>, 
 {
     match read_program(alloc, source, input) {
         Ok(read) => accept(alloc, read),
-        Err(why) => (None, no_program_verdict(alloc, input, why)),
+        Err(why) => (None, no_program_verdict(alloc, &why)),
     }
 }
 

@@ -22,7 +22,7 @@ pub struct SourceVerdict {
 }
 
 impl SourceVerdict {
-    /// Returns the verdict if an allocation failed.
+    /// Returns the verdict on a source if an allocation failed.
     pub fn no_memory() -> SourceVerdict
         ensures { result ≡ without_line_is no_memory_is }
     {
@@ -42,6 +42,7 @@ pub(crate) fn without_line(verdict: Verdict) -> SourceVerdict
     }
 }
 
+/// Makes a verdict of a letter, a code, and a position in a text.
 fn at_line(letter: u8, number: u8, line: usize, at: (usize, usize)) -> SourceVerdict
     ensures { result ≡ at_line_is letter number line at }
 {
@@ -83,10 +84,10 @@ fn failure_verdict(failure: Failure) -> SourceVerdict
 }
 
 /// Returns the verdict on a source that encodes no program.
-pub(crate) fn no_program_verdict(alloc: Global, source: &[u8], why: NoProgram<'_>) -> SourceVerdict
-    ensures { IsUnreadable source.now why.entry result ⊎ (result ≡ without_line_is no_memory_is) }
+pub(crate) fn no_program_verdict(alloc: Global, why: &NoProgram<'_>) -> SourceVerdict
+    ensures { IsUnreadable why.now result ⊎ (result ≡ without_line_is no_memory_is) }
 {
-    match parse_failure(alloc, source, why) {
+    match parse_failure(alloc, why) {
         Ok(failure) => failure_verdict(failure),
         Err(_) => SourceVerdict::no_memory(),
     }

@@ -48,6 +48,7 @@ impl Verdict {
     }
 }
 
+/// Returns the verdict on an accepted program.
 pub(crate) fn accepted(verified: &Verified) -> Verdict
     ensures { result ≡ accepted_is verified.now.program }
 {
@@ -62,12 +63,14 @@ pub(crate) fn accepted(verified: &Verified) -> Verdict
     }
 }
 
+/// Returns the verdict on bytes with a fault.
 fn fault_at(fault: &Fault) -> Verdict
     ensures { result ≡ fault_is fault.now }
 {
     refused_at(b'F', fault.no.number(), 0, fault.offset)
 }
 
+/// Like `fault_at`, also if an allocation failed.
 pub(crate) fn fault_verdict(fault: &Fault) -> Verdict
     ensures { ((fault.now.no ≢ FaultNo.NoMemory) × (result ≡ fault_is fault.now)) ⊎ ((fault.now.no ≡ FaultNo.NoMemory) × (result ≡ no_memory_is)) }
 {
@@ -77,6 +80,7 @@ pub(crate) fn fault_verdict(fault: &Fault) -> Verdict
     }
 }
 
+/// Returns the verdict on a program that the verifier rejects.
 pub(crate) fn rejection_verdict(refused: &Refused) -> Verdict
     ensures { ((refused.now.no ≢ VerifyError.NoMemory) × (result ≡ rejection_is (verify_error_code refused.now.no) refused.now.procedure refused.now.place))
         ⊎ ((refused.now.no ≡ VerifyError.NoMemory) × (result ≡ no_memory_is)) }

@@ -1,5 +1,5 @@
 use Rattle.std.proofs.Common.{◌≡◌, ◌++◌, ◌∷◌, [], ℕ, List, Bor, map, sym, subst, ◌∙◌, rules}
-use Rattle.tw_diagnostics.proofs.ReasonNames.{LinesSay, at_start, lines, map-append}
+use Rattle.tw_diagnostics.proofs.ReasonNames.{HaveStatements, at_start, lines, map-append}
 use Rattle.std.proofs.lemmas.Iterator.Consumers.{YieldsList-at, YieldsList-end, YieldsList-from_enumerate, YieldsList-so_far, YieldsList-turn}
 use Rattle.std.proofs.lemmas.Iterator.Splits.{YieldsList-from_lines}
 use Rattle.tw_lexer.proofs.LineLoops.{all_lines, line_turn}
@@ -33,4 +33,4 @@ returns c = λ said say.
     let t = YieldsList-end road c.loop-index.yielded _ c.loop-index.yielded_by _ _ c.in-None.is c.next.ensures.steps in
     let ls : List (List ℕ) = map (λ (item : ℕ × Bor (List ℕ)). item.1.now) c.loop-index.yielded in
     let all : ls ≡ lines c.args.text.now = all_lines (lines c.args.text.now) c.loop-index.yielded t.0 in
-    c.loop-index.invariant.none said (subst (λ (xs : List (List ℕ)). LinesSay 1 at_start xs said) (sym all) say)
+    c.loop-index.invariant.none said (subst (λ (xs : List (List ℕ)). HaveStatements 1 at_start xs said) (sym all) say)

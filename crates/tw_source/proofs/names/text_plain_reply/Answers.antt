@@ -1,7 +1,8 @@
-use Rattle.std.proofs.Common.{Global, ℕ, Vec, ap, inl, string_bytes}
-use Rattle.tw_source.proofs.ReplyNames.{IfOk-weaker, IsFirstRejection, RepliesByPlain, Reply, ExpandsTo, Success, reply}
+use Rattle.std.proofs.Common.{Global, ℕ, Vec, ap, inl, inr, refl, string_bytes}
+use Rattle.tw_source.proofs.ReplyNames.{IfOk-weaker, IsFirstRejection, Reply, ExpandsTo, Success, reply}
 use Rattle.tw_symbols.specs.Answers.{seen_rejection}
 use Rattle.tw_source.proofs.NamedTexts.{is_refused}
+use Rattle.tw_source.specs.declared.names.UnexpandedText.{UnexpandedText}
 use Rattle.tw_source.proofs.names.text_plain_reply.Goals as goal
 
 pub returns-in-Ok-Some : goal.returns-in-Ok-Some
@@ -16,7 +17,8 @@ returns-in-Ok-None c =
 
 pub returns-in_default : goal.returns-in_default
 returns-in_default c =
-    let rejection = c.in-Err.rejection in
+    let error = c.in-Err.error in
     let text = c.args.text.now in
-    let first = is_refused rejection (IsFirstRejection text (seen_rejection rejection)) c.in_default.not-NoMemory c.in-Err.ensures.expands in
-    IfOk-weaker c.named_reply.result (λ (r : Reply). IsFirstRejection text (seen_rejection rejection) → RepliesByPlain text (reply r.text.items r.close)) (λ (r : Reply). RepliesByPlain text (reply r.text.items r.close)) (λ (r : Reply) h. h first) c.named_reply.ensures
+    let unexpanded : UnexpandedText = record { text = c.args.text; error = error } in
+    let first = is_refused error (IsFirstRejection text (seen_rejection error)) c.in_default.not-NoMemory c.in-Err.ensures.expands in
+    IfOk-weaker _ _ _ (λ (r : Reply) h. inl (c.utf8.text, inr (unexpanded, (refl, first), h))) c.unexpanded_reply.ensures

@@ -1,5 +1,5 @@
 use Rattle.std.proofs.Common.{◌≡◌, ◌≢◌, ◌∙◌, IsUtf8, List, Some, ℕ, ap, subst, sym}
-use Rattle.tw_source.proofs.ReplyNames.{Assembly, IfErr-weaker, IfOk-weaker, NoProgram, Spells, SpellsNone, SpellsText, text_of}
+use Rattle.tw_source.proofs.ReplyNames.{Assembly, IfErr-weaker, IfOk-weaker, NoProgram, HasProgram, HasNoProgram, TextHasProgram, text_of}
 use Rattle.tw_source.specs.declared.program.NoProgram.TheVariants.{NoMemory}
 use Rattle.tw_source.specs.declared.program.ReadProgram.{ReadProgram}
 use Rattle.tw_source.proofs.program.program_in_text.Goals as goal
@@ -7,8 +7,8 @@ use Rattle.tw_source.proofs.program.program_in_text.Goals as goal
 pub returns-in-Ok-clause-spells : goal.returns-in-Ok-clause-spells
 returns-in-Ok-clause-spells c =
     let text = c.in-Ok.ensures.cases in
-    IfOk-weaker c.program_of_text.result (λ (read : ReadProgram). SpellsText c.in-Ok.text.now read.program) (λ (read : ReadProgram). Spells Assembly c.args.input.now read.program)
-    (λ (read : ReadProgram) h. (text.1, subst (λ (t : List ℕ). SpellsText t read.program) text.0 h)) c.program_of_text.ensures.spells
+    IfOk-weaker c.program_of_text.result (λ (read : ReadProgram). TextHasProgram c.in-Ok.text.now read.program) (λ (read : ReadProgram). HasProgram Assembly c.args.input.now read.program)
+    (λ (read : ReadProgram) h. (text.1, subst (λ (t : List ℕ). TextHasProgram t read.program) text.0 h)) c.program_of_text.ensures.spells
 
 pub returns-in-Ok-clause-text : goal.returns-in-Ok-clause-text
 returns-in-Ok-clause-text c =
@@ -19,8 +19,8 @@ returns-in-Ok-clause-text c =
 pub returns-in-Ok-clause-none : goal.returns-in-Ok-clause-none
 returns-in-Ok-clause-none c =
     let text = c.in-Ok.ensures.cases in
-    IfErr-weaker c.program_of_text.result (λ (why : NoProgram). why ≢ NoMemory → IsUtf8 c.in-Ok.text.now → SpellsNone Assembly c.in-Ok.text.now why) (λ (why : NoProgram). why ≢ NoMemory → SpellsNone Assembly c.args.input.now why)
-    (λ (why : NoProgram) h other. subst (λ (t : List ℕ). SpellsNone Assembly t why) text.0 (h other (subst IsUtf8 (sym text.0) text.1))) c.program_of_text.ensures.none
+    IfErr-weaker c.program_of_text.result (λ (why : NoProgram). why ≢ NoMemory → IsUtf8 c.in-Ok.text.now → HasNoProgram Assembly c.in-Ok.text.now why) (λ (why : NoProgram). why ≢ NoMemory → HasNoProgram Assembly c.args.input.now why)
+    (λ (why : NoProgram) h other. subst (λ (t : List ℕ). HasNoProgram Assembly t why) text.0 (h other (subst IsUtf8 (sym text.0) text.1))) c.program_of_text.ensures.none
 
 pub returns-in-Err-clause-none : goal.returns-in-Err-clause-none
 returns-in-Err-clause-none c = λ other. c.in-Err.ensures.cases.0

@@ -1,7 +1,7 @@
 use Rattle.std.proofs.Common.{◌∙◌, ℕ, ap}
-use Rattle.tw_source.specs.Failure.{coded}
+use Rattle.tw_source.proofs.ReplyNames.{coded}
 use Rattle.tw_source.specs.declared.failure.Position.TheVariants as position
-use Rattle.tw_source.proofs.program.fault_failure.Goals as goal
+use Rattle.tw_source.proofs.names.name_failure.Goals as goal
 
 pub returns : goal.returns
 returns c =
@@ -9,5 +9,5 @@ returns c =
     let column = c.in_ok-word.column in (
       (word, column),
       c.in_ok-word.ensures,
-      c.coded.ensures ∙ ap (λ (n : ℕ). coded 65 n (position.Line c.args.fault.line word column)) c.number.ensures,
+      c.coded.ensures ∙ ap (λ (n : ℕ). coded 78 n (position.Line c.args.unexpanded.now.error.line word column)) c.number.ensures,
     )
