@@ -2,5 +2,4 @@ pub mod Numbers
 pub mod Options
 pub mod Words
 pub mod Requests
-pub mod Turned
 pub mod Tables

@@ -12,24 +12,26 @@ use Rattle.std.proofs.lemmas.Bool.{leb-true, le-leb, ltb-true, lt-ltb}
 use Rattle.std.proofs.lemmas.List.Folds.{list_all_at}
 use Rattle.std.proofs.lemmas.Slice.Eq.{bytes_eq-Decides}
 use Rattle.clap.specs.ValueTests.{is_numeral}
-use Rattle.clap.specs.Words.{Kinds, ReadsOne, Row, Text, first_of, first_value, rows_of}
+use Rattle.clap.specs.Words.{Kinds, ReadsOne, Row, Text, first_value, rows_of}
 use Rattle.clap.specs.declared.parser.matches.Found.{Found}
 use Rattle.clap.specs.Kinds.{or_else}
 use Rattle.clap.specs.Walk.{is_empty}
 use Rattle.clap.specs.declared.error.ErrorKind.{ErrorKind}
 use Rattle.clap.specs.declared.error.ErrorKind.TheVariants.{ArgumentConflict, ValueValidation}
 use Rattle.clap.proofs.WalkLemmas.{both, first_value-rows}
-use Rattle.tw_lexer.specs.Number.{IsRead, SpellsDigits}
+use Rattle.tw_lexer.specs.Number.{IsRead, EncodesDigits}
 use Rattle.tw_lexer.specs.declared.numbers.TokenError.{TokenError}
 use Rattle.tw_lexer.specs.declared.numbers.TokenError.TheVariants.{Form, Limit}
 use Rattle.tw_types.specs.Layout.{ActorCounts}
-use Rattle.tw_cli.specs.Options.{HasActors, HasCaps, HasStretch, bounds_faults, cap_options, check_options, each, given_bounds, given_check, given_event_order, given_form, given_places, named_limit, NumberOption, actor_options, engines, first_shown, inputs, inputs_json, is_given, jobs, last_shown, limit, number_in, number_of, number_options, option_faults, seconds, seed, servers, stretch_options, workers}
-use Rattle.tw_cli.specs.Order.{HasReason, IsRequest}
-use Rattle.tw_cli.specs.CommandLine.{Asked, check_faults, drawing_faults, each_excludes, given_faults, given_words, input_faults, is_json_with_more, is_seed_alone, json_excludes, picture_faults, replay_faults, report_faults, run_faults, seed_faults, stretch_faults}
-use Rattle.tw_cli.specs.declared.command.NoOrder.TheVariants.{Refused}
+use Rattle.tw_cli.specs.Options.{HasActors, HasCaps, HasStretch, bounds_faults, cap_options, check_options, given_actors, given_bounds, given_check, given_event_order, given_form, given_places, given_range, named_limit, NumberOption, actor_options, engines, first_shown, inputs, is_given, jobs, last_shown, limit, number_in, number_of, number_options, option_faults, seconds, seed, servers, stretch_options, workers}
+use Rattle.tw_cli.specs.Order.{Gives, HaveFault, IsHelp}
+use Rattle.tw_cli.specs.CommandLine.{Request, check_faults, drawing_faults, each_excludes, each_faults, given_faults, given_run, given_words, input_faults, is_json_with_more, is_seed_alone, picture_faults, replay_faults, report_faults, run_faults, run_option_faults, seed_faults, stretch_faults}
+use Rattle.tw_cli.specs.declared.command.NoOrder.{NoOrder}
 use Rattle.tw_order.specs.declared.caps.Caps.{Caps}
 use Rattle.tw_order.specs.declared.check.BoundsOf.{BoundsOf}
+use Rattle.tw_order.specs.declared.order.Order.{Order}
 use Rattle.tw_order.specs.declared.range.EventRange.{EventRange}
+use Rattle.tw_order.specs.declared.runs.RunOptions.{RunOptions}
 
 -- ---- the digits
 
@@ -44,12 +46,12 @@ digits_found (d ∷ ds) e = let parts = both _ _ e in (ltb-true _ _ parts.0, dig
 abbrev passes : ℕ → Text → Bool
 passes most text = is_numeral text && (nat_le 1 (digits_value 10 text) && nat_le (digits_value 10 text) most)
 
-passed : (most n : ℕ) (text : Text) → SpellsDigits n text → IsInRange 1 most n → passes most text ≡ true
+passed : (most n : ℕ) (text : Text) → EncodesDigits n text → IsInRange 1 most n → passes most text ≡ true
 passed most n text h inside =
     let value = h.value in
     rw (lt-ltb _ _ h.digits.0, digits_tested text h.digits.1, value, le-leb _ _ inside.0, le-leb _ _ inside.1) refl
 
-spelled : (most : ℕ) (text : Text) → passes most text ≡ true → SpellsDigits (digits_value 10 text) text × IsInRange 1 most (digits_value 10 text)
+spelled : (most : ℕ) (text : Text) → passes most text ≡ true → EncodesDigits (digits_value 10 text) text × IsInRange 1 most (digits_value 10 text)
 spelled most text e =
     let parts = both _ _ e in
     let digits = both _ _ parts.0 in
@@ -58,15 +60,15 @@ spelled most text e =
 
 -- ---- the value of an option
 
-read_number : (most n : ℕ) (text : Text) → SpellsDigits n text → IsInRange 1 most n → number_in most text ≡ Some n
+read_number : (most n : ℕ) (text : Text) → EncodesDigits n text → IsInRange 1 most n → number_in most text ≡ Some n
 read_number most n text h inside =
     let value = h.value in
     ap (λ (b : Bool). cond b (Some (digits_value 10 text)) None) (passed most n text h inside) ∙ ap Some value
 
-no_number : (most : ℕ) (text : Text) (flaw : TokenError) → IsRead (λ n. SpellsDigits n text) (IsInRange 1 most) (Err flaw) → number_in most text ≡ None
+no_number : (most : ℕ) (text : Text) (flaw : TokenError) → IsRead (λ n. EncodesDigits n text) (IsInRange 1 most) (Err flaw) → number_in most text ≡ None
 no_number most text flaw h = go (passes most text) refl flaw h
   where
-    go : (b : Bool) → passes most text ≡ b → (f : TokenError) → IsRead (λ n. SpellsDigits n text) (IsInRange 1 most) (Err f) → cond (passes most text) (Some (digits_value 10 text)) None ≡ None
+    go : (b : Bool) → passes most text ≡ b → (f : TokenError) → IsRead (λ n. EncodesDigits n text) (IsInRange 1 most) (Err f) → cond (passes most text) (Some (digits_value 10 text)) None ≡ None
     go false e f h = rw e refl
     go true e Form h = let is = spelled most text e in absurd (h (digits_value 10 text) is.0)
     go true e Limit (n, k, out) =
@@ -75,7 +77,7 @@ no_number most text flaw h = go (passes most text) refl flaw h
         absurd (out (rw (← value) is.1))
 
 -- the reader's result for the value is its number
-pub number_read : (most : ℕ) (text : Text) (read : Result ℕ TokenError) (o : Option ℕ) → IsRead (λ n. SpellsDigits n text) (IsInRange 1 most) read → o ≡ result_ok read → o ≡ number_in most text
+pub number_read : (most : ℕ) (text : Text) (read : Result ℕ TokenError) (o : Option ℕ) → IsRead (λ n. EncodesDigits n text) (IsInRange 1 most) read → o ≡ result_ok read → o ≡ number_in most text
 number_read most text (Ok n) o h e = e ∙ sym (read_number most n text h.0 h.1)
 number_read most text (Err flaw) o h e = e ∙ sym (no_number most text flaw h)
 
@@ -120,28 +122,43 @@ events_refused rows e =
     by true false w l false h = refl
     by false s w l false h = refl
 
-has_kind : (kind : ErrorKind) (kinds : Kinds) (asked : Asked) → (IsRequest kind → ⊥) → kinds ≡ kind ∷ [] → HasReason kinds asked Refused
-has_kind kind kinds asked other e = subst (λ (k : Kinds). HasReason k asked Refused) (sym e) (kind, inl refl, other)
+-- these kinds have a fault
+have_kind : (kind : ErrorKind) (kinds : Kinds) → (IsHelp kind → ⊥) → kinds ≡ kind ∷ [] → HaveFault kinds
+have_kind kind kinds other e = subst HaveFault (sym e) (kind, inl refl, other)
 
-pub has_fault : (kinds : Kinds) (asked : Asked) → kinds ≡ ValueValidation ∷ [] → HasReason kinds asked Refused
-has_fault kinds asked e = has_kind ValueValidation kinds asked other e
+pub have_fault : (kinds : Kinds) → kinds ≡ ValueValidation ∷ [] → HaveFault kinds
+have_fault kinds e = have_kind ValueValidation kinds other e
   where
-    other : IsRequest ValueValidation → ⊥
+    other : IsHelp ValueValidation → ⊥
     other (inl e) = cc
     other (inr e) = cc
 
-pub has_conflict : (kinds : Kinds) (asked : Asked) → kinds ≡ ArgumentConflict ∷ [] → HasReason kinds asked Refused
-has_conflict kinds asked e = has_kind ArgumentConflict kinds asked other e
+pub have_conflict : (kinds : Kinds) → kinds ≡ ArgumentConflict ∷ [] → HaveFault kinds
+have_conflict kinds e = have_kind ArgumentConflict kinds other e
   where
-    other : IsRequest ArgumentConflict → ⊥
+    other : IsHelp ArgumentConflict → ⊥
     other (inl e) = cc
     other (inr e) = cc
+
+pub first_fault : (kinds following : Kinds) → HaveFault kinds → HaveFault (or_else kinds following)
+first_fault [] following h = absurd h.1
+first_fault (kind ∷ kinds) following h = h
+
+-- what an order gives for some faults and a request, it gives for equal ones
+pub gives_for : (kinds others : Kinds) (request other : Request) (result : Result Order NoOrder) → kinds ≡ others → request ≡ other → Gives others other result → Gives kinds request result
+gives_for kinds others request other result same is h = subst (λ (k : Kinds). Gives k request result) (sym same) (subst (λ (r : Request). Gives others r result) (sym is) h)
 
 -- ---- a timeline
 
 -- its range is reversed
 pub events_backward : (rows : List Row) (s : EventRange) → HasStretch rows s → nat_lt s.to s.from ≡ true → stretch_faults rows ≡ ArgumentConflict ∷ []
 events_backward rows s h back = rw (h.0, h.1, back) refl
+
+pub range_is : (rows : List Row) (s : EventRange) → HasStretch rows s → s ≡ given_range rows
+range_is rows s h = rw (h.0, h.1) refl
+
+pub drawn_forward : (rows : List Row) (s : EventRange) → HasStretch rows s → nat_lt s.to s.from ≡ false → drawing_faults rows ≡ replay_faults rows
+drawn_forward rows s h forward = rw (h.0, h.1, forward) refl
 
 -- options with numbers have no fault
 pub numbers_fit : (rows : List Row) (layout : ActorCounts) (most : ℕ) (s : EventRange) → HasActors rows layout → Some most ≡ number_of limit rows → HasStretch rows s → option_faults number_options rows ≡ []
@@ -151,10 +168,8 @@ pub caps_fit : (rows : List Row) (caps : Caps) → HasCaps rows caps → option_
 caps_fit rows caps capped = rw (capped.0, capped.1, capped.2, capped.3, capped.4, capped.5) refl
 
 -- a wrong cap is wrong with `run`, if the other options are right
-pub caps_refused : (rows : List Row) (layout : ActorCounts) (most : ℕ) (s : EventRange) → HasActors rows layout → Some most ≡ number_of limit rows → HasStretch rows s → option_faults cap_options rows ≡ ValueValidation ∷ [] → run_faults rows ≡ ValueValidation ∷ []
-caps_refused rows layout most s actors is shown wrong =
-    ap (λ (k : Kinds). or_else k (or_else (option_faults cap_options rows) (or_else (picture_faults rows) (or_else (seed_faults rows) (given_faults rows))))) (numbers_fit rows layout most s actors is shown)
-    ∙ ap (λ (k : Kinds). or_else k (or_else (picture_faults rows) (or_else (seed_faults rows) (given_faults rows)))) wrong
+pub caps_refused : (rows : List Row) → option_faults number_options rows ≡ [] → option_faults cap_options rows ≡ ValueValidation ∷ [] → run_option_faults rows ≡ ValueValidation ∷ []
+caps_refused rows numbers wrong = rw (numbers, wrong) refl
 
 -- ---- the options of `check`
 
@@ -183,13 +198,9 @@ wrong_bounds rows e = ap (λ (o : Option BoundsOf). cond (is_some o) [] (ValueVa
 pub right_bounds : (rows : List Row) (whose : BoundsOf) → Some whose ≡ given_bounds rows → bounds_faults rows ≡ []
 right_bounds rows whose e = ap (λ (o : Option BoundsOf). cond (is_some o) [] (ValueValidation ∷ [])) (sym e)
 
--- what is wrong with it is wrong with `run`, if the options are right
-pub picture_refused : (rows : List Row) (layout : ActorCounts) (most : ℕ) (s : EventRange) (caps : Caps) → HasActors rows layout → Some most ≡ number_of limit rows → HasStretch rows s → HasCaps rows caps → picture_faults rows ≡ ArgumentConflict ∷ []
-    → run_faults rows ≡ ArgumentConflict ∷ []
-picture_refused rows layout most s caps actors is shown capped refused =
-    ap (λ (k : Kinds). or_else k (or_else (option_faults cap_options rows) (or_else (picture_faults rows) (or_else (seed_faults rows) (given_faults rows))))) (numbers_fit rows layout most s actors is shown)
-    ∙ ap (λ (k : Kinds). or_else k (or_else (picture_faults rows) (or_else (seed_faults rows) (given_faults rows)))) (caps_fit rows caps capped)
-    ∙ ap (λ (k : Kinds). or_else k (or_else (seed_faults rows) (given_faults rows))) refused
+-- what is wrong with a timeline is wrong with `run`, if the options are right
+pub picture_refused : (rows : List Row) → option_faults number_options rows ≡ [] → option_faults cap_options rows ≡ [] → picture_faults rows ≡ ArgumentConflict ∷ [] → run_option_faults rows ≡ ArgumentConflict ∷ []
+picture_refused rows numbers capped refused = rw (numbers, capped, refused) refl
 
 -- it is wrong with `picture` too
 pub unnumbered_refused : (rows : List Row) → option_faults stretch_options rows ≡ ValueValidation ∷ [] → drawing_faults rows ≡ ValueValidation ∷ []
@@ -203,47 +214,53 @@ backward_refused rows s shown refused =
 -- ---- the inputs
 
 -- `--inputs` and input arguments are a fault
-pub both_refused : (rows : List Row) (asked : Asked) → is_given inputs rows ≡ true → not (is_empty (given_words rows)) ≡ true → HasReason (input_faults rows) asked Refused
-both_refused rows asked read given = has_conflict (input_faults rows) asked (rw (read, given) refl)
+pub both_refused : (rows : List Row) → is_given inputs rows ≡ true → not (is_empty (given_words rows)) ≡ true → HaveFault (input_faults rows)
+both_refused rows read given = have_conflict (input_faults rows) (rw (read, given) refl)
 
 -- a seed of no single run in one thread is a fault of `run`, and so is a wrong one, or a wrong time limit
-pub seed_alone_refused : (rows : List Row) → option_faults number_options rows ≡ [] → option_faults cap_options rows ≡ [] → picture_faults rows ≡ [] → is_seed_alone rows ≡ true → run_faults rows ≡ ArgumentConflict ∷ []
+pub seed_alone_refused : (rows : List Row) → option_faults number_options rows ≡ [] → option_faults cap_options rows ≡ [] → picture_faults rows ≡ [] → is_seed_alone rows ≡ true → run_option_faults rows ≡ ArgumentConflict ∷ []
 seed_alone_refused rows numbers capped pictures alone = rw (numbers, capped, pictures, alone) refl
 
 pub seed_refused : (rows : List Row) → option_faults number_options rows ≡ [] → option_faults cap_options rows ≡ [] → picture_faults rows ≡ [] → is_seed_alone rows ≡ false → number_of seed rows ≡ None
-    → run_faults rows ≡ ValueValidation ∷ []
+    → run_option_faults rows ≡ ValueValidation ∷ []
 seed_refused rows numbers capped pictures used wrong = rw (numbers, capped, pictures, used, wrong) refl
 
 pub seconds_refused : (rows : List Row) (drawn : ℕ) → option_faults number_options rows ≡ [] → option_faults cap_options rows ≡ [] → picture_faults rows ≡ [] → is_seed_alone rows ≡ false → number_of seed rows ≡ Some drawn → number_of seconds rows ≡ None
-    → run_faults rows ≡ ValueValidation ∷ []
+    → run_option_faults rows ≡ ValueValidation ∷ []
 seconds_refused rows drawn numbers capped pictures used seeded wrong = rw (numbers, capped, pictures, used, seeded, wrong) refl
 
--- what `--each` excludes is a fault of `run`
-pub each_refused : (rows : List Row) → option_faults number_options rows ≡ [] → option_faults cap_options rows ≡ [] → picture_faults rows ≡ [] → seed_faults rows ≡ [] → is_given each rows ≡ true → each_excludes rows ≡ true
-    → run_faults rows ≡ ArgumentConflict ∷ []
-each_refused rows numbers capped pictures seeds given excluded = rw (numbers, capped, pictures, seeds, given, excluded) refl
+pub options_fit : (rows : List Row) (drawn time : ℕ) → option_faults number_options rows ≡ [] → option_faults cap_options rows ≡ [] → picture_faults rows ≡ [] → is_seed_alone rows ≡ false → number_of seed rows ≡ Some drawn → number_of seconds rows ≡ Some time
+    → run_option_faults rows ≡ []
+options_fit rows drawn time numbers capped pictures used seeded timed = rw (numbers, capped, pictures, used, seeded, timed) refl
 
--- a wrong number of threads is one too
-pub jobs_refused : (rows : List Row) → option_faults number_options rows ≡ [] → option_faults cap_options rows ≡ [] → picture_faults rows ≡ [] → seed_faults rows ≡ [] → is_given each rows ≡ true → each_excludes rows ≡ false → number_of jobs rows ≡ None
-    → run_faults rows ≡ ValueValidation ∷ []
-jobs_refused rows numbers capped pictures seeds given alone wrong = rw (numbers, capped, pictures, seeds, given, alone, wrong) refl
+-- these numbers are how a program is run
+pub given_run_is : (rows : List Row) (layout : ActorCounts) (most : ℕ) (caps : Caps) (o : RunOptions) → HasActors rows layout → Some most ≡ number_of limit rows → HasCaps rows caps
+    → o ≡ record (given_run rows) { layout = layout; limit = most; caps = caps } → o ≡ given_run rows
+given_run_is rows layout most caps o actors is capped made = made ∙ rw (actors.0, actors.1, actors.2, sym is, capped.0, capped.1, capped.2, capped.3, capped.4, capped.5) refl
 
--- what `--inputs-json` excludes is a fault of `run`
-pub json_refused : (rows : List Row) → option_faults number_options rows ≡ [] → option_faults cap_options rows ≡ [] → picture_faults rows ≡ [] → seed_faults rows ≡ [] → is_given each rows ≡ false → is_given inputs_json rows ≡ true → json_excludes rows ≡ true
-    → run_faults rows ≡ ArgumentConflict ∷ []
-json_refused rows numbers capped pictures seeds single given excluded = rw (numbers, capped, pictures, seeds, single, given, excluded) refl
+-- the faults of `run` are those of its inputs, if its options have none
+pub run_fits : (rows : List Row) → run_option_faults rows ≡ [] → run_faults rows ≡ given_faults rows
+run_fits rows fit = ap (λ (k : Kinds). or_else k (given_faults rows)) fit
 
--- threads without `--each` are a fault of `run`
-pub jobs_alone_refused : (rows : List Row) → option_faults number_options rows ≡ [] → option_faults cap_options rows ≡ [] → picture_faults rows ≡ [] → seed_faults rows ≡ [] → is_given each rows ≡ false → is_given inputs_json rows ≡ false
-    → is_some (first_of jobs.name rows) ≡ true → run_faults rows ≡ ArgumentConflict ∷ []
-jobs_alone_refused rows numbers capped pictures seeds single words named = rw (numbers, capped, pictures, seeds, single, words, named) refl
+-- what `--each` excludes is a fault of it, and so is a wrong number of threads
+pub each_refused : (rows : List Row) → each_excludes rows ≡ true → each_faults rows ≡ ArgumentConflict ∷ []
+each_refused rows excluded = rw excluded refl
+
+pub jobs_refused : (rows : List Row) → each_excludes rows ≡ false → number_of jobs rows ≡ None → each_faults rows ≡ ValueValidation ∷ []
+jobs_refused rows alone wrong = rw (alone, wrong) refl
+
+pub each_fits : (rows : List Row) (n : ℕ) → each_excludes rows ≡ false → number_of jobs rows ≡ Some n → each_faults rows ≡ []
+each_fits rows n alone named = rw (alone, named) refl
 
 -- a fault of an option is a fault of the command; without one, a fault of the inputs is
-pub run_refused : (rows : List Row) → option_faults number_options rows ≡ ValueValidation ∷ [] → run_faults rows ≡ ValueValidation ∷ []
-run_refused rows e = ap (λ (k : Kinds). or_else k (or_else (option_faults cap_options rows) (or_else (picture_faults rows) (or_else (seed_faults rows) (given_faults rows))))) e
+pub run_refused : (rows : List Row) → option_faults number_options rows ≡ ValueValidation ∷ [] → run_option_faults rows ≡ ValueValidation ∷ []
+run_refused rows e = ap (λ (k : Kinds). or_else k (or_else (option_faults cap_options rows) (or_else (picture_faults rows) (seed_faults rows)))) e
 
 pub replay_refused : (rows : List Row) → option_faults actor_options rows ≡ ValueValidation ∷ [] → replay_faults rows ≡ ValueValidation ∷ []
 replay_refused rows e = ap (λ (k : Kinds). or_else k (input_faults rows)) e
+
+pub replay_fits : (rows : List Row) (layout : ActorCounts) → HasActors rows layout → (layout ≡ given_actors rows) × (replay_faults rows ≡ input_faults rows)
+replay_fits rows layout actors = rw (actors.0, actors.1, actors.2) (refl, refl)
 
 -- a JSON line that isn't alone is a fault of `replay`; without one, a fault of the trace and the inputs is
 pub report_conflict : (rows : List Row) → is_json_with_more rows ≡ true → report_faults rows ≡ ArgumentConflict ∷ []

@@ -8,7 +8,7 @@ use Rattle.clap.proofs.OnLiterals.{clap_on_literals}
 use Rattle.tw_cli.specs.declared.command.NoOrder.{NoOrder}
 use Rattle.tw_cli.specs.declared.command.NoOrder.TheVariants.{Help, Refused, InputWord, Explanation, NoMemory}
 use Rattle.tw_cli.specs.Order.{HasReason, IsReason}
-use Rattle.tw_cli.specs.CommandLine.{Asked, asked_by_words, asked_of, faults_after, word_faults}
+use Rattle.tw_cli.specs.CommandLine.{Request, faults_after, request_by_words, request_of, word_faults}
 use Rattle.tw_cli.specs.Rows.{command_line}
 
 simple : is_simple command_line ≡ true
@@ -36,16 +36,16 @@ faults_are a words m line kinds matches =
     let both = matched a words m line kinds matches in
     ap (λ (k : Kinds). or_else k (faults_after (subcommand_of command_line words))) both.0 ∙ ap faults_after (sym both.1)
 
-pub asked_are : (a : App) (words : List Text) (m : ArgMatches) → a ≡ command_line
+pub request_is : (a : App) (words : List Text) (m : ArgMatches) → a ≡ command_line
     → (is_simple_and_free a ≡ true → fault_of a words ≡ []) → HasMatchesOf a words m
-    → asked_by_words words ≡ asked_of (subcommand_rows_of m)
-asked_are a words m line kinds matches = ap asked_of (sym (matched a words m line kinds matches).1)
+    → request_by_words words ≡ request_of (subcommand_rows_of m)
+request_is a words m line kinds matches = ap request_of (sym (matched a words m line kinds matches).1)
 
 -- the facts about a parse without matches
-pub refused : (a : App) (words : List Text) (e : Error) (n : NoOrder) (asked : Asked) → a ≡ command_line
+pub refused : (a : App) (words : List Text) (e : Error) (n : NoOrder) (request : Request) → a ≡ command_line
     → (is_simple_and_free a ≡ true → HasKind (fault_of a words) e) → IsReason (kind_of e) n
-    → HasReason (word_faults words) asked n
-refused a words e n asked line kinds reason =
+    → HasReason (word_faults words) request n
+refused a words e n request line kinds reason =
     go n reason (kinds (ap is_simple_and_free line ∙ simple_and_free))
   where
     first : (kinds following : Kinds) → IsAmong (kind_of e) kinds → IsAmong (kind_of e) (or_else kinds following)
@@ -55,7 +55,7 @@ refused a words e n asked line kinds reason =
     among : IsAmong (kind_of e) (fault_of a words) → IsAmong (kind_of e) (word_faults words)
     among h = first (fault_of command_line words) (faults_after (subcommand_of command_line words)) (subst (λ (b : App). IsAmong (kind_of e) (fault_of b words)) line h)
 
-    go : (n : NoOrder) → IsReason (kind_of e) n → HasKind (fault_of a words) e → HasReason (word_faults words) asked n
+    go : (n : NoOrder) → IsReason (kind_of e) n → HasKind (fault_of a words) e → HasReason (word_faults words) request n
     go NoMemory r h = tt
     go (Help text) (inl r) (inl h) = cc
     go (Help text) (inr r) (inl h) = cc

@@ -1,37 +1,32 @@
 -- The requests that arguments make, and why they are rejected.
-use Rattle.std.specs.Prelude.{◌≡◌, ◌||◌, ◌&&◌, ℕ, Bool, not, List, [], ◌∷◌, Option, Some, None, codes, bytes_eq, if◌then◌else◌, is_some, nat_lt, unwrap_or}
+use Rattle.std.specs.Prelude.{◌≡◌, ◌||◌, ◌&&◌, Bool, false, not, List, [], ◌∷◌, Option, Some, None, codes, bytes_eq, if◌then◌else◌, is_some, nat_lt, unwrap_or, MatchOption}
 use Rattle.clap.specs.Kinds.{or_else}
 use Rattle.clap.specs.Walk.{is_empty}
 use Rattle.clap.specs.Words.{Kinds, Row, Text, all_of, fault_of, first_of, subcommand_of}
 use Rattle.clap.specs.declared.error.ErrorKind.TheVariants.{ArgumentConflict}
 use Rattle.tw_types.specs.Layout.{ActorCounts}
-use Rattle.tw_inputs.specs.InputWords.{AreSpelled, IsRefusedWord, RefusedWord}
-use Rattle.tw_cli.specs.Options.{actor_options, ExplainOrder, explaining, given_actors, given_assembly, given_disassembly, given_form, each, event_order, first_shown, in_turn, inputs, inputs_json, bounds_faults, cap_options, check_options, given_caps, given_check, given_seconds, given_seed, checking, is_given, jobs, json, last_shown, limit, number_options, option_faults, picture, seconds, seed, given_source, stats, stretch_options, given_range, requested, trace}
+use Rattle.tw_types.specs.declared.input.Input.{Input}
+use Rattle.tw_inputs.specs.InputWords.{AreEncoded, IsRejectedWord, RejectedWord}
+use Rattle.tw_cli.specs.Options.{actor_options, actors, uncapped, ExplainOrder, explaining, given_actors, given_assembly, given_disassembly, given_form, each, event_order, first_shown, in_turn, inputs, inputs_json, bounds_faults, cap_options, check_options, given_caps, given_check, given_seconds, given_seed, checking, is_given, jobs, json, last_shown, limit, number_options, option_faults, picture, seconds, seed, given_source, stats, stretch_options, given_range, requested, trace}
 use Rattle.tw_cli.specs.Rows.{command_line}
 use Rattle.tw_cli.specs.Explanations.{IsMeaningOf, number_faults, number_word}
+use Rattle.tw_cli.specs.declared.form.Explained.{Explained}
+use Rattle.tw_order.specs.Orders.{order_in_turn}
+use Rattle.tw_order.specs.declared.check.BoundsOf.TheVariants.{NoBounds}
+use Rattle.tw_order.specs.declared.form.Places.TheVariants.{Hidden}
+use Rattle.tw_order.specs.declared.order.Order.{Order}
+use Rattle.tw_order.specs.declared.order.Order.TheVariants.{Assemble, Check, Disassemble, Each, Replay, Run}
+use Rattle.tw_order.specs.declared.order.Source.{Source}
+use Rattle.tw_order.specs.declared.order.Source.TheVariants.{Hex}
 use Rattle.tw_order.specs.declared.runs.Answer.{Answer}
 use Rattle.tw_order.specs.declared.runs.Answer.TheVariants.{Json, Numbers, Picture, Report}
+use Rattle.tw_order.specs.declared.runs.EachOrder.{EachOrder}
 use Rattle.tw_order.specs.declared.runs.RunAnswer.{RunAnswer}
 use Rattle.tw_order.specs.declared.runs.RunAnswer.TheVariants as written
-use Rattle.tw_order.specs.declared.order.Order.{Order}
-use Rattle.tw_order.specs.declared.order.InputsOrder.TheVariants.{ToReplay, ToRun, ToRunJson}
-use Rattle.tw_order.specs.declared.order.Order.TheVariants.{Assemble, Each, Inputs, Program, Replay}
-use Rattle.tw_order.specs.declared.caps.Caps.{Caps}
-use Rattle.tw_order.specs.declared.check.BoundsOf.TheVariants.{NoBounds}
-use Rattle.tw_order.specs.declared.check.CheckOrder.{CheckOrder}
-use Rattle.tw_order.specs.declared.runs.EachOrder.{EachOrder}
-use Rattle.tw_order.specs.declared.form.Places.TheVariants.{Hidden}
-use Rattle.tw_order.specs.declared.order.ProgramOrder.TheVariants.{Disassemble, Verified}
-use Rattle.tw_order.specs.declared.order.VerifiedOrder.TheVariants.{Check, Run}
-use Rattle.tw_order.specs.declared.runs.ReplayOptions.{ReplayOptions}
-use Rattle.tw_order.specs.declared.runs.ReplayOrder.{ReplayOrder}
+use Rattle.tw_order.specs.declared.runs.RunInputs.{RunInputs}
+use Rattle.tw_order.specs.declared.runs.RunInputs.TheVariants.{Given, Words}
+use Rattle.tw_order.specs.declared.runs.RunInputs.TheVariants as follows
 use Rattle.tw_order.specs.declared.runs.RunOptions.{RunOptions}
-use Rattle.tw_order.specs.declared.runs.RunOrder.{RunOrder}
-use Rattle.tw_order.specs.declared.order.Source.{Source}
-use Rattle.tw_order.specs.declared.form.AssembleOrder.{AssembleOrder}
-use Rattle.tw_order.specs.declared.form.DisassembleOrder.{DisassembleOrder}
-use Rattle.tw_cli.specs.declared.form.Explained.{Explained}
-use Rattle.tw_order.specs.declared.order.Source.TheVariants.{Hex}
 
 -- ---- what the arguments request
 
@@ -43,119 +38,121 @@ given_words rows = unwrap_or (all_of (codes "input") rows) []
 abbrev pub listed_words : List Row → Option (List Text)
 listed_words rows = if is_given inputs rows then None else Some (given_words rows)
 
--- what a command requests. Each that reads a program has its format; `asm`, `disasm` and `check` have what they print. `run` has its
--- output, its actors, its maximum number of events, whether its trace is written, whether it is single-threaded, its seed and its time
--- limit if it has them, and its input arguments. `replay` and `picture` have their output, their actors and their input arguments. Without input arguments the inputs are read after the program. `run` with
--- JSON inputs has what `run` has, without input arguments. `run` of each line has its actors, its caps, the maximum number of events of each run,
--- how many threads answer lines, and the time limit of each run. `explain` has its code.
-pub data Asked : Type 0 where
-  Assembles : AssembleOrder → Asked
-  Disassembles : Source → DisassembleOrder → Asked
-  Checks : Source → CheckOrder → Asked
-  Runs : Source → RunAnswer → ActorCounts → Caps → ℕ → Bool → Bool → Option ℕ → Option ℕ → Option (List Text) → Asked
-  RunsJson : Source → RunAnswer → ActorCounts → Caps → ℕ → Bool → Bool → Option ℕ → Option ℕ → Asked
-  RunsEach : Source → ActorCounts → Caps → ℕ → ℕ → Option ℕ → Asked
-  Replays : Source → Answer → ActorCounts → Option (List Text) → Asked
-  Explains : ExplainOrder → Asked
+-- what the arguments request: an order; the order with the inputs that these arguments encode, or, without arguments, with those after the program; or
+-- the explanation of a code
+pub data Request : Type 0 where
+  Orders : Order → Request
+  OrdersWith : (Option (List Input) → Order) → Option (List Text) → Request
+  Explains : ExplainOrder → Request
 
 -- return what `replay` and `run` write
 abbrev pub given_answer : List Row → Answer
 given_answer rows = if is_given json rows then Json else if is_given stats rows then Numbers else Report
 
-abbrev pub json_answer : List Row → RunAnswer
-json_answer rows = if is_given event_order rows then written.OrderJson else written.Json
-
-abbrev pub text_answer : List Row → RunAnswer
-text_answer rows = if is_given event_order rows then written.Order else if is_given stats rows then written.Numbers else written.Report
-
 abbrev pub written_answer : List Row → RunAnswer
-written_answer rows = if is_given json rows then json_answer rows else text_answer rows
+written_answer rows =
+    if is_given json rows then (if is_given event_order rows then written.OrderJson else written.Json) else
+    if is_given event_order rows then written.Order else
+    if is_given stats rows then written.Numbers else
+    written.Report
 
 abbrev pub run_answer : List Row → RunAnswer
 run_answer rows = if is_given picture rows then written.Picture (given_range rows) else written_answer rows
 
--- return the request of `run`, from what clap found after it: of one run, of one with JSON inputs, and of any
-abbrev pub single_asked : List Row → Asked
-single_asked rows =
-    Runs (given_source rows) (run_answer rows) (given_actors rows) (given_caps rows) (requested limit rows) (is_given trace rows) (is_given in_turn rows) (given_seed rows) (given_seconds rows) (listed_words rows)
+-- return how a program is run, and how it is run on each line: without options, and with those that clap found
+abbrev pub bare_run : RunOptions
+bare_run = record { answer = written.Report; layout = actors 1 1 1; limit = 10000; caps = uncapped; trace = false; in_turn = false; seed = None; seconds = None }
 
-abbrev pub json_asked : List Row → Asked
-json_asked rows =
-    RunsJson (given_source rows) (run_answer rows) (given_actors rows) (given_caps rows) (requested limit rows) (is_given trace rows) (is_given in_turn rows) (given_seed rows) (given_seconds rows)
+abbrev pub bare_each : EachOrder
+bare_each = record { layout = actors 1 1 1; limit = 10000; jobs = 1; seconds = None; caps = uncapped }
 
-abbrev pub run_asked : List Row → Asked
-run_asked rows =
-    if is_given each rows then RunsEach (given_source rows) (given_actors rows) (given_caps rows) (requested limit rows) (requested jobs rows) (given_seconds rows) else
-    if is_given inputs_json rows then json_asked rows else
-    single_asked rows
+abbrev pub given_run : List Row → RunOptions
+given_run rows = record { answer = run_answer rows; layout = given_actors rows; limit = requested limit rows; caps = given_caps rows; trace = is_given trace rows; in_turn = is_given in_turn rows; seed = given_seed rows; seconds = given_seconds rows }
 
--- returns the request of `replay` or `picture`, from what clap found after it
-abbrev pub replay_asked : Answer → List Row → Asked
-replay_asked answer rows = Replays (given_source rows) answer (given_actors rows) (listed_words rows)
+abbrev pub given_each : List Row → EachOrder
+given_each rows = record { layout = given_actors rows; limit = requested limit rows; jobs = requested jobs rows; seconds = given_seconds rows; caps = given_caps rows }
 
--- returns the request of `explain`
-abbrev pub explain_asked : List Row → Asked
-explain_asked rows = Explains (explaining (number_word rows) (given_form rows))
+-- returns where the inputs of a run are: these, or words after the program
+abbrev pub run_inputs : Option (List Input) → RunInputs
+run_inputs None = Words
+run_inputs (Some given) = Given given
 
-abbrev pub asked_of : Option (Text × List Row) → Asked
-asked_of None = Checks Hex (checking Hidden NoBounds)
-asked_of (Some named) =
-    if bytes_eq named.0 (codes "run") then run_asked named.1 else
-    if bytes_eq named.0 (codes "replay") then replay_asked (given_answer named.1) named.1 else
-    if bytes_eq named.0 (codes "picture") then replay_asked (Picture (given_range named.1)) named.1 else
-    if bytes_eq named.0 (codes "asm") then Assembles (given_assembly named.1) else
-    if bytes_eq named.0 (codes "disasm") then Disassembles (given_source named.1) (given_disassembly named.1) else
-    if bytes_eq named.0 (codes "explain") then explain_asked named.1 else
-    if bytes_eq named.0 (codes "check") then Checks (given_source named.1) (given_check named.1) else
-    Checks Hex (checking Hidden NoBounds)
+-- return the request of a run, or of a replay, with the inputs of these arguments; without arguments with those after the program
+abbrev pub runs : Source → RunOptions → Option (List Text) → Request
+runs source options words = OrdersWith (λ given. Run source options (run_inputs given)) words
+
+abbrev pub replays : Source → Answer → ActorCounts → Option (List Text) → Request
+replays source answer layout words = OrdersWith (λ given. Replay source answer layout given) words
+
+-- return the request of `run`, from what clap found after it: of one run, and of any
+abbrev pub single_request : List Row → Request
+single_request rows = runs (given_source rows) (given_run rows) (listed_words rows)
+
+abbrev pub run_request : List Row → Request
+run_request rows =
+    if is_given each rows then Orders (Each (given_source rows) (given_each rows)) else
+    if is_given inputs_json rows then Orders (Run (given_source rows) (given_run rows) follows.Json) else
+    single_request rows
+
+-- return the requests of `replay` or `picture`, of `explain`, and of `check`
+abbrev pub replay_request : Answer → List Row → Request
+replay_request answer rows = replays (given_source rows) answer (given_actors rows) (listed_words rows)
+
+abbrev pub explain_request : List Row → Request
+explain_request rows = Explains (explaining (number_word rows) (given_form rows))
+
+abbrev pub check_request : List Row → Request
+check_request rows = Orders (Check (given_source rows) (given_check rows))
+
+-- returns the request of a command, from its name and from what clap found after it
+abbrev pub request_of : Option (Text × List Row) → Request
+request_of None = Orders (Check Hex (checking Hidden NoBounds))
+request_of (Some named) =
+    if bytes_eq named.0 (codes "run") then run_request named.1 else
+    if bytes_eq named.0 (codes "replay") then replay_request (given_answer named.1) named.1 else
+    if bytes_eq named.0 (codes "picture") then replay_request (Picture (given_range named.1)) named.1 else
+    if bytes_eq named.0 (codes "asm") then Orders (Assemble (given_assembly named.1)) else
+    if bytes_eq named.0 (codes "disasm") then Orders (Disassemble (given_source named.1) (given_disassembly named.1)) else
+    if bytes_eq named.0 (codes "explain") then explain_request named.1 else
+    if bytes_eq named.0 (codes "check") then check_request named.1 else
+    Orders (Check Hex (checking Hidden NoBounds))
 
 -- returns what the program's arguments request
-abbrev pub asked_by_words : List Text → Asked
-asked_by_words words = asked_of (subcommand_of command_line words)
+abbrev pub request_by_words : List Text → Request
+request_by_words words = request_of (subcommand_of command_line words)
+
+-- returns the request with its run single-threaded, if it has one
+abbrev pub request_in_turn : Request → Request
+request_in_turn (Orders order) = Orders (order_in_turn order)
+request_in_turn (OrdersWith order words) = OrdersWith (λ given. order_in_turn (order given)) words
+request_in_turn (Explains code) = Explains code
+
+-- ---- whether an order is what was requested
+
+-- holds if these are the inputs that the words encode, or there are neither
+abbrev pub HasInputs : Option (List Text) → Option (List Input) → Type 0
+HasInputs None None = Unit {0}
+HasInputs None (Some given) = ⊥
+HasInputs (Some words) None = ⊥
+HasInputs (Some words) (Some given) = AreEncoded given words
 
 -- holds if the order is what was requested: each input argument encodes its input, or the inputs are to be read
-abbrev pub IsAsked : Asked → Order → Type 0
-IsAsked (Assembles what) order = order ≡ Assemble what
-IsAsked (Disassembles source listed) order = order ≡ Program source (Disassemble listed)
-IsAsked (Checks source requested) order = order ≡ Program source (Verified (Check requested))
-IsAsked (Runs source answer layout caps most traced turns drawn time (Some words)) order =
-    (run : RunOrder) × (order ≡ Program source (Verified (Run run)))
-    × (run.answer ≡ answer) × (run.layout ≡ layout) × (run.caps ≡ caps) × (run.limit ≡ most) × (run.trace ≡ traced) × (run.in_turn ≡ turns) × (run.seed ≡ drawn) × (run.seconds ≡ time) × AreSpelled run.inputs words
-IsAsked (Runs source answer layout caps most traced turns drawn time None) order =
-    (run : RunOptions) × (order ≡ Inputs source (ToRun run)) × (run.answer ≡ answer) × (run.layout ≡ layout) × (run.caps ≡ caps) × (run.limit ≡ most) × (run.trace ≡ traced) × (run.in_turn ≡ turns) × (run.seed ≡ drawn) × (run.seconds ≡ time)
-IsAsked (RunsJson source answer layout caps most traced turns drawn time) order =
-    (run : RunOptions) × (order ≡ Inputs source (ToRunJson run)) × (run.answer ≡ answer) × (run.layout ≡ layout) × (run.caps ≡ caps) × (run.limit ≡ most) × (run.trace ≡ traced) × (run.in_turn ≡ turns) × (run.seed ≡ drawn) × (run.seconds ≡ time)
-IsAsked (RunsEach source layout caps most threads time) order =
-    (run : EachOrder) × (order ≡ Each source run) × (run.layout ≡ layout) × (run.caps ≡ caps) × (run.limit ≡ most) × (run.jobs ≡ threads) × (run.seconds ≡ time)
-IsAsked (Replays source answer layout (Some words)) order =
-    (replay : ReplayOrder) × (order ≡ Replay source replay) × (replay.answer ≡ answer) × (replay.layout ≡ layout) × AreSpelled replay.inputs words
-IsAsked (Replays source answer layout None) order =
-    (replay : ReplayOptions) × (order ≡ Inputs source (ToReplay replay)) × (replay.answer ≡ answer) × (replay.layout ≡ layout)
-IsAsked (Explains number) order = ⊥
+abbrev pub IsRequested : Request → Order → Type 0
+IsRequested (Orders requested) order = order ≡ requested
+IsRequested (OrdersWith requested words) order = (given : Option (List Input)) × HasInputs words given × (order ≡ requested given)
+IsRequested (Explains code) order = ⊥
 
 -- holds if the request has input arguments, and this one is the first that encodes no input
-abbrev pub IsRefusedInput : Asked → RefusedWord → Type 0
-IsRefusedInput (Assembles what) refused = ⊥
-IsRefusedInput (Disassembles source listed) refused = ⊥
-IsRefusedInput (Checks source requested) refused = ⊥
-IsRefusedInput (Runs source answer layout caps most traced turns drawn time (Some words)) refused = IsRefusedWord words refused
-IsRefusedInput (Runs source answer layout caps most traced turns drawn time None) refused = ⊥
-IsRefusedInput (RunsJson source answer layout caps most traced turns drawn time) refused = ⊥
-IsRefusedInput (RunsEach source layout caps most threads time) refused = ⊥
-IsRefusedInput (Replays source answer layout (Some words)) refused = IsRefusedWord words refused
-IsRefusedInput (Replays source answer layout None) refused = ⊥
-IsRefusedInput (Explains other) refused = ⊥
+abbrev pub IsRejectedInput : Request → RejectedWord → Type 0
+IsRejectedInput (Orders order) word = ⊥
+IsRejectedInput (OrdersWith order words) word = MatchOption words ⊥ (λ listed. IsRejectedWord listed word)
+IsRejectedInput (Explains code) word = ⊥
 
 -- holds if an explanation of a code is requested, and this is it
-abbrev pub IsExplained : Asked → Explained → Type 0
-IsExplained (Assembles what) explained = ⊥
-IsExplained (Disassembles source listed) explained = ⊥
-IsExplained (Checks source requested) explained = ⊥
-IsExplained (Runs source answer layout caps most traced turns drawn time words) explained = ⊥
-IsExplained (RunsJson source answer layout caps most traced turns drawn time) explained = ⊥
-IsExplained (RunsEach source layout caps most threads time) explained = ⊥
-IsExplained (Replays source answer layout words) explained = ⊥
-IsExplained (Explains order) explained = (explained.form ≡ order.form) × IsMeaningOf order.word explained.code.items explained.text.items
+abbrev pub IsExplained : Request → Explained → Type 0
+IsExplained (Orders order) explained = ⊥
+IsExplained (OrdersWith order words) explained = ⊥
+IsExplained (Explains code) explained = (explained.form ≡ code.form) × IsMeaningOf code.word explained.code.items explained.text.items
 
 -- ---- why the arguments are rejected
 
@@ -231,9 +228,12 @@ drawn_faults rows = if is_given json rows || has_details rows then ArgumentConfl
 abbrev pub picture_faults : List Row → Kinds
 picture_faults rows = if is_given picture rows then drawn_faults rows else if is_cut rows then ArgumentConflict ∷ [] else written_faults rows
 
--- return the faults of `run`, and of a trace and its inputs
+-- return the faults of the options of `run`, those of `run`, and those of a trace and its inputs
+abbrev pub run_option_faults : List Row → Kinds
+run_option_faults rows = or_else (option_faults number_options rows) (or_else (option_faults cap_options rows) (or_else (picture_faults rows) (seed_faults rows)))
+
 abbrev pub run_faults : List Row → Kinds
-run_faults rows = or_else (option_faults number_options rows) (or_else (option_faults cap_options rows) (or_else (picture_faults rows) (or_else (seed_faults rows) (given_faults rows))))
+run_faults rows = or_else (run_option_faults rows) (given_faults rows)
 
 abbrev pub check_faults : List Row → Kinds
 check_faults rows = or_else (option_faults check_options rows) (bounds_faults rows)

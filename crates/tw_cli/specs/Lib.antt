@@ -1,11 +1,9 @@
 -- The definitions that a reader has to trust for the command line. Rows and Options define which arguments are accepted, and after which options a file
--- is named. CommandLine says what they request, Order why there is no order, and Complaint which text says so. InTurn is about requests whose runs are
--- single-threaded. The definitions for private clauses are in reading.
+-- is named. CommandLine says what they request, Order why there is no order, and Complaint which text says so. The definitions for private clauses are in reading.
 pub mod Options
 pub mod Explanations
 pub mod Rows
 pub mod CommandLine
-pub mod InTurn
 pub mod Order
 pub mod Complaint
 pub mod reading

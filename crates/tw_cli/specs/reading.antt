@@ -1,4 +1,2 @@
 -- The definitions for the readers of words, which no public clause uses.
-pub mod Inputs
-pub mod Runs
 pub mod Rows

@@ -14,6 +14,7 @@ use crate::shown::is_named;
 use clap::ArgMatches;
 use tw_order::{BoundsOf, Caps, CheckOrder, EventLimit, EventOrder, Form, Places};
 
+/// Returns whose bounds the value of `--bounds` requests, if it requests any.
 fn bounds_in(word: &str) -> Option<BoundsOf>
     ensures { result ≡ bounds_in word.now }
 {

@@ -6,14 +6,13 @@ ghost use Rattle.clap.specs.Words.{App, app_of, with_subcommand};
 ghost use Rattle.clap.specs.declared.Command.TheViews.{out-Command};
 ghost use Rattle.tw_cli.specs.Rows.{bare_line, command_line};
 ghost use Rattle.tw_cli.specs.reading.Rows.{with_row};
-ghost use Rattle.tw_cli.specs.declared.command.NoOrder.TheVariants.{NoMemory};
 
 use crate::arguments::command_of;
 use crate::command_rows::{COMMANDS, CommandRow};
 use crate::form::Explained;
 use crate::help::{ABOUT, VERSION};
 use clap::Command;
-use std::alloc::{AllocError, AllocFailed, Global};
+use std::alloc::{AllocError, Global};
 
 /// The reason why the arguments give no order.
 #[derive(Drop)]
@@ -29,22 +28,6 @@ pub enum NoOrder {
     Explanation(Explained),
     /// An allocation failed.
     NoMemory,
-}
-
-impl From<AllocError> for NoOrder {
-    ghost from_gives = { λ _ e. e ≡ NoMemory };
-
-    fn from(_error: AllocError) -> NoOrder {
-        NoOrder::NoMemory
-    }
-}
-
-impl<T: Drop> From<AllocFailed<T>> for NoOrder {
-    ghost from_gives = { λ _ e. e ≡ NoMemory };
-
-    fn from(_failed: AllocFailed<T>) -> NoOrder {
-        NoOrder::NoMemory
-    }
 }
 
 /// Makes the program without its commands.
@@ -86,6 +69,7 @@ fn line_of<'a>(alloc: Global, rows: &[CommandRow<'a>]) -> Result<Command<'a>, Al
     Ok(line)
 }
 
+/// Makes the whole command line.
 pub(crate) fn command<'a>(alloc: Global) -> Result<Command<'a>, AllocError>
     ensures { IfOk result (λ c. app_of c ≡ command_line) }
 {

@@ -1,13 +1,13 @@
 //! Reads the options and input arguments that clap found after a command.
 
-ghost use Rattle.std.specs.Prelude.{◌≡◌, false, not, [], ◌∷◌, List, IfOk, IfErr, IfSome, MatchOption};
+ghost use Rattle.std.specs.Prelude.{◌≡◌, not, [], ◌∷◌, List, Option, IfOk, IfErr, IfSome, MatchOption};
 ghost use Rattle.clap.specs.Walk.{is_empty};
 ghost use Rattle.clap.specs.Words.{Text, found_of, rows_of};
 ghost use Rattle.clap.specs.declared.error.ErrorKind.TheVariants.{ValueValidation};
-ghost use Rattle.tw_cli.specs.CommandLine.{given_answer, given_words, input_faults, replay_asked, single_asked, listed_words};
-ghost use Rattle.tw_order.specs.declared.runs.Answer.{Answer as Answers};
-ghost use Rattle.tw_inputs.specs.InputWords.{AreSpelled};
-ghost use Rattle.tw_cli.specs.reading.Inputs.{HasInputs};
+ghost use Rattle.tw_cli.specs.CommandLine.{HasInputs, OrdersWith, given_answer, given_words, input_faults, listed_words};
+ghost use Rattle.tw_order.specs.declared.order.Order.{Order as AnOrder};
+ghost use Rattle.tw_types.specs.declared.input.Input.{Input as Encoded};
+ghost use Rattle.tw_inputs.specs.InputWords.{AreEncoded};
 ghost use Rattle.tw_cli.specs.Options.{HasActors, actor_options, given_assembling, given_event_order, is_given, limit, number_of, option_faults, given_places, given_source};
 ghost use Rattle.std.specs.Int.{IsInRange};
 ghost use Rattle.tw_cli.specs.Order.{HasReason, IsWordReason};
@@ -137,7 +137,7 @@ fn word_reason(why: WordError) -> NoOrder
 
 /// Returns the inputs that the arguments after `run`, `replay` or `picture` encode.
 fn inputs_in_words(alloc: Global, matches: &ArgMatches<'_>) -> Result<Items<Input>, WordError>
-    ensures spelled { IfOk result (λ inputs. AreSpelled inputs (given_words (rows_of (found_of matches.now)))) }
+    ensures spelled { IfOk result (λ inputs. AreEncoded inputs (given_words (rows_of (found_of matches.now)))) }
     ensures refused { IfErr result (IsInputReason (given_words (rows_of (found_of matches.now)))) }
 {
     match matches.get_strs("input") {
@@ -163,9 +163,8 @@ pub(crate) fn inputs_given(
 ) -> Result<Option<Items<Input>>, NoOrder>
     ensures taken { IfOk result (λ given. (input_faults (rows_of (found_of matches.now)) ≡ [])
         × HasInputs (listed_words (rows_of (found_of matches.now))) given) }
-    ensures run { IfErr result (HasReason (input_faults (rows_of (found_of matches.now))) (single_asked (rows_of (found_of matches.now)))) }
-    ensures replay { (answer : Answers) → IfErr result
-        (HasReason (input_faults (rows_of (found_of matches.now))) (replay_asked answer (rows_of (found_of matches.now)))) }
+    ensures refused { (order : Option (List Encoded) → AnOrder) → IfErr result
+        (HasReason (input_faults (rows_of (found_of matches.now))) (OrdersWith order (listed_words (rows_of (found_of matches.now))))) }
 {
     if !flag_given(matches, "inputs") {
         return match inputs_in_words(alloc, matches) {

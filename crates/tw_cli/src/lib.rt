@@ -17,8 +17,6 @@ mod found;
 mod help;
 mod option_forms;
 mod orders;
-mod seconds;
-mod seed;
 mod shown;
 mod theorems;
 mod wrong_words;

@@ -1,9 +1,9 @@
 //! Reads what a run prints, and which events its timeline shows.
 
-ghost use Rattle.std.specs.Prelude.{◌≡◌, [], ◌∷◌, is_some, IfErr, IfOk, MatchOption};
+ghost use Rattle.std.specs.Prelude.{◌≡◌, [], ◌∷◌, if◌then◌else◌, is_some, IfErr, IfOk, MatchOption, None, Some};
 ghost use Rattle.clap.specs.Words.{first_of, found_of, rows_of};
 ghost use Rattle.clap.specs.declared.error.ErrorKind.TheVariants.{ArgumentConflict, ValueValidation};
-ghost use Rattle.tw_cli.specs.CommandLine.{has_details, has_more, is_cut, is_json_with_more, is_order_with_stats, json_answer, picture_faults, run_answer, text_answer, written_answer, written_faults};
+ghost use Rattle.tw_cli.specs.CommandLine.{has_details, has_more, is_cut, is_json_with_more, is_order_with_stats, picture_faults, run_answer, written_answer};
 ghost use Rattle.tw_cli.specs.Options.{HasStretch, option_faults, stretch_options};
 
 use crate::found::{flag_given, number_given};
@@ -47,10 +47,22 @@ pub(crate) fn event_range_given(matches: &ArgMatches<'_>) -> Option<EventRange>
     })
 }
 
+/// Returns whether an option is given.
 pub(crate) fn is_named(matches: &ArgMatches<'_>, name: &str) -> bool
     ensures { result ≡ is_some (first_of name.now (rows_of (found_of matches.now))) }
 {
     matches.get_str(name).is_some()
+}
+
+/// Returns this number of an option, if the option is given.
+pub(crate) fn number_if_named(matches: &ArgMatches<'_>, name: &str, number: u64) -> Option<u64>
+    ensures { result ≡ (if is_some (first_of name.now (rows_of (found_of matches.now))) then Some number else None) }
+{
+    if is_named(matches, name) {
+        Some(number)
+    } else {
+        None
+    }
 }
 
 /// Returns whether `--from` or `--to` is given.
@@ -88,46 +100,24 @@ fn is_order_with_stats(matches: &ArgMatches<'_>) -> bool
     flag_given(matches, "order") && flag_given(matches, "stats")
 }
 
-/// Returns the JSON line that `run` prints.
-fn json_answer(matches: &ArgMatches<'_>) -> RunAnswer
-    ensures { result ≡ json_answer (rows_of (found_of matches.now)) }
+/// Returns what `run` prints if that is no timeline.
+fn written_answer(matches: &ArgMatches<'_>) -> RunAnswer
+    ensures { result ≡ written_answer (rows_of (found_of matches.now)) }
 {
-    if flag_given(matches, "order") {
-        RunAnswer::OrderJson
-    } else {
-        RunAnswer::Json
-    }
-}
-
-/// Returns the report that `run` prints.
-fn text_answer(matches: &ArgMatches<'_>) -> RunAnswer
-    ensures { result ≡ text_answer (rows_of (found_of matches.now)) }
-{
-    if flag_given(matches, "order") {
+    let order = flag_given(matches, "order");
+    if flag_given(matches, "json") {
+        if order {
+            RunAnswer::OrderJson
+        } else {
+            RunAnswer::Json
+        }
+    } else if order {
         RunAnswer::Order
     } else if flag_given(matches, "stats") {
         RunAnswer::Numbers
     } else {
         RunAnswer::Report
     }
-}
-
-/// Returns what `run` prints if that is no timeline.
-fn written_answer(matches: &ArgMatches<'_>) -> Result<RunAnswer, Conflict>
-    ensures taken { IfOk result (λ answer. (written_faults (rows_of (found_of matches.now)) ≡ [])
-        × (answer ≡ written_answer (rows_of (found_of matches.now)))) }
-    ensures refused { IfErr result (λ conflict. written_faults (rows_of (found_of matches.now)) ≡ ArgumentConflict ∷ []) }
-{
-    if is_order_with_stats(matches) {
-        return Err(Conflict::OrderWithStats);
-    }
-    if is_json_with_more(matches) {
-        return Err(Conflict::JsonWithMore);
-    }
-    if flag_given(matches, "json") {
-        return Ok(json_answer(matches));
-    }
-    Ok(text_answer(matches))
 }
 
 /// Returns what `run` writes. `stretch` are the events for a timeline.
@@ -152,5 +142,11 @@ pub(crate) fn run_answer(
     if is_cut(matches) {
         return Err(Conflict::RangeAlone);
     }
-    written_answer(matches)
+    if is_order_with_stats(matches) {
+        return Err(Conflict::OrderWithStats);
+    }
+    if is_json_with_more(matches) {
+        return Err(Conflict::JsonWithMore);
+    }
+    Ok(written_answer(matches))
 }

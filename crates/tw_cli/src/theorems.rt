@@ -3,7 +3,9 @@
 ghost use Rattle.std.specs.Prelude.{◌≡◌, ◌++◌, ℕ, true, false, List, [], ◌∷◌, Some, None, codes};
 ghost use Rattle.std.specs.List.{AllByRecursion};
 ghost use Rattle.clap.specs.declared.error.ErrorKind.TheVariants.{ArgumentConflict, DisplayHelp, DisplayVersion, InvalidSubcommand, InvalidValue, TooManyValues, UnknownArgument, ValueValidation};
-ghost use Rattle.tw_cli.specs.CommandLine.{Assembles, Checks, Disassembles, Explains, Replays, Runs, RunsEach, RunsJson, asked_by_words, word_faults};
+ghost use Rattle.tw_cli.specs.CommandLine.{Explains, Orders, bare_each, bare_run, replays, request_by_words, runs, word_faults};
+ghost use Rattle.tw_order.specs.declared.order.Order.TheVariants.{Assemble, Check, Disassemble, Each, Run};
+ghost use Rattle.tw_order.specs.declared.runs.RunInputs.TheVariants as follows;
 ghost use Rattle.tw_order.specs.declared.runs.Answer.TheVariants.{Json, Numbers, Picture, Report};
 ghost use Rattle.tw_order.specs.declared.runs.RunAnswer.TheVariants as written;
 ghost use Rattle.tw_order.specs.declared.form.Assembling.TheVariants.{Names, Plain, Text};
@@ -12,122 +14,122 @@ ghost use Rattle.tw_order.specs.declared.check.EventOrder.TheVariants.{Checked};
 ghost use Rattle.tw_order.specs.declared.form.Places.TheVariants.{Hidden, Shown};
 ghost use Rattle.tw_order.specs.declared.form.Form.TheVariants as form;
 ghost use Rattle.tw_order.specs.declared.order.Source.TheVariants.{Assembly, Hex};
-ghost use Rattle.tw_cli.specs.Options.{actors, assembling_to, cap_options, capped, checking, disassembling, explaining, jobs, number_options, seconds, seed, stretch, uncapped};
+ghost use Rattle.tw_cli.specs.Options.{actors, assembling_to, cap_options, capped, checking, disassembling, explaining, jobs, number_options, seconds, seed, stretch};
 ghost use Rattle.tw_cli.specs.Explanations.{meant};
 ghost use Rattle.tw_cli.specs.Rows.{is_option, reads_program};
 ghost use Rattle.tw_cli.specs.declared.command_rows.ArgumentForm.TheVariants.{Inputs, Trace, Value, ValueOrMain};
 
 /// Each command is accepted, and gives the order that it names, with the options and arguments after it.
 pub fn commands_are_taken()
-    ensures asm { (word_faults (codes "asm" ∷ []) ≡ []) × (asked_by_words (codes "asm" ∷ []) ≡ Assembles (assembling_to Text form.Text)) }
-    ensures names { (word_faults (codes "asm" ∷ codes "--names" ∷ []) ≡ []) × (asked_by_words (codes "asm" ∷ codes "--names" ∷ []) ≡ Assembles (assembling_to Names form.Text)) }
+    ensures asm { (word_faults (codes "asm" ∷ []) ≡ []) × (request_by_words (codes "asm" ∷ []) ≡ Orders (Assemble (assembling_to Text form.Text))) }
+    ensures names { (word_faults (codes "asm" ∷ codes "--names" ∷ []) ≡ []) × (request_by_words (codes "asm" ∷ codes "--names" ∷ []) ≡ Orders (Assemble (assembling_to Names form.Text))) }
     ensures plain { (word_faults (codes "asm" ∷ codes "--names" ∷ codes "--plain" ∷ []) ≡ [])
-        × (asked_by_words (codes "asm" ∷ codes "--names" ∷ codes "--plain" ∷ []) ≡ Assembles (assembling_to Plain form.Text)) }
-    ensures disasm { (word_faults (codes "disasm" ∷ []) ≡ []) × (asked_by_words (codes "disasm" ∷ []) ≡ Disassembles Hex (disassembling Hidden form.Text)) }
-    ensures check { (word_faults (codes "check" ∷ []) ≡ []) × (asked_by_words (codes "check" ∷ []) ≡ Checks Hex (checking Hidden NoBounds)) }
+        × (request_by_words (codes "asm" ∷ codes "--names" ∷ codes "--plain" ∷ []) ≡ Orders (Assemble (assembling_to Plain form.Text))) }
+    ensures disasm { (word_faults (codes "disasm" ∷ []) ≡ []) × (request_by_words (codes "disasm" ∷ []) ≡ Orders (Disassemble Hex (disassembling Hidden form.Text))) }
+    ensures check { (word_faults (codes "check" ∷ []) ≡ []) × (request_by_words (codes "check" ∷ []) ≡ Orders (Check Hex (checking Hidden NoBounds))) }
     ensures bounds { (word_faults (codes "check" ∷ codes "--bounds" ∷ codes "--text" ∷ []) ≡ [])
-        × (asked_by_words (codes "check" ∷ codes "--bounds" ∷ codes "--text" ∷ []) ≡ Checks Assembly (checking Hidden OfMain)) }
+        × (request_by_words (codes "check" ∷ codes "--bounds" ∷ codes "--text" ∷ []) ≡ Orders (Check Assembly (checking Hidden OfMain))) }
     ensures all_bounds { (word_faults (codes "check" ∷ codes "--bounds=all" ∷ codes "--limit" ∷ codes "9" ∷ []) ≡ [])
-        × (asked_by_words (codes "check" ∷ codes "--bounds=all" ∷ codes "--limit" ∷ codes "9" ∷ []) ≡ Checks Hex (record (checking Hidden OfEach) { limit = Some 9 })) }
+        × (request_by_words (codes "check" ∷ codes "--bounds=all" ∷ codes "--limit" ∷ codes "9" ∷ []) ≡ Orders (Check Hex (record (checking Hidden OfEach) { limit = Some 9 }))) }
     ensures check_caps { (word_faults (codes "check" ∷ codes "--most-tasks" ∷ codes "9" ∷ []) ≡ [])
-        × (asked_by_words (codes "check" ∷ codes "--most-tasks" ∷ codes "9" ∷ []) ≡ Checks Hex (record (checking Hidden NoBounds) { caps = capped 9 18446744073709551615 18446744073709551615 18446744073709551615 18446744073709551615 18446744073709551615 })) }
+        × (request_by_words (codes "check" ∷ codes "--most-tasks" ∷ codes "9" ∷ []) ≡ Orders (Check Hex (record (checking Hidden NoBounds) { caps = capped 9 18446744073709551615 18446744073709551615 18446744073709551615 18446744073709551615 18446744073709551615 }))) }
     ensures run_caps { (word_faults (codes "run" ∷ codes "--most-instructions=7" ∷ codes "--most-budget" ∷ codes "8" ∷ []) ≡ [])
-        × (asked_by_words (codes "run" ∷ codes "--most-instructions=7" ∷ codes "--most-budget" ∷ codes "8" ∷ [])
-        ≡ Runs Hex written.Report (actors 1 1 1) (capped 18446744073709551615 7 18446744073709551615 18446744073709551615 8 18446744073709551615) 10000 false false None None (Some [])) }
+        × (request_by_words (codes "run" ∷ codes "--most-instructions=7" ∷ codes "--most-budget" ∷ codes "8" ∷ [])
+        ≡ runs Hex (record bare_run { caps = capped 18446744073709551615 7 18446744073709551615 18446744073709551615 8 18446744073709551615 }) (Some [])) }
     ensures run { (word_faults (codes "run" ∷ []) ≡ [])
-        × (asked_by_words (codes "run" ∷ []) ≡ Runs Hex written.Report (actors 1 1 1) uncapped 10000 false false None None (Some [])) }
+        × (request_by_words (codes "run" ∷ []) ≡ runs Hex bare_run (Some [])) }
     ensures inputs { (word_faults (codes "run" ∷ codes "int:7" ∷ codes "text:a" ∷ []) ≡ [])
-        × (asked_by_words (codes "run" ∷ codes "int:7" ∷ codes "text:a" ∷ [])
-        ≡ Runs Hex written.Report (actors 1 1 1) uncapped 10000 false false None None (Some (codes "int:7" ∷ codes "text:a" ∷ []))) }
+        × (request_by_words (codes "run" ∷ codes "int:7" ∷ codes "text:a" ∷ [])
+        ≡ runs Hex bare_run (Some (codes "int:7" ∷ codes "text:a" ∷ []))) }
     ensures first { (rest : List ℕ) → (word_faults (codes "run" ∷ (105 ∷ rest) ∷ []) ≡ [])
-        × (asked_by_words (codes "run" ∷ (105 ∷ rest) ∷ []) ≡ Runs Hex written.Report (actors 1 1 1) uncapped 10000 false false None None (Some ((105 ∷ rest) ∷ []))) }
+        × (request_by_words (codes "run" ∷ (105 ∷ rest) ∷ []) ≡ runs Hex bare_run (Some ((105 ∷ rest) ∷ []))) }
     ensures before { (word_faults (codes "run" ∷ codes "--workers" ∷ codes "16" ∷ codes "int:7" ∷ []) ≡ [])
-        × (asked_by_words (codes "run" ∷ codes "--workers" ∷ codes "16" ∷ codes "int:7" ∷ [])
-        ≡ Runs Hex written.Report (actors 1 1 16) uncapped 10000 false false None None (Some (codes "int:7" ∷ []))) }
+        × (request_by_words (codes "run" ∷ codes "--workers" ∷ codes "16" ∷ codes "int:7" ∷ [])
+        ≡ runs Hex (record bare_run { layout = actors 1 1 16 }) (Some (codes "int:7" ∷ []))) }
     ensures between { (word_faults (codes "run" ∷ codes "int:7" ∷ codes "--servers=3" ∷ codes "int:8" ∷ []) ≡ [])
-        × (asked_by_words (codes "run" ∷ codes "int:7" ∷ codes "--servers=3" ∷ codes "int:8" ∷ [])
-        ≡ Runs Hex written.Report (actors 1 3 1) uncapped 10000 false false None None (Some (codes "int:7" ∷ codes "int:8" ∷ []))) }
+        × (request_by_words (codes "run" ∷ codes "int:7" ∷ codes "--servers=3" ∷ codes "int:8" ∷ [])
+        ≡ runs Hex (record bare_run { layout = actors 1 3 1 }) (Some (codes "int:7" ∷ codes "int:8" ∷ []))) }
     ensures following { (word_faults (codes "run" ∷ codes "int:7" ∷ codes "--limit" ∷ codes "9" ∷ codes "--engines=2" ∷ [])
         ≡ [])
-        × (asked_by_words (codes "run" ∷ codes "int:7" ∷ codes "--limit" ∷ codes "9" ∷ codes "--engines=2" ∷ [])
-        ≡ Runs Hex written.Report (actors 2 1 1) uncapped 9 false false None None (Some (codes "int:7" ∷ []))) }
+        × (request_by_words (codes "run" ∷ codes "int:7" ∷ codes "--limit" ∷ codes "9" ∷ codes "--engines=2" ∷ [])
+        ≡ runs Hex (record bare_run { layout = actors 2 1 1; limit = 9 }) (Some (codes "int:7" ∷ []))) }
     ensures trace { (word_faults (codes "run" ∷ codes "--trace" ∷ codes "int:7" ∷ []) ≡ [])
-        × (asked_by_words (codes "run" ∷ codes "--trace" ∷ codes "int:7" ∷ [])
-        ≡ Runs Hex written.Report (actors 1 1 1) uncapped 10000 true false None None (Some (codes "int:7" ∷ []))) }
+        × (request_by_words (codes "run" ∷ codes "--trace" ∷ codes "int:7" ∷ [])
+        ≡ runs Hex (record bare_run { trace = true }) (Some (codes "int:7" ∷ []))) }
     ensures in_turn { (word_faults (codes "run" ∷ codes "--in-turn" ∷ codes "int:7" ∷ []) ≡ [])
-        × (asked_by_words (codes "run" ∷ codes "--in-turn" ∷ codes "int:7" ∷ [])
-        ≡ Runs Hex written.Report (actors 1 1 1) uncapped 10000 false true None None (Some (codes "int:7" ∷ []))) }
+        × (request_by_words (codes "run" ∷ codes "--in-turn" ∷ codes "int:7" ∷ [])
+        ≡ runs Hex (record bare_run { in_turn = true }) (Some (codes "int:7" ∷ []))) }
     ensures seed { (word_faults (codes "run" ∷ codes "--seed=7" ∷ codes "--in-turn" ∷ []) ≡ [])
-        × (asked_by_words (codes "run" ∷ codes "--seed=7" ∷ codes "--in-turn" ∷ []) ≡ Runs Hex written.Report (actors 1 1 1) uncapped 10000 false true (Some 7) None (Some [])) }
+        × (request_by_words (codes "run" ∷ codes "--seed=7" ∷ codes "--in-turn" ∷ []) ≡ runs Hex (record bare_run { in_turn = true; seed = Some 7 }) (Some [])) }
     ensures seconds { (word_faults (codes "run" ∷ codes "--seconds" ∷ codes "7" ∷ []) ≡ [])
-        × (asked_by_words (codes "run" ∷ codes "--seconds" ∷ codes "7" ∷ []) ≡ Runs Hex written.Report (actors 1 1 1) uncapped 10000 false false None (Some 7) (Some [])) }
+        × (request_by_words (codes "run" ∷ codes "--seconds" ∷ codes "7" ∷ []) ≡ runs Hex (record bare_run { seconds = Some 7 }) (Some [])) }
     ensures run_stats { (word_faults (codes "run" ∷ codes "--stats" ∷ codes "--trace" ∷ []) ≡ [])
-        × (asked_by_words (codes "run" ∷ codes "--stats" ∷ codes "--trace" ∷ []) ≡ Runs Hex written.Numbers (actors 1 1 1) uncapped 10000 true false None None (Some [])) }
+        × (request_by_words (codes "run" ∷ codes "--stats" ∷ codes "--trace" ∷ []) ≡ runs Hex (record bare_run { answer = written.Numbers; trace = true }) (Some [])) }
     ensures run_json { (word_faults (codes "run" ∷ codes "--json" ∷ []) ≡ [])
-        × (asked_by_words (codes "run" ∷ codes "--json" ∷ []) ≡ Runs Hex written.Json (actors 1 1 1) uncapped 10000 false false None None (Some [])) }
+        × (request_by_words (codes "run" ∷ codes "--json" ∷ []) ≡ runs Hex (record bare_run { answer = written.Json }) (Some [])) }
     ensures run_order { (word_faults (codes "run" ∷ codes "--order" ∷ codes "--trace" ∷ []) ≡ [])
-        × (asked_by_words (codes "run" ∷ codes "--order" ∷ codes "--trace" ∷ []) ≡ Runs Hex written.Order (actors 1 1 1) uncapped 10000 true false None None (Some [])) }
+        × (request_by_words (codes "run" ∷ codes "--order" ∷ codes "--trace" ∷ []) ≡ runs Hex (record bare_run { answer = written.Order; trace = true }) (Some [])) }
     ensures run_order_json { (word_faults (codes "run" ∷ codes "--json" ∷ codes "--order" ∷ []) ≡ [])
-        × (asked_by_words (codes "run" ∷ codes "--json" ∷ codes "--order" ∷ []) ≡ Runs Hex written.OrderJson (actors 1 1 1) uncapped 10000 false false None None (Some [])) }
+        × (request_by_words (codes "run" ∷ codes "--json" ∷ codes "--order" ∷ []) ≡ runs Hex (record bare_run { answer = written.OrderJson }) (Some [])) }
     ensures run_each { (word_faults (codes "run" ∷ codes "--each" ∷ codes "--text" ∷ codes "--jobs" ∷ codes "9" ∷ []) ≡ [])
-        × (asked_by_words (codes "run" ∷ codes "--each" ∷ codes "--text" ∷ codes "--jobs" ∷ codes "9" ∷ []) ≡ RunsEach Assembly (actors 1 1 1) uncapped 10000 9 None) }
+        × (request_by_words (codes "run" ∷ codes "--each" ∷ codes "--text" ∷ codes "--jobs" ∷ codes "9" ∷ []) ≡ Orders (Each Assembly (record bare_each { jobs = 9 }))) }
     ensures each_seconds { (word_faults (codes "run" ∷ codes "--each" ∷ codes "--seconds=4294967295" ∷ []) ≡ [])
-        × (asked_by_words (codes "run" ∷ codes "--each" ∷ codes "--seconds=4294967295" ∷ []) ≡ RunsEach Hex (actors 1 1 1) uncapped 10000 1 (Some 4294967295)) }
+        × (request_by_words (codes "run" ∷ codes "--each" ∷ codes "--seconds=4294967295" ∷ []) ≡ Orders (Each Hex (record bare_each { seconds = Some 4294967295 }))) }
     ensures run_json_inputs { (word_faults (codes "run" ∷ codes "--inputs-json" ∷ codes "--trace" ∷ []) ≡ [])
-        × (asked_by_words (codes "run" ∷ codes "--inputs-json" ∷ codes "--trace" ∷ []) ≡ RunsJson Hex written.Report (actors 1 1 1) uncapped 10000 true false None None) }
+        × (request_by_words (codes "run" ∷ codes "--inputs-json" ∷ codes "--trace" ∷ []) ≡ Orders (Run Hex (record bare_run { trace = true }) follows.Json)) }
     ensures run_picture { (word_faults (codes "run" ∷ codes "--picture" ∷ codes "--in-turn" ∷ []) ≡ [])
-        × (asked_by_words (codes "run" ∷ codes "--picture" ∷ codes "--in-turn" ∷ []) ≡ Runs Hex (written.Picture (stretch 1 4294967295)) (actors 1 1 1) uncapped 10000 false true None None (Some [])) }
+        × (request_by_words (codes "run" ∷ codes "--picture" ∷ codes "--in-turn" ∷ []) ≡ runs Hex (record bare_run { answer = written.Picture (stretch 1 4294967295); in_turn = true }) (Some [])) }
     ensures run_stretch { (word_faults (codes "run" ∷ codes "--from=5" ∷ codes "--picture" ∷ codes "--to" ∷ codes "9" ∷ []) ≡ [])
-        × (asked_by_words (codes "run" ∷ codes "--from=5" ∷ codes "--picture" ∷ codes "--to" ∷ codes "9" ∷ [])
-        ≡ Runs Hex (written.Picture (stretch 5 9)) (actors 1 1 1) uncapped 10000 false false None None (Some [])) }
+        × (request_by_words (codes "run" ∷ codes "--from=5" ∷ codes "--picture" ∷ codes "--to" ∷ codes "9" ∷ [])
+        ≡ runs Hex (record bare_run { answer = written.Picture (stretch 5 9) }) (Some [])) }
     ensures quiet { (word_faults (codes "run" ∷ codes "--quiet" ∷ []) ≡ [])
-        × (asked_by_words (codes "run" ∷ codes "--quiet" ∷ []) ≡ asked_by_words (codes "run" ∷ [])) }
+        × (request_by_words (codes "run" ∷ codes "--quiet" ∷ []) ≡ request_by_words (codes "run" ∷ [])) }
     ensures last { (word_faults (codes "run" ∷ codes "int:7" ∷ codes "--limit" ∷ codes "100" ∷ codes "--trace" ∷ []) ≡ [])
-        × (asked_by_words (codes "run" ∷ codes "int:7" ∷ codes "--limit" ∷ codes "100" ∷ codes "--trace" ∷ [])
-        ≡ Runs Hex written.Report (actors 1 1 1) uncapped 100 true false None None (Some (codes "int:7" ∷ []))) }
+        × (request_by_words (codes "run" ∷ codes "int:7" ∷ codes "--limit" ∷ codes "100" ∷ codes "--trace" ∷ [])
+        ≡ runs Hex (record bare_run { limit = 100; trace = true }) (Some (codes "int:7" ∷ []))) }
     ensures replay { (word_faults (codes "replay" ∷ codes "--workers" ∷ codes "2" ∷ codes "int:7" ∷ []) ≡ [])
-        × (asked_by_words (codes "replay" ∷ codes "--workers" ∷ codes "2" ∷ codes "int:7" ∷ [])
-        ≡ Replays Hex Report (actors 1 1 2) (Some (codes "int:7" ∷ []))) }
+        × (request_by_words (codes "replay" ∷ codes "--workers" ∷ codes "2" ∷ codes "int:7" ∷ [])
+        ≡ replays Hex Report (actors 1 1 2) (Some (codes "int:7" ∷ []))) }
     ensures picture { (word_faults (codes "picture" ∷ codes "--workers" ∷ codes "2" ∷ codes "int:7" ∷ []) ≡ [])
-        × (asked_by_words (codes "picture" ∷ codes "--workers" ∷ codes "2" ∷ codes "int:7" ∷ [])
-        ≡ Replays Hex (Picture (stretch 1 4294967295)) (actors 1 1 2) (Some (codes "int:7" ∷ []))) }
+        × (request_by_words (codes "picture" ∷ codes "--workers" ∷ codes "2" ∷ codes "int:7" ∷ [])
+        ≡ replays Hex (Picture (stretch 1 4294967295)) (actors 1 1 2) (Some (codes "int:7" ∷ []))) }
     ensures picture_stretch { (word_faults (codes "picture" ∷ codes "--from" ∷ codes "3" ∷ codes "--to=3" ∷ []) ≡ [])
-        × (asked_by_words (codes "picture" ∷ codes "--from" ∷ codes "3" ∷ codes "--to=3" ∷ [])
-        ≡ Replays Hex (Picture (stretch 3 3)) (actors 1 1 1) (Some [])) }
+        × (request_by_words (codes "picture" ∷ codes "--from" ∷ codes "3" ∷ codes "--to=3" ∷ [])
+        ≡ replays Hex (Picture (stretch 3 3)) (actors 1 1 1) (Some [])) }
     ensures text { (word_faults (codes "check" ∷ codes "--text" ∷ []) ≡ [])
-        × (asked_by_words (codes "check" ∷ codes "--text" ∷ []) ≡ Checks Assembly (checking Hidden NoBounds)) }
+        × (request_by_words (codes "check" ∷ codes "--text" ∷ []) ≡ Orders (Check Assembly (checking Hidden NoBounds))) }
     ensures places { (word_faults (codes "check" ∷ codes "--places" ∷ codes "--text" ∷ []) ≡ [])
-        × (asked_by_words (codes "check" ∷ codes "--places" ∷ codes "--text" ∷ []) ≡ Checks Assembly (checking Shown NoBounds)) }
+        × (request_by_words (codes "check" ∷ codes "--places" ∷ codes "--text" ∷ []) ≡ Orders (Check Assembly (checking Shown NoBounds))) }
     ensures order { (word_faults (codes "check" ∷ codes "--order" ∷ []) ≡ [])
-        × (asked_by_words (codes "check" ∷ codes "--order" ∷ []) ≡ Checks Hex (record (checking Hidden NoBounds) { event_order = Checked })) }
+        × (request_by_words (codes "check" ∷ codes "--order" ∷ []) ≡ Orders (Check Hex (record (checking Hidden NoBounds) { event_order = Checked }))) }
     ensures disasm_places { (word_faults (codes "disasm" ∷ codes "--places" ∷ []) ≡ [])
-        × (asked_by_words (codes "disasm" ∷ codes "--places" ∷ []) ≡ Disassembles Hex (disassembling Shown form.Text)) }
+        × (request_by_words (codes "disasm" ∷ codes "--places" ∷ []) ≡ Orders (Disassemble Hex (disassembling Shown form.Text))) }
     ensures run_text { (word_faults (codes "run" ∷ codes "int:7" ∷ codes "--text" ∷ []) ≡ [])
-        × (asked_by_words (codes "run" ∷ codes "int:7" ∷ codes "--text" ∷ [])
-        ≡ Runs Assembly written.Report (actors 1 1 1) uncapped 10000 false false None None (Some (codes "int:7" ∷ []))) }
+        × (request_by_words (codes "run" ∷ codes "int:7" ∷ codes "--text" ∷ [])
+        ≡ runs Assembly bare_run (Some (codes "int:7" ∷ []))) }
     ensures replay_text { (word_faults (codes "replay" ∷ codes "--text" ∷ []) ≡ [])
-        × (asked_by_words (codes "replay" ∷ codes "--text" ∷ []) ≡ Replays Assembly Report (actors 1 1 1) (Some [])) }
+        × (request_by_words (codes "replay" ∷ codes "--text" ∷ []) ≡ replays Assembly Report (actors 1 1 1) (Some [])) }
     ensures run_inputs { (word_faults (codes "run" ∷ codes "--inputs" ∷ codes "--text" ∷ []) ≡ [])
-        × (asked_by_words (codes "run" ∷ codes "--inputs" ∷ codes "--text" ∷ []) ≡ Runs Assembly written.Report (actors 1 1 1) uncapped 10000 false false None None None) }
+        × (request_by_words (codes "run" ∷ codes "--inputs" ∷ codes "--text" ∷ []) ≡ runs Assembly bare_run None) }
     ensures replay_stats { (word_faults (codes "replay" ∷ codes "--stats" ∷ []) ≡ [])
-        × (asked_by_words (codes "replay" ∷ codes "--stats" ∷ []) ≡ Replays Hex Numbers (actors 1 1 1) (Some [])) }
+        × (request_by_words (codes "replay" ∷ codes "--stats" ∷ []) ≡ replays Hex Numbers (actors 1 1 1) (Some [])) }
     ensures replay_events { (word_faults (codes "replay" ∷ codes "--events" ∷ []) ≡ [])
-        × (asked_by_words (codes "replay" ∷ codes "--events" ∷ []) ≡ Replays Hex Report (actors 1 1 1) (Some [])) }
+        × (request_by_words (codes "replay" ∷ codes "--events" ∷ []) ≡ replays Hex Report (actors 1 1 1) (Some [])) }
     ensures replay_inputs { (word_faults (codes "replay" ∷ codes "--inputs" ∷ []) ≡ [])
-        × (asked_by_words (codes "replay" ∷ codes "--inputs" ∷ []) ≡ Replays Hex Report (actors 1 1 1) None) }
+        × (request_by_words (codes "replay" ∷ codes "--inputs" ∷ []) ≡ replays Hex Report (actors 1 1 1) None) }
     ensures explain { (word_faults (codes "explain" ∷ codes "V04" ∷ []) ≡ [])
-        × (asked_by_words (codes "explain" ∷ codes "V04" ∷ []) ≡ Explains (explaining (codes "V04") form.Text)) }
+        × (request_by_words (codes "explain" ∷ codes "V04" ∷ []) ≡ Explains (explaining (codes "V04") form.Text)) }
     ensures meant { (word_faults (codes "explain" ∷ codes "v4" ∷ []) ≡ []) × (meant (codes "v4") ≡ codes "V04") }
-    ensures numbers { (word_faults (codes "explain" ∷ []) ≡ []) × (asked_by_words (codes "explain" ∷ []) ≡ Explains (explaining [] form.Text)) }
-    ensures asm_json { (word_faults (codes "asm" ∷ codes "--json" ∷ []) ≡ []) × (asked_by_words (codes "asm" ∷ codes "--json" ∷ []) ≡ Assembles (assembling_to Text form.Json)) }
+    ensures numbers { (word_faults (codes "explain" ∷ []) ≡ []) × (request_by_words (codes "explain" ∷ []) ≡ Explains (explaining [] form.Text)) }
+    ensures asm_json { (word_faults (codes "asm" ∷ codes "--json" ∷ []) ≡ []) × (request_by_words (codes "asm" ∷ codes "--json" ∷ []) ≡ Orders (Assemble (assembling_to Text form.Json))) }
     ensures disasm_json { (word_faults (codes "disasm" ∷ codes "--json" ∷ []) ≡ [])
-        × (asked_by_words (codes "disasm" ∷ codes "--json" ∷ []) ≡ Disassembles Hex (disassembling Hidden form.Json)) }
+        × (request_by_words (codes "disasm" ∷ codes "--json" ∷ []) ≡ Orders (Disassemble Hex (disassembling Hidden form.Json))) }
     ensures check_json { (word_faults (codes "check" ∷ codes "--json" ∷ codes "--places" ∷ []) ≡ [])
-        × (asked_by_words (codes "check" ∷ codes "--json" ∷ codes "--places" ∷ []) ≡ Checks Hex (record (checking Shown NoBounds) { form = form.Json })) }
+        × (request_by_words (codes "check" ∷ codes "--json" ∷ codes "--places" ∷ []) ≡ Orders (Check Hex (record (checking Shown NoBounds) { form = form.Json }))) }
     ensures replay_json { (word_faults (codes "replay" ∷ codes "--json" ∷ []) ≡ [])
-        × (asked_by_words (codes "replay" ∷ codes "--json" ∷ []) ≡ Replays Hex Json (actors 1 1 1) (Some [])) }
+        × (request_by_words (codes "replay" ∷ codes "--json" ∷ []) ≡ replays Hex Json (actors 1 1 1) (Some [])) }
     ensures explain_json { (word_faults (codes "explain" ∷ codes "--json" ∷ codes "V04" ∷ []) ≡ [])
-        × (asked_by_words (codes "explain" ∷ codes "--json" ∷ codes "V04" ∷ []) ≡ Explains (explaining (codes "V04") form.Json)) }
+        × (request_by_words (codes "explain" ∷ codes "--json" ∷ codes "V04" ∷ []) ≡ Explains (explaining (codes "V04") form.Json)) }
 {}
 
 /// Arguments are rejected that name no command, or come after `check`. The same holds for an option that is unknown, is repeated, or has no number in

@@ -2,18 +2,16 @@
 
 ghost use Rattle.std.specs.Prelude.{IfOk, map, string_bytes};
 ghost use Rattle.clap.specs.Words.{Kinds};
-ghost use Rattle.tw_cli.specs.CommandLine.{Asked, word_faults};
+ghost use Rattle.tw_cli.specs.CommandLine.{Request, word_faults};
 ghost use Rattle.tw_cli.specs.Complaint.{HasComplaint};
 ghost use Rattle.tw_cli.specs.Order.{HasReason};
 
 use crate::caps::caps_given;
 use crate::checks::check_given;
 use crate::command::{NoOrder, command};
-use crate::each::{each_conflict, jobs_given};
+use crate::each::each_conflict;
 use crate::found::{flag_given, number_given};
 use crate::orders::{order_of, reason_of};
-use crate::seconds::seconds_number;
-use crate::seed::seed_number;
 use crate::shown::{Conflict, event_range_given, run_answer};
 use clap::error::ErrorKind;
 use clap::{ArgMatches, Error};
@@ -30,11 +28,11 @@ fn range_line(given: &ArgMatches<'_>) -> Option<&'static str> {
         Some("error: --workers takes a number from 1 to 16\n")
     } else if number_given(given, "limit", 1_000_000, 10_000).is_none() {
         Some("error: --limit takes a number from 1 to 1000000\n")
-    } else if jobs_given(given).is_none() {
+    } else if number_given(given, "jobs", 64, 1).is_none() {
         Some("error: --jobs takes a number from 1 to 64\n")
-    } else if seed_number(given).is_none() {
+    } else if number_given(given, "seed", u64::MAX, 1).is_none() {
         Some("error: --seed takes a number from 1 to 18446744073709551615\n")
-    } else if seconds_number(given).is_none() {
+    } else if number_given(given, "seconds", 4_294_967_295, 1).is_none() {
         Some("error: --seconds takes a number from 1 to 4294967295\n")
     } else if event_range_given(given).is_none() {
         Some("error: --from and --to take numbers from 1 to 4294967295\n")
@@ -45,6 +43,7 @@ fn range_line(given: &ArgMatches<'_>) -> Option<&'static str> {
     }
 }
 
+/// Returns the line for options that exclude each other.
 fn conflict_line(conflict: Conflict) -> &'static str {
     match conflict {
         Conflict::JsonWithMore => "error: --json excludes --trace and --stats\n",
@@ -77,7 +76,7 @@ fn conflict_of(command: &str, given: &ArgMatches<'_>) -> Option<Conflict> {
     }
 }
 
-/// Returns the line for an error after a command that clap accepts, if each option's number is in its range.
+/// Returns the line for other errors after a command than numbers out of their range.
 fn other_line(command: &str, given: &ArgMatches<'_>) -> &'static str {
     if let Some(conflict) = conflict_of(command, given) {
         return conflict_line(conflict);
@@ -92,6 +91,7 @@ fn other_line(command: &str, given: &ArgMatches<'_>) -> &'static str {
     }
 }
 
+/// Returns the line for an error after a command that clap accepts.
 fn own_line(matches: &ArgMatches<'_>) -> &'static str {
     match matches.subcommand() {
         Some((name, given)) => range_line(given).unwrap_or(other_line(name, given)),
@@ -99,6 +99,7 @@ fn own_line(matches: &ArgMatches<'_>) -> &'static str {
     }
 }
 
+/// Returns whether an argument begins with a negative number.
 fn is_negative(word: &[u8]) -> bool {
     match word {
         [b'-', digit, ..] => digit.is_ascii_digit(),
@@ -138,7 +139,7 @@ fn refused_line(alloc: Global, words: &[String], error: &Error) -> Result<String
 
 /// Returns the line, if the arguments give no order because they are rejected.
 fn complaint_of(alloc: Global, no_order: NoOrder, line: &str) -> Result<Option<String>, AllocError>
-    ensures { (kinds : Kinds) (asked : Asked) → HasReason kinds asked no_order → IfOk result (HasComplaint kinds) }
+    ensures { (kinds : Kinds) (request : Request) → HasReason kinds request no_order → IfOk result (HasComplaint kinds) }
 {
     match no_order {
         NoOrder::Refused => {

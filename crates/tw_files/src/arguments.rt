@@ -9,19 +9,21 @@ ghost use Rattle.tw_files.specs.Input.{requests_help as requests_help_is, comman
 use crate::format::is_text;
 use std::alloc::{AllocError, Global};
 
+/// Returns whether an argument of a command is this word.
 fn is_word(word: &str, other: &String) -> bool
     ensures { result ≡ bytes_eq (string_bytes other.now) word.now }
 {
     other.as_str() == word
 }
 
+/// Returns whether a word is among the arguments of a command.
 fn is_among(word: &str, words: &[String]) -> bool
     ensures { result ≡ list_any (λ other. bytes_eq (string_bytes other) word.now) words.now }
 {
     words.iter().any(|other| is_word(word, other))
 }
 
-/// Returns whether a word is an argument.
+/// Returns whether an option is among the arguments of a command.
 pub fn has_word(word: &str, words: &[String]) -> bool
     ensures { result ≡ has_word_is word.now (map string_bytes words.now) }
 {
@@ -42,12 +44,14 @@ pub fn is_untraced(command: &str, program: &[u8], before: &[u8]) -> bool
     !reads_trace(command) || before.len() == program.len()
 }
 
+/// Returns whether the arguments name the format of the program: `--text` or `--names`.
 fn has_format(words: &[String]) -> bool
     ensures { result ≡ has_format_is (map string_bytes words.now) }
 {
     has_word("--text", words) || has_word("--names", words)
 }
 
+/// Returns the option for a program's file that holds assembly text: `--names` for `asm`, else `--text`.
 fn option_of(command: &str, is_text: bool) -> Option<&'static str>
     ensures { option_map (λ option. option.now) result ≡ option_of_is command.now is_text }
 {
@@ -60,13 +64,14 @@ fn option_of(command: &str, is_text: bool) -> Option<&'static str>
     }
 }
 
-/// Returns whether help is requested.
+/// Returns whether the arguments of a command request its help.
 pub fn requests_help(words: &[String]) -> bool
     ensures { result ≡ requests_help_is (map string_bytes words.now) }
 {
     has_word("--help", words) || has_word("-h", words)
 }
 
+/// Adds a copy of a word to the arguments of a session.
 fn put_word(words: &mut Vec<String>, alloc: Global, word: &str) -> Result<(), AllocError>
     ensures { OnOk result (map string_bytes words.new.items ≡ map string_bytes words.old.items ++ word.now ∷ []) }
 {
@@ -75,7 +80,7 @@ fn put_word(words: &mut Vec<String>, alloc: Global, word: &str) -> Result<(), Al
     Ok(())
 }
 
-/// Returns the command, or what draws a run.
+/// Returns the first arguments of a session: the command, or what draws a run in its place.
 fn command_words(alloc: Global, command: &str, draws_run: bool) -> Result<Vec<String>, AllocError>
     ensures { IfOk result (λ words. map string_bytes words.items ≡ command_words_is command.now draws_run) }
 {
@@ -89,7 +94,7 @@ fn command_words(alloc: Global, command: &str, draws_run: bool) -> Result<Vec<St
     Ok(words)
 }
 
-/// Adds an option and the other arguments.
+/// Adds to the arguments of a session an option for the format, and the arguments that name no file.
 fn with_others(
     alloc: Global,
     mut words: Vec<String>,
@@ -105,7 +110,7 @@ fn with_others(
     Ok(words)
 }
 
-/// Returns the arguments if the program is in a file.
+/// Returns the arguments of a session whose program was read from a file.
 fn file_words(
     alloc: Global,
     command: &str,
@@ -121,7 +126,7 @@ fn file_words(
     with_others(alloc, first, option_of(command, is_text), others)
 }
 
-/// Returns the arguments of a command without a file: the others. `draws_run` is whether a run is drawn.
+/// Returns the arguments of a session without files: those that name none. `draws_run` is whether a run is drawn.
 pub fn plain_words(
     alloc: Global,
     command: &str,

@@ -8,12 +8,14 @@ use std::alloc::{AllocError, Global};
 /// The number of bytes in which a program's first digits are searched.
 const HEAD: usize = 64;
 
+/// Returns whether a byte of a program's file separates hex digits: a space, a tab or a line end.
 fn is_gap(byte: u8) -> bool
     ensures { result ≡ is_gap_is byte }
 {
     byte == b' ' || byte == b'\t' || byte == b'\r' || byte == b'\n'
 }
 
+/// Drops the gaps from the first bytes of a program's file.
 fn without_gaps(mut bytes: Vec<u8>) -> Vec<u8>
     ensures { result.items ≡ without_gaps_is bytes.items }
 {
@@ -21,6 +23,7 @@ fn without_gaps(mut bytes: Vec<u8>) -> Vec<u8>
     bytes
 }
 
+/// Returns whether a program's file begins with the magic bytes as hex text.
 fn begins_as_hex(alloc: Global, bytes: &[u8]) -> Result<bool, AllocError>
     ensures { IfOk result (λ begins. begins ≡ begins_as_hex_is bytes.now) }
 {

@@ -13,7 +13,7 @@ use crate::sections::has_inputs;
 /// The name of standard input.
 const STANDARD_INPUT: &str = "-";
 
-/// Returns a file, unless it is standard input, and something else is there too.
+/// Returns the file that arguments name beside the program, unless it is standard input, and something else is there too.
 fn file_beside(is_taken: bool, path: Option<&str>) -> Option<&str>
     ensures { option_map (λ path. path.now) result ≡ file_beside_is is_taken (option_map (λ path. path.now) path.entry) }
 {
@@ -24,7 +24,7 @@ fn file_beside(is_taken: bool, path: Option<&str>) -> Option<&str>
 }
 
 impl<'a> Naming<'a> {
-    /// Returns the file of the program.
+    /// Returns the file of the program that arguments name; standard input if they name none.
     pub fn program_path(&self) -> &'a str
         ensures { result.now ≡ program_path_is (seen self.now) }
     {
@@ -34,12 +34,14 @@ impl<'a> Naming<'a> {
         }
     }
 
+    /// Returns whether the program is read from standard input.
     fn takes_program(&self) -> bool
         ensures { result ≡ takes_program_is (seen self.now) }
     {
         self.program_path() == STANDARD_INPUT
     }
 
+    /// Returns whether the program or the inputs are read from standard input.
     fn takes_input(&self) -> bool
         ensures { result ≡ takes_input_is (seen self.now) }
     {
@@ -50,13 +52,14 @@ impl<'a> Naming<'a> {
         self.takes_program() || has_inputs
     }
 
-    /// Returns the file of inputs, unless they follow the program.
+    /// Returns the file of inputs that arguments name, unless they follow the program.
     fn separate_inputs(&self) -> Option<&'a str>
         ensures { option_map (λ path. path.now) result ≡ separate_inputs_is (seen self.now) }
     {
         file_beside(self.takes_program(), self.inputs)
     }
 
+    /// Returns whether lines of inputs are to be answered, by `--each`.
     fn has_lines(&self) -> bool
         ensures { result ≡ has_lines_is (seen self.now) }
     {
@@ -85,12 +88,14 @@ impl<'a> Naming<'a> {
         }
     }
 
+    /// Returns whether a command reads a trace: `replay`, or one with `--events`.
     fn expects_trace(&self, command: &str) -> bool
         ensures { result ≡ expects_trace_is command.now (seen self.now) }
     {
         command == "replay" || has_word("--events", &self.others)
     }
 
+    /// Returns the file of the trace, for a command that reads one: the named one, or standard input.
     fn events_name(&self, command: &str, is_untraced: bool) -> Option<&'a str>
         ensures { option_map (λ path. path.now) result ≡ events_name_is command.now is_untraced (seen self.now) }
     {
@@ -121,7 +126,7 @@ impl<'a> Naming<'a> {
                 && self.separate_events(command, is_untraced).is_none())
     }
 
-    /// Returns whether a run is drawn in place of a trace.
+    /// Returns whether the arguments that name files say that a run is drawn in place of a trace.
     pub fn draws_run(&self, command: &str, is_untraced: bool) -> bool
         ensures { result ≡ draws_run_is command.now is_untraced (separate_events_is command.now is_untraced (seen self.now)) }
     {
@@ -129,7 +134,7 @@ impl<'a> Naming<'a> {
             && (is_untraced && self.separate_events(command, is_untraced).is_none())
     }
 
-    /// Returns whether any file is to be opened.
+    /// Returns whether the arguments name any file that is to be opened.
     pub fn opens_files(&self, command: &str) -> bool
         ensures { result ≡ opens_files_is command.now (seen self.now) }
     {
@@ -138,6 +143,7 @@ impl<'a> Naming<'a> {
             && !requests_help(&self.others)
     }
 
+    /// Returns the file of inputs if the program's file has inputs, too.
     fn inputs_twice(&self, program: &[u8]) -> Option<&'a str>
         ensures { MatchOption result (HasInputsTwice (seen self.now) program.now → ⊥) (λ path. HasInputsTwice (seen self.now) program.now) }
     {
@@ -147,6 +153,7 @@ impl<'a> Naming<'a> {
         }
     }
 
+    /// Returns the file of the trace if the program's file has a trace, too.
     fn events_twice(&self, command: &str, is_untraced: bool) -> Option<&'a str>
         ensures { MatchOption result (HasEventsTwice command.now is_untraced (seen self.now) → ⊥) (λ path. HasEventsTwice command.now is_untraced (seen self.now)) }
     {
@@ -156,7 +163,7 @@ impl<'a> Naming<'a> {
         }
     }
 
-    /// Returns the reason why the program's file doesn't fit another, and the other's name.
+    /// Returns which file that arguments name doesn't fit the program's, and why.
     pub fn misfit(
         &self,
         command: &str,

@@ -36,6 +36,7 @@ pub struct Naming<'a> {
     pub events: Option<&'a str>,
 }
 
+/// Returns whether an argument begins like a word of an input, so that it names no file.
 fn is_input(word: &[u8]) -> bool
     ensures { result ≡ is_input_is word.now }
 {
@@ -47,6 +48,7 @@ fn is_input(word: &[u8]) -> bool
         || word.starts_with(b"ttexts:")
 }
 
+/// Returns whether an argument may name a file: it is no option, and no word of an input.
 fn may_name(word: &[u8]) -> bool
     ensures { result ≡ may_name_is word.now }
 {
@@ -57,6 +59,7 @@ fn may_name(word: &[u8]) -> bool
     }
 }
 
+/// Returns whether an argument is the value of the option before it, so that it names no file.
 fn is_value(option: &str, word: &str) -> bool
     ensures { result ≡ is_value_is option.now word.now }
 {
@@ -65,6 +68,7 @@ fn is_value(option: &str, word: &str) -> bool
 }
 
 impl<'a> Naming<'a> {
+    /// Returns the role of the next argument: which file it names, if any.
     fn role_of(&self, word: &str) -> Role
         ensures { result ≡ role (seen self.now) word.now }
     {
@@ -82,6 +86,7 @@ impl<'a> Naming<'a> {
     }
 }
 
+/// Takes the next argument: as the name of a file, or among those that name none.
 fn take_word<'a>(mut named: Naming<'a>, word: &'a String) -> Result<Naming<'a>, AllocError>
     ensures { IfOk result (λ after. seen after ≡ after_word (seen named.entry) (string_bytes word.entry.now)) }
 {
@@ -99,7 +104,7 @@ fn take_word<'a>(mut named: Naming<'a>, word: &'a String) -> Result<Naming<'a>, 
     Ok(named)
 }
 
-/// Returns what the arguments after a command name.
+/// Returns which files the arguments after a command name, and the other arguments.
 pub fn naming_of<'a>(alloc: Global, words: &'a [String]) -> Result<Naming<'a>, AllocError>
     ensures { IfOk result (λ named. seen named ≡ naming_of (map string_bytes words.entry.now)) }
 {

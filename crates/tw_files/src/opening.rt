@@ -23,7 +23,7 @@ pub trait InputFiles {
     // That a file can't be read.
     ghost Fails: { Self → List ℕ → Type 0 } = { λ _ _. ⊤ };
 
-    /// Reads a file; `-` is standard input.
+    /// Reads a whole file for a session; `-` is standard input.
     fn read_file(&self, alloc: Global, path: &str) -> io::Result<Vec<u8>>
         ensures bytes { IfOk result (λ bytes. Holds self.now path.now bytes.items) }
         ensures failed { OnErr result (Fails self.now path.now) };
@@ -77,11 +77,13 @@ pub enum NoInput<'a> {
 impl<'a> From<AllocError> for NoInput<'a> {
     ghost from_gives = { λ _ e. e ≡ NoMemory };
 
+    /// Returns that a session gets no input, since an allocation failed.
     fn from(_error: AllocError) -> NoInput<'a> {
         NoInput::NoMemory
     }
 }
 
+/// Reads a file that arguments name; an error has its path, unless an allocation failed.
 fn read<'a, F: InputFiles>(files: &F, alloc: Global, path: &'a str) -> Result<Vec<u8>, NoInput<'a>>
     ensures bytes { IfOk result (λ bytes. F.Holds files.now path.entry.now bytes.items) }
     ensures failed { IfErr result (IsReason (F.Fails files.now) (λ why. ⊥)) }
@@ -93,7 +95,7 @@ fn read<'a, F: InputFiles>(files: &F, alloc: Global, path: &'a str) -> Result<Ve
     }
 }
 
-/// Reads inputs, if they are in a file of their own.
+/// Reads the file of inputs that arguments name, if they are in one of their own.
 fn inputs_of<'a, F: InputFiles>(
     files: &F,
     alloc: Global,
@@ -109,7 +111,7 @@ fn inputs_of<'a, F: InputFiles>(
     Ok(Some(inputs))
 }
 
-/// Reads the events of a trace, if it is in a file of its own.
+/// Reads the events of the trace's file that arguments name, if they are in one of their own.
 fn trace_of<'a, F: InputFiles>(
     files: &F,
     alloc: Global,
@@ -131,7 +133,7 @@ fn trace_of<'a, F: InputFiles>(
     }
 }
 
-/// Returns what a session gets if the program's file, which is read, fits the others.
+/// Returns what a session gets of the files if the program's file, which is read, fits the others.
 fn fitting_input<'a, F: InputFiles>(
     files: &F,
     alloc: Global,
@@ -171,7 +173,7 @@ fn fitting_input<'a, F: InputFiles>(
     })
 }
 
-/// Returns what a session gets if a file is to be opened.
+/// Returns what a session gets of the files, if one is to be opened.
 fn opened<'a, F: InputFiles>(
     files: &F,
     alloc: Global,

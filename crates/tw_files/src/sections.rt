@@ -7,6 +7,7 @@ ghost use Rattle.tw_files.specs.Input.{HasEvents, HasNoEvents, begins_inputs as 
 use crate::arguments::is_untraced;
 use tw_report::cut_history;
 
+/// Returns whether a line of a program's file is `inputs`, after which inputs follow.
 fn begins_inputs(line: &[u8]) -> bool
     ensures { result ≡ begins_inputs_is line.now }
 {

@@ -18,6 +18,7 @@ pub enum Exit {
 }
 
 impl Exit {
+    /// Returns the exit status of the command `tw`: that of its session, or 66 for a file that can't be read.
     fn code(self) -> u8
         ensures { result ≡ code_of_exit self }
     {
@@ -29,6 +30,7 @@ impl Exit {
 }
 
 impl Termination for Exit {
+    /// Reports the exit status of the command `tw` to the system.
     fn report<R: Eprint>(self, _rt: &R) -> ExitCode
         ensures { exit_status result ≡ code_of_exit self }
     {

@@ -20,6 +20,7 @@ pub struct Answered<'a> {
     pub reads_input: bool,
 }
 
+/// Returns why a file can't be read, if the kind of its error says it.
 fn reason_of(kind: ErrorKind) -> Option<&'static str> {
     match kind {
         ErrorKind::NotFound => Some("there is no such file"),
@@ -57,7 +58,7 @@ pub fn complain_missing(stderr: &Stderr, word: &str) -> io::Result<()> {
     eprintln!(stderr; "tw: there is no file {word}, either")
 }
 
-/// Prints that there are no lines to answer.
+/// Prints that `--each` has no lines to answer.
 pub fn complain_lineless(stderr: &Stderr, name: &str) -> io::Result<()> {
     eprintln!(stderr;
         "tw: --each needs lines of inputs: {name} run FILE --each LINES; those in FILE itself follow a line `inputs`"
@@ -79,7 +80,7 @@ pub fn print_notice(stderr: &Stderr, words: &[String]) -> io::Result<()> {
     )
 }
 
-/// Returns whether bytes look like no hex text of a program from their start on.
+/// Returns whether a session failed because what it read is no hex text of a program.
 fn holds_no_program(failure: &Failure) -> bool {
     match (failure.code, failure.position) {
         (Some(ErrorCode { letter, number }), position) => {
@@ -101,6 +102,7 @@ fn print_explain_hint(stderr: &Stderr, name: &str, code: ErrorCode) -> io::Resul
     eprintln!(stderr; "tw: {name} explain {letter}{tens}{ones} says more")
 }
 
+/// Prints hints about an error with a code: about its file, standard input, and `explain`.
 fn print_error_hint(stderr: &Stderr, answered: &Answered<'_>, failure: &Failure) -> io::Result<()> {
     let Some(code) = failure.code else {
         return Ok(());
@@ -118,11 +120,12 @@ fn print_error_hint(stderr: &Stderr, answered: &Answered<'_>, failure: &Failure)
     print_explain_hint(stderr, answered.name, code)
 }
 
-/// Returns whether the arguments request a timeline.
+/// Returns whether the arguments request a timeline, for a hint about its limit.
 fn draws(words: &[String]) -> bool {
     words.iter().any(|word| word.as_str() == "picture" || word.as_str() == "--picture")
 }
 
+/// Prints which help or list shows what a rejected command line may be.
 fn print_command_hint(stderr: &Stderr, name: &str, words: &[String]) -> io::Result<()> {
     match words {
         [command, ..] if command.as_str() == "explain" => {

@@ -14,6 +14,7 @@ use std::rt::Env;
 use std::{env, io};
 use tw_session::without_words;
 
+/// Returns the arguments of the process, without the program's own name.
 fn own_words(rt: &(impl Env + AllocGlobal)) -> io::Result<Vec<String>> {
     Ok(env::args(rt)?.skip(1).collect(rt.alloc())?)
 }
@@ -23,6 +24,7 @@ fn own_name(rt: &(impl Env + AllocGlobal)) -> Option<String> {
     env::var(rt, "TW_NAME").ok()
 }
 
+/// Runs the command `tw` with the arguments and streams of the process.
 fn main(rt: HostRuntime) -> Exit {
     let streams = Streams {
         stdin: rt.stdin(),

@@ -33,7 +33,7 @@ struct Look {
 }
 
 impl Look {
-    /// Begins now.
+    /// Begins to check for progress to print, whose time counts from now on.
     fn new(clock: &impl Clock) -> io::Result<Look> {
         Ok(Look {
             begun: Instant::now(clock)?,
@@ -42,7 +42,7 @@ impl Look {
         })
     }
 
-    /// Sleeps until the next check. The pause doubles up to the longest one, so that a short run isn't delayed.
+    /// Sleeps until the next check of progress. The pause doubles up to the longest one, so that a short run isn't delayed.
     fn rest(&mut self, clock: &impl Clock) {
         thread::sleep(clock, Duration::from_micros(self.pause));
         if self.pause < LONGEST {
@@ -60,7 +60,7 @@ impl Look {
         Ok(true)
     }
 
-    /// Clears what was printed last, if anything was.
+    /// Clears the line of progress that was printed last, if any was.
     fn clear(&self, terminal: &Stderr) -> io::Result<()> {
         if self.printed == SILENT {
             return Ok(());
@@ -78,7 +78,7 @@ pub struct ProgressPrinter {
 }
 
 impl ProgressPrinter {
-    /// Makes a printer. It prints nothing if `is_quiet`, and no progress if standard error is no terminal.
+    /// Makes a printer of progress. It prints nothing if `is_quiet`, and no progress if standard error is no terminal.
     pub fn new(stderr: Stderr, is_quiet: bool) -> ProgressPrinter
         ensures { result.is_quiet ≡ is_quiet }
     {
@@ -123,12 +123,15 @@ fn print_progress<R: Wait + Clock, P: Progress>(
 impl Gate for ProgressPrinter {
     ghost unwatched = { Unit {0} };
 
+    /// Returns that the printer of progress needn't see each job.
     fn watches(&self) -> bool {
         false
     }
 
+    /// Prints nothing before a job.
     fn before_job<R: Wait>(&self, _rt: &R, _actor: Actor, _task: u64) {}
 
+    /// Prints nothing after a job.
     fn after_job<R: Wait>(&self, _rt: &R, _actor: Actor, _task: u64) {}
 
     /// Prints progress until the work is over. If the clock or the terminal fails, it stops.
@@ -138,6 +141,7 @@ impl Gate for ProgressPrinter {
         }
     }
 
+    /// Prints how many wakes of idle threads were late, if any, unless the command is quiet.
     fn missed_wakes(&self, late: u64) {
         if late != 0 && !self.is_quiet {
             let stderr = &self.stderr;

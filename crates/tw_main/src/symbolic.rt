@@ -1,5 +1,6 @@
 //! Whether a file that promises symbolic assembly has it.
 
+/// Returns whether a text is symbolic: its first line that has a word is `names`.
 fn begins_with_names(text: &str) -> bool {
     for line in text.lines() {
         let words = line.split(';').next().unwrap_or("").trim();
@@ -10,6 +11,7 @@ fn begins_with_names(text: &str) -> bool {
     false
 }
 
+/// Returns the first argument that ends in `.twn`, the ending of symbolic assembly.
 fn named_twn(words: &[String]) -> Option<&str> {
     for word in words {
         if word.ends_with(".twn") {

@@ -17,13 +17,13 @@ pub struct SystemFiles<'a, R> {
 }
 
 impl<'a, R> SystemFiles<'a, R> {
-    /// Makes them of the system and its streams.
+    /// Makes the files of a session from the system's and its standard streams.
     pub fn new(rt: &'a R, stdin: Stdin, stderr: Stderr) -> SystemFiles<'a, R> {
         SystemFiles { rt, stdin, stderr }
     }
 }
 
-/// Reads to the end, or until there is one byte more than a session accepts.
+/// Reads a file to its end, or until there is one byte more than a session accepts.
 fn read_most<R: Read + Drop>(alloc: Global, reader: R) -> io::Result<Vec<u8>> {
     let mut bytes = Vec::new(alloc);
     reader.take(MOST_BYTES as u64 + 1).read_to_end(&mut bytes)?;
@@ -31,6 +31,7 @@ fn read_most<R: Read + Drop>(alloc: Global, reader: R) -> io::Result<Vec<u8>> {
 }
 
 impl<'a, R: Files> InputFiles for SystemFiles<'a, R> {
+    /// Reads a file of the system, or standard input, which is announced if it is a terminal.
     fn read_file(&self, alloc: Global, path: &str) -> io::Result<Vec<u8>> {
         if path == "-" {
             if self.stdin.is_terminal() {

@@ -30,7 +30,7 @@ pub struct Streams {
     pub stderr: Stderr,
 }
 
-/// Returns the command and its arguments.
+/// Returns the command and the arguments of a session.
 fn words_of(alloc: Global, command: &str, others: &[String]) -> Result<Vec<String>, AllocError> {
     let mut words = Vec::new(alloc);
     words.push(String::from_str(alloc, command)?)?;
@@ -40,11 +40,12 @@ fn words_of(alloc: Global, command: &str, others: &[String]) -> Result<Vec<Strin
     Ok(words)
 }
 
-/// Returns whether lines are to be answered.
+/// Returns whether the command `tw` answers lines, by `--each`.
 fn is_each(words: &[String]) -> bool {
     words.iter().any(|word| word.as_str() == "--each")
 }
 
+/// Returns the bytes of a file that may not have been read.
 fn bytes_of(bytes: &Option<Vec<u8>>) -> Option<&[u8]> {
     match bytes {
         Some(bytes) => Some(bytes.as_slice()),
@@ -52,7 +53,7 @@ fn bytes_of(bytes: &Option<Vec<u8>>) -> Option<&[u8]> {
     }
 }
 
-/// Returns the inputs and the events of a trace that files hold.
+/// Returns the inputs and the events of a trace that files hold, as a session's input.
 fn inputs_and_trace(files: &Contents) -> (Option<&[u8]>, Option<&[u8]>) {
     let inputs = bytes_of(&files.inputs);
     let parts = match inputs {
@@ -65,7 +66,7 @@ fn inputs_and_trace(files: &Contents) -> (Option<&[u8]>, Option<&[u8]>) {
     }
 }
 
-/// Returns whether the name of a file follows an option.
+/// Returns whether the name of a file follows this option of the command `tw`.
 fn takes_file(option: &str) -> bool {
     is_option(ArgumentForm::Inputs, option) || is_option(ArgumentForm::Trace, option)
 }
@@ -87,7 +88,7 @@ pub struct Tool<'a, H> {
 }
 
 impl<'a, H: AllocGlobal + Files + Threads + Wait + Clock + Sync> Tool<'a, H> {
-    /// Makes the command, which messages name so.
+    /// Makes the command `tw` on a runtime and its streams; messages name it so.
     pub fn new(rt: &'a H, streams: Streams, name: &'a str) -> Tool<'a, H> {
         Tool { rt, streams, name }
     }
@@ -115,7 +116,7 @@ impl<'a, H: AllocGlobal + Files + Threads + Wait + Clock + Sync> Tool<'a, H> {
         was_rejected && is_each(words) && matches!(rejects(self.rt.alloc(), words), Ok(false))
     }
 
-    /// Holds a session, and prints hints about its answer.
+    /// Holds a session of the command `tw`, and prints hints about its answer.
     fn hold<R: InStream>(&self, words: &[String], reader: &mut R, reads_input: bool) -> Status {
         let mut writer = self.streams.stdout;
         let reporter = ProgressPrinter::new(self.streams.stderr, is_quiet(words));
@@ -257,7 +258,7 @@ impl<'a, H: AllocGlobal + Files + Threads + Wait + Clock + Sync> Tool<'a, H> {
         }
     }
 
-    /// Answers the arguments, without the program's own name.
+    /// Answers the arguments of the command `tw`, without the program's own name.
     pub fn answer(&self, words: &[String]) -> Exit {
         match words {
             [command, others @ ..] if reads_program(command.as_str()) => {

@@ -1,3 +1,2 @@
--- Orders: Orders has their inputs and the greatest cap, InTurn those whose runs are single-threaded.
+-- Orders: the greatest cap, and orders whose runs are single-threaded.
 pub mod Orders
-pub mod InTurn

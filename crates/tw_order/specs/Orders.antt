@@ -1,18 +1,17 @@
--- Orders with their inputs, and the greatest cap.
-use Rattle.std.specs.Prelude.{ℕ, List}
-use Rattle.tw_types.specs.declared.input.Input.{Input}
-use Rattle.tw_order.specs.declared.runs.ReplayOptions.{ReplayOptions}
-use Rattle.tw_order.specs.declared.runs.ReplayOrder.{ReplayOrder}
-use Rattle.tw_order.specs.declared.runs.RunOptions.{RunOptions}
-use Rattle.tw_order.specs.declared.runs.RunOrder.{RunOrder}
+-- The greatest cap, and orders whose runs are single-threaded.
+use Rattle.std.specs.Prelude.{ℕ, true}
+use Rattle.tw_order.specs.declared.order.Order.{Order}
+use Rattle.tw_order.specs.declared.order.Order.TheVariants.{Assemble, Check, Disassemble, Each, Replay, Run}
 
 -- the cap that admits every program
 abbrev pub greatest_cap : ℕ
 greatest_cap = 18446744073709551615
 
--- return how a program is run, or a trace replayed, with these inputs
-abbrev pub run_with : RunOptions → List Input → RunOrder
-run_with options given = record { answer = options.answer; layout = options.layout; limit = options.limit; caps = options.caps; trace = options.trace; in_turn = options.in_turn; seed = options.seed; seconds = options.seconds; inputs = given }
-
-abbrev pub replay_with : ReplayOptions → List Input → ReplayOrder
-replay_with options given = record { answer = options.answer; layout = options.layout; inputs = given }
+-- returns the order with its run single-threaded, if it has one
+abbrev pub order_in_turn : Order → Order
+order_in_turn (Run source options inputs) = Run source (record options { in_turn = true }) inputs
+order_in_turn (Assemble order) = Assemble order
+order_in_turn (Disassemble source order) = Disassemble source order
+order_in_turn (Check source order) = Check source order
+order_in_turn (Each source order) = Each source order
+order_in_turn (Replay source answer layout inputs) = Replay source answer layout inputs

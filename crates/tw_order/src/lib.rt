@@ -4,7 +4,6 @@
 mod caps;
 mod check;
 mod form;
-mod in_turn;
 mod limit;
 mod order;
 mod range;
@@ -14,6 +13,6 @@ pub use caps::Caps;
 pub use check::{BoundsOf, CheckOrder, EventOrder};
 pub use form::{AssembleOrder, Assembling, DisassembleOrder, Form, Places};
 pub use limit::EventLimit;
-pub use order::{InputsOrder, Order, ProgramOrder, Source, VerifiedOrder};
+pub use order::{Order, Source};
 pub use range::EventRange;
-pub use runs::{Answer, EachOrder, ReplayOptions, ReplayOrder, RunAnswer, RunOptions, RunOrder};
+pub use runs::{Answer, EachOrder, ReplayOrder, RunAnswer, RunInputs, RunOptions, RunOrder};

@@ -1,8 +1,12 @@
 //! Orders: what is done with the program that is read.
 
+ghost use Rattle.std.specs.Prelude.{◌≡◌};
+ghost use Rattle.tw_order.specs.Orders.{order_in_turn};
+
 use crate::check::CheckOrder;
 use crate::form::{AssembleOrder, DisassembleOrder};
-use crate::runs::{EachOrder, ReplayOptions, ReplayOrder, RunOptions, RunOrder};
+use crate::runs::{Answer, EachOrder, RunInputs, RunOptions};
+use tw_types::{Input, Items, Layout};
 
 /// The format of the program that is read.
 #[derive(Clone, Copy, PartialEq, Eq)]
@@ -13,44 +17,40 @@ pub enum Source {
     Assembly,
 }
 
-/// An action on an accepted program.
-#[derive(Drop)]
-pub enum VerifiedOrder {
-    /// Prints its budgets, and the rest of the order.
-    Check(CheckOrder),
-    /// Runs it.
-    Run(RunOrder),
-}
-
-/// An action on a program that is read.
-#[derive(Drop)]
-pub enum ProgramOrder {
-    /// Writes its assembly text, with the number of each place if they are shown.
-    Disassemble(DisassembleOrder),
-    /// Verifies it, and does this if it is accepted.
-    Verified(VerifiedOrder),
-}
-
-/// An action on a program that is followed by its inputs.
-#[derive(Clone, Copy)]
-pub enum InputsOrder {
-    ToRun(RunOptions),
-    /// Runs it with the inputs that a JSON array has.
-    ToRunJson(RunOptions),
-    ToReplay(ReplayOptions),
-}
-
-/// The order that the arguments give.
+/// The order that the arguments give. All but the first read a program in this format.
 #[derive(Drop)]
 pub enum Order {
     /// Reads assembly text, and writes this.
     Assemble(AssembleOrder),
-    /// Reads a program written in this way, and does this with it.
-    Program(Source, ProgramOrder),
-    /// Reads a program written in this way and a trace, and replays it.
-    Replay(Source, ReplayOrder),
-    /// Reads a program written in this way and its inputs, and does this with them.
-    Inputs(Source, InputsOrder),
-    /// Reads a program written in this way and lines of inputs, and runs it on each.
+    /// Writes the program's assembly text, with the number of each place if they are shown.
+    Disassemble(Source, DisassembleOrder),
+    /// Verifies the program, and prints its budgets and the rest of the order if it is accepted.
+    Check(Source, CheckOrder),
+    /// Runs the program with these inputs.
+    Run(Source, RunOptions, RunInputs),
+    /// Runs the program on each line of inputs after it.
     Each(Source, EachOrder),
+    /// Replays the trace after the program in this layout. Without inputs, words in the lines after the program encode them.
+    Replay(Source, Answer, Layout, Option<Items<Input>>),
+}
+
+impl Order {
+    /// Returns the same order, with its run single-threaded.
+    pub fn in_turn(self) -> Order
+        ensures { result ≡ order_in_turn self }
+    {
+        match self {
+            Order::Run(source, mut options, inputs) => {
+                options.in_turn = true;
+                Order::Run(source, options, inputs)
+            }
+            Order::Assemble(order) => Order::Assemble(order),
+            Order::Disassemble(source, order) => Order::Disassemble(source, order),
+            Order::Check(source, order) => Order::Check(source, order),
+            Order::Each(source, order) => Order::Each(source, order),
+            Order::Replay(source, answer, layout, inputs) => {
+                Order::Replay(source, answer, layout, inputs)
+            }
+        }
+    }
 }

@@ -1,8 +1,5 @@
 //! Orders to run a program, and to replay a trace.
 
-ghost use Rattle.std.specs.Prelude.{◌≡◌};
-ghost use Rattle.tw_order.specs.Orders.{replay_with, run_with};
-
 use crate::caps::Caps;
 use crate::limit::EventLimit;
 use crate::range::EventRange;
@@ -25,30 +22,7 @@ pub enum RunAnswer {
     Picture(EventRange),
 }
 
-/// The order to run a program.
-#[derive(Drop)]
-pub struct RunOrder {
-    /// The output of the run.
-    pub answer: RunAnswer,
-    /// The actors.
-    pub layout: Layout,
-    /// The maximum number of events.
-    pub limit: EventLimit,
-    /// The caps above which the program isn't admitted.
-    pub caps: Caps,
-    /// Whether the trace is written before the report.
-    pub trace: bool,
-    /// Whether all actors run in one thread.
-    pub in_turn: bool,
-    /// The seed of another order of their steps in one thread, if there is one.
-    pub seed: Option<u64>,
-    /// After how many seconds the run is stopped, if its time is limited.
-    pub seconds: Option<u64>,
-    /// Main's inputs, one for each input argument, in their order.
-    pub inputs: Items<Input>,
-}
-
-/// The options of a run whose program is followed by its inputs.
+/// How a program is run.
 #[derive(Clone, Copy)]
 pub struct RunOptions {
     /// The output of the run.
@@ -69,23 +43,22 @@ pub struct RunOptions {
     pub seconds: Option<u64>,
 }
 
-impl RunOptions {
-    /// Returns the order of these options with these inputs.
-    pub fn with_inputs(self, inputs: Items<Input>) -> RunOrder
-        ensures { result ≡ run_with self inputs }
-    {
-        RunOrder {
-            answer: self.answer,
-            layout: self.layout,
-            limit: self.limit,
-            caps: self.caps,
-            trace: self.trace,
-            in_turn: self.in_turn,
-            seed: self.seed,
-            seconds: self.seconds,
-            inputs,
-        }
-    }
+/// Where main's inputs are: one for each word or item, in their order.
+#[derive(Drop)]
+pub enum RunInputs {
+    /// They were input arguments.
+    Given(Items<Input>),
+    /// Words in the lines after the program encode them.
+    Words,
+    /// They are the items of a JSON array after the program.
+    Json,
+}
+
+/// The order to run a program with these inputs of main.
+#[derive(Drop)]
+pub struct RunOrder {
+    pub options: RunOptions,
+    pub inputs: Items<Input>,
 }
 
 /// How a program is run on each line of inputs that follows it. The runs are single-threaded.
@@ -125,26 +98,4 @@ pub struct ReplayOrder {
     pub layout: Layout,
     /// Main's inputs, one for each input argument, in their order.
     pub inputs: Items<Input>,
-}
-
-/// The options of a replay whose program is followed by its inputs.
-#[derive(Clone, Copy)]
-pub struct ReplayOptions {
-    /// The output of the replay.
-    pub answer: Answer,
-    /// The actors.
-    pub layout: Layout,
-}
-
-impl ReplayOptions {
-    /// Returns the order of these options with these inputs.
-    pub fn with_inputs(self, inputs: Items<Input>) -> ReplayOrder
-        ensures { result ≡ replay_with self inputs }
-    {
-        ReplayOrder {
-            answer: self.answer,
-            layout: self.layout,
-            inputs,
-        }
-    }
 }

@@ -1,16 +1,16 @@
 -- A session's end after a reply is written, and after arguments are read.
 use Rattle.std.proofs.Common.{◌≡◌, ◌≢◌, ℕ, List, [], ◌∷◌, codes, Option, Some, None, IfOk, IfSome, Result, Ok, Err, OnErr, inl, inr, refl, sym, subst}
 use Rattle.std.specs.Io.KnownBytes.{Appends}
-use Rattle.clap.specs.Words.{Kinds, Text}
-use Rattle.tw_cli.specs.CommandLine.{Asked, Explains, IsRefusedInput}
-use Rattle.tw_cli.proofs.Requests.{never_refused, not_refused, one_refused}
-use Rattle.tw_inputs.specs.InputWords.{RefusedWord}
+use Rattle.clap.specs.Words.{Kinds}
+use Rattle.tw_cli.specs.CommandLine.{Request, Explains, IsRejectedInput}
+use Rattle.tw_cli.proofs.Requests.{never_rejected, not_rejected, one_rejected}
+use Rattle.tw_inputs.specs.InputWords.{RejectedWord}
 use Rattle.tw_source.specs.Inputs.{PrintsInputWord}
 use Rattle.tw_source.specs.Reply.{Reply, reply}
 use Rattle.tw_cli.specs.Options.{ExplainOrder}
 use Rattle.tw_session.specs.Parts.{Given}
-use Rattle.tw_session.specs.Session.{AnswersWordsOn, MayAnswer, MayAnswerOn, RefusesWords, PrintsMeaning}
-use Rattle.tw_session.specs.Status.{ComesOfReply}
+use Rattle.tw_session.specs.Session.{AnswersWordsOn, MayAnswer, MayAnswerOn, RejectsWords, PrintsMeaning}
+use Rattle.tw_session.specs.Status.{EndsWithReply}
 use Rattle.tw_source.specs.declared.reply.Reply.{Reply as MadeReply}
 use Rattle.tw_source.specs.declared.close.Close.{Close}
 use Rattle.tw_session.specs.declared.status.Status.{Status}
@@ -18,7 +18,7 @@ use Rattle.tw_session.specs.declared.status.Status.TheVariants.{Ended, NoMemory,
 
 -- a reply that was written, unless the write failed
 pub replied : (Answers : Reply → Type 0) (text : List ℕ) (close : Close) (status : Status) (old new : Option (List ℕ)) → Answers (reply text close)
-    → (status ≢ WriteFailed → (status ≡ Ended close) × Appends old new text) → ComesOfReply Answers status old new
+    → (status ≢ WriteFailed → (status ≡ Ended close) × Appends old new text) → EndsWithReply Answers status old new
 replied Answers text close (Ended other) old new h wrote =
     let w = wrote (λ e. cc) in
     (text, subst (λ (c : Close). Answers (reply text c)) (sym (same w.0)) h, w.1)
@@ -36,7 +36,7 @@ replied Answers text close ReadFailed old new h wrote = absurd (never ((wrote (�
 replied Answers text close WriteFailed old new h wrote = tt
 
 -- an allocation failed
-pub no_reply : (Answers : Reply → Type 0) (status : Status) (old new : Option (List ℕ)) → (status ≢ WriteFailed → status ≡ NoMemory) → (status ≡ NoMemory → Appends old new (codes "memory\n")) → ComesOfReply Answers status old new
+pub no_reply : (Answers : Reply → Type 0) (status : Status) (old new : Option (List ℕ)) → (status ≢ WriteFailed → status ≡ NoMemory) → (status ≡ NoMemory → Appends old new (codes "memory\n")) → EndsWithReply Answers status old new
 no_reply Answers (Ended close) old new is wrote = absurd (never (is (λ e. cc)))
   where
     never : Ended close ≡ NoMemory → ⊥
@@ -49,11 +49,11 @@ no_reply Answers ReadFailed old new is wrote = absurd (never (is (λ e. cc)))
 no_reply Answers WriteFailed old new is wrote = tt
 
 -- if a reply may be made, what was written of it
-pub comes_of : {E : Type 0} (Answers : Reply → Type 0) (made : Result MadeReply E) (status : Status) (old new : Option (List ℕ)) → IfOk made (λ r. Answers (reply r.text.items r.close))
+pub ends_with_reply : {E : Type 0} (Answers : Reply → Type 0) (made : Result MadeReply E) (status : Status) (old new : Option (List ℕ)) → IfOk made (λ r. Answers (reply r.text.items r.close))
     → IfOk made (λ r. status ≢ WriteFailed → (status ≡ Ended r.close) × Appends old new r.text.items) → OnErr made (status ≢ WriteFailed → status ≡ NoMemory)
-    → (status ≡ NoMemory → Appends old new (codes "memory\n")) → ComesOfReply Answers status old new
-comes_of Answers (Ok r) status old new h ended refused memory = replied Answers r.text.items r.close status old new h ended
-comes_of Answers (Err e) status old new h ended refused memory = no_reply Answers status old new refused memory
+    → (status ≡ NoMemory → Appends old new (codes "memory\n")) → EndsWithReply Answers status old new
+ends_with_reply Answers (Ok r) status old new h ended refused memory = replied Answers r.text.items r.close status old new h ended
+ends_with_reply Answers (Err e) status old new h ended refused memory = no_reply Answers status old new refused memory
 
 pub whatever : {X : Type 0} {P : X → Type 0} (o : Option X) → ((x : X) → P x) → IfSome o P
 whatever None h = tt
@@ -62,20 +62,20 @@ whatever (Some x) h = h x
 -- ---- arguments
 
 -- arguments that are accepted
-pub taken : (kinds : Kinds) (asked : Asked) (g : Given) (r : Reply) → kinds ≡ [] → AnswersWordsOn kinds asked g r → MayAnswerOn asked g r
-taken [] asked g r e h = h
-taken (kind ∷ others) asked g r e h = absurd cc
+pub taken : (kinds : Kinds) (request : Request) (g : Given) (r : Reply) → kinds ≡ [] → AnswersWordsOn kinds request g r → MayAnswerOn request g r
+taken [] request g r e h = h
+taken (kind ∷ others) request g r e h = absurd cc
 
-pub not_taken : (kinds : Kinds) (asked : Asked) (g : Given) (r : Reply) → (kinds ≡ [] → ⊥) → AnswersWordsOn kinds asked g r → RefusesWords kinds r
-not_taken [] asked g r e h = absurd (e refl)
-not_taken (kind ∷ others) asked g r e h = h
+pub not_taken : (kinds : Kinds) (request : Request) (g : Given) (r : Reply) → (kinds ≡ [] → ⊥) → AnswersWordsOn kinds request g r → RejectsWords kinds r
+not_taken [] request g r e h = absurd (e refl)
+not_taken (kind ∷ others) request g r e h = h
 
-pub word_printed : (asked : Asked) (input : List ℕ) (number : RefusedWord) (r : Reply) → IsRefusedInput asked number → MayAnswer asked input r → PrintsInputWord number r
-word_printed asked input number r refused (inl (order, is_asked, h)) = absurd (never_refused asked order number is_asked refused)
-word_printed asked input number r refused (inr (inl (other, is, h))) = subst (λ (n : RefusedWord). PrintsInputWord n r) (one_refused asked other number is refused) h
-word_printed asked input number r refused (inr (inr h)) = absurd (not_refused asked h.0 number h.1 refused)
+pub word_printed : (request : Request) (input : List ℕ) (number : RejectedWord) (r : Reply) → IsRejectedInput request number → MayAnswer request input r → PrintsInputWord number r
+word_printed request input number r refused (inl (order, is_requested, h)) = absurd (never_rejected request order number is_requested refused)
+word_printed request input number r refused (inr (inl (other, is, h))) = subst (λ (n : RejectedWord). PrintsInputWord n r) (one_rejected request other number is refused) h
+word_printed request input number r refused (inr (inr h)) = absurd (not_rejected request h.0 number h.1 refused)
 
 pub meaning_printed : (number : ExplainOrder) (input : List ℕ) (r : Reply) → MayAnswer (Explains number) input r → PrintsMeaning (Explains number) r
-meaning_printed number input r (inl (order, is_asked, h)) = absurd is_asked
+meaning_printed number input r (inl (order, is_requested, h)) = absurd is_requested
 meaning_printed number input r (inr (inl (other, is, h))) = absurd is
 meaning_printed number input r (inr (inr h)) = h

@@ -1,16 +1,15 @@
 -- The end of a session whose program is run on lines.
-use Rattle.std.proofs.Common.{◌≡◌, ◌≢◌, ℕ, Bool, List, Option, None, Some, Ok, Err, ◌++◌, ◌∙◌, ap, codes, inl, inr, refl, subst, sym}
+use Rattle.std.proofs.Common.{◌≡◌, ℕ, List, Option, None, Some, Ok, Err, ◌++◌, ◌∙◌, ap, inl, inr, refl, subst, sym}
 use Rattle.std.specs.Io.KnownBytes.{Appends, Keeps}
 use Rattle.tw_order.specs.declared.order.Source.{Source}
 use Rattle.tw_order.specs.declared.runs.EachOrder.{EachOrder}
-use Rattle.tw_each.specs.Reply.{close_of}
-use Rattle.tw_each.specs.Stream.{BreaksFirst, IsRejection, RunsOnLines, Streams}
+use Rattle.tw_each.specs.Stream.{IsRejection, Streams}
 use Rattle.tw_each.specs.declared.stream.StreamError.TheVariants as stream
-use Rattle.tw_each.specs.declared.streamed.Streamed.TheVariants.{Answered, Rejected}
+use Rattle.tw_each.specs.declared.streamed.Streamed.TheVariants.{Rejected}
 use Rattle.tw_source.specs.Reply.{Reply, reply}
 use Rattle.tw_source.specs.declared.reply.Reply.{Reply as MadeReply}
 use Rattle.tw_session.specs.Each.{EndsEach}
-use Rattle.tw_session.specs.Status.{ComesOfReply}
+use Rattle.tw_session.specs.Status.{EndsWithReply}
 use Rattle.tw_session.specs.declared.status.Status.{Status}
 use Rattle.tw_session.specs.declared.status.Status.TheVariants.{Ended, NoMemory, ReadFailed, WriteFailed}
 
@@ -21,7 +20,7 @@ appended_after (Some o) (Some m) None text p q = absurd q
 appended_after (Some o) (Some m) (Some n) text p q = q ∙ ap (λ (l : List ℕ). l ++ text) p
 
 pub rejected : (source : Source) (order : EachOrder) (input : List ℕ) (from left old mid new : Option (List ℕ)) (r : MadeReply) (status : Status)
-    → Streams source order input from left old mid (Ok (Rejected r)) → ComesOfReply (λ (made : Reply). made ≡ reply r.text.items r.close) status mid new → EndsEach source order input from left old new status
+    → Streams source order input from left old mid (Ok (Rejected r)) → EndsWithReply (λ (made : Reply). made ≡ reply r.text.items r.close) status mid new → EndsEach source order input from left old new status
 rejected source order input from left old mid new r (Ended close) (is, unread, kept) (text, same, wrote) =
     inr (text, subst (λ (x : Reply). IsRejection source order input x) (sym same) is, unread, appended_after old mid new text kept wrote)
 rejected source order input from left old mid new r NoMemory (is, unread, kept) wrote = (mid, inr (refl, unread, kept), wrote)
@@ -36,7 +35,7 @@ unread source order input from left old new (inr h) = absurd (never h.0)
     never e = cc
 
 pub out_of_memory : (source : Source) (order : EachOrder) (input : List ℕ) (from left old mid new : Option (List ℕ)) (status : Status) → Streams source order input from left old mid (Err stream.NoMemory)
-    → ComesOfReply (λ (made : Reply). ⊥) status mid new → EndsEach source order input from left old new status
+    → EndsWithReply (λ (made : Reply). ⊥) status mid new → EndsEach source order input from left old new status
 out_of_memory source order input from left old mid new (Ended close) h (text, none, wrote) = absurd none
 out_of_memory source order input from left old mid new NoMemory h wrote = (mid, h, wrote)
 out_of_memory source order input from left old mid new ReadFailed h wrote = absurd wrote

@@ -14,7 +14,7 @@ use Rattle.tw_verify.specs.Typed.{TypedProgram}
 use Rattle.tw_pool.specs.declared.answer.Closing.{Closing}
 use Rattle.tw_pool.specs.declared.answer.Closing.TheVariants.{Stopped, Limit}
 use Rattle.tw_code.specs.declared.procedure.Procedure.{Procedure}
-use Rattle.tw_pool.specs.Ends.{FinalView, IsShut}
+use Rattle.tw_pool.specs.Ends.{FinalView, IsClosedPool}
 use Rattle.tw_pool.specs.History.{HistoryView}
 use Rattle.tw_pool.specs.Turns.{closing_of}
 use Rattle.tw_pool.specs.Openings.{opened}
@@ -39,15 +39,15 @@ same e = cc
 -- holds if a run ended so, from how its results say that it did; only one whose time is limited was stopped
 abbrev pub IsEndOf : RunOrder → Option Closing → Closing → Type 0
 IsEndOf order over closing =
-    ((over ≡ Some closing) × (closing ≡ Stopped → is_some order.seconds ≡ true)) ⊎ ((over ≡ None) × (closing ≡ Stopped) × (is_some order.seconds ≡ true))
+    ((over ≡ Some closing) × (closing ≡ Stopped → is_some order.options.seconds ≡ true)) ⊎ ((over ≡ None) × (closing ≡ Stopped) × (is_some order.options.seconds ≡ true))
 
 -- of one that was stopped, though it may have ended before
-pub stopped_end : (order : RunOrder) (over : Option Closing) → is_some order.seconds ≡ true → IsEndOf order over (unwrap_or over Stopped)
+pub stopped_end : (order : RunOrder) (over : Option Closing) → is_some order.options.seconds ≡ true → IsEndOf order over (unwrap_or over Stopped)
 stopped_end order None limited = inr (refl, refl, limited)
 stopped_end order (Some closing) limited = inl (refl, λ stopped. limited)
 
 ends_so : (order : RunOrder) (history : List Event) (s : State) (e : Option Ending) (stopped full : Bool) (closing : Closing)
-    → ending s ≡ e → (full ≡ true → length history ≡ order.limit) → closing_by e stopped full ≡ Some closing → (closing ≡ Stopped → is_some order.seconds ≡ true) → EndsSo order history s closing
+    → ending s ≡ e → (full ≡ true → length history ≡ order.options.limit) → closing_by e stopped full ≡ Some closing → (closing ≡ Stopped → is_some order.options.seconds ≡ true) → EndsSo order history s closing
 ends_so order history s (Some ending.Quiet) stopped full closing is at printed may = subst (EndsSo order history s) (same printed) is
 ends_so order history s (Some (ending.Stuck rules)) stopped full closing is at printed may = subst (EndsSo order history s) (same printed) is
 ends_so order history s None true full closing is at printed may = subst (EndsSo order history s) (same printed) (may (sym (same printed)), is)
@@ -69,42 +69,46 @@ no_ending (Some (ending.Stuck rules)) stopped full none = absurd (some none)
     some e = cc
 
 ends_as : (order : RunOrder) (history : List Event) (s : State) (stopped full : Bool) (closing : Closing)
-    → (full ≡ true → length history ≡ order.limit) → IsEndOf order (closing_by (ending s) stopped full) closing → EndsSo order history s closing
+    → (full ≡ true → length history ≡ order.options.limit) → IsEndOf order (closing_by (ending s) stopped full) closing → EndsSo order history s closing
 ends_as order history s stopped full closing at (inl (is, may)) = ends_so order history s (ending s) stopped full closing refl at is may
 ends_as order history s stopped full closing at (inr (none, cut, limited)) = subst (EndsSo order history s) (sym cut) (limited, no_ending (ending s) stopped full none)
 
 -- for a run that ended so
 pub over : (verified : TypedProgram) (order : RunOrder) (p : PoolView) (final : FinalView) (history : HistoryView) (closing : Closing)
-    → run_of p ≡ run_as verified order → length p.history ≤ order.limit → IsShut p final history → IsOrdered order.in_turn verified.program order p.history → IsEndOf order final.closing closing
+    → run_of p ≡ run_as verified order → length p.history ≤ order.options.limit → IsClosedPool p final history → IsOrdered order.options.in_turn verified.program order p.history → IsEndOf order final.closing closing
     → (o : IsRunOver verified.program order final history.events closing) × IsRun verified.program order history.events o.state closing
 over verified order p final history closing of_run few shut turns ended =
     let s = shut.state in
     let here : EndsSo order history.events s closing =
     ends_as order history.events s p.stopped (length p.history == p.limit) closing (λ full. ap (λ (es : List Event). length es) shut.events ∙ (eqb-true (length p.history) p.limit full ∙ ap (λ (r : Run). r.limit) of_run))
     (subst (λ (o : Option Closing). IsEndOf order o closing) shut.closing ended) in
-    let leads : reached verified.program order.inputs order.layout p.history ≡ Went s =
+    let leads : reached verified.program order.inputs order.options.layout p.history ≡ Went s =
     subst (λ (r : Run). reached r.program.program r.inputs r.layout p.history ≡ Went s) of_run shut.has_state in
-    let short = subst (λ (es : List Event). length es ≤ order.limit) (sym shut.events) few in
-    let there : reached verified.program order.inputs order.layout history.events ≡ Went s = subst (λ (es : List Event). reached verified.program order.inputs order.layout es ≡ Went s) (sym shut.events) leads in
+    let short = subst (λ (es : List Event). length es ≤ order.options.limit) (sym shut.events) few in
+    let there : reached verified.program order.inputs order.options.layout history.events ≡ Went s = subst (λ (es : List Event). reached verified.program order.inputs order.options.layout es ≡ Went s) (sym shut.events) leads in
     let reports : (printed : List ℕ) → IsReportAs final (Some closing) printed → printed ≡ end_report verified.program s (Some closing) = λ printed is_report. is_report p history shut ∙ ap (λ (r : Run). end_report r.program.program s (Some closing)) of_run in
     let shows : (line : List ℕ) → IsEndLine final history.events closing line → line ≡ run_line verified.program history.events s closing = λ line is_line. is_line p history shut ∙ ap (λ (r : Run). run_line r.program.program history.events s closing) of_run in (
       record { state = s; few = short; reaches = there; reports = reports; members = λ found are. are p history shut ∙ ap (λ (r : Run). members_of r.program.program history.events s closing) of_run; shows = shows },
-      record { few = short; reaches = there; ends = here; turns = subst (λ (es : List Event). IsOrdered order.in_turn verified.program order es) (sym shut.events) turns },
+      record { few = short; reaches = there; ends = here; turns = subst (λ (es : List Event). IsOrdered order.options.in_turn verified.program order es) (sym shut.events) turns },
     )
 
 -- the output of a run is a reply of it
 pub replied : {E : Type 0} (made : Result MadeReply E) (text : Option (List ℕ)) (program : List Procedure) (order : RunOrder) (final : FinalView) (events : List Event) (closing : Closing)
     → ((o : IsRunOver program order final events closing) × IsRun program order events o.state closing)
-    → IfOk made (λ r. (o : IsRunOver program order final events closing) → (printed : List ℕ) × (more : List ℕ) × IsRunText order.answer text program order events o.state closing printed
-    × AreRunDetails order.answer text program order events o.state closing more × (reply r.text.items r.close ≡ reply (trace_text order.trace events ++ (printed ++ more)) (close_of closing)))
+    → IfOk made (λ r. (o : IsRunOver program order final events closing) → (printed : List ℕ) × (more : List ℕ) × IsRunText order.options.answer text program order events o.state closing printed
+    × AreRunDetails order.options.answer text program order events o.state closing more × (reply r.text.items r.close ≡ reply (trace_text order.options.trace events ++ (printed ++ more)) (close_of closing)))
     → IfOk made (λ r. RepliesByRun text program order (reply r.text.items r.close))
 replied (Ok r) text program order final events closing (o, is) h = let t = h o in inl (events, o.state, closing, t.0, t.1, is, t.2, t.3, t.4)
 replied (Err e) text program order final events closing over h = tt
 
 -- with threads nothing more is required
-pub in_threads : (program : List Procedure) (order : RunOrder) (history : List Event) → order.in_turn ≡ false → IsOrdered order.in_turn program order history
+pub in_threads : (program : List Procedure) (order : RunOrder) (history : List Event) → order.options.in_turn ≡ false → IsOrdered order.options.in_turn program order history
 in_threads program order history threads = subst (λ b. IsOrdered b program order history) (sym threads) tt
 
 -- single-threaded, the trace is the one that the actors make
-pub in_turn : (verified : TypedProgram) (order : RunOrder) (p : PoolView) → order.in_turn ≡ true → IsAtEnd order (opened verified order.inputs order.layout order.limit) p → IsOrdered order.in_turn verified.program order p.history
-in_turn verified order p turns comes = subst (λ b. IsOrdered b verified.program order p.history) (sym turns) (record { verified = verified; is = refl; last = p; comes = comes; made = refl })
+pub in_turn : (verified : TypedProgram) (order : RunOrder) (p : PoolView) → IsAtEnd order (opened verified order.inputs order.options.layout order.options.limit) p → IsOrdered order.options.in_turn verified.program order p.history
+in_turn verified order p comes = by order.options.in_turn
+  where
+    by : (turns : Bool) → IsOrdered turns verified.program order p.history
+    by true = record { verified = verified; is = refl; last = p; comes = comes; made = refl }
+    by false = tt

@@ -4,18 +4,12 @@ use Rattle.tw_order.specs.declared.runs.Answer.{Answer}
 use Rattle.tw_order.specs.declared.runs.Answer.TheVariants as answer
 use Rattle.tw_order.specs.declared.form.Assembling.{Assembling}
 use Rattle.tw_order.specs.declared.form.Assembling.TheVariants as assembling
-use Rattle.tw_order.specs.declared.order.InputsOrder.{InputsOrder}
-use Rattle.tw_order.specs.declared.order.InputsOrder.TheVariants.{ToReplay, ToRun, ToRunJson}
 use Rattle.tw_order.specs.declared.order.Order.{Order}
-use Rattle.tw_order.specs.declared.order.Order.TheVariants.{Assemble, Each, Inputs, Program, Replay}
+use Rattle.tw_order.specs.declared.order.Order.TheVariants.{Assemble, Check, Disassemble, Each, Replay, Run}
 use Rattle.tw_order.specs.declared.form.Places.{Places}
 use Rattle.tw_order.specs.declared.form.Places.TheVariants.{Hidden, Shown}
-use Rattle.tw_order.specs.declared.order.ProgramOrder.{ProgramOrder}
-use Rattle.tw_order.specs.declared.order.ProgramOrder.TheVariants.{Disassemble, Verified}
 use Rattle.tw_order.specs.declared.runs.RunAnswer.{RunAnswer}
 use Rattle.tw_order.specs.declared.runs.RunAnswer.TheVariants as written
-use Rattle.tw_order.specs.declared.order.VerifiedOrder.{VerifiedOrder}
-use Rattle.tw_order.specs.declared.order.VerifiedOrder.TheVariants.{Check, Run}
 use Rattle.tw_cli.specs.declared.form.Explained.{Explained}
 use Rattle.tw_order.specs.declared.form.Form.{Form}
 use Rattle.tw_order.specs.declared.form.Form.TheVariants as form
@@ -52,39 +46,22 @@ checked_as Hidden = Errors
 checked_as Shown = ListedErrors
 
 abbrev pub run_as_json : RunAnswer → Rendering
-run_as_json written.Report = Plain
-run_as_json written.Numbers = Plain
-run_as_json written.Order = Plain
 run_as_json written.Json = Errors
 run_as_json written.OrderJson = Errors
-run_as_json (written.Picture shown) = Plain
+run_as_json answer = Plain
 
 abbrev pub replayed_as : Answer → Rendering
-replayed_as answer.Report = Plain
-replayed_as answer.Numbers = Plain
 replayed_as answer.Json = Errors
-replayed_as (answer.Picture shown) = Plain
-
-abbrev pub verified_rendering : VerifiedOrder → Rendering
-verified_rendering (Check order) = in_json order.form (checked_as order.places)
-verified_rendering (Run order) = run_as_json order.answer
-
-abbrev pub program_rendering : ProgramOrder → Rendering
-program_rendering (Disassemble order) = in_json order.form (Whole (disassembled_as order.places))
-program_rendering (Verified order) = verified_rendering order
-
-abbrev pub inputs_rendering : InputsOrder → Rendering
-inputs_rendering (ToRun options) = run_as_json options.answer
-inputs_rendering (ToRunJson options) = run_as_json options.answer
-inputs_rendering (ToReplay options) = replayed_as options.answer
+replayed_as other = Plain
 
 -- returns the form of the reply to an order; those to lines of inputs are JSON already
 abbrev pub rendering_of : Order → Rendering
 rendering_of (Assemble order) = in_json order.form (Whole (assembled_as order.what))
-rendering_of (Program source order) = program_rendering order
-rendering_of (Replay source order) = replayed_as order.answer
-rendering_of (Inputs source order) = inputs_rendering order
+rendering_of (Disassemble source order) = in_json order.form (Whole (disassembled_as order.places))
+rendering_of (Check source order) = in_json order.form (checked_as order.places)
+rendering_of (Run source options inputs) = run_as_json options.answer
 rendering_of (Each source order) = Plain
+rendering_of (Replay source answer layout inputs) = replayed_as answer
 
 -- ---- replies
 
@@ -92,21 +69,12 @@ rendering_of (Each source order) = Plain
 abbrev pub is_error : Close → Bool
 is_error close = is_some (failure_in close)
 
--- return an error, and any other reply, in the requested form
-abbrev pub error_reply : Rendering → Reply → Reply
-error_reply Plain r = r
-error_reply Errors r = reply (json_line (error_json r)) r.close
-error_reply ListedErrors r = reply (json_line (listed_error_json r)) r.close
-error_reply (Whole made) r = reply (json_line (error_json r)) r.close
-
-abbrev pub output_reply : Rendering → Reply → Reply
-output_reply Plain r = r
-output_reply Errors r = r
-output_reply ListedErrors r = r
-output_reply (Whole made) r = reply (json_line (printed_json made r.text)) r.close
-
+-- returns a reply in the requested form
 abbrev pub in_form : Rendering → Reply → Reply
-in_form rendering r = if is_error r.close then error_reply rendering r else output_reply rendering r
+in_form Plain r = r
+in_form Errors r = if is_error r.close then reply (json_line (error_json r)) r.close else r
+in_form ListedErrors r = if is_error r.close then reply (json_line (listed_error_json r)) r.close else r
+in_form (Whole made) r = if is_error r.close then reply (json_line (error_json r)) r.close else reply (json_line (printed_json made r.text)) r.close
 
 -- ---- explanations
 

@@ -1,11 +1,10 @@
 -- The bytes that a session is given, and their parts.
-use Rattle.std.specs.Prelude.{◌≡◌, ◌+◌, ◌-◌, ℕ, Bool, List, [], Option, None, IsUtf8, MatchOption, codes, length, take, if◌then◌else◌, nat_eq, nat_lt}
+use Rattle.std.specs.Prelude.{◌≡◌, ◌+◌, ◌-◌, ℕ, Bool, List, [], Option, None, Some, IsUtf8, MatchOption, codes, length, take, if◌then◌else◌, nat_eq, nat_lt}
 use Rattle.std.specs.List.{ends_with}
 use Rattle.std.specs.Option.{option_map, option_map_or}
-use Rattle.tw_order.specs.declared.order.InputsOrder.{InputsOrder}
-use Rattle.tw_order.specs.declared.order.InputsOrder.TheVariants.{ToReplay, ToRun, ToRunJson}
 use Rattle.tw_order.specs.declared.order.Order.{Order}
-use Rattle.tw_order.specs.declared.order.Order.TheVariants.{Assemble, Each, Inputs, Program, Replay}
+use Rattle.tw_order.specs.declared.order.Order.TheVariants.{Replay, Run}
+use Rattle.tw_order.specs.declared.runs.RunInputs.TheVariants.{Json, Words}
 use Rattle.tw_report.specs.History.{AreParts}
 use Rattle.tw_source.specs.Input.{most_bytes}
 use Rattle.tw_source.specs.Inputs.{after_inputs, before_inputs}
@@ -72,18 +71,13 @@ inputs_of g before = option_map_or (λ apart. apart) g.inputs (after_inputs befo
 abbrev pub with_inputs : Given → List ℕ → List ℕ → Parts
 with_inputs g before trace = parts (program_of g before) (without_last_feed (inputs_of g before)) trace (is_too_long g)
 
-abbrev pub AreReadWithInputs : InputsOrder → Given → Parts → Type 0
-AreReadWithInputs (ToRun options) g p = p ≡ with_inputs g g.program []
-AreReadWithInputs (ToRunJson options) g p = p ≡ with_inputs g g.program []
-AreReadWithInputs (ToReplay options) g p = (before : List ℕ) × (trace : List ℕ) × AreTraced g before trace × (p ≡ with_inputs g before trace)
-
 -- holds for the parts that an order needs: the program, or also its inputs, a trace or both
 abbrev pub AreReadAs : Order → Given → Parts → Type 0
-AreReadAs (Assemble order) g p = p ≡ parts g.program [] [] (is_too_long g)
-AreReadAs (Program source order) g p = p ≡ parts g.program [] [] (is_too_long g)
-AreReadAs (Replay source order) g p = (before : List ℕ) × (trace : List ℕ) × AreTraced g before trace × (p ≡ parts before [] trace (is_too_long g))
-AreReadAs (Inputs source order) g p = AreReadWithInputs order g p
-AreReadAs (Each source order) g p = p ≡ parts g.program [] [] (is_too_long g)
+AreReadAs (Run source options Words) g p = p ≡ with_inputs g g.program []
+AreReadAs (Run source options Json) g p = p ≡ with_inputs g g.program []
+AreReadAs (Replay source answer layout None) g p = (before : List ℕ) × (trace : List ℕ) × AreTraced g before trace × (p ≡ with_inputs g before trace)
+AreReadAs (Replay source answer layout (Some given)) g p = (before : List ℕ) × (trace : List ℕ) × AreTraced g before trace × (p ≡ parts before [] trace (is_too_long g))
+AreReadAs order g p = p ≡ parts g.program [] [] (is_too_long g)
 
 -- holds if all parts are UTF-8
 abbrev pub AreTexts : Parts → Type 0

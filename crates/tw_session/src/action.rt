@@ -1,24 +1,28 @@
 //! Actions on a program that was read, also a run whose inputs are JSON.
 
-ghost use Rattle.std.specs.Prelude.{◌≡◌, IfOk};
+ghost use Rattle.std.specs.Prelude.{IfOk};
 ghost use Rattle.tw_source.specs.Reply.{reply};
 ghost use Rattle.tw_source.specs.Source.{MayBeSource, text_of};
-ghost use Rattle.tw_session.specs.ProgramAction.{AreGiven, HasShortTrace, IsRunOf, Leads, RepliesByAction};
+ghost use Rattle.tw_session.specs.ProgramAction.{AreGiven, Awaits, HasShortTrace, RepliesByAction};
 ghost use Rattle.tw_session.specs.Session.{PrintsFault, RepliesByJsonRun};
 
-use crate::programs::{ProgramAction, program_reply};
+use crate::programs::{Prepared, prepare_run};
 use std::alloc::{AllocError, Global};
 use tw_code::{Program, main_params};
 use tw_inputs::{NoInputs, Place, Scratch, fault_text, read_inputs};
-use tw_order::{ProgramOrder, ReplayOrder, RunOptions, VerifiedOrder};
+use tw_order::{CheckOrder, DisassembleOrder, ReplayOrder, RunOptions};
+use tw_program_output::{checked_reply, disassembled};
 use tw_replay_output::replayed_reply;
-use tw_source::{Reply, SourceText, unreadable_reply};
+use tw_source::{Close, Reply, SourceText, unreadable_reply};
 use tw_types::{Input, Items, Param};
 
 /// An action on a program that is to be read.
 #[derive(Drop)]
 pub enum Action<'a> {
-    Ordered(ProgramOrder),
+    Disassemble(DisassembleOrder),
+    Check(CheckOrder),
+    /// A run with these inputs.
+    Run(RunOptions, Items<Input>),
     /// A run with the inputs that a JSON text has.
     RunWithJson(RunOptions, &'a str),
     /// A replay of a trace.
@@ -61,45 +65,51 @@ fn inputs_in(alloc: Global, params: &[Param], json: &str) -> Result<GivenInputs,
     }
 }
 
-/// Reads the inputs of a run, and verifies its program.
-fn json_reply(
+/// Reads the inputs of a run, and prepares it.
+fn prepare_json_run<'a>(
     alloc: Global,
-    source: &Option<SourceText<'_>>,
+    source: Option<SourceText<'a>>,
     options: RunOptions,
     json: &str,
     program: Program,
-) -> Result<ProgramAction, AllocError>
-    requires { MayBeSource source.now program.procedures }
-    ensures { IfOk result (Leads (λ order. order.in_turn ≡ options.in_turn) source.now
-        (RepliesByJsonRun (text_of source.now) options json.now program)) }
+) -> Result<Prepared<'a>, AllocError>
+    requires { MayBeSource source program.procedures }
+    ensures { IfOk result (Awaits (RepliesByJsonRun (text_of source.entry) options json.now program)) }
 {
     let params = main_params(program.procedures());
     match inputs_in(alloc, params, json)? {
-        GivenInputs::Inputs(inputs) => {
-            let order = VerifiedOrder::Run(options.with_inputs(inputs));
-            program_reply(alloc, source, ProgramOrder::Verified(order), program)
-        }
-        GivenInputs::Fault(reply) => Ok(ProgramAction::Finished(reply)),
+        GivenInputs::Inputs(inputs) => prepare_run(alloc, source, options, inputs, program),
+        GivenInputs::Fault(reply) => Ok(Prepared::Finished(reply)),
     }
 }
 
-/// Does an action on a program that was read, up to its run.
-pub fn action_reply(
+/// Does an action on a program that was read from this text, if from any, up to its run.
+pub fn act<'a>(
     alloc: Global,
-    source: &Option<SourceText<'_>>,
+    source: Option<SourceText<'a>>,
     action: Action<'_>,
     program: Program,
-) -> Result<ProgramAction, AllocError>
-    requires source { MayBeSource source.now program.procedures }
+) -> Result<Prepared<'a>, AllocError>
+    requires source { MayBeSource source program.procedures }
     requires few { HasShortTrace action }
-    ensures { IfOk result (Leads (IsRunOf action.entry) source.now (RepliesByAction (text_of source.now) action.entry program)) }
+    ensures { IfOk result (Awaits (RepliesByAction (text_of source.entry) action.entry program)) }
 {
     match action {
-        Action::Ordered(order) => program_reply(alloc, source, order, program),
-        Action::RunWithJson(options, json) => json_reply(alloc, source, options, json, program),
+        Action::Disassemble(order) => Ok(Prepared::Finished(Reply {
+            text: disassembled(alloc, order.places, &program)?,
+            close: Close::Success,
+        })),
+        Action::Check(order) => {
+            let reply = checked_reply(alloc, &source, order, program)?;
+            Ok(Prepared::Finished(reply))
+        }
+        Action::Run(options, inputs) => prepare_run(alloc, source, options, inputs, program),
+        Action::RunWithJson(options, json) => {
+            prepare_json_run(alloc, source, options, json, program)
+        }
         Action::Replay(order, trace) => {
-            let reply = replayed_reply(alloc, source, &order, trace, program)?;
-            Ok(ProgramAction::Finished(reply))
+            let reply = replayed_reply(alloc, &source, &order, trace, program)?;
+            Ok(Prepared::Finished(reply))
         }
     }
 }

@@ -1,8 +1,7 @@
 //! The replies of a single-threaded `run`.
 
-ghost use Rattle.std.specs.Prelude.{◌≡◌, IfOk, is_some, map, string_bytes, true};
-ghost use Rattle.tw_cli.specs.CommandLine.{asked_by_words, word_faults};
-ghost use Rattle.tw_cli.specs.InTurn.{turned};
+ghost use Rattle.std.specs.Prelude.{IfOk, is_some, map, string_bytes};
+ghost use Rattle.tw_cli.specs.CommandLine.{request_by_words, request_in_turn, word_faults};
 ghost use Rattle.tw_code.specs.machine.Inputs.{AreInputsOf};
 ghost use Rattle.tw_in_turn.specs.InTurn.{IsLeft};
 ghost use Rattle.tw_in_turn.specs.Stopping.{IsLeftIf};
@@ -34,15 +33,14 @@ fn ended_in_turn(
     verified: Verified,
     left: InTurnResult,
 ) -> Result<Reply, AllocError>
-    requires left { IsLeft order.now.seed (opened verified order.now.inputs order.now.layout order.now.limit) left }
-    requires turns { order.now.in_turn ≡ true }
+    requires left { IsLeft order.now.options.seed (opened verified order.now.inputs order.now.options.layout order.now.options.limit) left }
     requires inputs { AreInputsOf verified.program order.now.inputs }
     requires source { MayBeSource source.now verified.program }
     ensures { IfOk result (λ r. RepliesByRun (text_of source.now) verified.program order.now (reply r.text.items r.close)) }
 {
     match left {
         InTurnResult::Over { outcome, history } => {
-            match stop_reason(outcome.closing(), order.seconds) {
+            match stop_reason(outcome.closing(), order.options.seconds) {
                 Some(closing) => {
                     ended_reply(alloc, source, order, verified, &outcome, &history, closing)
                 }
@@ -61,8 +59,7 @@ fn left_reply(
     verified: Verified,
     left: StoppableResult,
 ) -> Result<Reply, AllocError>
-    requires left { IsLeftIf (is_some order.now.seconds) order.now.seed (opened verified order.now.inputs order.now.layout order.now.limit) left }
-    requires turns { order.now.in_turn ≡ true }
+    requires left { IsLeftIf (is_some order.now.options.seconds) order.now.options.seed (opened verified order.now.inputs order.now.options.layout order.now.options.limit) left }
     requires inputs { AreInputsOf verified.program order.now.inputs }
     requires source { MayBeSource source.now verified.program }
     ensures { IfOk result (λ r. RepliesByRun (text_of source.now) verified.program order.now (reply r.text.items r.close)) }
@@ -83,13 +80,19 @@ pub fn reply_single_threaded(
     order: &RunOrder,
     verified: Verified,
 ) -> Result<Reply, AllocError>
-    requires turns { order.now.in_turn ≡ true }
-    requires source { MayBeSource source.now verified.program }
+    requires { MayBeSource source.now verified.program }
     ensures { IfOk result (λ r. RepliesByOpening (text_of source.now) verified.program order.now (reply r.text.items r.close)) }
 {
     let inputs = order.inputs.as_slice();
-    let limit = order.limit.events();
-    match run_in_turn(alloc, &verified, inputs, order.layout, limit, order.seed) {
+    let limit = order.options.limit.events();
+    match run_in_turn(
+        alloc,
+        &verified,
+        inputs,
+        order.options.layout,
+        limit,
+        order.options.seed,
+    ) {
         Ok(left) => ended_in_turn(alloc, source, order, verified, left),
         Err(why) => unopened_reply(alloc, source, order, &verified, why),
     }
@@ -103,21 +106,20 @@ pub fn reply_in_time<C: Clock>(
     order: &RunOrder,
     verified: Verified,
 ) -> Result<Reply, AllocError>
-    requires turns { order.now.in_turn ≡ true }
-    requires source { MayBeSource source.now verified.program }
+    requires { MayBeSource source.now verified.program }
     ensures { IfOk result (λ r. RepliesByOpening (text_of source.now) verified.program order.now (reply r.text.items r.close)) }
 {
     let inputs = order.inputs.as_slice();
-    let limit = order.limit.events();
+    let limit = order.options.limit.events();
     match run_timed(
         clock,
         alloc,
         &verified,
         inputs,
-        order.layout,
+        order.options.layout,
         limit,
-        order.seed,
-        order.seconds,
+        order.options.seed,
+        order.options.seconds,
     ) {
         Ok(left) => left_reply(alloc, source, order, verified, left),
         Err(why) => unopened_reply(alloc, source, order, &verified, why),
@@ -126,7 +128,7 @@ pub fn reply_in_time<C: Clock>(
 
 /// Returns the reply to arguments and the bytes that come with them, with a run single-threaded. It starts no thread, and never waits.
 pub fn answer_in_turn(alloc: Global, words: &[String], input: &[u8]) -> Result<Reply, AllocError>
-    ensures { IfOk result (λ r. AnswersWords (word_faults (map string_bytes words.now)) (turned (asked_by_words (map string_bytes words.now)))
+    ensures { IfOk result (λ r. AnswersWords (word_faults (map string_bytes words.now)) (request_in_turn (request_by_words (map string_bytes words.now)))
         input.now (reply r.text.items r.close)) }
 {
     match read_order(alloc, words) {

@@ -2,16 +2,15 @@
 
 ghost use Rattle.std.specs.Prelude.{◌≡◌, IfOk, string_bytes};
 ghost use Rattle.tw_json_output.specs.Run.{json_line};
+ghost use Rattle.tw_json_output.specs.Texts.{printed_json};
 ghost use Rattle.tw_program_output.specs.ErrorJson.{error_json, listed_error_json};
 ghost use Rattle.tw_source.specs.Reply.{reply};
-ghost use Rattle.tw_session.specs.Json.{assembled_as, checked_as, disassembled_as, error_reply, explained_reply, in_form, in_json, inputs_rendering, is_error, output_reply, program_rendering, rendering_of, replayed_as, run_as_json, verified_rendering};
+ghost use Rattle.tw_session.specs.Json.{assembled_as, checked_as, disassembled_as, explained_reply, in_form, in_json, is_error, rendering_of, replayed_as, run_as_json};
 
 use std::alloc::{AllocError, Global};
 use tw_cli::Explained;
 use tw_json_output::{Printed, explanation_line, printed_line};
-use tw_order::{
-    Answer, Assembling, Form, InputsOrder, Order, Places, ProgramOrder, RunAnswer, VerifiedOrder,
-};
+use tw_order::{Answer, Assembling, Form, Order, Places, RunAnswer};
 use tw_program_output::{error_line, failure_in, listed_error_line};
 use tw_source::{Close, Reply};
 
@@ -28,6 +27,7 @@ pub enum Rendering {
     Whole(Printed),
 }
 
+/// Returns the form of a reply if JSON may be requested.
 fn in_json(form: Form, rendering: Rendering) -> Rendering
     ensures { result ≡ in_json form rendering }
 {
@@ -37,6 +37,7 @@ fn in_json(form: Form, rendering: Rendering) -> Rendering
     }
 }
 
+/// Returns the object of what `asm` prints.
 fn assembled_as(what: Assembling) -> Printed
     ensures { result ≡ assembled_as what }
 {
@@ -46,6 +47,7 @@ fn assembled_as(what: Assembling) -> Printed
     }
 }
 
+/// Returns the object of what `disasm` prints.
 fn disassembled_as(places: Places) -> Printed
     ensures { result ≡ disassembled_as places }
 {
@@ -55,6 +57,7 @@ fn disassembled_as(places: Places) -> Printed
     }
 }
 
+/// Returns the form of the reply to a check, as JSON.
 fn checked_as(places: Places) -> Rendering
     ensures { result ≡ checked_as places }
 {
@@ -64,6 +67,7 @@ fn checked_as(places: Places) -> Rendering
     }
 }
 
+/// Returns the form of the reply to a run.
 fn run_as_json(answer: RunAnswer) -> Rendering
     ensures { result ≡ run_as_json answer }
 {
@@ -74,6 +78,7 @@ fn run_as_json(answer: RunAnswer) -> Rendering
     }
 }
 
+/// Returns the form of the reply to a replay.
 fn replayed_as(answer: Answer) -> Rendering
     ensures { result ≡ replayed_as answer }
 {
@@ -83,47 +88,20 @@ fn replayed_as(answer: Answer) -> Rendering
     }
 }
 
-fn verified_rendering(order: &VerifiedOrder) -> Rendering
-    ensures { result ≡ verified_rendering order.now }
-{
-    match order {
-        VerifiedOrder::Check(order) => in_json(order.form, checked_as(order.places)),
-        VerifiedOrder::Run(order) => run_as_json(order.answer),
-    }
-}
-
-fn program_rendering(order: &ProgramOrder) -> Rendering
-    ensures { result ≡ program_rendering order.now }
-{
-    match order {
-        ProgramOrder::Disassemble(order) => in_json(
-            order.form,
-            Rendering::Whole(disassembled_as(order.places)),
-        ),
-        ProgramOrder::Verified(order) => verified_rendering(order),
-    }
-}
-
-fn inputs_rendering(order: &InputsOrder) -> Rendering
-    ensures { result ≡ inputs_rendering order.now }
-{
-    match order {
-        InputsOrder::ToRun(options) => run_as_json(options.answer),
-        InputsOrder::ToRunJson(options) => run_as_json(options.answer),
-        InputsOrder::ToReplay(options) => replayed_as(options.answer),
-    }
-}
-
 /// Returns the form that the text of the reply to an order takes.
 pub fn rendering_of(order: &Order) -> Rendering
     ensures { result ≡ rendering_of order.now }
 {
     match order {
         Order::Assemble(order) => in_json(order.form, Rendering::Whole(assembled_as(order.what))),
-        Order::Program(_, order) => program_rendering(order),
-        Order::Replay(_, order) => replayed_as(order.answer),
-        Order::Inputs(_, order) => inputs_rendering(order),
+        Order::Disassemble(_, order) => in_json(
+            order.form,
+            Rendering::Whole(disassembled_as(order.places)),
+        ),
+        Order::Check(_, order) => in_json(order.form, checked_as(order.places)),
+        Order::Run(_, options, _) => run_as_json(options.answer),
         Order::Each(..) => Rendering::Plain,
+        Order::Replay(_, answer, _, _) => replayed_as(*answer),
     }
 }
 
@@ -160,39 +138,26 @@ fn listed_error(alloc: Global, text: &Reply) -> Result<Reply, AllocError>
     Ok(line_reply(line, text.close))
 }
 
-/// Returns an error in the requested form.
-fn error_reply(alloc: Global, rendering: Rendering, text: Reply) -> Result<Reply, AllocError>
-    ensures { IfOk result (λ r. reply r.text.items r.close ≡ error_reply rendering (reply text.text.items text.close)) }
+/// Returns the object of what is printed.
+fn printed_object(alloc: Global, printed: Printed, text: &Reply) -> Result<Reply, AllocError>
+    ensures { IfOk result (λ r. reply r.text.items r.close ≡ reply (json_line (printed_json printed text.now.text.items)) text.now.close) }
 {
-    match rendering {
-        Rendering::Plain => Ok(text),
-        Rendering::ListedErrors => listed_error(alloc, &text),
-        Rendering::Errors => error_object(alloc, &text),
-        Rendering::Whole(_) => error_object(alloc, &text),
-    }
-}
-
-/// Returns a reply that is no error in the requested form.
-fn output_reply(alloc: Global, rendering: Rendering, text: Reply) -> Result<Reply, AllocError>
-    ensures { IfOk result (λ r. reply r.text.items r.close ≡ output_reply rendering (reply text.text.items text.close)) }
-{
-    match rendering {
-        Rendering::Plain | Rendering::Errors | Rendering::ListedErrors => Ok(text),
-        Rendering::Whole(printed) => {
-            let line = printed_line(alloc, printed, &text.text)?;
-            Ok(line_reply(line, text.close))
-        }
-    }
+    let line = printed_line(alloc, printed, &text.text)?;
+    Ok(line_reply(line, text.close))
 }
 
 /// Returns a reply in the requested form.
 pub fn in_form(alloc: Global, rendering: Rendering, text: Reply) -> Result<Reply, AllocError>
     ensures { IfOk result (λ r. reply r.text.items r.close ≡ in_form rendering (reply text.text.items text.close)) }
 {
-    if is_error(text.close) {
-        error_reply(alloc, rendering, text)
-    } else {
-        output_reply(alloc, rendering, text)
+    match rendering {
+        Rendering::Plain => Ok(text),
+        Rendering::Errors if is_error(text.close) => error_object(alloc, &text),
+        Rendering::Errors => Ok(text),
+        Rendering::ListedErrors if is_error(text.close) => listed_error(alloc, &text),
+        Rendering::ListedErrors => Ok(text),
+        Rendering::Whole(_) if is_error(text.close) => error_object(alloc, &text),
+        Rendering::Whole(printed) => printed_object(alloc, printed, &text),
     }
 }
 

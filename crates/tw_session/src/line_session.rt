@@ -2,13 +2,13 @@
 
 ghost use Rattle.std.specs.Prelude.{◌≡◌, ◌≢◌, [], Err, List, ℕ, Ok, Option, map, string_bytes};
 ghost use Rattle.std.specs.Thread.{IsSync};
-ghost use Rattle.tw_cli.specs.CommandLine.{Asked, IsAsked, asked_by_words, word_faults};
+ghost use Rattle.tw_cli.specs.CommandLine.{Request, IsRequested, request_by_words, word_faults};
 ghost use Rattle.tw_order.specs.declared.runs.EachOrder.{EachOrder as SpecOrder};
 ghost use Rattle.tw_order.specs.declared.order.Source.{Source as ReadAs};
 ghost use Rattle.tw_each.specs.Stream.{Streams};
-ghost use Rattle.tw_session.specs.Each.{ComesOfEach, EndsEach};
-ghost use Rattle.tw_session.specs.Session.{RefusesWords};
-ghost use Rattle.tw_session.specs.Status.{ComesOfReply};
+ghost use Rattle.tw_session.specs.Each.{EndsEachSession, EndsEach};
+ghost use Rattle.tw_session.specs.Session.{RejectsWords};
+ghost use Rattle.tw_session.specs.Status.{EndsWithReply};
 
 use crate::line_progress::LineProgress;
 use crate::order::reply_to;
@@ -124,7 +124,7 @@ where
     G: Gate + Sync,
     R: Read,
     W: Write,
-    ensures { (asked : Asked) → IsAsked asked order → ComesOfEach asked program.items
+    ensures { (request : Request) → IsRequested request order → EndsEachSession request program.items
         (R.remaining reader.old) (R.remaining reader.new) (W.contents writer.old) (W.contents writer.new) result }
 {
     match order {
@@ -153,10 +153,10 @@ where
     G: Gate + Sync,
     R: Read,
     W: Write,
-    ensures taken { word_faults (map string_bytes words.now) ≡ [] → ComesOfEach (asked_by_words (map string_bytes words.now)) program.items
+    ensures taken { word_faults (map string_bytes words.now) ≡ [] → EndsEachSession (request_by_words (map string_bytes words.now)) program.items
         (R.remaining reader.old) (R.remaining reader.new) (W.contents writer.old) (W.contents writer.new) result }
     ensures refused { word_faults (map string_bytes words.now) ≢ []
-        → ComesOfReply (RefusesWords (word_faults (map string_bytes words.now))) result (W.contents writer.old) (W.contents writer.new) }
+        → EndsWithReply (RejectsWords (word_faults (map string_bytes words.now))) result (W.contents writer.old) (W.contents writer.new) }
 {
     let alloc = rt.alloc();
     match read_order(alloc, words) {

@@ -1,7 +1,6 @@
 //! Replies of a session to an order and what it reads.
 
 ghost use Rattle.std.specs.Prelude.{◌≡◌, ◌≤◌, IfOk, false, length};
-ghost use Rattle.tw_order.specs.InTurn.{IsInTurn};
 ghost use Rattle.tw_source.specs.Reply.{reply};
 ghost use Rattle.tw_session.specs.Run.{RepliesByOpening};
 ghost use Rattle.tw_source.specs.Source.{MayBeSource, text_of};
@@ -12,8 +11,8 @@ use crate::in_turn::{reply_in_time, reply_single_threaded};
 use crate::json::{in_form, rendering_of};
 use crate::line_threads::lines_reply;
 use crate::parts::{Given, Parts};
-use crate::prepare::{Prepared, prepare};
-use crate::programs::RunRequest;
+use crate::prepare::prepare;
+use crate::programs::{Prepared, RunRequest};
 use crate::run::reply_threaded;
 use std::alloc::{AllocError, Global};
 use std::sync::Wait;
@@ -36,7 +35,7 @@ fn run_as_ordered<H: Threads + Wait + Clock + Sync, G: Gate + Sync>(
     ensures { IfOk result (λ r. RepliesByOpening (text_of source.now) ordered.verified.program ordered.order (reply r.text.items r.close)) }
 {
     let RunRequest { order, verified } = ordered;
-    if order.in_turn {
+    if order.options.in_turn {
         reply_in_time(rt, alloc, source, &order, verified)
     } else {
         reply_threaded(rt, alloc, gate, source, &order, verified)
@@ -65,10 +64,9 @@ fn text_reply<H: Threads + Wait + Clock + Sync, G: Gate + Sync>(
     }
 }
 
-/// Like `text_reply`, except that the order's run is single-threaded. It starts no thread, and never waits.
+/// Like `text_reply`, except that a run is single-threaded whatever the order says. It starts no thread, and never waits.
 fn text_in_turn(alloc: Global, order: Order, parts: Parts<'_>) -> Result<Reply, AllocError>
-    requires turns { IsInTurn order }
-    requires few { parts.too_long ≡ false → length parts.trace.now ≤ 16777216 }
+    requires { parts.too_long ≡ false → length parts.trace.now ≤ 16777216 }
     ensures { IfOk result (λ r. MayReplyOn order (seen parts.entry) (reply r.text.items r.close)) }
 {
     match prepare(alloc, order, parts) {
@@ -100,9 +98,8 @@ pub fn reply_to<H: Threads + Wait + Clock + Sync, G: Gate + Sync>(
     in_form(alloc, rendering, text)
 }
 
-/// Like `reply_to`, but a run is in turn: no thread is started, and nothing waits.
+/// Like `reply_to`, but a run is single-threaded whatever the order says: no thread is started, and nothing waits.
 pub fn reply_in_turn(alloc: Global, order: Order, given: Given<'_>) -> Result<Reply, AllocError>
-    requires { IsInTurn order }
     ensures { IfOk result (λ r. MayReplyTo order (seen_given given.entry) (reply r.text.items r.close)) }
 {
     let rendering = rendering_of(&order);

@@ -1,11 +1,11 @@
 //! The bytes that a session is given, and their parts.
 
-ghost use Rattle.std.specs.Prelude.{◌≡◌, ◌+◌, ◌^◌, ◌<◌, ◌≤◌, false, length};
+ghost use Rattle.std.specs.Prelude.{◌≡◌, ◌+◌, ◌^◌, ◌<◌, ◌≤◌, [], false, length};
 ghost use Rattle.std.specs.Option.{option_map};
-ghost use Rattle.tw_session.specs.Parts.{AreReadAs, AreTraced, alone, inputs_of, is_too_long, length_of as length_of_is, program_of, seen, seen_given, with_inputs as with_inputs_is, without_last_feed as without_last_feed_is};
+ghost use Rattle.tw_session.specs.Parts.{AreReadAs, AreTraced, alone, inputs_of, is_too_long, length_of as length_of_is, parts, program_of, seen, seen_given, with_inputs as with_inputs_is, without_last_feed as without_last_feed_is};
 
 use crate::input::MOST_BYTES;
-use tw_order::{InputsOrder, Order};
+use tw_order::{Order, RunInputs};
 use tw_report::cut_history;
 use tw_source::cut_inputs;
 
@@ -112,32 +112,38 @@ impl<'a> Given<'a> {
         }
     }
 
+    /// Returns a program, and a trace, without inputs.
+    fn without_inputs(self, program: &'a [u8], trace: &'a [u8]) -> Parts<'a>
+        ensures { seen result ≡ parts program.entry.now [] trace.entry.now (is_too_long (seen_given self.entry)) }
+    {
+        Parts {
+            program,
+            inputs: &[],
+            trace,
+            too_long: self.is_too_long(),
+        }
+    }
+
     /// Returns the parts that an order needs.
     pub fn parts(self, order: &Order) -> Parts<'a>
         ensures parts { AreReadAs order.now (seen_given self.entry) (seen result) }
         ensures few { result.too_long ≡ false → length result.trace.now ≤ 16777216 }
     {
         match order {
-            Order::Inputs(_, InputsOrder::ToReplay(_)) => {
+            Order::Run(_, _, given) => match given {
+                RunInputs::Given(_) => self.without_inputs(self.program, &[]),
+                RunInputs::Words | RunInputs::Json => self.with_inputs(self.program, &[]),
+            },
+            Order::Replay(_, _, _, given) => {
                 let (before, trace) = self.traced();
-                self.with_inputs(before, trace)
-            }
-            Order::Inputs(..) => self.with_inputs(self.program, &[]),
-            Order::Replay(..) => {
-                let (program, trace) = self.traced();
-                Parts {
-                    program,
-                    inputs: &[],
-                    trace,
-                    too_long: self.is_too_long(),
+                match given {
+                    Some(_) => self.without_inputs(before, trace),
+                    None => self.with_inputs(before, trace),
                 }
             }
-            Order::Assemble(_) | Order::Program(..) | Order::Each(..) => Parts {
-                program: self.program,
-                inputs: &[],
-                trace: &[],
-                too_long: self.is_too_long(),
-            },
+            Order::Assemble(_) | Order::Disassemble(..) | Order::Check(..) | Order::Each(..) => {
+                self.without_inputs(self.program, &[])
+            }
         }
     }
 }

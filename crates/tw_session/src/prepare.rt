@@ -1,43 +1,28 @@
 //! Prepares an order, up to its run.
 
-ghost use Rattle.std.specs.Prelude.{◌≡◌, ◌≤◌, ◌↔◌, IfOk, IsTrue, IsUtf8, MatchOption, false, length, true};
+ghost use Rattle.std.specs.Prelude.{◌≡◌, ◌≤◌, ◌↔◌, IfOk, IsTrue, IsUtf8, MatchOption, false, length};
 ghost use Rattle.std.specs.Str.Lines.{lines};
-ghost use Rattle.tw_order.specs.InTurn.{IsInTurn, IsInputsInTurn};
-ghost use Rattle.tw_order.specs.declared.order.InputsOrder.TheVariants.{ToReplay, ToRun};
 ghost use Rattle.tw_session.specs.Parts.{AreTexts, seen};
-ghost use Rattle.tw_session.specs.ProgramAction.{AreSpelledWords, Awaits, HasShortTrace, IsActionInTurn, IsFinishedBy, RepliesByAction};
-ghost use Rattle.tw_session.specs.Session.{MayReplyOn, RepliesByParts, RepliesByTrace, RepliesWithInputs, excessive_reply};
+ghost use Rattle.tw_session.specs.ProgramAction.{AreEncodedWords, Awaits, HasShortTrace, IsFinishedBy, RepliesByAction};
+ghost use Rattle.tw_session.specs.Session.{MayReplyOn, RepliesByInputs, RepliesByParts, RepliesByProgram, RepliesByReplay, RepliesByTrace, excessive_reply, replay_with, run_with};
 ghost use Rattle.tw_source.specs.Failure.{coded, failed};
-ghost use Rattle.tw_source.specs.Inputs.{words_in as words_in_is};
+ghost use Rattle.tw_source.specs.Inputs.{RepliesByWords, words_in as words_in_is};
 ghost use Rattle.tw_source.specs.Program.{RepliesBySource, source_text};
 ghost use Rattle.tw_source.specs.declared.failure.Position.TheVariants as position;
 
-use crate::action::{Action, GivenInputs, action_reply};
+use crate::action::{Action, GivenInputs, act};
 use crate::parts::Parts;
-use crate::programs::{ProgramAction, RunRequest};
+use crate::programs::Prepared;
 use std::alloc::{AllocError, Global};
 use tw_each::too_long_reply;
 use tw_inputs::inputs_of;
-use tw_order::{
-    EachOrder, InputsOrder, Order, ProgramOrder, ReplayOptions, ReplayOrder, RunOptions, Source,
-    VerifiedOrder,
-};
+use tw_order::{Answer, Order, ReplayOrder, RunInputs, RunOptions, Source};
 use tw_program_output::assembled_reply;
 use tw_source::{
-    Failure, Position, ReadProgram, Reply, SourceText, failed_reply, not_utf8_reply,
-    parse_error_reply, read_program, refused_words_reply, words_in,
+    Failure, Position, ReadProgram, failed_reply, not_utf8_reply, parse_error_reply, read_program,
+    refused_words_reply, words_in,
 };
-
-/// The rest of an order: a reply, or a run.
-#[derive(Drop)]
-pub enum Prepared<'a> {
-    /// Nothing but to reply.
-    Finished(Reply),
-    /// To run a program, which was read from this text, if from any.
-    Run(Option<SourceText<'a>>, RunRequest),
-    /// To run a program on the lines after it.
-    Lines(Source, EachOrder, &'a [u8]),
-}
+use tw_types::{Input, Items, Layout};
 
 /// Reads a program, and does an action on it up to its run.
 fn read<'a>(
@@ -47,8 +32,7 @@ fn read<'a>(
     input: &'a [u8],
 ) -> Result<Prepared<'a>, AllocError>
     requires { HasShortTrace action }
-    ensures { IfOk result (Awaits (IsActionInTurn action.entry)
-        (RepliesBySource source input.entry.now (RepliesByAction (source_text source input.entry.now) action.entry))) }
+    ensures { IfOk result (Awaits (RepliesBySource source input.entry.now (RepliesByAction (source_text source input.entry.now) action.entry))) }
 {
     match read_program(alloc, source, input) {
         Ok(read) => {
@@ -56,13 +40,10 @@ fn read<'a>(
                 program,
                 source: text,
             } = read;
-            match action_reply(alloc, &text, action, program)? {
-                ProgramAction::Finished(reply) => Ok(Prepared::Finished(reply)),
-                ProgramAction::Run(run) => Ok(Prepared::Run(text, run)),
-            }
+            act(alloc, text, action, program)
         }
         Err(why) => {
-            let reply = parse_error_reply(alloc, input, why)?;
+            let reply = parse_error_reply(alloc, &why)?;
             Ok(Prepared::Finished(reply))
         }
     }
@@ -76,19 +57,15 @@ fn replay<'a>(
     parts: Parts<'a>,
 ) -> Result<Prepared<'a>, AllocError>
     requires { length parts.trace.now ≤ 16777216 }
-    ensures { IfOk result (Awaits (Unit {0}) (RepliesByTrace source order (seen parts.entry))) }
+    ensures { IfOk result (Awaits (RepliesByTrace source order (seen parts.entry))) }
 {
-    read(
-        alloc,
-        source,
-        Action::Replay(order, parts.trace),
-        parts.program,
-    )
+    let action = Action::Replay(order, parts.trace);
+    read(alloc, source, action, parts.program)
 }
 
 /// Returns the inputs that words in lines encode, or the reply to the first that encodes none.
 fn words_given(alloc: Global, inputs: &str) -> Result<GivenInputs, AllocError>
-    ensures { IfOk result (AreSpelledWords (words_in_is (lines inputs.now))) }
+    ensures { IfOk result (AreEncodedWords (words_in_is (lines inputs.now))) }
 {
     let words = words_in(alloc, inputs)?;
     match inputs_of(alloc, &words) {
@@ -105,16 +82,15 @@ fn run_on_words<'a>(
     alloc: Global,
     source: Source,
     options: RunOptions,
-    inputs: &str,
+    text: &str,
     parts: Parts<'a>,
 ) -> Result<Prepared<'a>, AllocError>
-    requires { inputs.now ≡ parts.inputs.now }
-    ensures { IfOk result (Awaits (options.in_turn ≡ true) (RepliesWithInputs source (ToRun options) (seen parts.entry))) }
+    requires { text.now ≡ parts.inputs.now }
+    ensures { IfOk result (Awaits (RepliesByWords (words_in_is (lines parts.entry.inputs.now)) (λ given. RepliesByProgram source (run_with options given) (seen parts.entry)))) }
 {
-    match words_given(alloc, inputs)? {
+    match words_given(alloc, text)? {
         GivenInputs::Inputs(inputs) => {
-            let order = VerifiedOrder::Run(options.with_inputs(inputs));
-            let action = Action::Ordered(ProgramOrder::Verified(order));
+            let action = Action::Run(options, inputs);
             read(alloc, source, action, parts.program)
         }
         GivenInputs::Fault(reply) => Ok(Prepared::Finished(reply)),
@@ -125,46 +101,29 @@ fn run_on_words<'a>(
 fn replay_on_words<'a>(
     alloc: Global,
     source: Source,
-    options: ReplayOptions,
-    inputs: &str,
+    answer: Answer,
+    layout: Layout,
+    text: &str,
     parts: Parts<'a>,
 ) -> Result<Prepared<'a>, AllocError>
-    requires inputs { inputs.now ≡ parts.inputs.now }
+    requires inputs { text.now ≡ parts.inputs.now }
     requires few { length parts.trace.now ≤ 16777216 }
-    ensures { IfOk result (Awaits (Unit {0}) (RepliesWithInputs source (ToReplay options) (seen parts.entry))) }
+    ensures { IfOk result (Awaits (RepliesByWords (words_in_is (lines parts.entry.inputs.now)) (λ given. RepliesByTrace source (replay_with answer layout given) (seen parts.entry)))) }
 {
-    match words_given(alloc, inputs)? {
-        GivenInputs::Inputs(inputs) => replay(alloc, source, options.with_inputs(inputs), parts),
+    match words_given(alloc, text)? {
+        GivenInputs::Inputs(inputs) => {
+            let order = ReplayOrder {
+                answer,
+                layout,
+                inputs,
+            };
+            replay(alloc, source, order, parts)
+        }
         GivenInputs::Fault(reply) => Ok(Prepared::Finished(reply)),
     }
 }
 
-/// Prepares an order for a program with inputs, which are this text.
-fn with_inputs<'a>(
-    alloc: Global,
-    source: Source,
-    order: InputsOrder,
-    inputs: &'a str,
-    parts: Parts<'a>,
-) -> Result<Prepared<'a>, AllocError>
-    requires inputs { inputs.now ≡ parts.inputs.now }
-    requires few { length parts.trace.now ≤ 16777216 }
-    ensures { IfOk result (Awaits (IsInputsInTurn order) (RepliesWithInputs source order (seen parts.entry))) }
-{
-    match order {
-        InputsOrder::ToRun(options) => run_on_words(alloc, source, options, inputs, parts),
-        InputsOrder::ToRunJson(options) => {
-            read(
-                alloc,
-                source,
-                Action::RunWithJson(options, inputs),
-                parts.program,
-            )
-        }
-        InputsOrder::ToReplay(options) => replay_on_words(alloc, source, options, inputs, parts),
-    }
-}
-
+/// Returns whether bytes are UTF-8.
 fn is_text(bytes: &[u8]) -> bool
     ensures { IsTrue result ↔ IsUtf8 bytes.now }
 {
@@ -192,6 +151,64 @@ fn no_text<'a>(alloc: Global) -> Result<Prepared<'a>, AllocError>
     Ok(Prepared::Finished(reply))
 }
 
+/// Prepares a run of a program with its inputs.
+fn prepare_run_with<'a>(
+    alloc: Global,
+    source: Source,
+    options: RunOptions,
+    given: RunInputs,
+    parts: Parts<'a>,
+) -> Result<Prepared<'a>, AllocError>
+    ensures { IfOk result (Awaits (RepliesByInputs source options given (seen parts.entry))) }
+{
+    match given {
+        RunInputs::Given(inputs) => {
+            let action = Action::Run(options, inputs);
+            read(alloc, source, action, parts.program)
+        }
+        RunInputs::Words => match inputs_text(parts) {
+            Some(text) => run_on_words(alloc, source, options, text, parts),
+            None => no_text(alloc),
+        },
+        RunInputs::Json => match inputs_text(parts) {
+            Some(json) => {
+                let action = Action::RunWithJson(options, json);
+                read(alloc, source, action, parts.program)
+            }
+            None => no_text(alloc),
+        },
+    }
+}
+
+/// Prepares a replay of the trace after a program and its inputs.
+fn prepare_replay<'a>(
+    alloc: Global,
+    source: Source,
+    answer: Answer,
+    layout: Layout,
+    given: Option<Items<Input>>,
+    parts: Parts<'a>,
+) -> Result<Prepared<'a>, AllocError>
+    requires { length parts.trace.now ≤ 16777216 }
+    ensures { IfOk result (Awaits (RepliesByReplay source answer layout given (seen parts.entry))) }
+{
+    match given {
+        Some(inputs) if is_text(parts.trace) => {
+            let order = ReplayOrder {
+                answer,
+                layout,
+                inputs,
+            };
+            replay(alloc, source, order, parts)
+        }
+        Some(_) => no_text(alloc),
+        None => match inputs_text(parts) {
+            Some(text) => replay_on_words(alloc, source, answer, layout, text, parts),
+            None => no_text(alloc),
+        },
+    }
+}
+
 /// Returns the reply to too many bytes. Its form is that of other errors before `in_form`.
 fn excessive<'a>(alloc: Global, order: &Order) -> Result<Prepared<'a>, AllocError>
     ensures { IfOk result (IsFinishedBy (excessive_reply order.now)) }
@@ -210,25 +227,25 @@ fn prepare_few<'a>(
     parts: Parts<'a>,
 ) -> Result<Prepared<'a>, AllocError>
     requires { length parts.trace.now ≤ 16777216 }
-    ensures { IfOk result (Awaits (IsInTurn order) (RepliesByParts order (seen parts.entry))) }
+    ensures { IfOk result (Awaits (RepliesByParts order (seen parts.entry))) }
 {
+    let program = parts.program;
     match order {
         Order::Assemble(order) => {
-            let reply = assembled_reply(alloc, order.what, parts.program)?;
+            let reply = assembled_reply(alloc, order.what, program)?;
             Ok(Prepared::Finished(reply))
         }
-        Order::Program(source, order) => {
-            read(alloc, source, Action::Ordered(order), parts.program)
+        Order::Disassemble(source, order) => {
+            read(alloc, source, Action::Disassemble(order), program)
         }
-        Order::Replay(source, order) if is_text(parts.trace) => {
-            replay(alloc, source, order, parts)
+        Order::Check(source, order) => read(alloc, source, Action::Check(order), program),
+        Order::Run(source, options, given) => prepare_run_with(
+            alloc, source, options, given, parts,
+        ),
+        Order::Each(source, order) => Ok(Prepared::Lines(source, order, program)),
+        Order::Replay(source, answer, layout, given) => {
+            prepare_replay(alloc, source, answer, layout, given, parts)
         }
-        Order::Replay(..) => no_text(alloc),
-        Order::Inputs(source, order) => match inputs_text(parts) {
-            Some(inputs) => with_inputs(alloc, source, order, inputs, parts),
-            None => no_text(alloc),
-        },
-        Order::Each(source, order) => Ok(Prepared::Lines(source, order, parts.program)),
     }
 }
 
@@ -239,7 +256,7 @@ pub fn prepare<'a>(
     parts: Parts<'a>,
 ) -> Result<Prepared<'a>, AllocError>
     requires { parts.too_long ≡ false → length parts.trace.now ≤ 16777216 }
-    ensures { IfOk result (Awaits (IsInTurn order) (MayReplyOn order (seen parts.entry))) }
+    ensures { IfOk result (Awaits (MayReplyOn order (seen parts.entry))) }
 {
     if parts.too_long {
         excessive(alloc, &order)

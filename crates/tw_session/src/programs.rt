@@ -1,19 +1,17 @@
-//! Replies of a session to a program.
+//! The work that is left of an order, and runs of programs that are admitted.
 
-ghost use Rattle.std.specs.Prelude.{◌≡◌, IfOk};
-ghost use Rattle.tw_session.specs.ProgramAction.{Leads};
-ghost use Rattle.tw_session.specs.Session.{RepliesByAccepted, RepliesByProgram, RepliesByVerified, places_of};
-ghost use Rattle.tw_order.specs.declared.order.ProgramOrder.TheVariants as ordered;
-ghost use Rattle.tw_order.specs.declared.order.VerifiedOrder.TheVariants.{Run};
+ghost use Rattle.std.specs.Prelude.{IfOk};
+ghost use Rattle.tw_session.specs.ProgramAction.{Awaits};
+ghost use Rattle.tw_session.specs.Session.{RepliesIfRun, run_with};
 ghost use Rattle.tw_source.specs.Source.{MayBeSource, text_of};
-ghost use Rattle.tw_code.specs.accepting.WellTyped.{IsAccepted};
 
 use std::alloc::{AllocError, Global};
 use tw_code::Program;
-use tw_order::{Places, ProgramOrder, RunOrder, VerifiedOrder};
-use tw_program_output::{checked_reply, disassembled, excess_reply, excess_text, rejection_reply};
-use tw_source::{Close, Reply, SourceText};
-use tw_verify::{Verified, VerifyError, verify};
+use tw_order::{EachOrder, Places, RunOptions, RunOrder, Source};
+use tw_program_output::{Admitted, admit};
+use tw_source::{Reply, SourceText};
+use tw_types::{Input, Items};
+use tw_verify::Verified;
 
 /// An accepted program that is to be run, and its order.
 #[derive(Drop)]
@@ -22,99 +20,34 @@ pub struct RunRequest {
     pub verified: Verified,
 }
 
-/// The next step of a program: a reply, or a run.
+/// The rest of an order: a reply, or a run.
 #[derive(Drop)]
-pub enum ProgramAction {
+pub enum Prepared<'a> {
+    /// Nothing but to reply.
     Finished(Reply),
-    Run(RunRequest),
+    /// To run a program, which was read from this text, if from any.
+    Run(Option<SourceText<'a>>, RunRequest),
+    /// To run a program on the lines after it.
+    Lines(Source, EachOrder, &'a [u8]),
 }
 
-/// Returns the run of an accepted program, or the reply that a bound is above its cap.
-fn admitted_run(
+/// Verifies a program that was read from this text, if from any, and prepares its run if it is admitted.
+pub fn prepare_run<'a>(
     alloc: Global,
-    source: &Option<SourceText<'_>>,
-    order: RunOrder,
-    verified: Verified,
-) -> Result<ProgramAction, AllocError>
-    requires { MayBeSource source.now verified.program }
-    ensures { IfOk result (Leads (λ run. run ≡ order) source.now (RepliesByAccepted (text_of source.now) (Run order) verified.program)) }
+    source: Option<SourceText<'a>>,
+    options: RunOptions,
+    inputs: Items<Input>,
+    program: Program,
+) -> Result<Prepared<'a>, AllocError>
+    requires { MayBeSource source program.procedures }
+    ensures { IfOk result (Awaits (RepliesIfRun (text_of source.entry) (run_with options inputs) program)) }
 {
-    let lines = excess_text(alloc, &verified, Some(order.limit), order.caps)?;
-    if lines.is_empty() {
-        return Ok(ProgramAction::Run(RunRequest { order, verified }));
-    }
-    let reply = excess_reply(alloc, &lines)?;
-    Ok(ProgramAction::Finished(reply))
-}
-
-/// Executes an order for an accepted program, up to its run.
-fn accepted_reply(
-    alloc: Global,
-    source: &Option<SourceText<'_>>,
-    order: VerifiedOrder,
-    verified: Verified,
-) -> Result<ProgramAction, AllocError>
-    requires accepted { IsAccepted verified.program }
-    requires source { MayBeSource source.now verified.program }
-    ensures { IfOk result (Leads (λ run. order ≡ Run run) source.now (RepliesByAccepted (text_of source.now) order verified.program)) }
-{
-    match order {
-        VerifiedOrder::Check(order) => {
-            let reply = checked_reply(alloc, source, order, &verified)?;
-            Ok(ProgramAction::Finished(reply))
+    let (places, limit) = (Places::Hidden, Some(options.limit));
+    match admit(alloc, &source, places, limit, options.caps, program)? {
+        Admitted::Run(verified) => {
+            let order = RunOrder { options, inputs };
+            Ok(Prepared::Run(source, RunRequest { order, verified }))
         }
-        VerifiedOrder::Run(order) => admitted_run(alloc, source, order, verified),
-    }
-}
-
-/// Returns whether a listing is requested.
-fn places_of(order: &VerifiedOrder) -> Places
-    ensures { result ≡ places_of order.now }
-{
-    match order {
-        VerifiedOrder::Check(order) => order.places,
-        VerifiedOrder::Run(_) => Places::Hidden,
-    }
-}
-
-/// Verifies a program, and executes the order if it is accepted.
-fn verified_reply(
-    alloc: Global,
-    source: &Option<SourceText<'_>>,
-    order: VerifiedOrder,
-    program: Program,
-) -> Result<ProgramAction, AllocError>
-    requires { MayBeSource source.now program.procedures }
-    ensures { IfOk result (Leads (λ run. order ≡ Run run) source.now (RepliesByVerified (text_of source.now) order program.procedures)) }
-{
-    let places = places_of(&order);
-    match verify(alloc, program) {
-        Ok(verified) => accepted_reply(alloc, source, order, verified),
-        Err(refused) => match refused.no {
-            VerifyError::NoMemory => Err(AllocError),
-            _ => {
-                let reply = rejection_reply(alloc, source, places, &refused)?;
-                Ok(ProgramAction::Finished(reply))
-            }
-        },
-    }
-}
-
-/// Writes a program's assembly text or its listing, or verifies the program.
-pub fn program_reply(
-    alloc: Global,
-    source: &Option<SourceText<'_>>,
-    order: ProgramOrder,
-    program: Program,
-) -> Result<ProgramAction, AllocError>
-    requires { MayBeSource source.now program.procedures }
-    ensures { IfOk result (Leads (λ run. order ≡ ordered.Verified (Run run)) source.now (RepliesByProgram (text_of source.now) order program)) }
-{
-    match order {
-        ProgramOrder::Disassemble(order) => Ok(ProgramAction::Finished(Reply {
-            text: disassembled(alloc, order.places, &program)?,
-            close: Close::Success,
-        })),
-        ProgramOrder::Verified(order) => verified_reply(alloc, source, order, program),
+        Admitted::Rejected(reply) => Ok(Prepared::Finished(reply)),
     }
 }

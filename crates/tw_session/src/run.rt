@@ -7,7 +7,7 @@ ghost use Rattle.tw_in_turn.specs.InTurn.{HasEnded};
 ghost use Rattle.tw_code.specs.machine.Inputs.{AreInputsOf};
 ghost use Rattle.tw_pool.specs.Openings.{IsRejection};
 ghost use Rattle.tw_source.specs.Reply.{reply};
-ghost use Rattle.tw_session.specs.Run.{RepliesByOpening, RepliesByRun, run_as, threads_refused};
+ghost use Rattle.tw_session.specs.Run.{RepliesByOpening, RepliesByRun, run_as, threads_failed};
 ghost use Rattle.tw_source.specs.Source.{MayBeSource, text_of};
 
 use std::alloc::{AllocError, Global};
@@ -41,7 +41,7 @@ pub fn stop_reason(closing: Option<Closing>, seconds: Option<u64>) -> Option<Clo
 
 /// Returns the reply if the threads didn't finish the run.
 fn threads_reply(alloc: Global) -> Result<Reply, AllocError>
-    ensures { IfOk result (λ r. reply r.text.items r.close ≡ threads_refused) }
+    ensures { IfOk result (λ r. reply r.text.items r.close ≡ threads_failed) }
 {
     failed_reply(alloc, Failure::coded(b'X', 1, Position::Nowhere))
 }
@@ -55,7 +55,7 @@ fn closed_reply(
     closed: Closed,
 ) -> Result<Reply, AllocError>
     requires closed { (seats : List SeatEvents) × Closes (run_as verified order.now) seats closed }
-    requires threads { order.now.in_turn ≡ false }
+    requires threads { order.now.options.in_turn ≡ false }
     requires inputs { AreInputsOf verified.program order.now.inputs }
     requires source { MayBeSource source.now verified.program }
     ensures { IfOk result (λ r. RepliesByRun (text_of source.now) verified.program order.now (reply r.text.items r.close)) }
@@ -65,7 +65,7 @@ fn closed_reply(
             history,
             outcome,
             by_seat: _,
-        } => match stop_reason(outcome.closing(), order.seconds) {
+        } => match stop_reason(outcome.closing(), order.options.seconds) {
             None => threads_reply(alloc),
             Some(closing) => {
                 ended_reply(alloc, source, order, verified, &outcome, &history, closing)
@@ -83,7 +83,7 @@ pub fn unopened_reply(
     verified: &Verified,
     why: OpenError,
 ) -> Result<Reply, AllocError>
-    requires refused { IsRejection verified.now.program order.now.inputs order.now.layout order.now.limit why }
+    requires refused { IsRejection verified.now.program order.now.inputs order.now.options.layout order.now.options.limit why }
     ensures { IfOk result (λ r. RepliesByOpening (text_of source.now) verified.now.program order.now (reply r.text.items r.close)) }
 {
     match why {
@@ -107,7 +107,7 @@ fn reply_observed<H: Threads + Wait + Clock + Sync, G: Gate + Sync>(
     order: &RunOrder,
     verified: Verified,
 ) -> Result<Reply, AllocError>
-    requires turns { order.now.in_turn ≡ false }
+    requires turns { order.now.options.in_turn ≡ false }
     requires source { MayBeSource source.now verified.program }
     ensures { IfOk result (λ r. RepliesByOpening (text_of source.now) verified.program order.now (reply r.text.items r.close)) }
 {
@@ -117,8 +117,8 @@ fn reply_observed<H: Threads + Wait + Clock + Sync, G: Gate + Sync>(
         alloc,
         &verified,
         inputs,
-        order.layout,
-        order.limit.events(),
+        order.options.layout,
+        order.options.limit.events(),
         gate,
     ) {
         Ok((closed, memory)) => {
@@ -140,11 +140,11 @@ pub fn reply_threaded<H: Threads + Wait + Clock + Sync, G: Gate + Sync>(
     order: &RunOrder,
     verified: Verified,
 ) -> Result<Reply, AllocError>
-    requires turns { order.now.in_turn ≡ false }
+    requires turns { order.now.options.in_turn ≡ false }
     requires source { MayBeSource source.now verified.program }
     ensures { IfOk result (λ r. RepliesByOpening (text_of source.now) verified.program order.now (reply r.text.items r.close)) }
 {
-    match order.seconds {
+    match order.options.seconds {
         None => reply_observed(rt, alloc, gate, source, order, verified),
         Some(seconds) => {
             let deadline = Deadline::after(rt, Duration::from_secs(seconds));

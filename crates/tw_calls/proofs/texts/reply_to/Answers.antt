@@ -1,7 +1,6 @@
 use Rattle.std.proofs.Common.{List, ℕ, ap, inl, inr, subst}
 use Rattle.std.proofs.lemmas.Result.{IfOk-weaker}
-use Rattle.tw_cli.specs.CommandLine.{asked_by_words, word_faults}
-use Rattle.tw_cli.specs.InTurn.{turned}
+use Rattle.tw_cli.specs.CommandLine.{request_by_words, request_in_turn, word_faults}
 use Rattle.tw_source.specs.Reply.{Reply, reply}
 use Rattle.tw_source.specs.declared.reply.Reply.{Reply as MadeReply}
 use Rattle.tw_session.specs.Session.{AnswersWords}
@@ -12,7 +11,7 @@ pub returns-in-Ok : goal.returns-in-Ok
 returns-in-Ok c =
     let words = c.in-Ok.ensures.cases in
     IfOk-weaker _ _ _
-    (λ (r : MadeReply) answers. inl (words.1, subst (λ (ws : List ℕ). AnswersWords (word_faults (arguments_in nul ws)) (turned (asked_by_words (arguments_in nul ws))) c.args.input.now (reply r.text.items r.close)) words.0 answers)) c.answer.ensures
+    (λ (r : MadeReply) answers. inl (words.1, subst (λ (ws : List ℕ). AnswersWords (word_faults (arguments_in nul ws)) (request_in_turn (request_by_words (arguments_in nul ws))) c.args.input.now (reply r.text.items r.close)) words.0 answers)) c.answer.ensures
 
 pub returns-in-Err : goal.returns-in-Err
 returns-in-Err c =

@@ -1,11 +1,14 @@
-use Rattle.std.proofs.Common.{◌∙◌, sym}
+use Rattle.std.proofs.Common.{◌∙◌, refl, sym}
 use Rattle.clap.specs.Words.{found_of, rows_of}
-use Rattle.tw_cli.specs.CommandLine.{run_asked}
-use Rattle.tw_cli.proofs.Options.{has_conflict, json_refused}
+use Rattle.tw_cli.specs.CommandLine.{json_input_faults}
+use Rattle.tw_cli.proofs.Options.{have_conflict}
 use Rattle.tw_cli.proofs.orders.json_order.Goals as goal
 
-pub returns-then-json_excludes-clause-refused : goal.returns-then-json_excludes-clause-refused
-returns-then-json_excludes-clause-refused c =
+pub returns-then-json_excludes : goal.returns-then-json_excludes
+returns-then-json_excludes c =
     let rows = rows_of (found_of c.args.matches.now) in
-    let o = c.requires.options in
-    has_conflict _ (run_asked rows) (json_refused rows o.numbers o.capped o.picture o.seeds c.requires.single c.requires.json (sym c.json_excludes.ensures ∙ c.if-json_excludes.true))
+    have_conflict (json_input_faults rows) (rw (sym c.json_excludes.ensures ∙ c.if-json_excludes.true) refl)
+
+pub returns : goal.returns
+returns c =
+    (rw (sym c.json_excludes.ensures ∙ c.if-json_excludes.false) refl, rw (c.source_given.ensures, c.requires) refl)

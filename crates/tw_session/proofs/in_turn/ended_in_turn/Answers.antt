@@ -1,4 +1,4 @@
-use Rattle.std.proofs.Common.{◌≡◌, ◌∙◌, ap, inl, subst, sym}
+use Rattle.std.proofs.Common.{◌∙◌, ap, inl, subst, sym}
 use Rattle.tw_host.specs.Run.{run_of}
 use Rattle.tw_in_turn.specs.InTurn.{HasEnded, IsLeft}
 use Rattle.tw_in_turn.specs.declared.run.InTurnResult.{InTurnResult}
@@ -11,28 +11,28 @@ pub ended_reply-requires : goal.ended_reply-requires
 ended_reply-requires c =
     let verified = c.args.verified in
     let order = c.args.order.now in
-    let is_over = subst (λ (x : InTurnResult). IsLeft order.seed (opened verified order.inputs order.layout order.limit) x) c.in-Over.is c.requires.left in
+    let is_over = subst (λ (x : InTurnResult). IsLeft order.options.seed (opened verified order.inputs order.options.layout order.options.limit) x) c.in-Over.is c.requires.left in
     let p = is_over.0 in
     let left = is_over.2 in
     record {
       inputs = c.requires.inputs;
       source = c.requires.source;
-      over = (over verified order p c.in-Over.outcome c.in-Over.history c.in-Some.closing (ap run_of left.of_first) left.within left.shut (in_turn verified order p c.requires.turns (inl is_over.1)) (inl (sym c.closing.ensures ∙ c.in-Some.ensures.same, c.in-Some.ensures.unstopped))).0;
+      over = (over verified order p c.in-Over.outcome c.in-Over.history c.in-Some.closing (ap run_of left.of_first) left.within left.shut (in_turn verified order p (inl is_over.1)) (inl (sym c.closing.ensures ∙ c.in-Some.ensures.same, c.in-Some.ensures.unstopped))).0;
     }
 
 pub returns-in-Some : goal.returns-in-Some
 returns-in-Some c =
     let verified = c.args.verified in
     let order = c.args.order.now in
-    let is_over = subst (λ (x : InTurnResult). IsLeft order.seed (opened verified order.inputs order.layout order.limit) x) c.in-Over.is c.requires.left in
+    let is_over = subst (λ (x : InTurnResult). IsLeft order.options.seed (opened verified order.inputs order.options.layout order.options.limit) x) c.in-Over.is c.requires.left in
     let p = is_over.0 in
     let left = is_over.2 in
     replied c.ended_reply.result (text_of c.args.source.now) verified.program order c.in-Over.outcome c.in-Over.history.events c.in-Some.closing
-    (over verified order p c.in-Over.outcome c.in-Over.history c.in-Some.closing (ap run_of left.of_first) left.within left.shut (in_turn verified order p c.requires.turns (inl is_over.1)) (inl (sym c.closing.ensures ∙ c.in-Some.ensures.same, c.in-Some.ensures.unstopped)))
+    (over verified order p c.in-Over.outcome c.in-Over.history c.in-Some.closing (ap run_of left.of_first) left.within left.shut (in_turn verified order p (inl is_over.1)) (inl (sym c.closing.ensures ∙ c.in-Some.ensures.same, c.in-Some.ensures.unstopped)))
     c.ended_reply.ensures
 
 pub unreachable-requires : goal.unreachable-requires
 unreachable-requires c =
     let order = c.args.order.now in
-    let over = subst (λ (x : InTurnResult). IsLeft order.seed (opened c.args.verified order.inputs order.layout order.limit) x) c.in-Over.is c.requires.left in
+    let over = subst (λ (x : InTurnResult). IsLeft order.options.seed (opened c.args.verified order.inputs order.options.layout order.options.limit) x) c.in-Over.is c.requires.left in
     c.stop_reason.ensures.none c.in-None.is (subst HasEnded (sym c.closing.ensures) over.3)

@@ -11,10 +11,9 @@ use Rattle.tw_session.proofs.in_turn.left_reply.Goals as goal
 pub ended_in_turn-requires : goal.ended_in_turn-requires
 ended_in_turn-requires c =
     let order = c.args.order.now in
-    let first = opened c.args.verified order.inputs order.layout order.limit in
+    let first = opened c.args.verified order.inputs order.options.layout order.options.limit in
     record {
-      left = subst (λ (x : StoppableResult). IsLeftIf (is_some order.seconds) order.seed first x) c.in-Ended.is c.requires.left;
-      turns = c.requires.turns;
+      left = subst (λ (x : StoppableResult). IsLeftIf (is_some order.options.seconds) order.options.seed first x) c.in-Ended.is c.requires.left;
       inputs = c.requires.inputs;
       source = c.requires.source;
     }
@@ -24,14 +23,14 @@ ended_reply-requires c =
     let verified = c.args.verified in
     let order = c.args.order.now in
     let final = c.in-Stopped.outcome in
-    let stopped = subst (λ (x : StoppableResult). IsLeftIf (is_some order.seconds) order.seed (opened verified order.inputs order.layout order.limit) x) c.in-Stopped.is c.requires.left in
+    let stopped = subst (λ (x : StoppableResult). IsLeftIf (is_some order.options.seconds) order.options.seed (opened verified order.inputs order.options.layout order.options.limit) x) c.in-Stopped.is c.requires.left in
     let p = stopped.1 in
     let left = stopped.4 in
     let ends : IsEndOf order final.closing c.unwrap_or-closing.result = subst (IsEndOf order final.closing) (sym c.unwrap_or-closing.ensures) (subst (λ o. IsEndOf order final.closing (unwrap_or o Stopped)) (sym c.closing.ensures) (stopped_end order final.closing stopped.2)) in
     record {
       inputs = c.requires.inputs;
       source = c.requires.source;
-      over = (over verified order p final c.in-Stopped.history c.unwrap_or-closing.result (ap run_of left.of_first) left.within left.shut (in_turn verified order p c.requires.turns (inr (stopped.0, stopped.2, stopped.3))) ends).0;
+      over = (over verified order p final c.in-Stopped.history c.unwrap_or-closing.result (ap run_of left.of_first) left.within left.shut (in_turn verified order p (inr (stopped.0, stopped.2, stopped.3))) ends).0;
     }
 
 pub returns-in-Stopped : goal.returns-in-Stopped
@@ -39,10 +38,10 @@ returns-in-Stopped c =
     let verified = c.args.verified in
     let order = c.args.order.now in
     let final = c.in-Stopped.outcome in
-    let stopped = subst (λ (x : StoppableResult). IsLeftIf (is_some order.seconds) order.seed (opened verified order.inputs order.layout order.limit) x) c.in-Stopped.is c.requires.left in
+    let stopped = subst (λ (x : StoppableResult). IsLeftIf (is_some order.options.seconds) order.options.seed (opened verified order.inputs order.options.layout order.options.limit) x) c.in-Stopped.is c.requires.left in
     let p = stopped.1 in
     let left = stopped.4 in
     let ends : IsEndOf order final.closing c.unwrap_or-closing.result = subst (IsEndOf order final.closing) (sym c.unwrap_or-closing.ensures) (subst (λ o. IsEndOf order final.closing (unwrap_or o Stopped)) (sym c.closing.ensures) (stopped_end order final.closing stopped.2)) in
     replied c.ended_reply.result (text_of c.args.source.now) verified.program order final c.in-Stopped.history.events c.unwrap_or-closing.result
-    (over verified order p final c.in-Stopped.history c.unwrap_or-closing.result (ap run_of left.of_first) left.within left.shut (in_turn verified order p c.requires.turns (inr (stopped.0, stopped.2, stopped.3))) ends)
+    (over verified order p final c.in-Stopped.history c.unwrap_or-closing.result (ap run_of left.of_first) left.within left.shut (in_turn verified order p (inr (stopped.0, stopped.2, stopped.3))) ends)
     c.ended_reply.ensures

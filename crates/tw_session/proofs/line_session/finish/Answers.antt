@@ -3,7 +3,7 @@ use Rattle.std.specs.declared.alloc.AllocError.{AllocError}
 use Rattle.tw_each.specs.Stream.{Streams}
 use Rattle.tw_each.specs.declared.streamed.Streamed.{Streamed}
 use Rattle.tw_source.specs.Reply.{Reply, reply}
-use Rattle.tw_session.proofs.Answering.{comes_of}
+use Rattle.tw_session.proofs.Answering.{ends_with_reply}
 use Rattle.tw_session.proofs.Ending.{rejected}
 use Rattle.tw_session.proofs.line_session.finish.Goals as goal
 
@@ -17,4 +17,4 @@ returns-in-Rejected g c source order input from left old s =
     let wrote = c.write_reply.ensures in
     rejected source order input from left old (g.W.Write.contents c.args.writer.now) _ r c.write_reply.result
     (subst (λ (x : Streamed). Streams source order input from left old (g.W.Write.contents c.args.writer.now) (Ok x)) c.in-Rejected.is s)
-    (comes_of {E = AllocError} (λ (made : Reply). made ≡ reply r.text.items r.close) (Ok r) c.write_reply.result _ _ refl wrote.ended wrote.refused wrote.memory)
+    (ends_with_reply {E = AllocError} (λ (made : Reply). made ≡ reply r.text.items r.close) (Ok r) c.write_reply.result _ _ refl wrote.ended wrote.refused wrote.memory)

@@ -1,27 +1,27 @@
 use Rattle.std.proofs.Common.{ℕ, List, IfOk, inl, inr, subst}
 use Rattle.tw_order.specs.declared.order.Order.{Order}
-use Rattle.tw_cli.specs.CommandLine.{IsAsked}
+use Rattle.tw_cli.specs.CommandLine.{IsRequested}
 use Rattle.tw_source.specs.declared.reply.Reply.{Reply as MadeReply}
 use Rattle.tw_session.specs.Each.{EndsEach}
-use Rattle.tw_session.proofs.Answering.{comes_of}
+use Rattle.tw_session.proofs.Answering.{ends_with_reply}
 use Rattle.tw_session.proofs.SessionNames.{Given, IfOk-weaker, MayAnswer, MayReply, MayReplyTo, reply}
 use Rattle.tw_session.proofs.line_session.obey_with_lines.Goals as goal
 
 pub returns-in-Each : goal.returns-in-Each
-returns-in-Each g c asked is_asked =
+returns-in-Each g c request is_requested =
     inl (
       c.in-Each.source,
       c.in-Each.order,
-      subst (λ (o : Order). IsAsked asked o) c.in-Each.is is_asked,
+      subst (λ (o : Order). IsRequested request o) c.in-Each.is is_requested,
       subst (λ (input : List ℕ). EndsEach c.in-Each.source c.in-Each.order input (g.R.Read.remaining c.args.reader.now) (g.R.Read.remaining c.answer_lines.new.reader) (g.W.Write.contents c.args.writer.now) (g.W.Write.contents c.answer_lines.new.writer) c.answer_lines.result) c.deref.ensures.value c.answer_lines.ensures,
     )
 
 pub returns : goal.returns
-returns g c asked is_asked =
+returns g c request is_requested =
     let wrote = c.write_reply.ensures in
     let input = c.args.program.items in
     let replied = subst (λ (i : List ℕ). IfOk c.reply_to.result (λ r. MayReply c.args.order i (reply r.text.items r.close))) c.deref-in_default.ensures.value
     (subst (λ (given : Given). IfOk c.reply_to.result (λ r. MayReplyTo c.args.order given (reply r.text.items r.close))) c.alone-given.ensures c.reply_to.ensures) in
-    inr (comes_of (MayAnswer asked input) c.reply_to.result c.write_reply.result _ _
-    (IfOk-weaker c.reply_to.result (λ (r : MadeReply). MayReply c.args.order input (reply r.text.items r.close)) (λ (r : MadeReply). MayAnswer asked input (reply r.text.items r.close))
-    (λ (r : MadeReply) h. inl (c.args.order, is_asked, h)) replied) wrote.ended wrote.refused wrote.memory)
+    inr (ends_with_reply (MayAnswer request input) c.reply_to.result c.write_reply.result _ _
+    (IfOk-weaker c.reply_to.result (λ (r : MadeReply). MayReply c.args.order input (reply r.text.items r.close)) (λ (r : MadeReply). MayAnswer request input (reply r.text.items r.close))
+    (λ (r : MadeReply) h. inl (c.args.order, is_requested, h)) replied) wrote.ended wrote.refused wrote.memory)

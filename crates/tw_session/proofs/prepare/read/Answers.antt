@@ -1,25 +1,20 @@
 use Rattle.std.proofs.Common.{List, ℕ, Option, inl, subst}
-use Rattle.tw_session.proofs.SessionNames.{ProgramAction, IsRunOf, Leads, RepliesByAction, reply, text_of, source_text}
+use Rattle.tw_session.proofs.SessionNames.{RepliesByAction, RepliesBySource, reply, source_text, text_of}
 use Rattle.tw_source.proofs.Nones.{none_printed}
-use Rattle.tw_session.proofs.Leading.{run_in_turn}
+use Rattle.tw_session.proofs.Leading.{awaits}
 use Rattle.tw_session.proofs.prepare.read.Goals as goal
 
-pub action_reply-requires : goal.action_reply-requires
-action_reply-requires c = record { source = c.in-Ok.ensures.source; few = c.requires }
-
-pub returns-in-Finished : goal.returns-in-Finished
-returns-in-Finished c =
-    let r = c.in-Finished.reply in
-    let printed = subst (λ (a : ProgramAction). Leads (IsRunOf c.args.action) c.in-Ok.read.source (RepliesByAction (text_of c.in-Ok.read.source) c.args.action c.in-Ok.read.program) a) c.in-Finished.is c.in_ok-reply-in-Ok.ensures in
-    inl (c.in-Ok.read.program, c.in-Ok.ensures.spells, subst (λ (t : Option (List ℕ)). RepliesByAction t c.args.action c.in-Ok.read.program (reply r.text.items r.close)) c.in-Ok.ensures.text printed)
+pub act-requires : goal.act-requires
+act-requires c = record { source = c.in-Ok.ensures.source; few = c.requires }
 
 pub returns-in-Ok : goal.returns-in-Ok
 returns-in-Ok c =
-    let run = subst (λ (a : ProgramAction). Leads (IsRunOf c.args.action) c.in-Ok.read.source (RepliesByAction (text_of c.in-Ok.read.source) c.args.action c.in-Ok.read.program) a) c.in-Run.is c.in_ok-reply-in-Ok.ensures in (
-      (λ turns. run_in_turn c.args.action _ run.0 turns),
-      run.1,
-      (λ r h. inl (c.in-Ok.read.program, c.in-Ok.ensures.spells, subst (λ (t : Option (List ℕ)). RepliesByAction t c.args.action c.in-Ok.read.program r) c.in-Ok.ensures.text (run.2 r h))),
-    )
+    let source = c.args.source in
+    let action = c.args.action in
+    let input = c.args.input.now in
+    let program = c.in-Ok.read.program in
+    awaits c.act.result (RepliesByAction (text_of c.in-Ok.read.source) action program) (RepliesBySource source input (RepliesByAction (source_text source input) action))
+    (λ r answers. inl (program, c.in-Ok.ensures.spells, subst (λ (t : Option (List ℕ)). RepliesByAction t action program r) c.in-Ok.ensures.text answers)) c.act.ensures
 
 pub returns : goal.returns
 returns c =

@@ -1,7 +1,7 @@
 use Rattle.std.proofs.Common.{◌≡◌, ◌∙◌, Bor, List, ℕ, ap, map, subst}
 use Rattle.std.specs.Str.Lines.{lines}
 use Rattle.clap.specs.Words.{Text}
-use Rattle.tw_inputs.specs.InputWords.{AreSpelled}
+use Rattle.tw_inputs.specs.InputWords.{AreEncoded}
 use Rattle.tw_inputs.specs.WordErrors.{IsInputReason}
 use Rattle.tw_source.specs.Inputs.{words_in}
 use Rattle.tw_session.proofs.prepare.words_given.Goals as goal
@@ -9,7 +9,7 @@ use Rattle.tw_session.proofs.prepare.words_given.Goals as goal
 pub returns-in-Ok : goal.returns-in-Ok
 returns-in-Ok c =
     let words : map (λ (w : Bor (List ℕ)). w.now) c.deref.result.now ≡ words_in (lines c.args.inputs.now) = ap (map (λ (w : Bor (List ℕ)). w.now)) c.deref.ensures.value ∙ c.in_ok-words.ensures in
-    subst (λ (ws : List Text). AreSpelled c.in-Ok.inputs ws) words c.in-Ok.ensures.spelled
+    subst (λ (ws : List Text). AreEncoded c.in-Ok.inputs ws) words c.in-Ok.ensures.spelled
 
 pub returns : goal.returns
 returns c =
