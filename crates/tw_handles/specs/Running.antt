@@ -3,7 +3,7 @@ use Rattle.std.specs.Prelude.{◌≡◌, ◌⊎◌, ◌<◌, ◌≤◌, ◌==◌
 use Rattle.tw_flags.specs.declared.flag.FlagSignal.{FlagSignal}
 use Rattle.tw_flags.specs.Flags.{IsFlagOf, IsSeen}
 use Rattle.tw_stop.specs.declared.signal.Never.{Never}
-use Rattle.tw_stop.specs.Looks.{Looked, never_says}
+use Rattle.tw_stop.specs.Looks.{Looked, always_no}
 use Rattle.tw_in_turn.specs.Stopping.{IsLeftBy}
 use Rattle.tw_pool.specs.Openings.{IsRejection, MayOpen, opened}
 use Rattle.tw_pool.specs.declared.open.OpenError.{OpenError}
@@ -68,7 +68,7 @@ IsRunBy Saw program given order old new code =
 -- holds if this is the result of such a run with the flag of a handle, if that holds one; a null handle is a flag that never stops a run
 abbrev pub IsRunUntil : Option Held → Option Held → RunOrder → Option Held → Option Held → Option Held → ℕ → Type 0
 IsRunUntil program given order stop old new code = MatchOption stop
-    ((first : Never) × (last : Never) × IsRunBy (Looked never_says first last) program given order old new code)
+    ((first : Never) × (last : Never) × IsRunBy (Looked always_no first last) program given order old new code)
     (λ held. WithFlag (Some held) (Fails no_stop old new code)
     (λ flag. (first : FlagSignal) × (last : FlagSignal) × IsFlagOf flag first × IsRunBy (Looked IsSeen first last) program given order old new code))
 

@@ -21,6 +21,7 @@ const NO_BOUND: u64 = u64::MAX;
 /// The largest limit of events. The smallest is 1.
 const MOST_EVENTS: usize = 1_000_000;
 
+/// Returns a bound as a number; the greatest one if it is over that, or endless.
 fn number_of(bound: Bound) -> u64
     ensures { result ≡ number_of_is bound }
 {
@@ -47,6 +48,7 @@ fn put_bounds(bounds: LimitedBounds, numbers: &mut [u64])
     put(&found, numbers);
 }
 
+/// Finds the bounds of a program's runs, and writes them.
 fn find_bounds(alloc: Global, verified: &Verified, limit: Option<u32>, numbers: &mut [u64]) -> u8
     ensures { AreFound verified.now limit numbers.old numbers.new result }
 {
@@ -59,6 +61,7 @@ fn find_bounds(alloc: Global, verified: &Verified, limit: Option<u32>, numbers: 
     }
 }
 
+/// Writes the bounds of a program, if the limit is in its range.
 fn bounds_in(alloc: Global, verified: &Verified, limit: usize, numbers: &mut [u64]) -> u8
     ensures { AreBoundsIn verified.now limit numbers.old numbers.new result }
 {
@@ -71,6 +74,7 @@ fn bounds_in(alloc: Global, verified: &Verified, limit: usize, numbers: &mut [u6
     }
 }
 
+/// Writes the bounds of a program, if the contents are one.
 fn bounds_held(alloc: Global, held: &Held, limit: usize, numbers: &mut [u64]) -> u8
     ensures { AreBounds (Some held.now) limit numbers.old numbers.new result }
 {

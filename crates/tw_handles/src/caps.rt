@@ -24,6 +24,7 @@ pub struct AllCaps {
     pub rules: u64,
 }
 
+/// Returns the cap at this index of a list.
 fn cap_at(numbers: &[u64], index: usize) -> u64
     ensures { result ≡ unwrap_or (slice_get numbers.now index) greatest_cap }
 {

@@ -26,6 +26,7 @@ pub fn container_new(alloc: Global, container: &mut Handle, by: u8, scalar: u8) 
     }
 }
 
+/// Adds a member, if the contents are a container.
 fn add_held(held: &mut Held, member: NewMember) -> u8
     ensures { IsMemberAdded member (Some held.old) (Some held.new) result }
 {
@@ -127,6 +128,7 @@ fn move_first(alloc: Global, inputs: &mut Handle, container: &mut Container) -> 
     }
 }
 
+/// Moves the members of a container to the inputs of a handle.
 fn move_container(alloc: Global, inputs: &mut Handle, container: &mut Container) -> u8
     ensures { IsMoved (input_of container.old) inputs.old.held inputs.new.held (Some (input_of container.new)) result }
 {
@@ -138,6 +140,7 @@ fn move_container(alloc: Global, inputs: &mut Handle, container: &mut Container)
     code
 }
 
+/// Moves them, if the contents are a container.
 fn move_held(alloc: Global, inputs: &mut Handle, held: &mut Held) -> u8
     ensures { IsContainerAdded (container_in (Some held.old)) (container_in (Some held.new)) inputs.old.held inputs.new.held result }
 {

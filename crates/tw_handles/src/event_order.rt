@@ -25,6 +25,7 @@ fn put_order(found: Option<CopyInsertion>, numbers: &mut [u64])
     }
 }
 
+/// Finds the first contested insertion of a program, and writes it.
 fn find_order(alloc: Global, verified: &Verified, numbers: &mut [u64]) -> u8
     ensures { IsOrderFound verified.now numbers.old numbers.new result }
 {
@@ -37,6 +38,7 @@ fn find_order(alloc: Global, verified: &Verified, numbers: &mut [u64]) -> u8
     }
 }
 
+/// Writes the order of a program, if the contents are one.
 fn order_held(alloc: Global, held: &Held, numbers: &mut [u64]) -> u8
     ensures { IsOrder (Some held.now) numbers.old numbers.new result }
 {

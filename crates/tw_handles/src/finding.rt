@@ -59,6 +59,7 @@ fn place_of(outcome: &Final, index: usize, subscript: ValueRef<'_>) -> Option<us
     }
 }
 
+/// Finds a subscript in an output, and writes its place.
 fn find_in(outcome: &Final, index: usize, subscript: ValueRef<'_>, place: &mut usize) -> u8
     ensures { IsPlaceIn outcome.now index (named subscript.entry) place.old place.new result }
 {
@@ -71,6 +72,7 @@ fn find_in(outcome: &Final, index: usize, subscript: ValueRef<'_>, place: &mut u
     }
 }
 
+/// Finds a subscript in a report, if the contents are one.
 fn find_held(held: &Held, index: usize, subscript: ValueRef<'_>, place: &mut usize) -> u8
     ensures { IsPlace (Some held.now) index (named subscript.entry) place.old place.new result }
 {

@@ -37,6 +37,7 @@ fn begin(alloc: Global, inputs: &mut Handle, input: Input) -> u8
     }
 }
 
+/// Appends an input, if the contents are inputs.
 fn add_held(held: &mut Held, input: Input) -> u8
     ensures { IsAdded input (Some held.old) (Some held.new) result }
 {

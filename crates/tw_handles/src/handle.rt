@@ -37,6 +37,7 @@ impl Handle {
         }
     }
 
+    /// Makes a handle of the pointer of a box.
     fn of_loose(loose: Loose<Held, Global>) -> Handle
         ensures { result.held ≡ Some loose.value }
     {
@@ -47,6 +48,7 @@ impl Handle {
         }
     }
 
+    /// Returns the pointer of the box, unless it is null.
     fn into_loose(self) -> Option<Loose<Held, Global>>
         ensures { option_map (λ l. l.value) result ≡ self.held }
     {
@@ -78,6 +80,7 @@ impl Handle {
         }
     }
 
+    /// Returns the box, if there is one.
     fn into_box(self) -> Option<Box<Held>>
         ensures { option_map (λ b. b.value) result ≡ self.held }
     {
@@ -99,6 +102,7 @@ impl Handle {
 unsafe impl Send for Handle {}
 
 impl Drop for Handle {
+    /// Frees the contents, if there are any.
     fn drop(self) {
         if let Some(whole) = self.into_box() {
             whole.drop();

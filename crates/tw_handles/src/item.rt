@@ -72,6 +72,7 @@ pub(crate) fn value_item(value: &Value) -> Item
     }
 }
 
+/// Describes an unset scalar.
 fn unset_item(ty: DataType) -> Item
     ensures { result ≡ unset_item_of ty }
 {
@@ -107,6 +108,7 @@ fn container_item(datum: &Datum) -> Item
     }
 }
 
+/// Describes a datum that has no value.
 fn valueless_item(datum: &Datum) -> Item
     ensures { result ≡ valueless_item_of datum.now.datum }
 {
@@ -117,6 +119,7 @@ fn valueless_item(datum: &Datum) -> Item
     }
 }
 
+/// Describes a live datum.
 fn datum_item(datum: &Datum) -> Item
     ensures { result ≡ item_by datum.now.datum (value_in datum.now.datum.content) }
 {

@@ -50,6 +50,7 @@ fn read_members(outcome: &Final, datum: &Datum, first: usize, room: &mut [Member
     codes::DONE
 }
 
+/// Describes the members or values of an output.
 fn members_in_output(outcome: &Final, index: usize, first: usize, room: &mut [Member]) -> u8
     ensures { AreReadIn outcome.now index first room.old room.new result }
 {
@@ -60,6 +61,7 @@ fn members_in_output(outcome: &Final, index: usize, first: usize, room: &mut [Me
     }
 }
 
+/// Describes those of an output of a report, if the contents are one.
 fn members_held(held: &Held, index: usize, first: usize, room: &mut [Member]) -> u8
     ensures { AreMembers (Some held.now) index first room.old room.new result }
 {

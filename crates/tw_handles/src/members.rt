@@ -36,6 +36,7 @@ fn shown_at<'f>(outcome: &'f Final, index: usize, place: usize) -> Option<Shown<
     }
 }
 
+/// Describes a member or value of an output.
 fn member_in(outcome: &Final, index: usize, place: usize, member: &mut Member) -> u8
     ensures { IsMemberIn outcome.now index place member.old member.new result }
 {
@@ -51,6 +52,7 @@ fn member_in(outcome: &Final, index: usize, place: usize, member: &mut Member) -
     }
 }
 
+/// Describes one of a report, if the contents are one.
 fn member_held(held: &Held, index: usize, place: usize, member: &mut Member) -> u8
     ensures { IsMember (Some held.now) index place member.old member.new result }
 {
@@ -80,6 +82,7 @@ pub fn output_member(
     code
 }
 
+/// Writes the text of a member or value.
 fn member_text_in(outcome: &Final, index: usize, place: usize, room: &mut [u8]) -> u8
     ensures { IsMemberTextIn outcome.now index place room.old room.new result }
 {
@@ -89,6 +92,7 @@ fn member_text_in(outcome: &Final, index: usize, place: usize, room: &mut [u8]) 
     }
 }
 
+/// Writes the text of one of a report, if the contents are one.
 fn member_text_held(held: &Held, index: usize, place: usize, room: &mut [u8]) -> u8
     ensures { IsMemberText (Some held.now) index place room.old room.new result }
 {
@@ -118,6 +122,7 @@ pub fn member_text(
     code
 }
 
+/// Writes the text of a subscript.
 fn subscript_text_in(outcome: &Final, index: usize, place: usize, room: &mut [u8]) -> u8
     ensures { IsSubscriptTextIn outcome.now index place room.old room.new result }
 {
@@ -127,6 +132,7 @@ fn subscript_text_in(outcome: &Final, index: usize, place: usize, room: &mut [u8
     }
 }
 
+/// Writes the text of a subscript of a report, if the contents are one.
 fn subscript_text_held(held: &Held, index: usize, place: usize, room: &mut [u8]) -> u8
     ensures { IsSubscriptText (Some held.now) index place room.old room.new result }
 {

@@ -38,6 +38,7 @@ fn tasks_in(history: &History) -> u64
     tasks
 }
 
+/// Writes the amounts of a run.
 fn put_meter(left: &StoppableResult, numbers: &mut [u64])
     ensures { numbers.new ≡ filled (meter_of left.now) numbers.old }
 {
@@ -55,6 +56,7 @@ fn put_meter(left: &StoppableResult, numbers: &mut [u64])
     put(&meter, numbers);
 }
 
+/// Writes the amounts of a report, if the contents are one.
 fn meter_held(held: &Held, numbers: &mut [u64]) -> u8
     ensures { IsMetered (Some held.now) numbers.old numbers.new result }
 {

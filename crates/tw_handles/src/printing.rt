@@ -17,12 +17,14 @@ use tw_in_turn::StoppableResult;
 use tw_pool::Closing;
 use tw_run_output::{end_line, instructions_in, report as report_text, trace as trace_text};
 
+/// Prints a report.
 fn report_of(alloc: Global, left: &StoppableResult) -> Result<Vec<u8>, AllocError>
     ensures { IfOk result (λ text. IsEndReport (final_is left.now) text.items) }
 {
     report_text(alloc, final_of(left))
 }
 
+/// Prints a report into the handle of a text.
 fn report_in(alloc: Global, left: &StoppableResult, text: &mut Handle) -> u8
     ensures { IsTextMade (IsEndReport (final_is left.now)) text.old.held text.new.held result }
 {
@@ -32,6 +34,7 @@ fn report_in(alloc: Global, left: &StoppableResult, text: &mut Handle) -> u8
     }
 }
 
+/// Prints a report, if the contents are one.
 fn report_held(alloc: Global, held: &Held, text: &mut Handle) -> u8
     ensures { IsReportPrinted (Some held.now) text.old.held text.new.held result }
 {
@@ -55,12 +58,14 @@ pub fn print_report(alloc: Global, report: &mut Handle, text: &mut Handle) -> u8
     code
 }
 
+/// Prints the events of a run.
 fn trace_of(alloc: Global, left: &StoppableResult) -> Result<Vec<u8>, AllocError>
     ensures { IfOk result (λ text. IsTrace left.now text.items) }
 {
     trace_text(alloc, history_of(left))
 }
 
+/// Prints the events of a run into the handle of a text.
 fn trace_in(alloc: Global, left: &StoppableResult, text: &mut Handle) -> u8
     ensures { IsTextMade (IsTrace left.now) text.old.held text.new.held result }
 {
@@ -70,6 +75,7 @@ fn trace_in(alloc: Global, left: &StoppableResult, text: &mut Handle) -> u8
     }
 }
 
+/// Prints the events of a report, if the contents are one.
 fn trace_held(alloc: Global, held: &Held, text: &mut Handle) -> u8
     ensures { IsTracePrinted (Some held.now) text.old.held text.new.held result }
 {
@@ -93,6 +99,7 @@ pub fn print_trace(alloc: Global, report: &mut Handle, text: &mut Handle) -> u8
     code
 }
 
+/// Returns why a run is over, if it is.
 fn closing_of(left: &StoppableResult) -> Option<Closing>
     ensures { result ≡ (final_is left.now).closing }
 {
@@ -107,6 +114,7 @@ fn line_of(alloc: Global, left: &StoppableResult, closing: Closing) -> Result<St
     end_line(alloc, final_of(left), history_of(left), closing)
 }
 
+/// Prints the JSON line of a run with this end into the handle of a text.
 fn put_line(alloc: Global, left: &StoppableResult, closing: Closing, text: &mut Handle) -> u8
     requires { (final_is left.now).closing ≡ Some closing }
     ensures { IsTextMade (IsEndLine (final_is left.now) (history_is left.now).events closing) text.old.held text.new.held result }
@@ -117,6 +125,7 @@ fn put_line(alloc: Global, left: &StoppableResult, closing: Closing, text: &mut 
     }
 }
 
+/// Prints the line of a run, if that has an end.
 fn json_in(alloc: Global, left: &StoppableResult, text: &mut Handle) -> u8
     ensures { IsJsonIn left.now text.old.held text.new.held result }
 {
@@ -126,6 +135,7 @@ fn json_in(alloc: Global, left: &StoppableResult, text: &mut Handle) -> u8
     }
 }
 
+/// Prints the line of a report, if the contents are one.
 fn json_held(alloc: Global, held: &Held, text: &mut Handle) -> u8
     ensures { IsJsonPrinted (Some held.now) text.old.held text.new.held result }
 {
@@ -159,12 +169,14 @@ fn capped(number: u128) -> u64
     }
 }
 
+/// Returns how many instructions the events of a run executed, at most 2 ^ 64 - 1.
 pub(crate) fn instructions_of(left: &StoppableResult) -> u64
     ensures { result ≡ capped_is (instructions_in_is (history_is left.now).events) }
 {
     capped(instructions_in(history_of(left)))
 }
 
+/// Writes how many instructions a report's run executed, if the contents are a report.
 fn instructions_held(held: &Held, count: &mut u64) -> u8
     ensures { IsInstructionCount (Some held.now) count.old count.new result }
 {

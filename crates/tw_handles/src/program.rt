@@ -27,6 +27,7 @@ fn share_program(alloc: Global, verified: &Arc<Verified>, other: &mut Handle) ->
     }
 }
 
+/// Puts the same program into another handle, if the contents are one.
 fn share_held(alloc: Global, held: &Held, other: &mut Handle) -> u8
     ensures { IsShared (Some held.now) other.old.held other.new.held result }
 {
@@ -51,6 +52,7 @@ pub fn share(alloc: Global, program: &mut Handle, other: &mut Handle) -> u8
     code
 }
 
+/// Writes the budget of a procedure, if there is such a one.
 fn budget_in(verified: &Verified, procedure: usize, budget: &mut u64) -> u8
     ensures { IsBudgetIn verified.now procedure budget.old budget.new result }
 {
@@ -62,6 +64,7 @@ fn budget_in(verified: &Verified, procedure: usize, budget: &mut u64) -> u8
     }
 }
 
+/// Writes the budget of a program's procedure, if the contents are a program.
 fn budget_held(held: &Held, procedure: usize, budget: &mut u64) -> u8
     ensures { IsBudgetOf (Some held.now) procedure budget.old budget.new result }
 {
@@ -86,6 +89,7 @@ pub fn budget(alloc: Global, program: &mut Handle, procedure: usize, budget: &mu
     code
 }
 
+/// Writes the number of procedures, if the contents are a program.
 fn count_held(held: &Held, count: &mut usize) -> u8
     ensures { IsCountOf (Some held.now) count.old count.new result }
 {

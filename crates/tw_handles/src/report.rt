@@ -16,6 +16,7 @@ use tw_pool::{Closing, Final, History};
 /// The status of a run that was stopped.
 const STOPPED: u8 = 8;
 
+/// Returns the outputs and the store that a run left which wasn't stopped.
 fn final_in(left: &InTurnResult) -> &Final
     ensures { result.now ≡ final_in_is left.now }
 {
@@ -31,6 +32,7 @@ fn final_in(left: &InTurnResult) -> &Final
     }
 }
 
+/// Returns the outputs and the store that a run left.
 pub(crate) fn final_of(left: &StoppableResult) -> &Final
     ensures { result.now ≡ final_is left.now }
 {
@@ -43,6 +45,7 @@ pub(crate) fn final_of(left: &StoppableResult) -> &Final
     }
 }
 
+/// Returns the events of a run that wasn't stopped.
 fn history_in(left: &InTurnResult) -> &History
     ensures { result.now ≡ history_in_is left.now }
 {
@@ -58,6 +61,7 @@ fn history_in(left: &InTurnResult) -> &History
     }
 }
 
+/// Returns the events of a run.
 pub(crate) fn history_of(left: &StoppableResult) -> &History
     ensures { result.now ≡ history_is left.now }
 {
@@ -70,6 +74,7 @@ pub(crate) fn history_of(left: &StoppableResult) -> &History
     }
 }
 
+/// Returns the exit status of a run that ended.
 fn closing_status(closing: Option<Closing>) -> u8
     ensures { result ≡ closing_status_is closing }
 {
@@ -81,6 +86,7 @@ fn closing_status(closing: Option<Closing>) -> u8
     }
 }
 
+/// Returns the exit status of a run that wasn't stopped, 5 if memory ran out.
 fn end_in(left: &InTurnResult) -> u8
     ensures { result ≡ end_in_is left.now }
 {
@@ -96,6 +102,7 @@ fn end_in(left: &InTurnResult) -> u8
     }
 }
 
+/// Returns the exit status of a run, 5 if memory ran out and 8 if it was stopped.
 fn end_status(left: &StoppableResult) -> u8
     ensures { result ≡ end_status_is left.now }
 {
@@ -117,6 +124,7 @@ fn ending_in(left: &StoppableResult, numbers: &mut [u64])
     put(&[events, outputs, end_status(left) as u64], numbers);
 }
 
+/// Writes the end of a report's run, if the contents are a report.
 fn ending_held(held: &Held, numbers: &mut [u64]) -> u8
     ensures { IsEnding (Some held.now) numbers.old numbers.new result }
 {
@@ -143,6 +151,7 @@ pub fn report_ending(alloc: Global, report: &mut Handle, numbers: &mut [u64]) ->
     code
 }
 
+/// Describes an output.
 fn output_in(outcome: &Final, index: usize, item: &mut Item) -> u8
     ensures { IsOutputIn outcome.now index item.old item.new result }
 {
@@ -155,6 +164,7 @@ fn output_in(outcome: &Final, index: usize, item: &mut Item) -> u8
     }
 }
 
+/// Describes an output of a report, if the contents are one.
 fn output_held(held: &Held, index: usize, item: &mut Item) -> u8
     ensures { IsOutput (Some held.now) index item.old item.new result }
 {
@@ -178,6 +188,7 @@ pub fn output(alloc: Global, report: &mut Handle, index: usize, item: &mut Item)
     code
 }
 
+/// Writes the text of an output.
 fn text_in(outcome: &Final, index: usize, room: &mut [u8]) -> u8
     ensures { IsOutputTextIn outcome.now index room.old room.new result }
 {
@@ -189,6 +200,7 @@ fn text_in(outcome: &Final, index: usize, room: &mut [u8]) -> u8
     }
 }
 
+/// Writes the text of an output of a report, if the contents are one.
 fn text_held(held: &Held, index: usize, room: &mut [u8]) -> u8
     ensures { IsOutputText (Some held.now) index room.old room.new result }
 {

@@ -25,6 +25,7 @@ fn put_certificate(certificate: Certificate, numbers: &mut [u64])
     }
 }
 
+/// Writes a certificate in numbers, if there is one.
 fn number(made: Option<Certificate>, numbers: &mut [u64]) -> u8
     ensures { IsNumbered made numbers.old numbers.new result }
 {
@@ -37,6 +38,7 @@ fn number(made: Option<Certificate>, numbers: &mut [u64]) -> u8
     }
 }
 
+/// Writes the certificate of a report, if the contents are one.
 fn order_held(held: &Held, numbers: &mut [u64]) -> u8
     ensures { IsRunOrder (Some held.now) numbers.old numbers.new result }
 {

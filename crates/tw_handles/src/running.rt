@@ -35,6 +35,7 @@ pub struct RunOrder {
 /// How many options there are.
 const OPTIONS: usize = 6;
 
+/// Returns the option at this index, or the usual one if there are fewer.
 fn option_at(options: &[u64], index: usize, default: u64) -> u64
     ensures { result ≡ option_at_is options.now index default }
 {
@@ -150,6 +151,7 @@ fn run_in<S: StopSignal>(
     }
 }
 
+/// Runs a program, if the contents are inputs.
 fn run_with_held<S: StopSignal>(
     alloc: Global,
     verified: &Verified,
@@ -188,6 +190,7 @@ fn run_with<S: StopSignal>(
     code
 }
 
+/// Runs a program with the inputs of a handle, if the contents are a program.
 fn run_held<S: StopSignal>(
     alloc: Global,
     program: &Held,
@@ -227,6 +230,7 @@ fn run_program<S: StopSignal>(
     code
 }
 
+/// Runs it until a flag is raised, if the contents are one.
 fn run_until_held(
     alloc: Global,
     program: &mut Handle,
@@ -248,6 +252,7 @@ fn run_until_held(
     }
 }
 
+/// Runs it until the flag of a handle is raised. A null handle is a flag that never is.
 fn run_until_stopped(
     alloc: Global,
     program: &mut Handle,

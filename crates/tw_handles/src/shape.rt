@@ -17,6 +17,7 @@ use tw_symbols::Symbols;
 use tw_types::{DataType, Kind, Mode, Param, Scalar};
 use tw_verify::Verified;
 
+/// Returns the letter of a kind.
 fn kind_letter(kind: Kind) -> u8
     ensures { result ≡ kind_letter_is kind }
 {
@@ -34,6 +35,7 @@ fn put_section(procedure: &Procedure, numbers: &mut [u64])
     put(&[parameters, kind_letter(procedure.kind) as u64], numbers);
 }
 
+/// Describes a procedure in numbers.
 fn section_in(verified: &Verified, procedure: usize, numbers: &mut [u64]) -> u8
     ensures { IsSectionIn verified.now procedure numbers.old numbers.new result }
 {
@@ -46,6 +48,7 @@ fn section_in(verified: &Verified, procedure: usize, numbers: &mut [u64]) -> u8
     }
 }
 
+/// Describes a procedure of a program, if the contents are one.
 fn section_held(held: &Held, procedure: usize, numbers: &mut [u64]) -> u8
     ensures { IsSection (Some held.now) procedure numbers.old numbers.new result }
 {
@@ -75,6 +78,7 @@ pub fn describe_procedure(
     code
 }
 
+/// Returns the letter of a mode.
 fn mode_letter(mode: Mode) -> u8
     ensures { result ≡ mode_letter_is mode }
 {
@@ -109,6 +113,7 @@ fn map_letter(ty: DataType) -> u8
     }
 }
 
+/// Returns the letter of the subscripts of the containers inside one, or 0 if there are none.
 fn by_inside(ty: Option<DataType>) -> u8
     ensures { result ≡ by_inside_is ty }
 {
@@ -118,6 +123,7 @@ fn by_inside(ty: Option<DataType>) -> u8
     }
 }
 
+/// Returns the type of a container's members.
 fn members_of(ty: Option<DataType>) -> Option<DataType>
     ensures { result ≡ members_of_is ty }
 {
@@ -145,6 +151,7 @@ fn put_parameter(param: &Param, numbers: &mut [u64])
     put(&found, numbers);
 }
 
+/// Returns a parameter of a procedure, if there is such a one.
 fn parameter_at(verified: &Verified, procedure: usize, index: usize) -> Option<Param>
     ensures { result ≡ parameter_at_is verified.now procedure index }
 {
@@ -154,6 +161,7 @@ fn parameter_at(verified: &Verified, procedure: usize, index: usize) -> Option<P
     }
 }
 
+/// Describes a parameter in numbers.
 fn parameter_in(verified: &Verified, procedure: usize, index: usize, numbers: &mut [u64]) -> u8
     ensures { IsParameterIn verified.now procedure index numbers.old numbers.new result }
 {
@@ -166,6 +174,7 @@ fn parameter_in(verified: &Verified, procedure: usize, index: usize, numbers: &m
     }
 }
 
+/// Describes a parameter of a program, if the contents are one.
 fn parameter_held(held: &Held, procedure: usize, index: usize, numbers: &mut [u64]) -> u8
     ensures { IsParameter (Some held.now) procedure index numbers.old numbers.new result }
 {
@@ -195,6 +204,7 @@ pub fn describe_parameter(
     code
 }
 
+/// Writes the needs of a program, if the contents are one.
 fn needs_held(held: &Held, numbers: &mut [u64]) -> u8
     ensures { AreNeeds (Some held.now) numbers.old numbers.new result }
 {
@@ -222,6 +232,7 @@ pub fn read_needs(alloc: Global, program: &mut Handle, numbers: &mut [u64]) -> u
     code
 }
 
+/// Returns the name that a text gives a procedure.
 fn name_of(alloc: Global, source: &str, procedure: usize) -> Result<Vec<u8>, AllocError>
     ensures { IfOk result (λ name. IsNameIn source.now procedure name.items) }
 {
@@ -229,6 +240,7 @@ fn name_of(alloc: Global, source: &str, procedure: usize) -> Result<Vec<u8>, All
     symbols.procedure(procedure).to_vec(alloc)
 }
 
+/// Puts that name into the handle of a text.
 fn put_name(alloc: Global, source: &str, procedure: usize, text: &mut Handle) -> u8
     ensures { IsTextMade (IsNameIn source.now procedure) text.old.held text.new.held result }
 {

@@ -32,6 +32,7 @@ pub fn stop_new(alloc: Global, stop: &mut Handle) -> u8
     }
 }
 
+/// Puts the same flag into another handle, if the contents are one.
 fn share_held(alloc: Global, held: &Held, other: &mut Handle) -> u8
     ensures { IsStopShared (Some held.now) other.old.held other.new.held result }
 {
@@ -58,6 +59,7 @@ pub fn stop_share(alloc: Global, stop: &mut Handle, other: &mut Handle) -> u8
     code
 }
 
+/// Sets a flag, if the contents are one.
 fn set_held(held: &mut Held, raised: bool) -> u8
     ensures { IsStopSet raised (Some held.old) (Some held.new) result }
 {
@@ -71,6 +73,7 @@ fn set_held(held: &mut Held, raised: bool) -> u8
     }
 }
 
+/// Sets the flag of a handle.
 fn set_flag(alloc: Global, stop: &mut Handle, raised: bool) -> u8
     ensures { IsStopSet raised stop.old.held stop.new.held result }
 {

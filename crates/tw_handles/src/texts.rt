@@ -29,6 +29,7 @@ pub(crate) fn keep_text(alloc: Global, made: Vec<u8>, text: &mut Handle) -> u8
     }
 }
 
+/// Returns the text, if the contents are one.
 fn text_out(held: Held) -> Option<Vec<u8>>
     ensures { option_map (λ v. v.items) result ≡ text_in (Some held) }
 {
@@ -49,6 +50,7 @@ pub fn take_text(alloc: Global, text: &mut Handle) -> Option<Vec<u8>>
     }
 }
 
+/// Writes the length of a text in bytes, if the contents are one.
 fn length_held(held: &Held, length: &mut usize) -> u8
     ensures { IsTextLength (Some held.now) length.old length.new result }
 {
@@ -75,6 +77,7 @@ pub fn text_length(alloc: Global, text: &mut Handle, length: &mut usize) -> u8
     code
 }
 
+/// Copies a text, if the contents are one.
 fn copy_held(held: &Held, room: &mut [u8]) -> u8
     ensures { IsTextCopied (Some held.now) room.old room.new result }
 {

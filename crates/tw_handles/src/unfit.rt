@@ -12,6 +12,7 @@ use tw_replay_output::first_unfit;
 use tw_types::Input;
 use tw_verify::Verified;
 
+/// Finds the first input that doesn't fit, and writes its index.
 fn unfit_in(program: &[Procedure], inputs: &[Input], index: &mut usize) -> u8
     ensures { IsUnfitIn program.now inputs.now index.old index.new result }
 {
@@ -27,6 +28,7 @@ fn unfit_in(program: &[Procedure], inputs: &[Input], index: &mut usize) -> u8
     }
 }
 
+/// Finds it among inputs, if the contents are those.
 fn unfit_in_held(verified: &Verified, inputs: &Held, index: &mut usize) -> u8
     ensures { IsUnfitBy verified.now (Some inputs.now) index.old index.new result }
 {
@@ -51,6 +53,7 @@ fn unfit_by(alloc: Global, verified: &Verified, inputs: &mut Handle, index: &mut
     code
 }
 
+/// Finds it for a program, if the contents are one.
 fn unfit_held(alloc: Global, program: &Held, inputs: &mut Handle, index: &mut usize) -> u8
     ensures kept { inputs.new.held ≡ inputs.old.held }
     ensures is { IsUnfit (Some program.now) inputs.old.held index.old index.new result }
