@@ -24,7 +24,7 @@ pub struct Book {
 }
 
 impl Book {
-    /// Makes a book without names.
+    /// Makes a book of cases and named bytes, without any.
     pub fn new(alloc: Global) -> Book {
         Book {
             bytes: Vec::new(alloc),
@@ -33,17 +33,17 @@ impl Book {
         }
     }
 
-    /// Returns how many cases passed.
+    /// Returns how many cases of the book had the expected output.
     pub fn as_wanted(&self) -> u64 {
         self.as_wanted
     }
 
-    /// Counts a case that passed.
+    /// Counts a case in the book whose output was as expected.
     pub fn count(&mut self) {
         self.as_wanted = self.as_wanted.saturating_add(1);
     }
 
-    /// Returns the bytes with this name, or an error if there are none.
+    /// Returns the bytes of the book with this name, or an error if there are none.
     pub fn named(&self, name: &str) -> Result<&[u8], Complaint> {
         for (known, bytes) in &self.bytes {
             if known.as_str() == name {
@@ -53,7 +53,7 @@ impl Book {
         Err(Complaint::UnknownName)
     }
 
-    /// Names bytes. Returns an error if the name is taken.
+    /// Names bytes in the book of cases. Returns an error if the name is taken.
     pub fn name(&mut self, name: String, bytes: Vec<u8>) -> Result<(), Complaint> {
         if self.named(name.as_str()).is_ok() {
             return Err(Complaint::TakenName);
@@ -73,6 +73,7 @@ impl Book {
         Ok(!is_first || grow_stack(name.len()))
     }
 
+    /// Returns whether the book has an earlier case of this name.
     fn has_case(&self, name: &str) -> bool {
         for known in &self.cases {
             if known.as_str() == name {

@@ -17,7 +17,7 @@ pub fn read_bytes(alloc: Global, book: &Book, text: &str) -> Result<Vec<u8>, Com
     }
 }
 
-/// Assembles a program, whose lines are separated by ` / `, and encodes it.
+/// Assembles the program of a case's bytes, whose lines are separated by ` / `, and encodes it.
 fn assembled(alloc: Global, lines: &str) -> Result<Vec<u8>, Complaint> {
     let text = lines.replace(alloc, " / ", "\n")?;
     match assemble(alloc, text.as_str()) {
@@ -26,7 +26,7 @@ fn assembled(alloc: Global, lines: &str) -> Result<Vec<u8>, Complaint> {
     }
 }
 
-/// Returns the first `count` bytes.
+/// Returns the first `count` bytes of a case's bytes.
 fn first_of(mut bytes: Vec<u8>, count: &str) -> Result<Vec<u8>, Complaint> {
     let count = count.parse::<usize>()?;
     if count > bytes.len() {
@@ -36,6 +36,7 @@ fn first_of(mut bytes: Vec<u8>, count: &str) -> Result<Vec<u8>, Complaint> {
     Ok(bytes)
 }
 
+/// Reads the bytes of a text, with changes of single bytes after ` with `.
 fn read_changed(alloc: Global, book: &Book, text: &str) -> Result<Vec<u8>, Complaint> {
     match text.split_once(" with ") {
         Some((whole, changes)) => changed(read_pieces(alloc, book, whole)?, changes),
@@ -67,7 +68,7 @@ fn write_over(bytes: &mut Vec<u8>, change: &str) -> Result<(), Complaint> {
     }
 }
 
-/// Reads pieces, and joins their bytes.
+/// Reads the pieces of a case's bytes, and joins them.
 fn read_pieces(alloc: Global, book: &Book, text: &str) -> Result<Vec<u8>, Complaint> {
     let mut bytes = Vec::new(alloc);
     for piece in text.split_whitespace() {
@@ -93,6 +94,7 @@ fn put_piece(
     }
 }
 
+/// Adds the bytes of a text's hex digits, this many times.
 fn put_digits(
     alloc: Global,
     bytes: &mut Vec<u8>,

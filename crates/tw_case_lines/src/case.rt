@@ -24,7 +24,7 @@ pub enum Line<'l> {
     Case(CaseLine<'l>),
 }
 
-/// Reads a line. Adds its name to the book.
+/// Reads a line of a cases file: a case, or named bytes. Adds its name to the book.
 pub fn read_line<'l>(
     alloc: Global,
     book: &mut Book,
@@ -51,6 +51,7 @@ fn name_line<'l>(alloc: Global, book: &mut Book, text: &'l str) -> Result<Line<'
     }
 }
 
+/// Names the bytes of a line such as `NAME = BYTES` in the book.
 fn name_bytes(alloc: Global, book: &mut Book, text: &str) -> Result<(), Complaint> {
     let Some((name, digits)) = text.split_once(" = ") else {
         return Err(Complaint::Naming);

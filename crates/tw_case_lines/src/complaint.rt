@@ -52,7 +52,7 @@ pub enum Complaint {
 }
 
 impl Complaint {
-    /// Returns the line that is printed.
+    /// Returns the line that is printed for a complaint about a case.
     pub fn text(self) -> &'static str {
         match self {
             Complaint::Actor => "an actor is e, s or w and a number",
@@ -100,36 +100,42 @@ impl Complaint {
 }
 
 impl From<AllocError> for Complaint {
+    /// Returns the complaint of a case for a failed allocation.
     fn from(_error: AllocError) -> Complaint {
         Complaint::NoMemory
     }
 }
 
 impl<T: Drop> From<AllocFailed<T>> for Complaint {
+    /// Drops what wasn't stored, and returns the complaint of a case for a failed allocation.
     fn from(_error: AllocFailed<T>) -> Complaint {
         Complaint::NoMemory
     }
 }
 
 impl From<NoMemory> for Complaint {
+    /// Returns the complaint of a case if encoding ran out of memory.
     fn from(_error: NoMemory) -> Complaint {
         Complaint::NoMemory
     }
 }
 
 impl From<io::Error> for Complaint {
+    /// Returns the complaint of a case whose file can't be read.
     fn from(_error: io::Error) -> Complaint {
         Complaint::File
     }
 }
 
 impl From<ParseIntError> for Complaint {
+    /// Returns the complaint of a case with a word that is no number.
     fn from(_error: ParseIntError) -> Complaint {
         Complaint::Number
     }
 }
 
 impl From<FromHexError> for Complaint {
+    /// Returns the complaint of a case with a word that isn't hex digits.
     fn from(_error: FromHexError) -> Complaint {
         Complaint::Digits
     }

@@ -17,7 +17,7 @@ pub fn read_events(alloc: Global, text: &str) -> Result<Vec<Event>, Complaint> {
     Ok(events)
 }
 
-/// Reads an event as a trace has it, or a local one with any number of steps.
+/// Reads an event of a case as a trace has it, or a local one with any number of steps.
 fn read_event(text: &str) -> Result<Event, Complaint> {
     match text.strip_prefix("local ") {
         Some(rest) => {

@@ -30,6 +30,7 @@ impl Hoard {
         hoard
     }
 
+    /// Allocates as many large pieces as possible, while another piece is held that stays free afterwards.
     fn beside_spare(alloc: Global) -> Result<Hoard, Complaint> {
         let mut hoard = Hoard {
             pieces: Vec::with_capacity(alloc, MOST)?,
@@ -40,7 +41,8 @@ impl Hoard {
         Ok(hoard)
     }
 
-    /// Allocates pieces of these sizes, the largest first, until an allocation of the least size fails. Complains if there are too many pieces to keep.
+    /// Allocates pieces of memory of these sizes, the largest first, until an allocation of the least size fails. Complains if
+    /// there are too many pieces to keep.
     pub fn take(&mut self, alloc: Global, largest: usize, least: usize) -> Result<(), Complaint> {
         let mut size = largest;
         for _ in 0..MOST {
@@ -56,6 +58,7 @@ impl Hoard {
         Err(Complaint::ManyPieces)
     }
 
+    /// Keeps a piece of memory in the hoard. Complains if it has too many to keep.
     fn keep(&mut self, piece: Vec<u8>) -> Result<(), Complaint> {
         match self.pieces.push(piece) {
             Ok(()) => Ok(()),

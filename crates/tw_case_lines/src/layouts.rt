@@ -21,6 +21,7 @@ pub fn layout_of((engines, servers, workers): (u8, u8, u8)) -> Result<Layout, Co
     }
 }
 
+/// Reads the three numbers of a layout such as `1 1 4`.
 fn read_numbers(text: &str) -> Result<(u8, u8, u8), Complaint> {
     let Some((engines, rest)) = text.split_once(' ') else {
         return Err(Complaint::LayoutNumbers);
@@ -35,7 +36,7 @@ fn read_numbers(text: &str) -> Result<(u8, u8, u8), Complaint> {
     ))
 }
 
-/// Returns the layout of three numbers, or why there is none.
+/// Returns the layout of three numbers in a case's output, or why there is none.
 pub fn layout_text(alloc: Global, words: &str) -> Result<String, Complaint> {
     let (engines, servers, workers) = read_numbers(words)?;
     let mut text = Text::new(alloc);

@@ -15,7 +15,7 @@ use tw_inputs::input_of;
 use tw_machine::{Plain, Stopped};
 use tw_types::{Actor, Event, Input, Layout};
 
-/// Opens the machine of a program with the words of a case: a layout, and inputs after `with`.
+/// Opens the reference machine of a program with the words of a case: a layout, and inputs after `with`.
 fn opened(alloc: Global, words: &str, bytes: &[u8]) -> Result<Plain, Complaint>
     ensures { IfOk result (λ plain. AreBelow opening_bound plain.state) }
 {
@@ -29,14 +29,14 @@ fn opened(alloc: Global, words: &str, bytes: &[u8]) -> Result<Plain, Complaint>
     }
 }
 
-/// Opens the machine and executes the events.
+/// Opens the reference machine with the words of a case, and executes its events.
 fn run(alloc: Global, words: &str, bytes: &[u8], events: &str) -> Result<Course, Complaint> {
     let events = read_events(alloc, events)?;
     let plain = opened(alloc, words, bytes)?;
     played(alloc, plain, events.as_slice())
 }
 
-/// Returns a line for each earlier event that failed, and the last event's result.
+/// Returns a case's output: a line for each earlier event that failed, and the last event's result.
 pub fn machine_text(
     alloc: Global,
     words: &str,
@@ -68,6 +68,7 @@ fn put_failures(text: &mut Text, results: &[Result<(), Stopped>]) {
     }
 }
 
+/// Adds the result of an event of the reference machine: `went`, or why it failed.
 fn put_result(text: &mut Text, outcome: Result<(), Stopped>) {
     match outcome {
         Ok(()) => text.put("went\n"),
@@ -80,7 +81,7 @@ fn put_result(text: &mut Text, outcome: Result<(), Stopped>) {
     }
 }
 
-/// Returns a line for each event that failed, and the final state.
+/// Returns a case's output: a line for each event that failed, and the machine's final state.
 pub fn state_text(
     alloc: Global,
     words: &str,
@@ -107,6 +108,7 @@ pub fn steps_text(
     Ok(steps.to_string(alloc)?)
 }
 
+/// Returns how many local instructions engine 0's frame can execute, or complains that it has none.
 fn local_steps(alloc: Global, plain: &Plain, most: u64) -> Result<u64, Complaint> {
     match plain.state().frame(Actor::Engine(0)) {
         Some(frame) => Ok(frame.local_steps(alloc, plain.program().procedures(), most)?),
@@ -154,7 +156,7 @@ pub fn replay_all(
     }
 }
 
-/// Reads inputs as `tw run` does.
+/// Reads the inputs of a case as `tw run` does.
 pub fn read_inputs(alloc: Global, text: &str) -> Result<Vec<Input>, Complaint> {
     let mut inputs = Vec::new(alloc);
     for word in text.split_whitespace() {
@@ -163,6 +165,7 @@ pub fn read_inputs(alloc: Global, text: &str) -> Result<Vec<Input>, Complaint> {
     Ok(inputs)
 }
 
+/// Reads one input of a case as `tw run` does, or complains.
 fn read_input(alloc: Global, word: &str) -> Result<Input, Complaint> {
     match input_of(alloc, word)? {
         Some(input) => Ok(input),

@@ -30,6 +30,7 @@ fn containers_of_both_kinds() -> Option<(bool, bool)> {
     Some((are_so, three.tcont().is_some()))
 }
 
+/// Adds what some types of containers say of themselves, for a case of parts: depth, scalars and members.
 fn put_types(text: &mut Text) {
     let (depth, is_int, has_fourth) = three_containers().unwrap_or((0, false, true));
     let (are_so, has_fourth_by_text) = containers_of_both_kinds().unwrap_or((false, true));
@@ -46,6 +47,7 @@ fn put_types(text: &mut Text) {
     text.put_flag(" ", are_same);
 }
 
+/// Adds how many pairs of actors in a list rise, for the case `actors`.
 fn put_order(text: &mut Text) {
     let in_order = [
         Actor::Engine(0),
@@ -63,11 +65,12 @@ fn put_order(text: &mut Text) {
     text.put(" rise");
 }
 
+/// Makes a read right on the datum of this id, at place 0, for a case of parts.
 fn read(id: u64) -> ReadRight {
     ReadRight::of(DatumId::new(id), 0)
 }
 
-/// Returns the id of a right that was taken, plus 100 if it is a write right; 0 if there was none.
+/// Spends a right that was taken in a case of parts. Returns its id, plus 100 if it is a write right; 0 if there was none.
 fn spent(held: Option<Held>) -> u64 {
     match held {
         Some(Held::Read(right)) => right.spend().number(),
@@ -94,7 +97,7 @@ fn put_file(text: &mut Text) {
     file.shut();
 }
 
-/// Makes a bundle of eight read rights, on data with ids from 0.
+/// Makes a bundle of eight read rights for a case of parts, on data with ids from 0.
 fn eight(alloc: Global) -> Result<Bundle, AllocError> {
     let mut args = Vec::with_capacity(alloc, Bundle::MAX_LEN)?;
     for id in 0..Bundle::MAX_LEN {
@@ -146,7 +149,7 @@ fn put_pops(text: &mut Text, alloc: Global) {
     bundle.shut();
 }
 
-/// Calls the theorems, which compute nothing. Adds how many procedures the program has.
+/// Calls theorems, which compute nothing, for a case of parts. Adds how many procedures the program has.
 fn put_theorems(text: &mut Text, verified: Verified) {
     no_trap(&verified);
     counts_kept();
@@ -155,6 +158,7 @@ fn put_theorems(text: &mut Text, verified: Verified) {
     text.number("", verified.program().procedures().len() as u64);
 }
 
+/// Adds the messages of the errors of budgets, and of encoding without memory, for a case of parts.
 fn put_errors(text: &mut Text) {
     text.display(&BudgetError::TooLarge);
     text.put("; ");
@@ -163,7 +167,7 @@ fn put_errors(text: &mut Text) {
     text.display(&NoMemory);
 }
 
-/// Returns the output of a named part of the lowest crates.
+/// Returns the output of a case on a named part of the lowest crates.
 pub fn part_text(alloc: Global, name: &str, bytes: &[u8]) -> Result<String, Complaint> {
     let mut text = Text::new(alloc);
     match name {

@@ -15,7 +15,7 @@ pub struct Course {
     pub answers: Vec<Result<(), Stopped>>,
 }
 
-/// Returns whether an event executes at most 1,000,000,000 instructions.
+/// Returns whether an event of a case executes at most 1,000,000,000 instructions.
 fn has_few_instructions(event: Event) -> bool
     ensures { IsTrue result ↔ (size_of event ≤ 1000000000) }
 {
@@ -26,7 +26,7 @@ fn has_few_instructions(event: Event) -> bool
     }
 }
 
-/// Executes at most 10,000 events, also those after one that failed.
+/// Executes at most 10,000 events of a case on the reference machine, also those after one that failed.
 pub fn played(alloc: Global, first: Plain, events: &[Event]) -> Result<Course, Complaint>
     requires { AreBelow opening_bound first.state }
 {
@@ -36,6 +36,7 @@ pub fn played(alloc: Global, first: Plain, events: &[Event]) -> Result<Course, C
     play(alloc, first, events)
 }
 
+/// Executes events of a case on the reference machine, each with its result.
 fn play(alloc: Global, first: Plain, events: &[Event]) -> Result<Course, Complaint>
     requires few { length events.now ≤ 10000 }
     requires low { AreBelow opening_bound first.state }

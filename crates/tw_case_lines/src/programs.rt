@@ -16,7 +16,7 @@ pub fn read_program(alloc: Global, bytes: &[u8]) -> Result<Program, Complaint> {
     }
 }
 
-/// Returns the text, and a complaint if the program has another encoding than these bytes.
+/// Returns a case's output, with a complaint if its program has another encoding than these bytes.
 pub fn with_bytes(
     alloc: Global,
     mut text: Text,
@@ -31,7 +31,7 @@ pub fn with_bytes(
     text.into_line()
 }
 
-/// Decodes and verifies a program.
+/// Decodes and verifies the program of a case.
 pub fn read_verified(alloc: Global, bytes: &[u8]) -> Result<Verified, Complaint> {
     match verify(alloc, read_program(alloc, bytes)?) {
         Ok(verified) => Ok(verified),
@@ -39,7 +39,7 @@ pub fn read_verified(alloc: Global, bytes: &[u8]) -> Result<Verified, Complaint>
     }
 }
 
-/// Adds a type as `cont tcont int`.
+/// Adds a type to a case's output as `cont tcont int`.
 pub fn put_type(text: &mut Text, ty: DataType) {
     let mut inner = ty;
     for _ in 0..DataType::MAX_DEPTH {

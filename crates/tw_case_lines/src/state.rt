@@ -26,6 +26,7 @@ pub fn put_state(text: &mut Text, state: &State) {
     put_data(text, state);
 }
 
+/// Adds the line of a running task to a case's output: its actor, task, procedure, place and count.
 fn put_frame(text: &mut Text, kind: &str, number: u8, frame: Option<&Frame>) {
     if let Some(frame) = frame {
         text.number(kind, u64::from(number));
@@ -37,6 +38,7 @@ fn put_frame(text: &mut Text, kind: &str, number: u8, frame: Option<&Frame>) {
     }
 }
 
+/// Adds the outputs' ids to a case's output, and a line for each live datum.
 fn put_data(text: &mut Text, state: &State) {
     text.put("outputs");
     for id in state.outputs() {
@@ -50,7 +52,7 @@ fn put_data(text: &mut Text, state: &State) {
     }
 }
 
-/// Adds a datum such as `d1 int 7 reads 1 writes 0 closed`.
+/// Adds a datum to a case's output, such as `d1 int 7 reads 1 writes 0 closed`.
 fn put_datum(text: &mut Text, number: u64, datum: &Datum) {
     text.number("d", number);
     text.put(" ");
@@ -65,7 +67,7 @@ fn put_datum(text: &mut Text, number: u64, datum: &Datum) {
     });
 }
 
-/// Adds a value, or the members by rising subscript, such as ` members 2 at -3 d5 at 8 d4`.
+/// Adds the content of a datum to a case's output: a value, or members by rising subscript, such as ` members 2 at -3 d5 at 8 d4`.
 fn put_content(text: &mut Text, datum: &Datum) {
     if datum.ty().depth() == 0 {
         match datum.value() {
@@ -84,7 +86,7 @@ fn put_content(text: &mut Text, datum: &Datum) {
     }
 }
 
-/// Adds a space and a value.
+/// Adds a space and a value to a case's output.
 pub fn put_value(text: &mut Text, value: &Value) {
     text.put(" ");
     match value {

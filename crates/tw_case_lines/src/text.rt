@@ -15,7 +15,7 @@ pub struct Text {
 }
 
 impl Text {
-    /// Returns an empty text.
+    /// Returns an empty output of a case.
     pub fn new(alloc: Global) -> Text {
         Text {
             bytes: Vec::new(alloc),
@@ -24,51 +24,51 @@ impl Text {
         }
     }
 
-    /// Returns what allocates its pieces.
+    /// Returns what allocates the pieces of a case's output.
     pub fn alloc(&self) -> Global {
         self.alloc
     }
 
-    /// Adds words.
+    /// Adds words to a case's output.
     pub fn put(&mut self, words: &str) {
         self.put_bytes(words.as_bytes());
     }
 
-    /// Adds bytes. If memory runs out, the text isn't whole.
+    /// Adds bytes to a case's output. If memory runs out, it isn't whole.
     pub fn put_bytes(&mut self, bytes: &[u8]) {
         self.is_whole &= self.bytes.extend_from_slice(bytes).is_ok();
     }
 
-    /// Adds another text.
+    /// Adds another text to a case's output.
     pub fn add(&mut self, other: &Text) {
         self.is_whole &= other.is_whole;
         self.put_bytes(other.bytes.as_slice());
     }
 
-    /// Adds words, followed by a number.
+    /// Adds words to a case's output, followed by a number.
     pub fn number(&mut self, words: &str, number: u64) {
         self.is_whole &= put_numbered(self.alloc, &mut self.bytes, words, number as usize).is_ok();
     }
 
-    /// Adds words, followed by `true` or `false`.
+    /// Adds words to a case's output, followed by `true` or `false`.
     pub fn put_flag(&mut self, words: &str, is_so: bool) {
         self.put(words);
         self.put(if is_so { "true" } else { "false" });
     }
 
-    /// Adds a complaint if the library's result differs.
+    /// Adds a complaint to a case's output if the library's result differs.
     pub fn put_other(&mut self, is_same: bool) {
         if !is_same {
             self.put(" but the library says something else");
         }
     }
 
-    /// Adds the line of an event.
+    /// Adds the line of an event to a case's output.
     pub fn event(&mut self, event: &Event) {
         self.is_whole &= put_event_line(self.alloc, &mut self.bytes, event).is_ok();
     }
 
-    /// Adds a value in the form for users.
+    /// Adds a value to a case's output in the form for users.
     pub fn display<T: Display>(&mut self, shown: &T) {
         match format!(in self.alloc; "{shown}") {
             Ok(text) => self.put(text.as_str()),
@@ -76,7 +76,7 @@ impl Text {
         }
     }
 
-    /// Adds a value in the form for debugging.
+    /// Adds a value to a case's output in the form for debugging.
     pub fn debug<T: Debug>(&mut self, shown: &T) {
         match format!(in self.alloc; "{shown:?}") {
             Ok(text) => self.put(text.as_str()),
@@ -84,28 +84,28 @@ impl Text {
         }
     }
 
-    /// Loses the text, because an allocation failed elsewhere.
+    /// Loses a case's output, because an allocation failed elsewhere.
     pub fn lose(&mut self) {
         self.is_whole = false;
     }
 
-    /// Returns the text so far.
+    /// Returns a case's output so far.
     pub fn written(&self) -> &[u8] {
         self.bytes.as_slice()
     }
 
-    /// Returns whether it equals the other text, and neither is lost.
+    /// Returns whether a case's output equals the other text, and neither is lost.
     pub fn is(&self, other: &Text) -> bool {
         self.is_whole && other.is_whole && self.bytes.as_slice() == other.bytes.as_slice()
     }
 
-    /// Returns whether it begins and ends with these texts.
+    /// Returns whether a case's output begins and ends with these texts.
     pub fn has_between(&self, first: &str, last: &str) -> bool {
         let bytes = self.bytes.as_slice();
         self.is_whole && bytes.starts_with(first.as_bytes()) && bytes.ends_with(last.as_bytes())
     }
 
-    /// Returns the text with a slash for each line end except the last.
+    /// Returns a case's output with a slash for each line end except the last.
     pub fn into_line(self) -> Result<String, Complaint> {
         let Text {
             bytes,

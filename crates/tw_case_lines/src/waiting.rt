@@ -26,6 +26,7 @@ pub fn put_waiting(text: &mut Text, state: &State) {
     }
 }
 
+/// Adds a line to a case's output for each pending rule, with the stages of its parameters.
 fn put_rules(text: &mut Text, state: &State) {
     for (number, rule) in state.rules() {
         text.number("r", *number);
@@ -44,6 +45,7 @@ fn put_rules(text: &mut Text, state: &State) {
     }
 }
 
+/// Adds the procedure, priority and target of a waiting task or a rule to a case's output.
 fn put_action(text: &mut Text, procedure: u8, priority: i64, target: Option<u8>) {
     text.number(" procedure ", u64::from(procedure));
     text.put(" priority ");
@@ -54,6 +56,7 @@ fn put_action(text: &mut Text, procedure: u8, priority: i64, target: Option<u8>)
     }
 }
 
+/// Adds an argument of a waiting task or a rule to a case's output: a value, or a datum's id.
 fn put_arg(text: &mut Text, arg: &Arg) {
     match arg {
         Arg::Value(value) => put_value(text, value),

@@ -9,7 +9,7 @@ use tw_handles::{Handle, take_text, verify};
 /// The content of each byte of a buffer before a call.
 const BLANK: u8 = b'.';
 
-/// Returns the arguments as the library takes them, each followed by this ending.
+/// Returns the arguments of a case as the library takes them, each followed by this ending.
 fn ended_words(alloc: Global, words: &[String], ending: &str) -> Text {
     let mut text = Text::new(alloc);
     for word in words {
@@ -19,11 +19,12 @@ fn ended_words(alloc: Global, words: &[String], ending: &str) -> Text {
     text
 }
 
+/// Returns whether a part of a buffer is still as it was before the library's call.
 fn is_blank(bytes: &[u8]) -> bool {
     bytes.iter().all(|byte| *byte == BLANK)
 }
 
-/// Returns whether only the beginning of a buffer is written, with this text; or nothing, if the text doesn't fit.
+/// Returns whether the library wrote only the beginning of a buffer, with this text; or nothing, if the text doesn't fit.
 fn is_filled(room: &[u8], text: &[u8]) -> bool {
     if room.len() < text.len() {
         return is_blank(room);
@@ -66,7 +67,7 @@ pub fn is_answered(
     is_so
 }
 
-/// Returns whether a handle holds this text.
+/// Returns whether a handle of the library holds this text.
 fn holds(alloc: Global, output: &mut Handle, text: &[u8]) -> bool {
     match take_text(alloc, output) {
         Some(kept) => kept.as_slice() == text,

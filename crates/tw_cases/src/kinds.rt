@@ -19,7 +19,8 @@ use tw_case_lines::{
     state_text, steps_text,
 };
 
-/// Runs a case, and returns its output. The fields are KIND WORDS, then what the kind reads: input, bytes, events.
+/// Runs a case of the command or the library, and returns its output. The fields are KIND WORDS, then what the kind reads: input,
+/// bytes, events.
 pub fn case_text<H: AllocGlobal + Files + Threads + Wait + Clock + Sync>(
     rt: &H,
     book: &Book,
@@ -95,7 +96,7 @@ fn program_kind(
     }
 }
 
-/// Runs a case that doesn't execute its program.
+/// Runs a case of the command or the library that doesn't execute its program.
 fn static_kind(
     alloc: Global,
     kind: &str,

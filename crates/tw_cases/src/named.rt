@@ -9,7 +9,8 @@ use tw_binary::encode;
 use tw_case_lines::Complaint;
 use tw_symbols::expanded_text;
 
-/// Returns the expanded text, with a slash for each line end; or `itself` if it has no names, or its first error.
+/// Returns the output of a case that expands a text, with a slash for each line end; `itself` if it has no names, or its first
+/// error.
 pub fn names_text(alloc: Global, text: &str) -> Result<String, Complaint> {
     let bytes = unescaped(alloc, text)?;
     let Ok(text) = String::from_utf8(bytes) else {
@@ -29,6 +30,7 @@ pub fn names_text(alloc: Global, text: &str) -> Result<String, Complaint> {
     }
 }
 
+/// Returns a case's text of several lines as one, with ` / ` between them.
 fn one_line(alloc: Global, plain: &str) -> Result<String, Complaint> {
     let line = plain.trim_matches('\n').replace(alloc, "\n", " / ")?;
     Ok(line.as_str().trim().to_string(alloc)?)
@@ -54,6 +56,7 @@ pub fn alike_text<R: AllocGlobal + Files>(rt: &R, files: &str) -> Result<String,
     Ok(printed.to_string(rt.alloc())?)
 }
 
+/// Returns the encoding of the program of a case's assembly text, or complains.
 fn bytes_of(alloc: Global, text: &str) -> Result<Vec<u8>, Complaint> {
     match assemble(alloc, text) {
         Ok(program) => Ok(encode(alloc, &program)?),

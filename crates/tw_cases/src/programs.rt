@@ -6,7 +6,7 @@ use tw_binary::decode;
 use tw_case_lines::{Complaint, Text, read_program, with_bytes};
 use tw_verify::verify;
 
-/// Returns `program`, or the fault's text.
+/// Returns the output of a case that decodes bytes: `program`, or the fault's text.
 pub fn decode_text(alloc: Global, bytes: &[u8]) -> Result<String, Complaint> {
     let mut text = Text::new(alloc);
     match decode(alloc, bytes) {
@@ -23,7 +23,7 @@ pub fn decode_text(alloc: Global, bytes: &[u8]) -> Result<String, Complaint> {
     }
 }
 
-/// Returns how many prefixes of the bytes lack bytes at their end; or the first prefix with another result.
+/// Returns how many prefixes of a program's bytes are rejected for missing bytes; or the first prefix with another result.
 pub fn prefixes_text(alloc: Global, bytes: &[u8]) -> Result<String, Complaint> {
     let mut text = Text::new(alloc);
     for length in 0..bytes.len() {
@@ -42,7 +42,7 @@ pub fn prefixes_text(alloc: Global, bytes: &[u8]) -> Result<String, Complaint> {
     text.into_line()
 }
 
-/// Returns `accepted`, or the error's text. The program is returned in both cases.
+/// Returns the output of a case that verifies a program: `accepted`, or the error's text. The program is returned in both cases.
 pub fn verify_text(alloc: Global, bytes: &[u8]) -> Result<String, Complaint> {
     let mut text = Text::new(alloc);
     match verify(alloc, read_program(alloc, bytes)?) {

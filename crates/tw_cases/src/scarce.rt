@@ -10,7 +10,7 @@ use std::thread::Threads;
 use std::time::{Clock, Duration};
 use tw_case_lines::{Complaint, Hoard, Text};
 
-/// Runs a session, which writes into a buffer without allocating.
+/// Runs a session of a case, which writes into a buffer without allocating.
 fn written<H: AllocGlobal + Threads + Wait + Clock + Sync>(
     rt: &H,
     words: &[String],
@@ -73,7 +73,7 @@ const STEP: usize = 256;
 /// How many sizes there are, up to 512 MiB: 513 to `SMALL`, and 12 doubled ones.
 const SIZES: usize = 525;
 
-/// Returns the size of memory after this one.
+/// Returns the size of memory with which a session is run after this one.
 fn next_size(bytes: usize) -> usize {
     if bytes < SMALL {
         bytes.wrapping_add(STEP)

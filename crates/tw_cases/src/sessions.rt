@@ -22,7 +22,7 @@ pub fn tw_text<H: AllocGlobal + Threads + Wait + Clock + Sync>(
     session_text(rt.alloc(), code, written, is_unread)
 }
 
-/// Runs a session. All sessions are called here, so that the contract of `session` is read once.
+/// Runs a session of a case. All sessions are called here, so that the contract of `session` is read once.
 fn status_of<H, R: InStream, W: OutStream>(
     rt: &H,
     words: &[String],
@@ -35,7 +35,7 @@ where
     session(rt, &NoGate, words, reader, writer)
 }
 
-/// Runs a session, and returns its status.
+/// Runs a session of a case, and returns its exit status.
 pub fn code_of<H, R: InStream, W: OutStream>(
     rt: &H,
     words: &[String],
@@ -48,7 +48,7 @@ where
     status_of(rt, words, reader, writer).code()
 }
 
-/// Returns the standard error of a session without input, or `nothing`.
+/// Returns the output of a case: the standard error of a session without input, or `nothing`.
 pub fn errors_text<H: AllocGlobal + Threads + Wait + Clock + Sync>(
     rt: &H,
     words: &str,
@@ -85,7 +85,8 @@ fn is_called(
     }
 }
 
-/// Runs a session. Returns its status, the number of unread bytes, and the text. If the library's result differs, returns `OTHERWISE` and no text.
+/// Runs a session of a case. Returns its status, the number of unread bytes, and the text. If the library's result differs,
+/// returns `OTHERWISE` and no text.
 pub fn ended<H: AllocGlobal + Threads + Wait + Clock + Sync>(
     rt: &H,
     words: &[String],
@@ -150,6 +151,7 @@ pub fn phrases_text<H: AllocGlobal + Threads + Wait + Clock + Sync>(
     }
 }
 
+/// Returns a session's status, and which of these phrases its text lacks.
 fn lacks_text(alloc: Global, code: u8, written: &str, phrases: &str) -> Result<String, Complaint> {
     let mut text = Text::new(alloc);
     text.number("", u64::from(code));
@@ -162,7 +164,7 @@ fn lacks_text(alloc: Global, code: u8, written: &str, phrases: &str) -> Result<S
     text.into_line()
 }
 
-/// Reads the pieces of an input, which are separated by ` then `.
+/// Reads the pieces of a session's input in a case, which are separated by ` then `.
 pub fn read_input(alloc: Global, book: &Book, text: &str) -> Result<Vec<u8>, Complaint> {
     let mut input = Vec::new(alloc);
     for part in text.split(" then ") {
@@ -185,11 +187,12 @@ fn read_part(alloc: Global, book: &Book, text: &str) -> Result<Vec<u8>, Complain
     }
 }
 
+/// Returns bytes of a session's input in hex digits.
 fn digits_of(alloc: Global, bytes: &[u8]) -> Result<Vec<u8>, Complaint> {
     Ok(hex::encode(alloc, bytes)?.into_bytes())
 }
 
-/// Returns the digits of bytes, a line `events`, and the lines, which commas separate.
+/// Returns a replay's input for a session: the digits of bytes, a line `events`, and the lines, which commas separate.
 fn with_history(
     alloc: Global,
     book: &Book,
@@ -202,6 +205,7 @@ fn with_history(
     Ok(input)
 }
 
+/// Returns the bytes of a text with escapes, this many times, for a session's input.
 fn repeated(alloc: Global, times: usize, text: &str) -> Result<Vec<u8>, Complaint> {
     let text = unescaped(alloc, text)?;
     Ok(text.as_slice().repeat(alloc, times)?)
@@ -244,7 +248,7 @@ fn is_known(printed: &str) -> bool {
     }
 }
 
-/// Returns the status, whether input was left unread, and the text, as one line.
+/// Returns a session's output as one line: the status, whether input was left unread, and the text.
 fn session_text(
     alloc: Global,
     code: u8,

@@ -42,7 +42,7 @@ fn printed<H: AllocGlobal + Files + Threads + Wait + Clock + Sync>(
     String::from_utf8(written).map_err(|_| Complaint::WrittenBytes)
 }
 
-/// Returns the output of a session that reads a file, if it names one, or these bytes.
+/// Returns the output of a session of a shown command that reads a file, if it names one, or these bytes.
 fn played<H: AllocGlobal + Files + Threads + Wait + Clock + Sync>(
     rt: &H,
     part: &str,

@@ -20,6 +20,7 @@ struct Source<'a> {
 }
 
 impl Read for Source<'_> {
+    /// Reads one byte of a case's input, or fails as the case says.
     fn read(&mut self, buf: &mut [u8]) -> io::Result<usize> {
         if self.calls == 0 {
             return Err(io::Error::from(self.kind));
@@ -46,6 +47,7 @@ struct Endless {
 }
 
 impl Read for Endless {
+    /// Fills the buffer with digits, as an input of a case that never ends.
     fn read(&mut self, buf: &mut [u8]) -> io::Result<usize> {
         buf.fill(b'1');
         self.given = self.given.saturating_add(buf.len());
@@ -63,6 +65,7 @@ struct Sink {
 }
 
 impl Write for Sink {
+    /// Takes at most three bytes of a session's output, until the case's room is full.
     fn write(&mut self, buf: &[u8]) -> io::Result<usize> {
         let left = self.room.saturating_sub(self.taken.len());
         let count = buf.len().min(left).min(3);
@@ -74,6 +77,7 @@ impl Write for Sink {
         Ok(count)
     }
 
+    /// Succeeds or fails as the case of a session's writer says.
     fn flush(&mut self) -> io::Result<()> {
         if self.is_flushed {
             Ok(())
@@ -92,6 +96,7 @@ struct Held<'a> {
 impl InStream for Held<'_> {
     ghost MayFail = { ⊥ };
 
+    /// Appends the rest of a case's input, or `most` bytes of it.
     fn read_most(&mut self, most: u64, input: &mut Vec<u8>) -> io::Result<()> {
         let count = usize::try_from(most)
             .unwrap_or(usize::MAX)
@@ -116,7 +121,7 @@ pub struct Room {
 }
 
 impl Room {
-    /// Makes a writer that has kept nothing.
+    /// Makes a writer of a session's output that has kept nothing.
     pub fn new() -> Room {
         Room {
             bytes: [0; 256],
@@ -125,7 +130,7 @@ impl Room {
         }
     }
 
-    /// Returns what was written, up to 256 bytes.
+    /// Returns what a session wrote, up to 256 bytes.
     pub fn written(&self) -> &[u8] {
         &self.bytes[..self.count.min(256)]
     }
@@ -134,6 +139,7 @@ impl Room {
 impl OutStream for Room {
     ghost MayFail = { ⊥ };
 
+    /// Keeps a session's output as far as there is room for it, and counts all of it.
     fn take_text(&mut self, text: &[u8]) -> io::Result<()> {
         for byte in text {
             if let Some(slot) = self.bytes.get_mut(self.count) {
@@ -144,20 +150,21 @@ impl OutStream for Room {
         Ok(())
     }
 
+    /// Notes that a session has flushed its output.
     fn hand_on(&mut self) -> io::Result<()> {
         self.is_handed_on = true;
         Ok(())
     }
 }
 
-/// Adds a status, and then what was written.
+/// Adds a session's status, and then what it wrote.
 pub fn put_reply(text: &mut Text, code: u8, written: &[u8]) {
     text.number("", u64::from(code));
     text.put(if written.is_empty() { "\n" } else { " " });
     text.put_bytes(written);
 }
 
-/// Returns the output of a session that reads from a source.
+/// Returns the output of a session of a case that reads from a source.
 fn over_source<H: AllocGlobal + Threads + Wait + Clock + Sync>(
     rt: &H,
     words: &[String],
@@ -196,6 +203,7 @@ fn failing<H: AllocGlobal + Threads + Wait + Clock + Sync>(
     text
 }
 
+/// Returns the output of a session whose input never ends, and how much of it was read.
 fn without_end<H: AllocGlobal + Threads + Wait + Clock + Sync>(rt: &H, words: &[String]) -> Text {
     let mut reader = Endless { given: 0 };
     let mut writer = Vec::new(rt.alloc());
@@ -229,7 +237,8 @@ fn into_sink<H: AllocGlobal + Threads + Wait + Clock + Sync>(
     (code, calls_after, taken)
 }
 
-/// Returns how many writers that are too small for the text have a full prefix of it, a session with status 7, and one call afterwards.
+/// Returns how many writers that are too small for a session's text have a full prefix of it, a session with status 7, and one
+/// call afterwards.
 fn full<H: AllocGlobal + Threads + Wait + Clock + Sync>(
     rt: &H,
     words: &[String],
@@ -281,6 +290,7 @@ fn steady<H: AllocGlobal + Threads + Wait + Clock + Sync>(
     text
 }
 
+/// Returns the output of a session whose arguments can't be read.
 fn unworded(alloc: Global, kind: ErrorKind) -> Text {
     let mut writer = Vec::new(alloc);
     let code = without_words(kind, &mut writer).code();

@@ -16,7 +16,7 @@ pub fn unescaped(alloc: Global, text: &str) -> Result<Vec<u8>, Complaint> {
     Ok(bytes)
 }
 
-/// Adds the bytes of a piece that follows a backslash.
+/// Adds the bytes of a piece of a case's text that follows a backslash.
 fn put_escaped(bytes: &mut Vec<u8>, piece: &str) -> Result<(), Complaint> {
     let (byte, rest) = escape(piece)?;
     bytes.push(byte)?;
@@ -24,7 +24,7 @@ fn put_escaped(bytes: &mut Vec<u8>, piece: &str) -> Result<(), Complaint> {
     Ok(())
 }
 
-/// Reads an escape. Returns its byte, and the rest.
+/// Reads an escape of a case's text. Returns its byte, and the rest.
 fn escape(piece: &str) -> Result<(u8, &str), Complaint> {
     if let Some(rest) = piece.strip_prefix('t') {
         return Ok((b'\t', rest));
@@ -38,6 +38,7 @@ fn escape(piece: &str) -> Result<(u8, &str), Complaint> {
     hex_escape(piece)
 }
 
+/// Reads an escape such as `x41` of a case's text. Returns its byte, and the rest.
 fn hex_escape(piece: &str) -> Result<(u8, &str), Complaint> {
     let Some((digits, rest)) = piece.split_at_checked(3) else {
         return Err(Complaint::Escape);
@@ -48,7 +49,7 @@ fn hex_escape(piece: &str) -> Result<(u8, &str), Complaint> {
     Ok((u8::from_str_radix(digits, 16)?, rest))
 }
 
-/// Reads the arguments of a command line. A pair of quotes is the empty argument.
+/// Reads the arguments of a command line in a case. A pair of quotes is the empty argument.
 pub fn read_words(alloc: Global, text: &str) -> Result<Vec<String>, Complaint> {
     let mut words = Vec::new(alloc);
     for word in text.split_whitespace() {
@@ -71,6 +72,7 @@ fn texts_word(alloc: Global, sizes: &str) -> Result<String, Complaint> {
     Ok(word)
 }
 
+/// Reads one argument of a command line in a case, with its escapes.
 fn read_word(alloc: Global, word: &str) -> Result<String, Complaint> {
     if let Some(sizes) = word.strip_prefix("texts:*") {
         return texts_word(alloc, sizes);

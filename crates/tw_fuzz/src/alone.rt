@@ -7,7 +7,8 @@ use std::{env, io};
 use tw_binary::decode;
 use tw_verify::{Verified, verify};
 
-/// Returns the bytes that the argument after `steps` has in hex digits, and the number in the argument after that, or 1 without one.
+/// Returns the program's bytes, which the argument after `steps` has in hex digits, and how often it runs: the next argument, or
+/// once.
 fn asked_of(rt: &(impl Env + AllocGlobal)) -> io::Result<(Vec<u8>, u32)> {
     let mut words = env::args(rt)?.skip(2);
     let bytes = match words.next() {

@@ -25,6 +25,7 @@ pub struct Case {
     pub seed: u64,
 }
 
+/// Assembles the text of a random program, if it is one.
 fn program_of(alloc: Global, text: &[u8]) -> Option<Program> {
     let Ok(text) = str::from_utf8(text) else {
         return None;
@@ -33,7 +34,7 @@ fn program_of(alloc: Global, text: &[u8]) -> Option<Program> {
 }
 
 impl Case {
-    /// Makes the reference machine before its first event.
+    /// Makes the reference machine of a random program's case before its first event.
     pub fn machine(&self, alloc: Global) -> Option<Plain>
         ensures { IfSome result (λ plain. AreBelow opening_bound plain.state) }
     {
@@ -45,7 +46,7 @@ impl Case {
     }
 }
 
-/// Returns the program of a text with a layout for it, if it is accepted.
+/// Returns the verified program of a random text, with a layout for it, if it is accepted.
 fn accepted(alloc: Global, seed: &mut u64, text: &[u8]) -> Option<(Verified, Layout)> {
     let program = program_of(alloc, text)?;
     let verified = verify(alloc, program).ok()?;

@@ -19,7 +19,7 @@ pub struct Code {
 }
 
 impl Code {
-    /// Makes an empty text, with empty registers.
+    /// Makes the empty text of a random program, with empty registers.
     pub fn new(alloc: Global) -> Code {
         Code {
             text: Vec::new(alloc),
@@ -31,27 +31,29 @@ impl Code {
         }
     }
 
-    /// Returns the text, if all allocations succeeded.
+    /// Returns the text of a random program, if all allocations succeeded.
     pub fn into_text(self) -> Option<Vec<u8>> {
         if self.is_whole { Some(self.text) } else { None }
     }
 
-    /// Begins another procedure.
+    /// Begins another procedure of a random program.
     pub fn clear(&mut self) {
         self.held = [None; 16];
         self.kept = [false; 16];
     }
 
-    /// Appends words.
+    /// Appends words to the text of a random program.
     pub fn put(&mut self, words: &str) {
         self.is_whole &= self.text.extend_from_slice(words.as_bytes()).is_ok();
     }
 
+    /// Appends a number to the text of a random program.
     fn number(&mut self, number: usize) {
         self.is_whole &= put_numbered(self.alloc, &mut self.text, "", number).is_ok();
     }
 
-    /// Appends words. Replaces each `#` by the number of the next register, and each `@` by that of the next label.
+    /// Appends words to a random program. Replaces each `#` by the number of the next register, and each `@` by that of the next
+    /// label.
     pub fn line(&mut self, words: &str, registers: &[u8], labels: &[usize]) {
         let (mut registers, mut labels) = (registers.iter(), labels.iter());
         for byte in words.bytes() {
@@ -63,28 +65,28 @@ impl Code {
         }
     }
 
-    /// Returns a label that no line has.
+    /// Returns a label that no line of a random program has.
     pub fn next_label(&mut self) -> usize {
         self.labels = self.labels.wrapping_add(1);
         self.labels
     }
 
-    /// Returns the content of a register.
+    /// Returns the content of a right register of a random procedure.
     pub fn at(&self, register: u8) -> Option<Right> {
         self.held[usize::from(register) % 16]
     }
 
-    /// Changes the content of a register.
+    /// Changes the content of a right register of a random procedure.
     pub fn set(&mut self, register: u8, held: Option<Right>) {
         self.held[usize::from(register) % 16] = held;
     }
 
-    /// Returns whether a register must not change.
+    /// Returns whether a right register of a random procedure must not change.
     pub fn is_kept(&self, register: u8) -> bool {
         self.kept[usize::from(register) % 16]
     }
 
-    /// Decides whether a register must not change from now on.
+    /// Decides whether a right register of a random procedure must not change from now on.
     pub fn keep(&mut self, register: u8, kept: bool) {
         self.kept[usize::from(register) % 16] = kept;
     }
@@ -101,17 +103,17 @@ impl Code {
         None
     }
 
-    /// Returns a register with the right that is sought.
+    /// Returns a random register with the right that is sought.
     pub fn find(&self, seed: &mut u64, want: Want) -> Option<u8> {
         self.search(seed, want, false)
     }
 
-    /// Returns a register with the right that is sought and that may change.
+    /// Returns a random register with the right that is sought and that may change.
     pub fn find_free(&self, seed: &mut u64, want: Want) -> Option<u8> {
         self.search(seed, want, true)
     }
 
-    /// Returns how many registers are empty.
+    /// Returns how many right registers of a random procedure are empty.
     pub fn room(&self) -> u8 {
         let mut count: u8 = 0;
         for register in 0..16_u8 {

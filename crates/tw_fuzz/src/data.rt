@@ -5,7 +5,7 @@ use crate::draw::draw;
 use crate::local::{int, text};
 use crate::rights::{Mode, Right, Ty, Want};
 
-/// Returns a value register of the type's scalar.
+/// Returns a value register of the type's scalar, for a random instruction.
 fn value(seed: &mut u64, ty: Ty) -> u8 {
     match ty {
         Ty::Text | Ty::Texts | Ty::Names => text(seed),
@@ -13,7 +13,7 @@ fn value(seed: &mut u64, ty: Ty) -> u8 {
     }
 }
 
-/// Returns a value register of the type of a container's subscripts.
+/// Returns a value register of the type of a container's subscripts, for a random instruction.
 fn subscript(seed: &mut u64, container: Ty) -> u8 {
     if container.is_by_text() {
         text(seed)
@@ -22,14 +22,14 @@ fn subscript(seed: &mut u64, container: Ty) -> u8 {
     }
 }
 
-/// Appends the prefix of the name of an instruction on a container.
+/// Appends the letter T of a random instruction on a container with texts as subscripts.
 fn put_letter(code: &mut Code, container: Ty) {
     if container.is_by_text() {
         code.put("T");
     }
 }
 
-/// Makes a datum. Returns the registers of its write and its read right.
+/// Writes a NEW of this type. Returns the registers of its write and its read right.
 pub fn put_new(code: &mut Code, seed: &mut u64, ty: Ty) -> Option<(u8, u8)> {
     let writer = code.find(seed, Want::Empty)?;
     code.set(writer, Some(Right::new(Mode::Write, ty)));
@@ -44,7 +44,7 @@ pub fn put_new(code: &mut Code, seed: &mut u64, ty: Ty) -> Option<(u8, u8)> {
     Some((writer, reader))
 }
 
-/// Copies a right. Returns the register of the copy.
+/// Writes a DUPR or DUPW of a right. Returns the register of the copy.
 pub fn put_double(code: &mut Code, seed: &mut u64, register: u8) -> Option<u8> {
     let right = code.at(register)?;
     let second = code.find(seed, Want::Empty)?;
@@ -85,12 +85,13 @@ fn put_one_spent(code: &mut Code, seed: &mut u64, want: Want) {
     }
 }
 
-/// Returns a register with such a right, and the right's type.
+/// Returns a random register with such a right, and the right's type.
 fn found(code: &Code, seed: &mut u64, want: Want) -> Option<(u8, Ty)> {
     let register = code.find(seed, want)?;
     Some((register, code.at(register)?.ty))
 }
 
+/// Writes a GET, if a register has a `closed` right on a scalar.
 fn put_get(code: &mut Code, seed: &mut u64) {
     if let Some((register, ty)) = found(code, seed, Want::ClosedScalar) {
         code.line("GET v# d#\n", &[value(seed, ty), register], &[]);
@@ -111,6 +112,7 @@ fn put_insert_of(code: &mut Code, seed: &mut u64, container: u8, ty: Ty, member:
     );
 }
 
+/// Writes an INS, if registers have a container to write and a member for it.
 fn put_insert(code: &mut Code, seed: &mut u64) {
     let Some((container, ty)) = found(code, seed, Want::WriteContainer) else {
         return;
@@ -163,6 +165,7 @@ fn put_look_or_new(
     code.line("L@:\n", &[], &[done]);
 }
 
+/// Writes a LOOK, if a register has a closed container and another is empty.
 fn put_look(code: &mut Code, seed: &mut u64) {
     let Some(container) = code.find(seed, Want::ClosedContainer) else {
         return;
@@ -184,6 +187,7 @@ fn room_for_look(code: &Code, seed: &mut u64, container: u8) -> Option<(u8, Ty, 
     Some((member, ty, ty.element()?))
 }
 
+/// Writes SIZE and SUBAT, if a register has a closed container.
 fn put_size(code: &mut Code, seed: &mut u64) {
     let Some((container, ty)) = found(code, seed, Want::ClosedContainer) else {
         return;
@@ -194,6 +198,7 @@ fn put_size(code: &mut Code, seed: &mut u64) {
     code.line("SUBAT v# d# v# +0\n", &registers, &[]);
 }
 
+/// Writes a DUPR or DUPW of a right that is sought, if enough registers are empty.
 fn put_doubled(code: &mut Code, seed: &mut u64, want: Want) {
     if code.room() < 6 {
         return;
@@ -203,6 +208,7 @@ fn put_doubled(code: &mut Code, seed: &mut u64, want: Want) {
     }
 }
 
+/// Writes a NEW of a random type, if enough registers are empty.
 fn put_made(code: &mut Code, seed: &mut u64) {
     if code.room() >= 6 {
         let ty = Ty::next(seed);
@@ -210,7 +216,7 @@ fn put_made(code: &mut Code, seed: &mut u64) {
     }
 }
 
-/// Writes an instruction on data.
+/// Writes a random instruction on data.
 pub fn put_data(code: &mut Code, seed: &mut u64) {
     match draw(seed, 14) {
         0 | 1 => put_made(code, seed),

@@ -2,7 +2,7 @@
 
 ghost use Rattle.std.specs.Prelude.{◌<◌};
 
-/// Returns the next number of the sequence, below the bound.
+/// Returns the next number of the random sequence, below the bound.
 pub fn draw(seed: &mut u64, bound: u64) -> u8
     requires { 0 < bound }
 {
@@ -12,7 +12,7 @@ pub fn draw(seed: &mut u64, bound: u64) -> u8
     u8::try_from((*seed >> 33) % bound).unwrap_or(0)
 }
 
-/// Returns the seed of the program of a number.
+/// Returns the seed of the random program of a number.
 pub fn seed_of(number: u64) -> u64 {
     number
         .wrapping_add(1)

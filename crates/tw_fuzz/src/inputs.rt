@@ -7,12 +7,14 @@ use std::alloc::{AllocError, Global};
 use tw_types::{Input, InputText, Items, Layout};
 use tw_verify::Verified;
 
+/// Returns one of four short texts for a random input.
 fn next_text(alloc: Global, seed: &mut u64) -> Result<InputText, AllocError> {
     let words = ["", "7", "two", "-3"];
     let word = words[usize::from(draw(seed, 4)) % 4];
     Ok(InputText::from(word.to_string(alloc)?))
 }
 
+/// Returns up to four random integers by rising integers, the members of an input.
 fn next_ints(alloc: Global, seed: &mut u64) -> Result<Items<(i64, i64)>, AllocError> {
     let mut pairs = Vec::new(alloc);
     let mut subscript: i64 = -3;
@@ -25,6 +27,7 @@ fn next_ints(alloc: Global, seed: &mut u64) -> Result<Items<(i64, i64)>, AllocEr
     Ok(Items::from(pairs))
 }
 
+/// Returns up to three random texts by rising integers, the members of an input.
 fn next_texts(alloc: Global, seed: &mut u64) -> Result<Items<(i64, InputText)>, AllocError> {
     let mut pairs = Vec::new(alloc);
     let mut subscript: i64 = -3;
@@ -41,6 +44,7 @@ fn next_texts(alloc: Global, seed: &mut u64) -> Result<Items<(i64, InputText)>, 
 /// Texts that rise by their bytes; the programs use them too.
 const SUBSCRIPTS: [&str; 4] = ["", "-12", "7", "ab\n"];
 
+/// Returns random integers by some of four texts, the members of an input.
 fn next_words(alloc: Global, seed: &mut u64) -> Result<Items<(InputText, i64)>, AllocError> {
     let mut pairs = Vec::new(alloc);
     for subscript in &SUBSCRIPTS {
@@ -52,6 +56,7 @@ fn next_words(alloc: Global, seed: &mut u64) -> Result<Items<(InputText, i64)>, 
     Ok(Items::from(pairs))
 }
 
+/// Returns random texts by some of four texts, the members of an input.
 fn next_names(alloc: Global, seed: &mut u64) -> Result<Items<(InputText, InputText)>, AllocError> {
     let mut pairs = Vec::new(alloc);
     for subscript in &SUBSCRIPTS {
@@ -64,6 +69,7 @@ fn next_names(alloc: Global, seed: &mut u64) -> Result<Items<(InputText, InputTe
     Ok(Items::from(pairs))
 }
 
+/// Returns a random input of a type for a parameter of main.
 fn next_input(alloc: Global, seed: &mut u64, ty: Ty) -> Result<Input, AllocError> {
     match ty {
         Ty::Int => Ok(Input::Int(i64::from(draw(seed, 9)))),
@@ -75,7 +81,7 @@ fn next_input(alloc: Global, seed: &mut u64, ty: Ty) -> Result<Input, AllocError
     }
 }
 
-/// Returns inputs for main.
+/// Returns random inputs for main's parameters that take one.
 pub fn next_inputs(
     alloc: Global,
     seed: &mut u64,
@@ -91,7 +97,7 @@ pub fn next_inputs(
     Ok(inputs)
 }
 
-/// Returns a layout with all targets of the program.
+/// Returns a random layout with all targets of a random program.
 pub fn next_layout(seed: &mut u64, verified: &Verified) -> Option<Layout> {
     let (engines, workers) = verified.needs();
     let engines = engines.max(draw(seed, 4).wrapping_add(1));

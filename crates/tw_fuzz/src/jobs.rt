@@ -21,7 +21,7 @@ pub struct Stretch<'a> {
     pub steps: u64,
 }
 
-/// Runs a job, and the next one if it is short.
+/// Runs the job of a random program, and the next one if it is short.
 fn run_on<'a>(alloc: Global, frame: &mut Frame<'a>, job: Job<'a>) -> Option<Stretch<'a>>
     requires lent { job ≡ job_of frame.old }
     requires spent { frame.old.spent ≡ 0 }
@@ -42,7 +42,7 @@ fn run_on<'a>(alloc: Global, frame: &mut Frame<'a>, job: Job<'a>) -> Option<Stre
     Some(Stretch { done, steps })
 }
 
-/// Spends the task's rights.
+/// Spends the rights of a random program's task after its job was run.
 fn spend(task: Task) {
     let Task {
         no: _,
@@ -79,6 +79,7 @@ pub fn stretch_of(alloc: Global, verified: &Verified) -> Result<Option<Stretch<'
     Ok(stretch)
 }
 
+/// Returns whether a value of the reference machine is that of a job's register.
 fn is_same(value: &Value, other: ValueRef<'_>) -> bool {
     match (value, other) {
         (Value::Int(number), ValueRef::Int(other)) => *number == other,
@@ -87,7 +88,7 @@ fn is_same(value: &Value, other: ValueRef<'_>) -> bool {
     }
 }
 
-/// Returns whether the `Done` has this position after the job.
+/// Returns whether the `Done` of a random program has this position after the job.
 fn came_to(done: &Done<'_>, position: &Position) -> bool {
     if done.after_place() != position.place() {
         return false;
@@ -106,7 +107,7 @@ fn came_to(done: &Done<'_>, position: &Position) -> bool {
     true
 }
 
-/// Returns the position at the start of a procedure, with all registers blank.
+/// Returns the position at the start of a random procedure, with all registers blank.
 fn beginning(alloc: Global, procedure: &Procedure) -> Result<Position, AllocError> {
     let mut values = Vec::new(alloc);
     for ty in procedure.registers.as_slice() {
@@ -146,7 +147,7 @@ fn agrees(alloc: Global, bytes: &[u8], most: u64) -> Result<Option<bool>, AllocE
     }
 }
 
-/// Like `agrees`, but tries again if an allocation may have failed.
+/// Like `agrees`, but tries a random program's job again if an allocation may have failed.
 fn agrees_again(alloc: Global, bytes: &[u8], most: u64) -> Result<Option<bool>, AllocError> {
     match agrees(alloc, bytes, most) {
         Ok(Some(agrees)) => Ok(Some(agrees)),

@@ -14,29 +14,31 @@ const NUMBERS: [&str; 6] = ["0", "1", "2", "-3", "7", "9223372036854775807"];
 
 const WORDS: [&str; 4] = ["\"\"", "\"7\"", "\"-12\"", "\"ab\\n\""];
 
-/// Returns a value register of type int.
+/// Returns a random value register of type int.
 pub fn int(seed: &mut u64) -> u8 {
     INTS[usize::from(draw(seed, 3)) % 3]
 }
 
-/// Returns a value register of type text.
+/// Returns a random value register of type text.
 pub fn text(seed: &mut u64) -> u8 {
     TEXTS[usize::from(draw(seed, 2)) % 2]
 }
 
+/// Writes an INT with a random number.
 fn put_int(code: &mut Code, seed: &mut u64) {
     code.line("INT v# ", &[int(seed)], &[]);
     code.put(NUMBERS[usize::from(draw(seed, 6)) % 6]);
     code.put("\n");
 }
 
+/// Writes a TEXT with a random word.
 fn put_text(code: &mut Code, seed: &mut u64) {
     code.line("TEXT v# ", &[text(seed)], &[]);
     code.put(WORDS[usize::from(draw(seed, 4)) % 4]);
     code.put("\n");
 }
 
-/// Writes an instruction that may skip the next one, and that one.
+/// Writes a random local instruction that may skip the next one, and that one.
 fn put_choice(code: &mut Code, seed: &mut u64) {
     match draw(seed, 3) {
         0 => code.line("JLT v# v#", &[int(seed), int(seed)], &[]),
@@ -47,7 +49,7 @@ fn put_choice(code: &mut Code, seed: &mut u64) {
     put_int(code, seed);
 }
 
-/// Writes one or two local instructions.
+/// Writes one or two random local instructions.
 pub fn put_local(code: &mut Code, seed: &mut u64) {
     match draw(seed, 10) {
         0 | 1 => put_int(code, seed),

@@ -57,7 +57,7 @@ DROPW d0
 RET
 ";
 
-/// Returns the expected report.
+/// Returns the expected report of the long run.
 fn wanted(alloc: Global) -> Result<Vec<u8>, AllocError> {
     let mut text = Vec::new(alloc);
     put(&mut text, "out 0 cont int closed 6400\n")?;
@@ -70,6 +70,7 @@ fn wanted(alloc: Global) -> Result<Vec<u8>, AllocError> {
     Ok(text)
 }
 
+/// Returns the verified program of the long run.
 fn program(alloc: Global) -> Option<Verified> {
     let Ok(program) = assemble(alloc, PROGRAM) else {
         return None;
@@ -77,7 +78,7 @@ fn program(alloc: Global) -> Option<Verified> {
     verify(alloc, program).ok()
 }
 
-/// Makes one run with the greatest layout.
+/// Makes one long run with the greatest layout.
 fn run_of<R: Threads + Wait + Clock + Sync>(
     rt: &R,
     alloc: Global,

@@ -118,6 +118,7 @@ impl<R: Print + Threads + Wait + Clock + Sync> Verdicts<'_, R> {
     }
 }
 
+/// Returns the difference that a random program of this number shows, if there is one.
 fn of_program(number: Option<u64>) -> Difference {
     Some(("program", number?))
 }
@@ -130,6 +131,7 @@ enum Asked {
     Runs(u64),
 }
 
+/// Makes the fuzz tests that the arguments name, and prints how many agree.
 fn trials<R: AllocGlobal + Print + Threads + Wait + Clock + Sync>(
     rt: &R,
     asked: Asked,
@@ -157,6 +159,7 @@ fn trials<R: AllocGlobal + Print + Threads + Wait + Clock + Sync>(
     }
 }
 
+/// Runs the fuzz tests that the first argument names: all, those of jobs, or of so many programs.
 fn main(rt: HostRuntime) -> io::Result<()> {
     match env::args(&rt)?.nth(1) {
         None => trials(&rt, Asked::All),

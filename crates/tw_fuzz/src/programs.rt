@@ -15,7 +15,7 @@ pub struct Drawn {
     pub main: Signature,
 }
 
-/// Returns the number of a procedure to call, mostly a later one.
+/// Returns the number of a random procedure to call, mostly a later one.
 fn callee(seed: &mut u64, signatures: &[Signature], caller: u8) -> u8 {
     let count = signatures.len() as u64;
     let remaining = count.saturating_sub(u64::from(caller)).saturating_sub(1);
@@ -78,7 +78,7 @@ fn put_step(code: &mut Code, seed: &mut u64, signatures: &[Signature], caller: u
     }
 }
 
-/// Writes one procedure. Now and then rights are left, and the program is rejected.
+/// Writes one random procedure. Now and then rights are left, and the program is rejected.
 fn put_procedure(
     code: &mut Code,
     seed: &mut u64,
@@ -96,7 +96,7 @@ fn put_procedure(
     code.put("RET\n");
 }
 
-/// Returns main, and one to six other procedures.
+/// Returns the random signatures of main, and of one to six other procedures.
 fn next_signatures(
     alloc: Global,
     seed: &mut u64,
@@ -110,7 +110,7 @@ fn next_signatures(
     Ok(signatures)
 }
 
-/// Returns the next program of the sequence, unless an allocation fails.
+/// Returns the next random program of the sequence, unless an allocation fails.
 pub fn next_program(alloc: Global, seed: &mut u64) -> Option<Drawn> {
     let main = Signature::next_main(seed);
     let signatures = next_signatures(alloc, seed, main).ok()?;

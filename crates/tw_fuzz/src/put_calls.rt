@@ -16,7 +16,7 @@ const PRIORITIES: [&str; 6] = [
     " -9223372036854775808",
 ];
 
-/// Returns what a parameter's argument must be.
+/// Returns what an argument of a random RULE or PUT must be for a parameter.
 fn wanted(right: Right, is_rule: bool) -> Want {
     match right.mode {
         Mode::Write => Want::Write(right.ty),
@@ -26,7 +26,7 @@ fn wanted(right: Right, is_rule: bool) -> Want {
     }
 }
 
-/// Makes a right for a parameter, from another one or from a new datum. Returns its register.
+/// Makes a right for an argument of a random call, from another one or from a new datum. Returns its register.
 fn made(code: &mut Code, seed: &mut u64, right: Right, want: Want) -> Option<u8> {
     if !right.is_write() || right.is_container() {
         if let Some(other) = code.find(seed, want) {
@@ -62,12 +62,13 @@ struct Arguments {
 }
 
 impl Arguments {
+    /// Returns the registers that were chosen as arguments of a random call.
     fn given(&self) -> &[u8] {
         &self.registers[..usize::from(self.count) % 4]
     }
 }
 
-/// Chooses registers for the parameters, up to the first without one.
+/// Chooses registers for the arguments of a random call, up to the first parameter without one.
 fn choose(code: &mut Code, seed: &mut u64, callee: &Signature, is_rule: bool) -> Arguments {
     let mut arguments = Arguments {
         registers: [0; 3],
@@ -83,7 +84,7 @@ fn choose(code: &mut Code, seed: &mut u64, callee: &Signature, is_rule: bool) ->
     arguments
 }
 
-/// Writes a name with a procedure's number, and a priority: one in three is computed.
+/// Writes the name of a random RULE or PUT with a procedure's number, and a priority: one in three is computed.
 fn put_name(code: &mut Code, seed: &mut u64, number: u8, is_rule: bool) {
     let is_computed = draw(seed, 3) == 0;
     code.put(if is_rule { "RULE" } else { "PUT" });
@@ -95,7 +96,7 @@ fn put_name(code: &mut Code, seed: &mut u64, number: u8, is_rule: bool) {
     }
 }
 
-/// Writes the target and the values.
+/// Writes the target and the values of a random RULE or PUT.
 fn put_values(code: &mut Code, seed: &mut u64, callee: &Signature) {
     if draw(seed, 3) > 0 {
         code.put(" any");

@@ -10,7 +10,7 @@ use tw_report::{put_report, report_state};
 use tw_run_output::{events_of, report};
 use tw_types::Event;
 
-/// Returns whether an event executes at most a thousand million instructions.
+/// Returns whether an event of a fuzz test executes at most a thousand million instructions.
 fn is_short(event: Event) -> bool
     ensures { IsTrue result ↔ (size_of event ≤ 1000000000) }
 {
@@ -21,7 +21,7 @@ fn is_short(event: Event) -> bool
     }
 }
 
-/// Makes an event after `before` others. Returns whether it succeeded.
+/// Makes an event on the reference machine after `before` others. Returns whether it succeeded.
 pub fn goes(alloc: Global, plain: &mut Plain, event: &Event, before: usize) -> bool
     requires few { before ≤ 1000000 }
     requires low { AreBelow (opening_bound + 1000000000 * before) plain.old.state }
@@ -33,7 +33,7 @@ pub fn goes(alloc: Global, plain: &mut Plain, event: &Event, before: usize) -> b
     plain.step(alloc, *event).is_ok()
 }
 
-/// Returns the machine after the events, or `None` if one doesn't succeed.
+/// Returns the reference machine after the events of a random program's run, or `None` if one doesn't succeed.
 fn play(alloc: Global, first: Plain, events: &[Event]) -> Option<Plain>
     requires few { length events.now ≤ 1000000 }
     requires low { AreBelow opening_bound first.state }
@@ -47,7 +47,7 @@ fn play(alloc: Global, first: Plain, events: &[Event]) -> Option<Plain>
     Some(plain)
 }
 
-/// Returns the report of a state, with the run's last line.
+/// Returns the report of the reference machine's state after a random program's run, with the run's last line.
 fn text_of(alloc: Global, plain: &Plain, closing: Closing) -> Result<Vec<u8>, AllocError> {
     if closing != Closing::Limit || plain.ending().is_some() {
         return report_state(alloc, plain);
@@ -65,7 +65,7 @@ pub struct Ended {
     pub events: Vec<Event>,
 }
 
-/// Returns the results of a finished run.
+/// Returns the results of a finished run of a random program.
 pub fn end_of(alloc: Global, left: &Final, history: &History) -> Option<Ended> {
     let closing = left.closing()?;
     let text = report(alloc, left).ok()?;
@@ -85,7 +85,7 @@ pub fn has_report(alloc: Global, plain: &Plain, wanted: &Ended) -> bool {
     }
 }
 
-/// Returns whether the machine makes the events, and then has the same report.
+/// Returns whether the reference machine makes the events of a random program's run, and then has the same report.
 pub fn agrees(alloc: Global, first: Plain, events: &[Event], wanted: &Ended) -> bool
     requires { AreBelow opening_bound first.state }
 {

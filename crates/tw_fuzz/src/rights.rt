@@ -17,7 +17,7 @@ pub enum Ty {
 }
 
 impl Ty {
-    /// Returns the type in assembly.
+    /// Returns the type of a random program's register in assembly.
     pub fn words(self) -> &'static str {
         match self {
             Ty::Int => "int",
@@ -31,12 +31,12 @@ impl Ty {
         }
     }
 
-    /// Returns whether it is a container with texts as subscripts.
+    /// Returns whether a random program's type is a container with texts as subscripts.
     pub fn is_by_text(self) -> bool {
         matches!(self, Ty::Words | Ty::Names | Ty::Tables)
     }
 
-    /// Returns the type of a container's members.
+    /// Returns the type of a container's members, for a random program.
     pub fn element(self) -> Option<Ty> {
         match self {
             Ty::Int | Ty::Text => None,
@@ -58,7 +58,7 @@ impl Ty {
         }
     }
 
-    /// Returns a random type.
+    /// Returns a random type of data.
     pub fn next(seed: &mut u64) -> Ty {
         match draw(seed, 10) {
             0 => Ty::Rows,
@@ -77,7 +77,7 @@ pub enum Mode {
 }
 
 impl Mode {
-    /// Returns the mode in assembly, with a space after it.
+    /// Returns the mode of a random program's parameter in assembly, with a space after it.
     pub fn word(self) -> &'static str {
         match self {
             Mode::Closed => "closed ",
@@ -86,7 +86,7 @@ impl Mode {
         }
     }
 
-    /// Returns a random mode.
+    /// Returns a random mode of a parameter.
     pub fn next(seed: &mut u64) -> Mode {
         match draw(seed, 5) {
             0 | 1 => Mode::Closed,
@@ -104,17 +104,17 @@ pub struct Right {
 }
 
 impl Right {
-    /// Returns a right of this mode on a datum of this type.
+    /// Returns a right of a random program, of this mode on a datum of this type.
     pub fn new(mode: Mode, ty: Ty) -> Right {
         Right { mode, ty }
     }
 
-    /// Returns whether it is a write right.
+    /// Returns whether the right of a random program is a write right.
     pub fn is_write(self) -> bool {
         self.mode == Mode::Write
     }
 
-    /// Returns whether its datum is a container.
+    /// Returns whether the datum of a random program's right is a container.
     pub fn is_container(self) -> bool {
         self.ty.element().is_some()
     }
@@ -142,7 +142,7 @@ pub enum Want {
     ClosedScalar,
 }
 
-/// Returns whether a right is one that is sought.
+/// Returns whether a right of a random program is one that is sought.
 fn suits(right: Right, want: Want) -> bool {
     match want {
         Want::Empty => false,
@@ -157,7 +157,7 @@ fn suits(right: Right, want: Want) -> bool {
     }
 }
 
-/// Returns whether a register with this content is one that is sought.
+/// Returns whether a right register with this content is one that is sought for a random instruction.
 pub fn fits(held: Option<Right>, want: Want) -> bool {
     match held {
         Some(right) => suits(right, want),

@@ -21,7 +21,7 @@ enum Came {
     Astray,
 }
 
-/// Returns the actor of a place, if there is one.
+/// Returns the actor of a place in a fuzz test's rounds, if there is one.
 fn actor_at(layout: Layout, place: u8) -> Option<Actor>
     ensures { IfSome result (λ actor. is_in layout actor ≡ true) }
 {
@@ -33,7 +33,8 @@ fn actor_at(layout: Layout, place: u8) -> Option<Actor>
     if layout.has(actor) { Some(actor) } else { None }
 }
 
-/// Makes one step of an actor, with the `Done` that it kept. Runs a job that it is issued at once, and keeps its `Done`.
+/// Makes one step of an actor in a fuzz test's rounds, with the `Done` that it kept. Runs a job that it is issued at once, and
+/// keeps its `Done`.
 fn turn_one<'a>(
     alloc: Global,
     pool: &mut Pool<'a>,
@@ -56,7 +57,7 @@ fn turn_one<'a>(
     }
 }
 
-/// Makes one step for each actor, from the first on. Some are left out at random.
+/// Makes one step of a fuzz test for each actor, from the first on. Some are left out at random.
 fn turn_round<'a>(
     alloc: Global,
     pool: &mut Pool<'a>,
@@ -83,7 +84,8 @@ fn turn_round<'a>(
     Came::On
 }
 
-/// Makes steps until the run is over. Returns false if a result isn't one that may come, or if the run doesn't end.
+/// Makes steps of a fuzz test's rounds until the run is over. Returns false if a result isn't one that may come, or if the run
+/// doesn't end.
 fn turn_all<'a>(alloc: Global, pool: &mut Pool<'a>, seed: &mut u64) -> bool {
     let mut kept: Vec<Option<Done<'a>>> = Vec::new(alloc);
     for _place in 0..24_u8 {

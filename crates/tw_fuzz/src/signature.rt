@@ -15,12 +15,12 @@ pub struct Signature {
 }
 
 impl Signature {
-    /// Returns the rights of the parameters, in order.
+    /// Returns the rights of a random procedure's parameters, in order.
     pub fn rights(&self) -> &[Right] {
         &self.rights[..usize::from(self.count) % 4]
     }
 
-    /// Returns main, whose first parameter is an output.
+    /// Returns the random signature of main, whose first parameter is an output.
     pub fn next_main(seed: &mut u64) -> Signature {
         let mut rights = [Right::new(Mode::Write, Ty::next_of_main(seed)); 3];
         for k in 1..3_usize {
@@ -34,7 +34,7 @@ impl Signature {
         }
     }
 
-    /// Returns another procedure. One in four waits for a datum of the type that it writes.
+    /// Returns the random signature of another procedure. One in four waits for a datum of the type that it writes.
     pub fn next(seed: &mut u64) -> Signature {
         let mut rights = [Right::new(Mode::Write, Ty::Int); 3];
         for k in 0..3_usize {
@@ -52,7 +52,7 @@ impl Signature {
         }
     }
 
-    /// Appends the lines with which its procedure begins. The registers hold the arguments then.
+    /// Appends the lines with which a random procedure begins. The registers hold the arguments then.
     pub fn put_head(&self, code: &mut Code) {
         code.clear();
         code.put(if self.is_leaf {

@@ -32,24 +32,29 @@ struct Code {
 }
 
 impl Code {
+    /// Appends bytes to the code of a random program of local instructions.
     fn put(&mut self, bytes: &[u8]) {
         self.is_whole &= self.bytes.extend_from_slice(bytes).is_ok();
     }
 
+    /// Appends the bytes of one more instruction, and counts it.
     fn add(&mut self, bytes: &[u8]) {
         self.count = self.count.saturating_add(1);
         self.put(bytes);
     }
 }
 
+/// Returns one of the three random registers of type int.
 fn int_register(seed: &mut u64) -> u8 {
     draw(seed, 3)
 }
 
+/// Returns one of the three random registers of type text.
 fn text_register(seed: &mut u64) -> u8 {
     draw(seed, 3).saturating_add(3)
 }
 
+/// Adds the bytes of an INT with a random number.
 fn add_int(code: &mut Code, seed: &mut u64, to: u8) {
     let mut bytes = [1, to, 0, 0, 0, 0, 0, 0, 0, 0];
     let number = NUMBERS[usize::from(draw(seed, 5)) % 5];
@@ -59,13 +64,14 @@ fn add_int(code: &mut Code, seed: &mut u64, to: u8) {
     code.add(&bytes);
 }
 
+/// Adds the bytes of a TEXT with a random text.
 fn add_text(code: &mut Code, seed: &mut u64, to: u8) {
     let text = TEXTS[usize::from(draw(seed, 6)) % 6];
     code.add(&[2, to, 0, u8::try_from(text.len()).unwrap_or(0)]);
     code.put(text.as_bytes());
 }
 
-/// Adds a local instruction with a skip, or COPY, LEN or SHOW. `remaining` instructions follow it in its block.
+/// Adds a random local instruction with a skip, or COPY, LEN or SHOW. `remaining` instructions follow it in its block.
 fn add_other(code: &mut Code, seed: &mut u64, remaining: u8) {
     let skip = draw(seed, u64::from(remaining).saturating_add(1));
     let (int, left, right) = (int_register(seed), int_register(seed), int_register(seed));
@@ -92,7 +98,7 @@ fn add_other(code: &mut Code, seed: &mut u64, remaining: u8) {
     }
 }
 
-/// Adds fewer instructions than the bound, one after the other.
+/// Adds fewer random local instructions than the bound, one after the other.
 fn add_block(code: &mut Code, seed: &mut u64, bound: u64)
     requires { 0 < bound }
 {
@@ -113,7 +119,7 @@ fn add_block(code: &mut Code, seed: &mut u64, bound: u64)
     }
 }
 
-/// Adds a loop in a loop, with instructions before, between and after them, and RET.
+/// Adds a random loop in a loop, with instructions before, between and after them, and RET.
 fn add_loops(code: &mut Code, seed: &mut u64) {
     add_block(code, seed, 4);
     code.add(&[0x23, 0, draw(seed, 3).saturating_add(1)]);
@@ -127,8 +133,8 @@ fn add_loops(code: &mut Code, seed: &mut u64) {
     code.add(&[0x42]);
 }
 
-/// Returns the bytes of the next program of the sequence, unless an allocation fails. Its one procedure has the number of
-/// instructions that is written before them.
+/// Returns the bytes of the next random program of local instructions, unless an allocation fails. Its one procedure has the
+/// number of instructions that is written before them.
 pub fn next_program(alloc: Global, seed: &mut u64) -> Option<Vec<u8>> {
     let mut code = Code {
         bytes: Vec::new(alloc),

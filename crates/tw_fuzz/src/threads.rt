@@ -12,7 +12,7 @@ use tw_types::{Input, Layout};
 use tw_verify::Verified;
 use tw_workers::{NoGate, run};
 
-/// Makes a run in threads, one for each actor. Returns `None` if it can't be opened, or doesn't end.
+/// Makes a random program's run in threads, one for each actor. Returns `None` if it can't be opened, or doesn't end.
 pub fn run_in_threads<R: Threads + Wait + Clock + Sync>(
     rt: &R,
     alloc: Global,
@@ -27,6 +27,7 @@ pub fn run_in_threads<R: Threads + Wait + Clock + Sync>(
     }
 }
 
+/// Returns the results of a random program's run in threads from its closed host, if no seat's events differ.
 fn ended_of(alloc: Global, closed: &Closed) -> Option<Ended> {
     match closed {
         Closed::Ended {
@@ -38,7 +39,7 @@ fn ended_of(alloc: Global, closed: &Closed) -> Option<Ended> {
     }
 }
 
-/// Returns whether the trace of a run in threads is replayed to the same end.
+/// Returns whether the trace of a random program's run in threads is replayed to the same end.
 pub fn agrees_in_threads<R: Threads + Wait + Clock + Sync>(
     rt: &R,
     alloc: Global,

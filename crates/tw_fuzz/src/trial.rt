@@ -39,7 +39,7 @@ pub struct Tally {
     pub in_threads: Option<u64>,
 }
 
-/// Returns the actor and the steps of an event with steps.
+/// Returns the actor and the steps of an event Local of a random program's run.
 fn steps_of(event: Event) -> Option<(Actor, u64)> {
     match event {
         Event::Local(actor, steps) => Some((actor, steps)),
@@ -48,7 +48,7 @@ fn steps_of(event: Event) -> Option<(Actor, u64)> {
     }
 }
 
-/// Removes one step from the first event with steps.
+/// Removes one step from the first event Local of a run, for a control.
 fn slow(events: &mut [Event]) {
     for event in events.iter_mut() {
         if let Some((actor, steps)) = steps_of(*event) {
@@ -58,6 +58,7 @@ fn slow(events: &mut [Event]) {
     }
 }
 
+/// Changes the events of a run for a control: drops the last one, or one step.
 fn make_change(events: &mut Vec<Event>, change: Change) {
     match change {
         Change::None => {}
@@ -99,12 +100,14 @@ pub fn first_changed(alloc: Global, programs: u64, by: Change) -> Option<u64> {
     None
 }
 
+/// Keeps the number of the first random program that doesn't agree.
 fn note(first: &mut Option<u64>, number: u64, agrees: bool) {
     if !agrees && first.is_none() {
         *first = Some(number);
     }
 }
 
+/// Counts how a run of a random program ended.
 fn count_closing(tally: &mut Tally, closing: Closing) {
     match closing {
         Closing::Quiet => tally.quiet = tally.quiet.wrapping_add(1),
@@ -155,7 +158,7 @@ fn try_case<R: Threads + Wait + Clock + Sync>(
     tally.threads = tally.threads.wrapping_add(1);
 }
 
-/// Tests `programs` programs.
+/// Tests this many random programs.
 pub fn tried<R: Threads + Wait + Clock + Sync>(
     rt: &R,
     alloc: Global,

@@ -34,6 +34,7 @@ pub struct Talk {
 }
 
 impl Talk {
+    /// Adds the result of a step to a course's output, and compares it with the first after the stop.
     fn hear(&mut self, said: Said, number: u64) {
         match self.last_said {
             Some(before) => self.is_one &= before == (said, number),
@@ -48,7 +49,7 @@ impl Talk {
     }
 }
 
-/// Makes one step, and adds its result. Stops the run first if no step is left.
+/// Makes one step of a course, and adds its result. Stops the run first if no step is left.
 fn turn<K: Drop, T: Table<K>, R: Wait>(
     rt: &R,
     alloc: Global,
@@ -74,7 +75,7 @@ fn turn<K: Drop, T: Table<K>, R: Wait>(
     Ok(answer.said)
 }
 
-/// Makes an actor's steps until it is idle or the run is over. Returns whether the run is over.
+/// Makes an actor's steps in a course until it is idle or the run is over. Returns whether the run is over.
 fn turn_on<K: Drop, T: Table<K>, R: Wait>(
     rt: &R,
     alloc: Global,
@@ -98,7 +99,7 @@ fn turn_on<K: Drop, T: Table<K>, R: Wait>(
 /// The maximal number of actors.
 pub const PLACES: u8 = 24;
 
-/// Returns the actor of a place, if there is one: engines come first, then workers, then servers.
+/// Returns the actor of a place in the rounds of a course: engines come first, then workers, then servers.
 pub fn actor_at(layout: Layout, place: u8) -> Option<Actor> {
     let actor = match place {
         0..=3 => Actor::Engine(place),
@@ -108,6 +109,7 @@ pub fn actor_at(layout: Layout, place: u8) -> Option<Actor> {
     if layout.has(actor) { Some(actor) } else { None }
 }
 
+/// Makes the rounds of a course, a step of each actor, until the run is over for all.
 fn turn_rounds<K: Drop, T: Table<K>, R: Wait>(
     rt: &R,
     alloc: Global,
@@ -129,7 +131,7 @@ fn turn_rounds<K: Drop, T: Table<K>, R: Wait>(
     Err(Complaint::Endless)
 }
 
-/// Returns the text before a sign, and the number after it, or a number that no register has.
+/// Returns the text before a sign in a script's item, and the register after it, or a number that no register has.
 fn cut_register(text: &str, sign: char) -> Result<(&str, usize), Complaint> {
     match text.split_once(sign) {
         Some((before, number)) => Ok((before.trim(), number.parse::<usize>()?)),
@@ -137,7 +139,7 @@ fn cut_register(text: &str, sign: char) -> Result<(&str, usize), Complaint> {
     }
 }
 
-/// Takes the content of a register, if there is any.
+/// Takes the content of a register of a script, if there is any.
 fn taken<K: Drop>(kept: &mut [Option<K>], register: usize) -> Option<K> {
     match kept.get_mut(register) {
         Some(slot) => slot.take(),
@@ -166,7 +168,8 @@ fn turn_item<K: Drop, A: Table<K>, B: Table<K>, R: Wait>(
     Ok(())
 }
 
-/// Executes a script: `e0 <1 >2` is a step of e0 that submits the content of register 1, and puts its `Done` into register 2.
+/// Executes a script of a course: `e0 <1 >2` is a step of e0 that submits the content of register 1, and puts its `Done` into
+/// register 2.
 fn play<K: Drop, A: Table<K>, B: Table<K>, R: Wait>(
     rt: &R,
     alloc: Global,

@@ -15,7 +15,8 @@ pub struct Given {
     pub order: Order,
 }
 
-/// Reads a layout, then ` reversed` or ` shuffled`, ` limit N`, ` with INPUTS` and ` and INPUTS`, if they are there.
+/// Reads what a case of hosts is given: a layout, then ` reversed` or ` shuffled`, ` limit N`, ` with INPUTS` and ` and INPUTS`,
+/// if they are there.
 pub fn read_given(alloc: Global, words: &str) -> Result<Given, Complaint> {
     let (words, inputs) = words.split_once(" with ").unwrap_or((words, ""));
     let (inputs, others) = inputs.split_once(" and ").unwrap_or((inputs, inputs));

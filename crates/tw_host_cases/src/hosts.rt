@@ -48,6 +48,7 @@ fn open_pools<'a, N: Named>(
     }
 }
 
+/// Runs a course on a pool, beside a second one. Returns the results, the events and the remains.
 fn run_pool<'a, N: Named, R: Wait>(
     rt: &R,
     alloc: Global,
@@ -138,7 +139,7 @@ fn run_host<'a, N: Named, M: Named, R: Wait>(
     Ok(text)
 }
 
-/// Adds how many wakes were lost, if any.
+/// Adds how many wakes a course's host lost, if any.
 fn put_late(text: &mut Text, late: u64) {
     if late != 0 {
         text.number("late wakes ", late);
@@ -162,7 +163,7 @@ fn put_closed(text: &mut Text, closed: &Closed) {
     }
 }
 
-/// Adds why a run is over, its report, and its events.
+/// Adds what a course's run left: why it is over, its report, and its events.
 fn put_left(text: &mut Text, left: &Final, history: &History) {
     if let Some(closing) = left.closing() {
         let (said, number) = over(closing);
@@ -182,7 +183,7 @@ fn put_reported(text: &mut Text, events: &Events) {
     }
 }
 
-/// Adds the events of a run, or only those of one actor.
+/// Adds the events of a course's run, or only those of one actor.
 pub fn put_events(text: &mut Text, history: &History, actor: Option<Actor>) {
     for index in 0..history.len() {
         let event = history.event(index);
@@ -192,7 +193,7 @@ pub fn put_events(text: &mut Text, history: &History, actor: Option<Actor>) {
     }
 }
 
-/// Returns the actor that made an event.
+/// Returns the actor that made an event of a course's run.
 fn maker(event: Event) -> Actor {
     match event {
         Event::Take(actor) | Event::Local(actor, _) | Event::Call(actor) | Event::End(actor) => {
@@ -277,7 +278,7 @@ pub fn run_both<R: Wait>(
     }
 }
 
-/// Returns the results of a script's steps, each with its events.
+/// Returns the output of a case of steps: the results of a script's steps, each with its events.
 pub fn turns_text<R: Wait>(
     rt: &R,
     alloc: Global,
@@ -290,7 +291,7 @@ pub fn turns_text<R: Wait>(
     ran.talk.text.into_line()
 }
 
-/// Returns how many events a run in rounds has, and its report.
+/// Returns the output of a case in rounds: how many events the run has, and its report.
 pub fn rounds_text<R: Wait>(
     rt: &R,
     alloc: Global,

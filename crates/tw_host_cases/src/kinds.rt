@@ -14,7 +14,7 @@ use std::time::Clock;
 use tw_case_lines::{Book, Complaint, first_field, read_bytes, read_verified};
 use tw_verify::Verified;
 
-/// Runs a case, and returns its output. The fields are KIND WORDS, a program's bytes, and perhaps a script.
+/// Runs a case of hosts, and returns its output. The fields are KIND WORDS, a program's bytes, and perhaps a script.
 pub fn case_text<H: AllocGlobal + Threads + Wait + Clock + Sync>(
     rt: &H,
     book: &Book,
@@ -35,7 +35,7 @@ pub fn case_text<H: AllocGlobal + Threads + Wait + Clock + Sync>(
     }
 }
 
-/// Returns the kind with the first of its words, if there are several kinds of one name, and its layout and inputs.
+/// Returns the kind of a case of hosts with the first of its words, if several kinds have one name, and its layout and inputs.
 fn split_kind(first: &str) -> (&str, &str) {
     for kind in ["threads held", "woken slow"] {
         if let Some(words) = first.strip_prefix(kind) {
@@ -66,7 +66,7 @@ fn stepwise_text<H: AllocGlobal + Wait>(
     }
 }
 
-/// Runs a case of a whole run.
+/// Runs a case of hosts that makes a whole run: in threads, with scarce memory, or seat by seat.
 fn run_text<H: AllocGlobal + Threads + Wait + Clock + Sync>(
     rt: &H,
     kind: &str,

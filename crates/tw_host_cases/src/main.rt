@@ -24,7 +24,7 @@ use std::thread::Threads;
 use std::time::Clock;
 use tw_case_lines::{Book, Line, read_line};
 
-/// Executes a line. Returns what is to be printed.
+/// Executes a line of the cases of hosts. Returns what is to be printed.
 fn play_line<H: AllocGlobal + Threads + Wait + Clock + Sync>(
     rt: &H,
     book: &mut Book,
@@ -40,6 +40,7 @@ fn play_line<H: AllocGlobal + Threads + Wait + Clock + Sync>(
     }
 }
 
+/// Executes the lines of the cases of hosts on standard input, and prints how many are as expected.
 fn main(rt: HostRuntime) -> io::Result<()> {
     let mut book = Book::new(rt.alloc());
     for line in rt.lines(rt.alloc()) {

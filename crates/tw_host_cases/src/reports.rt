@@ -4,7 +4,7 @@ use tw_case_lines::Text;
 use tw_pool::Final;
 use tw_run_output::report;
 
-/// Adds the report of a run's end.
+/// Adds the report of a run's end to the output of a case of hosts.
 pub fn put_report(text: &mut Text, left: &Final) {
     match report(text.alloc(), left) {
         Ok(lines) => text.put_bytes(lines.as_slice()),

@@ -41,7 +41,7 @@ struct Lack<'h> {
     is_met: bool,
 }
 
-/// Makes an actor's steps until it is idle or the run is over.
+/// Makes an actor's steps with scarce memory until it is idle or the run is over.
 fn turn_on<K: Drop, T: Table<K>, R: Wait>(
     rt: &R,
     alloc: Global,
@@ -79,6 +79,7 @@ fn turn_on<K: Drop, T: Table<K>, R: Wait>(
     Came::Astray
 }
 
+/// Makes rounds with scarce memory, a step of each actor, until the run is over for all.
 fn turn_rounds<K: Drop, T: Table<K>, R: Wait>(
     rt: &R,
     alloc: Global,
@@ -138,8 +139,8 @@ fn run_with<'a, N: Named, R: Wait>(
     }
 }
 
-/// Runs a pool with more and more memory, up to the first run in which no allocation fails. Returns whether each has this report, or is closed early
-/// and can be read.
+/// Runs a pool with more and more memory, up to the first run in which no allocation fails. Returns whether each has this report,
+/// or is closed early and can be read.
 fn agree<R: Wait>(
     rt: &R,
     alloc: Global,

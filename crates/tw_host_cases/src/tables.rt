@@ -37,7 +37,7 @@ pub enum Said {
 }
 
 impl Said {
-    /// Returns the words that are printed.
+    /// Returns the words that are printed for the result of a step.
     pub fn words(self) -> &'static str {
         match self {
             Said::Quiet => "quiet",
@@ -54,7 +54,7 @@ impl Said {
         }
     }
 
-    /// Returns whether the run is over.
+    /// Returns whether the result of a step is that the run is over.
     pub fn is_over(self) -> bool {
         matches!(
             self,
@@ -62,7 +62,7 @@ impl Said {
         )
     }
 
-    /// Returns whether the actor has more to do.
+    /// Returns whether the actor has more to do after this result of a step.
     pub fn goes_on(self) -> bool {
         matches!(self, Said::Run | Said::Ended | Said::Went)
     }
@@ -77,6 +77,7 @@ pub struct Answer {
     pub is_short: bool,
 }
 
+/// Returns the result of a step without a job, with this number.
 fn bare(said: Said, number: u64) -> Answer {
     Answer {
         said,
@@ -102,7 +103,7 @@ fn with_done<'a, N: Named>(said: Said, done: Done<'a>, kept: &mut Option<Kept<'a
     }
 }
 
-/// Returns why a run is over.
+/// Returns why a run is over as the result of a step.
 pub fn over(closing: Closing) -> (Said, u64) {
     match closing {
         Closing::Quiet => (Said::Quiet, 0),
@@ -132,6 +133,7 @@ fn answer_of<'a, N: Named>(alloc: Global, turn: Turn<'a>, kept: &mut Option<Kept
     }
 }
 
+/// Returns the `Done` that a case has kept, without the name of its run.
 fn done_of<'a, N: Named>(kept: Option<Kept<'a, N>>) -> Option<Done<'a>>
     ensures { IsDoneOf N.run.program result }
 {
@@ -152,12 +154,13 @@ pub trait Table<K> {
         kept: &mut Option<K>,
     ) -> Option<Answer>;
 
+    /// Stops the run of a pool or a host in a case.
     fn stop<R: Wait>(&mut self, rt: &R);
 
     /// Returns the event of this index among those that are reported to an actor.
     fn reported(&self, actor: Actor, index: usize) -> Option<Event>;
 
-    /// Returns how many events are reported to an actor.
+    /// Returns how many events a pool or a host reports to an actor in a case.
     fn count(&self, actor: Actor) -> usize;
 }
 
@@ -169,7 +172,7 @@ pub struct Pooled<'a, N: Named> {
 }
 
 impl<'a, N: Named> Pooled<'a, N> {
-    /// Makes it of a pool of the run.
+    /// Makes a table of a pool of the run.
     pub fn new(pool: Pool<'a>) -> Pooled<'a, N>
         requires { pool.program ≡ N.run.program }
     {
@@ -179,7 +182,7 @@ impl<'a, N: Named> Pooled<'a, N> {
         }
     }
 
-    /// Closes the pool, and returns what it left and its events.
+    /// Closes the table's pool, and returns what it left and its events.
     pub fn shut(self) -> (Final, History) {
         let Pooled { pool, run: _ } = self;
         pool.shut()
@@ -187,6 +190,7 @@ impl<'a, N: Named> Pooled<'a, N> {
 }
 
 impl<'a, N: Named> Table<Kept<'a, N>> for Pooled<'a, N> {
+    /// Makes one step of an actor on the pool of a case, and runs its job.
     fn turn<R: Wait>(
         &mut self,
         _rt: &R,
@@ -202,10 +206,12 @@ impl<'a, N: Named> Table<Kept<'a, N>> for Pooled<'a, N> {
         Some(answer_of(alloc, turn, kept))
     }
 
+    /// Stops the run of the pool of a case.
     fn stop<R: Wait>(&mut self, _rt: &R) {
         self.pool.stop();
     }
 
+    /// Returns the event of this index in the pool of a case, whichever actor's it is.
     fn reported(&self, _actor: Actor, index: usize) -> Option<Event> {
         let history = self.pool.history();
         if index < history.len() {
@@ -215,6 +221,7 @@ impl<'a, N: Named> Table<Kept<'a, N>> for Pooled<'a, N> {
         }
     }
 
+    /// Returns the number of all events of the pool of a case.
     fn count(&self, _actor: Actor) -> usize {
         self.pool.history().len()
     }
@@ -237,6 +244,7 @@ pub struct Seated<'a, M: Named, N: Named> {
     ghost whole: { vec_len seats ≡ actor_count M.run.layout },
 }
 
+/// Returns the index of the seat of an actor in a case, if it has one.
 fn place_of<M: Named>(seats: &[Seat<M>], actor: Actor) -> Option<usize>
     ensures { IfSome result (λ place. place < length seats.now) }
 {
@@ -249,7 +257,7 @@ fn place_of<M: Named>(seats: &[Seat<M>], actor: Actor) -> Option<usize>
 }
 
 impl<'a, M: Named, N: Named> Seated<'a, M, N> {
-    /// Makes it of a host of the run, with all its seats.
+    /// Makes a table of a host of the run, with all its seats.
     pub fn new(host: Host<'a, M>, seats: Vec<Seat<M>>) -> Seated<'a, M, N>
         requires of { M.run.program ≡ N.run.program }
         requires whole { vec_len seats ≡ actor_count M.run.layout }
@@ -261,7 +269,7 @@ impl<'a, M: Named, N: Named> Seated<'a, M, N> {
         }
     }
 
-    /// Changes the order of the seats.
+    /// Changes the order of the seats of the table's host.
     pub fn reorder(&mut self, order: Order) {
         if order != Order::Kept {
             self.seats.reverse();
@@ -271,12 +279,12 @@ impl<'a, M: Named, N: Named> Seated<'a, M, N> {
         }
     }
 
-    /// Returns how many wakes were lost.
+    /// Returns how many wakes the table's host lost.
     pub fn missed_wakes<R: Wait>(&self, rt: &R) -> u64 {
         self.host.missed_wakes(rt)
     }
 
-    /// Closes the host.
+    /// Closes the table's host with its seats.
     pub fn close(self) -> Closed {
         let Seated {
             host,
@@ -288,6 +296,7 @@ impl<'a, M: Named, N: Named> Seated<'a, M, N> {
 }
 
 impl<'a, M: Named, N: Named> Table<Kept<'a, N>> for Seated<'a, M, N> {
+    /// Makes one step of an actor's seat on the host of a case, and runs its job.
     fn turn<R: Wait>(
         &mut self,
         rt: &R,
@@ -303,10 +312,12 @@ impl<'a, M: Named, N: Named> Table<Kept<'a, N>> for Seated<'a, M, N> {
         }
     }
 
+    /// Stops the run of the host of a case.
     fn stop<R: Wait>(&mut self, rt: &R) {
         self.host.stop(rt);
     }
 
+    /// Returns the event of this index in the list of an actor's seat.
     fn reported(&self, actor: Actor, index: usize) -> Option<Event> {
         let place = place_of(self.seats.as_slice(), actor)?;
         let events = self.seats[place].events();
@@ -317,6 +328,7 @@ impl<'a, M: Named, N: Named> Table<Kept<'a, N>> for Seated<'a, M, N> {
         }
     }
 
+    /// Returns the number of events in the list of an actor's seat.
     fn count(&self, actor: Actor) -> usize {
         match place_of(self.seats.as_slice(), actor) {
             Some(place) => self.seats[place].events().len(),

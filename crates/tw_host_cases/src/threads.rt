@@ -35,6 +35,7 @@ struct Watch {
 }
 
 impl Watch {
+    /// Makes the job observer of a case that counts calls, before a run; `holds` is whether it delays the first job.
     fn new(alloc: Global, holds: bool) -> Result<Watch, AllocError> {
         let mut tasks = Vec::new(alloc);
         for _ in 0..24_u8 {
@@ -52,6 +53,7 @@ impl Watch {
         })
     }
 
+    /// Counts a call of the observer, and notes a fault if the actor's task isn't the expected one.
     fn change(&self, actor: Actor, from: u64, to: u64, count: &AtomicU64) {
         let is_so = match self.tasks.get(place_of(actor)) {
             Some(task) => task.swap(to, Ordering::SeqCst) == from,
@@ -63,7 +65,7 @@ impl Watch {
         count.fetch_add(1, Ordering::SeqCst);
     }
 
-    /// Waits for the job of another actor.
+    /// Waits in a job of a case until another worker has one.
     fn hold<R: Wait>(&self, rt: &R) {
         let nobody = AtomicU64::new(0);
         for _ in 0..MOST_LOOKS {
@@ -75,6 +77,7 @@ impl Watch {
         self.is_broken.store(true, Ordering::SeqCst);
     }
 
+    /// Notes that a worker has a job: the first one waits for another worker's.
     fn come<R: Wait>(&self, rt: &R, worker: u64) {
         match self
             .first
@@ -90,6 +93,7 @@ impl Watch {
     }
 }
 
+/// Returns the place of an actor in the observer's list of tasks.
 fn place_of(actor: Actor) -> usize {
     match actor {
         Actor::Engine(number) => usize::from(number),
@@ -99,6 +103,7 @@ fn place_of(actor: Actor) -> usize {
 }
 
 impl Gate for Watch {
+    /// Counts a job that begins, and delays the first worker's if the case is to hold it.
     fn before_job<R: Wait>(&self, rt: &R, actor: Actor, task: u64) {
         self.change(actor, 0, task, &self.before);
         if let Actor::Worker(number) = actor {
@@ -108,10 +113,12 @@ impl Gate for Watch {
         }
     }
 
+    /// Counts a job that has ended, for the output of the case.
     fn after_job<R: Wait>(&self, _rt: &R, actor: Actor, task: u64) {
         self.change(actor, task, 0, &self.after);
     }
 
+    /// Keeps how many wakes of idle threads were late, for the output of the case.
     fn missed_wakes(&self, late: u64) {
         self.late.store(late, Ordering::SeqCst);
     }
@@ -134,7 +141,7 @@ fn put_seen(text: &mut Text, watch: &Watch) {
     text.put("\n");
 }
 
-/// Adds how many events there are, the events if `is_traced`, and the report.
+/// Adds the end of a run in threads to a case's output: how many events there are, the events if `is_traced`, and the report.
 pub fn put_end(text: &mut Text, closed: &Closed, is_traced: bool) {
     let Closed::Ended {
         history,

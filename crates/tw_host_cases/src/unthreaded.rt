@@ -14,7 +14,8 @@ use tw_workers::{NoGate, run};
 /// The size of the smallest piece of memory that is large enough for a stack, in bytes.
 const STACK: usize = 1 << 22;
 
-/// Runs a program in threads while no free piece of memory is large enough for a stack. Complains if the run isn't opened, or isn't out of memory.
+/// Runs a program in threads while no free piece of memory is large enough for a thread's stack. Complains if the run isn't
+/// opened, or isn't out of memory.
 fn run_without_stacks<H: AllocGlobal + Threads + Wait + Clock + Sync>(
     rt: &H,
     verified: &Verified,
@@ -32,7 +33,7 @@ fn run_without_stacks<H: AllocGlobal + Threads + Wait + Clock + Sync>(
     }
 }
 
-/// Checks that the reference machine makes the events of a closed host.
+/// Checks that the reference machine makes the events of a host that could start no thread.
 fn stepped_text(
     alloc: Global,
     bytes: &[u8],

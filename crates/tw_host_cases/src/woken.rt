@@ -34,6 +34,7 @@ struct Onlooker {
 }
 
 impl Onlooker {
+    /// Makes the job observer of a case on wakes, whose jobs wait for this many milliseconds.
     fn new(pause: u64) -> Onlooker {
         Onlooker {
             pause,
@@ -60,10 +61,12 @@ impl Onlooker {
 impl Gate for Onlooker {
     ghost unwatched = { Unit {0} };
 
+    /// Returns that the observer of a case on wakes needn't see each job.
     fn watches(&self) -> bool {
         false
     }
 
+    /// Waits before a job for as many milliseconds as the case on wakes says.
     fn before_job<R: Wait>(&self, rt: &R, _actor: Actor, _task: u64) {
         if self.pause != 0 {
             let nobody = AtomicU64::new(0);
@@ -71,8 +74,10 @@ impl Gate for Onlooker {
         }
     }
 
+    /// Does nothing after a job of a case on wakes.
     fn after_job<R: Wait>(&self, _rt: &R, _actor: Actor, _task: u64) {}
 
+    /// Looks at the run of a case each millisecond, and notes that it saw its end.
     fn monitor<R: Wait + Clock, P: Progress>(&self, rt: &R, run: &P) {
         let nobody = AtomicU64::new(0);
         for _ in 0..MOST_LOOKS {
@@ -84,12 +89,13 @@ impl Gate for Onlooker {
         }
     }
 
+    /// Keeps how many wakes of idle threads were late, for the case on wakes.
     fn missed_wakes(&self, late: u64) {
         self.late.store(late, Ordering::SeqCst);
     }
 }
 
-/// Adds the report of a closed host. Returns whether its seats got its events.
+/// Adds the report of a closed host to the output of a case on wakes. Returns whether its seats got its events.
 fn put_left(text: &mut Text, closed: &Closed) -> bool {
     let Closed::Ended { outcome, .. } = closed else {
         text.put("a seat has other events");
