@@ -14,10 +14,21 @@ import walks  # noqa: E402
 
 MAIN = """/// Begins.
 fn main() {
+    // Not noted(2).
+    let named = made::<Vec<u8>>();
     read(1)
 }
 
-pub(crate) fn unused() {}
+/// Like noted(3).
+pub(crate) fn unused() {
+    unused()
+}
+
+fn noted(x: u8) {}
+
+fn named() {}
+
+fn made() {}
 """
 PARTS = """impl Parts {
     /// Reads.
@@ -76,24 +87,31 @@ class Walks(unittest.TestCase):
         """A later walk may follow the steps of an earlier one."""
         self.assertEqual(self.faults(DOCUMENT), [])
 
+    def fault_of(self, old: str, new: str) -> str:
+        """Returns the one thing that is wrong after an edit of the document."""
+        found = self.faults(DOCUMENT.replace(old, new))
+        self.assertEqual(len(found), 1, found)
+        return found[0]
+
     def test_moved_function(self) -> None:
         """A function has to be in the file that is named before it."""
-        self.assertEqual(
-            self.faults(DOCUMENT.replace("2. `top/src/parts.rt`", "2. `top/src/main.rt`")),
-            ["`run` of text: top/src/main.rt has no function pieces"],
-        )
+        fault = self.fault_of("2. `top/src/parts.rt`", "2. `top/src/main.rt`")
+        self.assertEqual(fault, "`run` of text: top/src/main.rt has no pieces that a step before calls")
 
     def test_missing_file(self) -> None:
-        """A file has to be there."""
-        found = self.faults(DOCUMENT.replace("main.rt`: `main`", "gone.rt`: `main`"))
-        self.assertEqual(found[0], "`run` of text: there is no top/src/gone.rt")
+        """A file has to be there, also that of the first step."""
+        fault = self.fault_of("Step 1 is as above.\n\n1. `top/src/parts.rt`", "It begins late.\n\n1. `top/src/gone.rt`")
+        self.assertEqual(fault, "Second walk: top/src/gone.rt has no pieces that a step before calls")
 
     def test_unreached_step(self) -> None:
-        """A step has to be named in the body of one before; its own body doesn't count."""
-        self.assertEqual(
-            self.faults(DOCUMENT.replace("`pieces`.\n\n**", "`pieces`. `top/src/main.rt`: `unused`.\n\n**")),
-            ["`run` of text: no function named before top/src/main.rt's unused names it"],
-        )
+        """A body before has to call the step; its own body doesn't count, nor do comments and names that aren't called."""
+        for name in ("unused", "noted", "named"):
+            fault = self.fault_of("`pieces`.\n\n**", f"`pieces`. `top/src/main.rt`: `{name}`.\n\n**")
+            self.assertEqual(fault, f"`run` of text: top/src/main.rt has no {name} that a step before calls")
+
+    def test_calls_with_types(self) -> None:
+        """A call may name its types."""
+        self.assertEqual(self.faults(DOCUMENT.replace("`pieces`.\n\n**", "`pieces`. `top/src/main.rt`: `made`.\n\n**")), [])
 
 
 if __name__ == "__main__":

@@ -188,6 +188,38 @@ class Code(unittest.TestCase):
         self.assertEqual(self.found("`tw_a::gone`, `tw_a::Two::five` and\n`tw_b::one`\n"), [(1, "tw_a has no gone"), (1, "tw_a has no five"), (2, "tw_b has no one")])
 
 
+class Files(unittest.TestCase):
+    """Other files and folders that documents name, in a repository that is no clone."""
+
+    def found(self, text: str) -> list[tuple[int, str]]:
+        """Returns what a document of docs/ names that isn't there."""
+        with tempfile.TemporaryDirectory() as folder:
+            for name in ("docs/more/A.md", "tools/a.py", "crates/tw_a/proofs/B.antt", "crates/tw_code/specs/machine/C.antt"):
+                pathlib.Path(folder, name).parent.mkdir(parents=True)
+                pathlib.Path(folder, name).write_text("", encoding="utf-8")
+            words.first_parts.cache_clear()
+            self.addCleanup(words.first_parts.cache_clear)
+            with mock.patch.object(words, "ROOT", pathlib.Path(folder)):
+                return [(it.line, it.text) for it in words.dead_files("docs/D.md", words.markdown_lines(text))]
+
+    def test_what_is_there_is_no_finding(self) -> None:
+        self.assertEqual(self.found("`tools/a.py`, `docs/more/`, `tw_a/proofs/B`, `tw_a/proofs/B.antt`, `machine/C` and `crates/tw_code/specs/machine`\n"), [])
+
+    def test_files_are_found_beside_the_document(self) -> None:
+        self.assertEqual(self.found("`tools/A.md`\n"), [(1, "there is no tools/A.md")])
+        self.assertEqual(self.found("`more/A.md`\n"), [])
+
+    def test_what_isnt_there(self) -> None:
+        self.assertEqual(self.found("A.\n\n- `tools/b.py` and\n  `docs/more/B.md`\n"), [(3, "there is no tools/b.py"), (4, "there is no docs/more/B.md")])
+        self.assertEqual(self.found("`machine/D`, `tw_b/proofs`, `crates/tw_a/specs`\n"), [(1, f"there is no {it}") for it in ("machine/D", "tw_b/proofs", "crates/tw_a/specs")])
+
+    def test_other_spans_are_left_out(self) -> None:
+        self.assertEqual(self.found("`1/2`, `a/b`, `/tools/b`, `tools/b c`, `tools/*.c`, `crates/NAME/tests` and `crates/tw_a/out/b`\n\n```\n`tools/b`\n```\n"), [])
+
+    def test_sources_and_definitions_have_checks_of_their_own(self) -> None:
+        self.assertEqual(self.found("`tw_a/src/b.rt`, and\n`tw_a/specs`: `machine/D`,\n`machine/E`. `tools/b`\n"), [(3, "there is no tools/b")])
+
+
 class Comments(unittest.TestCase):
     """Comments of sources."""
 
@@ -216,7 +248,7 @@ class Comments(unittest.TestCase):
 
 
 class Undocumented(unittest.TestCase):
-    """Public functions without a doc line."""
+    """Functions without a doc line, public or not."""
 
     def found(self, text: str) -> list[str]:
         return [it.text.split()[0] for it in words.undocumented("crates/a/src/a.rt", text)]
@@ -233,8 +265,15 @@ class Undocumented(unittest.TestCase):
     def test_an_empty_line_ends_it(self) -> None:
         self.assertEqual(self.found("/// A type.\n\npub fn add() {}\n"), ["add"])
 
-    def test_private_functions_may_have_none(self) -> None:
-        self.assertEqual(self.found("fn one() {}\npub(crate) fn two() {}\n"), [])
+    def test_private_functions_need_one(self) -> None:
+        self.assertEqual(self.found("fn one() {}\npub(crate) fn two() {}\npub unsafe extern \"C\" fn three() {}\n"), ["one", "two", "three"])
+
+    def test_methods_of_traits_need_one(self) -> None:
+        text = "trait T {\n    /// Says it.\n    fn one(&self);\n    fn two(&self);\n}\n\nimpl T for U {\n    ghost of = { x };\n\n    fn one(&self) {}\n}\n"
+        self.assertEqual(self.found(text), ["two", "one"])
+
+    def test_other_lines_are_none(self) -> None:
+        self.assertEqual(self.found("// fn one() {}\nlet two = fn_of(three);\nghost fn_four = { fn };\n"), [])
 
 
 class Counts(unittest.TestCase):

@@ -1,12 +1,13 @@
 #!/usr/bin/env python3
 # SPDX-License-Identifier: Apache-2.0
-"""Checks the walks of docs/ARCHITECTURE.md: each function that they name is in the file named before it, and its name is in the body of a function
-that the document names before it in a walk. So a reader finds each step from one before.
+"""Checks the walks of docs/ARCHITECTURE.md: each function that they name is called by one that they name before it. So a reader finds each step from
+one before.
 
     tools/walks.py           prints, for each walk, how many functions, files and crates it names
-    tools/walks.py --check   fails if a step isn't where it should be, or isn't reached by one before
+    tools/walks.py --check   fails if a step isn't reached by one before
 
-The first function of a walk needs none before it. Names aren't resolved: a call of a namesake counts, too.
+The first function of a walk needs none before it. Names aren't resolved: a call of a namesake counts, too. That a file and the function named after
+it are there is also what tools/words.py checks.
 """
 
 from __future__ import annotations
@@ -52,8 +53,9 @@ def steps_of(text: str) -> Iterator[Step]:
             yield Step(file, name)
 
 
-def bodies_of(source: str) -> dict[str, str]:
-    """Returns the bodies of a file's functions by their names; those of namesakes are joined."""
+def bodies_of(path: Path) -> dict[str, str]:
+    """Returns the bodies of a file's functions by their names, without comments; those of namesakes are joined. A missing file has none."""
+    source = re.sub(r"//.*", "", path.read_text(encoding="utf-8")) if path.is_file() else ""
     found: dict[str, str] = {}
     for part in re.split(r"^(?=\s*(?:pub(?:\(\w+\))? )?(?:const )?fn )", source, flags=re.M)[1:]:
         name = re.match(r"\s*(?:pub(?:\(\w+\))? )?(?:const )?fn (\w+)", part)
@@ -62,21 +64,20 @@ def bodies_of(source: str) -> dict[str, str]:
     return found
 
 
+def calls(body: str, function: str) -> bool:
+    """Says if a body calls a function, or a namesake."""
+    return bool(re.search(rf"\b{function}(?:::<[^()]*>)?\(", body))
+
+
 def faults_of(walks: list[Walk], crates: Path) -> Iterator[str]:
-    """Yields what is wrong with the walks: a file or a function that isn't there, and a step that none before it calls."""
+    """Yields the steps of the walks that none before them calls."""
     before: list[str] = []
     for walk in walks:
         for number, step in enumerate(walk.steps):
-            path = crates / step.file
-            bodies = bodies_of(path.read_text(encoding="utf-8")) if path.is_file() else None
-            if bodies is None:
-                yield f"{walk.title}: there is no {step.file}"
-            elif step.function not in bodies:
-                yield f"{walk.title}: {step.file} has no function {step.function}"
-            else:
-                if number > 0 and not any(re.search(rf"\b{step.function}\b", body) for body in before):
-                    yield f"{walk.title}: no function named before {step.file}'s {step.function} names it"
-                before.append(bodies[step.function])
+            body = bodies_of(crates / step.file).get(step.function)
+            if body is None or not (number == 0 or any(calls(other, step.function) for other in before)):
+                yield f"{walk.title}: {step.file} has no {step.function} that a step before calls"
+            before.append(body or "")
 
 
 def main() -> int:

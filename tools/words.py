@@ -7,8 +7,8 @@
     tools/words.py --counts   writes tools/words.json, the counts that comments may not exceed
     tools/words.py --words    prints the number of words of each Markdown file
 
-Markdown has to pass. Findings in comments, and public functions without a doc line, are counted by kind, and no count may rise. Code
-blocks, code spans and the exceptions below are left out.
+Markdown has to pass, and files, definitions and items that its code spans cite have to be there. Findings in comments, and functions without a
+doc line, are counted by kind, and no count may rise. Code blocks, code spans and the exceptions below are left out.
 """
 
 from __future__ import annotations
@@ -356,6 +356,35 @@ def dead_paths(path: str, lines: list[Line]) -> Iterator[Finding]:
                 yield Finding(path, lines[text.count("\n", 0, match.start())].number, "code", f"{match[1]} has no {name}")
 
 
+# Any other path in a document: `docs/STYLE.md`, `tw_asm/proofs`, `machine/Bounds` of tw_code/specs.
+FILES = re.compile(r"`(([\w.-]+)(?:/[\w.-]+)+)/?`")
+# Parts of paths that aren't looked up: any name, and a folder of made files.
+UNNAMED = {"NAME", "out"}
+
+
+@functools.cache
+def first_parts() -> frozenset[str]:
+    """Returns the folders of the repository's top, and those of tw_code/specs, which documents cite by their names."""
+    return frozenset(path.partition("/")[0] for path in files_here() if "/" in path) | {"format", "machine", "accepting"}
+
+
+def is_there(document: str, path: str) -> bool:
+    """Says if a path is a file or a folder for a reader of this document. The ending of definitions may be left out."""
+    folders = (ROOT, ROOT / "crates", (ROOT / document).parent, ROOT / "crates/tw_code/specs")
+    return any((folder / name).exists() for folder in folders for name in (path, f"{path}.antt"))
+
+
+def dead_files(path: str, lines: list[Line]) -> Iterator[Finding]:
+    """Finds the files and folders that a document names, but neither as sources nor as definitions, and that aren't there."""
+    text = "\n".join(line.text for line in lines)
+    for pattern in (CODE, SPECS):
+        text = pattern.sub(lambda match: "\n" * match[0].count("\n"), text)
+    for match in FILES.finditer(text):
+        known = match[2] in first_parts() or match[2].startswith("tw_")
+        if known and not UNNAMED & set(match[1].split("/")) and not is_there(path, match[1]):
+            yield Finding(path, lines[text.count("\n", 0, match.start())].number, "code", f"there is no {match[1]}")
+
+
 def markdown_findings(documents: dict[str, list[Line]]) -> Iterator[Finding]:
     """Finds all that is wrong in Markdown."""
     for path, lines in documents.items():
@@ -363,18 +392,19 @@ def markdown_findings(documents: dict[str, list[Line]]) -> Iterator[Finding]:
         yield from wrong_words(path, prose)
         yield from long_sentences(path, prose)
         yield from dead_links(path, documents)
-        yield from [] if path in LOGS else [*dead_code(path, lines), *dead_paths(path, lines)]
+        if path not in LOGS:
+            yield from [*dead_code(path, lines), *dead_paths(path, lines), *dead_files(path, lines)]
     yield from repeated(documents)
 
 
-PUBLIC = re.compile(r"\s*pub (?:const |unsafe |extern \"C\" )*fn (\w+)")
+FUNCTION = re.compile(r"\s*(?:pub(?:\(\w+\))? )?(?:const |unsafe |extern \"C\" )*fn (\w+)")
 
 
 def undocumented(path: str, text: str) -> Iterator[Finding]:
-    """Finds public functions of Rattle without a doc line before them. Attributes may be between."""
+    """Finds functions of Rattle, public or not, without a doc line before them. Attributes may be between."""
     before = ""
     for number, line in enumerate(text.splitlines(), 1):
-        name = PUBLIC.match(line)
+        name = FUNCTION.match(line)
         if name and not before.lstrip().startswith("///"):
             yield Finding(path, number, "undocumented", f"{name[1]} has no doc line")
         if not line.lstrip().startswith("#["):
@@ -382,7 +412,7 @@ def undocumented(path: str, text: str) -> Iterator[Finding]:
 
 
 def source_findings(paths: Iterable[str]) -> Iterator[Finding]:
-    """Finds all that is wrong in the comments of sources, and public functions without one."""
+    """Finds all that is wrong in the comments of sources, and functions without one."""
     for path in paths:
         file = ROOT / path
         text = file.read_text(encoding="utf-8")
