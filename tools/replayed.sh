@@ -19,15 +19,18 @@ inputs_of() {
         first_subscript) echo 'tints:"a"=1,"b"=2' ;;
         mapreduce) echo ints:-1=2,4=3,5=-4 ;;
         matrix) echo ints:1=3,2=2 ;;
+        maximum) echo ints:-4=20,0=-3,7=25 ;;
         move_right) echo int:2 int:44 ;;
         pipeline) echo int:39 ;;
         read_member) echo ints:3=42 ;;
         read_number) echo text:41 ;;
+        row_products) echo ints:1=3,2=2 ints:1=5,2=-4 ;;
         sized_loop) echo ints:1=7,5=-3 ;;
+        sum_of_squares) echo ints:1=3,2=-4 ;;
         text_input) echo text:ab ;;
         texts) echo 'texts:1="4",2="x",3="-1"' ;;
         two_inputs) echo ints:1=7,5=-3 int:-4 ;;
-        words) echo 'texts:3="of",5="the",9="of"' ;;
+        word_count | word_runs | words) echo 'texts:3="of",5="the",9="of"' ;;
     esac
 }
 
