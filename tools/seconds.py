@@ -225,15 +225,18 @@ def in_session(words: list[str], text: Callable[[int], str]) -> None:
     """Compares sessions of more than a second with the option and without it."""
     turns, took = 250, 0.0
     while took < 1.2:
+        if turns == MANY:
+            raise Wrong(f"{MANY} turns end after {took:.3f} s, too soon for this check")
         turns = min(2 * turns, MANY)
         plain = session(words, text(turns))
+        expect("status without the option", plain[0], 0)
         status, answer, took = session([*words, "--seconds", "1"], text(turns))
         expect("status and text", (status, answer), plain[:2])
 
 
 def ignored(_: Given) -> None:
     """A session's run has its own end after more than that time, and so has each of its lines."""
-    in_session(["run", "--text", MOST_EVENTS], lambda turns: f"{TURNS}inputs\nint:{turns}\n")
+    in_session(["run", "--text", "--inputs", MOST_EVENTS], lambda turns: f"{TURNS}inputs\nint:{turns}\n")
     in_session(["run", "--text", "--each", MOST_EVENTS], lambda turns: f"{TURNS}inputs\n[{turns}]\n[0]\n[1]\n")
 
 
