@@ -32,8 +32,8 @@ TEXTS = {
     4: re.compile(r'(?m)^limit$|<svg|"status":"limit"}$'),
     6: re.compile(r'(?m)^trap C\d+ at event \d+$|"status":"trap"}$'),
 }
-# The status if a file can't be read.
-NO_FILE = 66
+# The statuses if arguments are rejected, and if a file can't be read.
+REJECTED, NO_FILE = 2, 66
 
 
 def answer_fault(answer: Answer) -> str | None:
@@ -47,24 +47,24 @@ def answer_fault(answer: Answer) -> str | None:
 # --- args
 
 
-def named_files(words: list[str]) -> list[str]:
-    """Returns the arguments that name files: the first after `--inputs` or `--each`, and the first other one that is no value and no input."""
-    program = inputs = ""
-    for before, word in zip(words, words[1:]) if words[:1] and words[0] in READING else ():
+def file_places(words: list[str]) -> list[int]:
+    """Returns where files are named: the first after `--inputs` or `--each`, and the first other argument that is no value and no input."""
+    program = inputs = 0
+    for place, (before, word) in enumerate(zip(words, words[1:]), 1) if words[:1] and words[0] in READING else ():
         if not word or word[0] == "-" and word != "-" or re.match("(int|ints|text|texts|tints|ttexts):", word):
             continue
         if before in ("--inputs", "--each") and not inputs:
-            inputs = word
+            inputs = place
         elif not program and before not in NUMBERED and (before, word) not in (("--bounds", "main"), ("--bounds", "all")):
-            program = word
-    return [name for name in (program, inputs) if name]
+            program = place
+    return [place for place in (program, inputs) if place]
 
 
 @dataclass(frozen=True)
 class ArgsTest(FuzzTest):
     """Any arguments: a known status with its text, and the program answers as the library does, or that a file can't be read.
 
-    It opens no file if the arguments are rejected, and takes a bare word, such as `7`, for an input if there is no such file."""
+    It opens no file if the other arguments are rejected, and takes a bare word, such as `7`, for an input if there is no such file."""
 
     words: tuple[str, ...]
     data: str
@@ -82,11 +82,15 @@ class ArgsTest(FuzzTest):
         if why or not self.by_program:
             return why
         status, text = library.command(self.line, self.data)
-        files = named_files(self.line)
+        places = file_places(self.line)
+        files = [self.line[place] for place in places]
         if "-" in files or files and status == NO_FILE:
             return None
         if files and not text.startswith("command line refused") and any("." in name or "/" in name for name in files):
             return f"program: status {status}, but {files} can't be read"
+        others = [word for place, word in enumerate(self.line) if place not in places]
+        if files and status == REJECTED and library.session(others, self.data) == (status, text):
+            return None
         if status != answer[0]:
             return f"program: status {status} {text[:100]!r}, the library {answer[0]} {answer[1][:100]!r}"
         return difference("program", answer[1], text)
