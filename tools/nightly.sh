@@ -157,10 +157,10 @@ run_counted() {
     printf '[39]\n[40]\n[41]\n[42]\n' >"$logs/lines"
     { cat "$clone/examples/pipeline.tw" && echo inputs && cat "$logs/lines"; } >"$logs/lines.both"
     # shellcheck disable=SC2016
-    all_lines refused 3600 '^[0-9]+ allocations|status 5, memory|status 0, (quiet|order same|at line [0-9]+ .*)$|status 0, \{"(events|line":4,|inputs)' sh -c '
+    all_lines refused 3600 '^[0-9]+ allocations|status 5, memory|status 0, (quiet|order same|at line [0-9]+ .*)$|status 0, \{"(events|line":4,|bounds)' sh -c '
         tools/refused.sh -n "$1" "$0" run --text int:39 <examples/pipeline.tw && tools/refused.sh -n "$1" "$0" run --text --json int:39 <examples/pipeline.tw &&
-        tools/refused.sh -n "$1" "$0" check --text --order <examples/pipeline.tw && tools/refused.sh -n "$1" "$0" check --text --order <examples/barrier.twn &&
-        tools/refused.sh -n "$1" "$0" check --text --order --json <examples/barrier.twn &&
+        tools/refused.sh -n "$1" "$0" check --text --order <examples/pipeline.tw && tools/refused.sh -n "$1" "$0" check --text --order --places --bounds=all <examples/barrier.twn &&
+        tools/refused.sh -n "$1" "$0" check --text --order --places --bounds=all --json <examples/barrier.twn &&
         tools/refused.sh -t "$0" run --text --workers 4 int:39 <examples/pipeline.tw &&
         tools/refused.sh -n "$1" "$0" run --text --order int:39 <examples/pipeline.tw &&
         tools/refused.sh -n "$1" "$0" run --text --json --order --in-turn int:39 <examples/pipeline.tw &&

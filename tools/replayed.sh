@@ -12,7 +12,7 @@ program=$("$root/tools/tw-pick.sh" tw_main) || exit
 room=$(mktemp -d)
 trap 'rm -rf "$room"' EXIT
 
-# The input words that an example's main takes.
+# The input words that an example's main takes; of those without a row here, the ones that `check` names.
 inputs_of() {
     case $1 in
         chain) echo ints:-4=20,0=-3,7=25 ;;
@@ -31,6 +31,7 @@ inputs_of() {
         texts) echo 'texts:1="4",2="x",3="-1"' ;;
         two_inputs) echo ints:1=7,5=-3 int:-4 ;;
         word_count | word_runs | words) echo 'texts:3="of",5="the",9="of"' ;;
+        *) "$program" check --json <"$room/hex" | sed -n 's/.*"inputs":\["\(.*\)"\],"needs".*/\1/p' | sed 's/","/ /g; s/\\"/"/g' ;;
     esac
 }
 
@@ -50,9 +51,9 @@ replay_once() {
 for file in "$root"/examples/*.tw "$root"/examples/*.twn; do
     [ ! -e "${file}n" ] || continue  # the expansion of the next one
     name=$(basename "${file%.tw*}")
-    words=$(inputs_of "$name")
     "$program" asm --names <"$file" >"$room/hex"
     "$program" check <"$room/hex" >"$room/check" || { echo "$name: $(cat "$room/check")"; continue; }
+    words=$(inputs_of "$name")
     count=0
     while [ "$count" -lt "$times" ]; do
         replay_once $((count % 4 + 1)) $((count / 4 % 4 + 1)) $(((count * 5 + count / 16) % 16 + 1)) || {
