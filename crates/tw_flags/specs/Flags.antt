@@ -4,6 +4,7 @@ use Rattle.std.specs.Prelude.{◌≡◌, Bool, List, [], ◌∷◌, ◌++◌}
 use Rattle.logbook.specs.Pages.{Book}
 use Rattle.tw_flags.specs.Settings.{is_raised}
 use Rattle.tw_flags.specs.declared.flag.FlagSignal.{FlagSignal}
+use Rattle.tw_flags.specs.declared.flag.SeenSettings.{SeenSettings}
 use Rattle.tw_flags.specs.declared.flag.StopFlag.{StopFlag}
 
 -- returns which flag the holder has
@@ -29,3 +30,15 @@ IsFlagOf flag signal = (signal.seen.book ≡ book_of flag) × (signal.seen.log �
 -- a look: the answer is whether the flag was raised after all settings that the run had seen, and perhaps settings of others
 abbrev pub IsSeen : FlagSignal → Bool → FlagSignal → Type 0
 IsSeen old answer new = (new.seen.book ≡ old.seen.book) × (others : List Bool) × (new.seen.log ≡ old.seen.log ++ others) × (answer ≡ is_raised new.seen.log)
+
+-- a run's signal has seen this
+abbrev pub HasSeen : FlagSignal → SeenSettings → Type 0
+HasSeen signal run = (run.seen.book ≡ signal.seen.book) × (run.seen.log ≡ signal.seen.log)
+
+-- the run looked at this flag
+abbrev pub IsOfFlag : StopFlag → SeenSettings → Type 0
+IsOfFlag flag run = run.seen.book ≡ book_of flag
+
+-- the holder has now seen what the run has
+abbrev pub HasCaughtUp : StopFlag → SeenSettings → StopFlag → Type 0
+HasCaughtUp old run new = (book_of new ≡ book_of old) × (settings_of new ≡ run.seen.log)

@@ -1,9 +1,9 @@
 //! Calls on a stop flag.
 
 ghost use Rattle.std.specs.Prelude.{◌≡◌, [], IfOk};
-ghost use Rattle.tw_flags.specs.Flags.{IsFlagOf, IsSeen, IsSet, IsShared, settings_of};
+ghost use Rattle.tw_flags.specs.Flags.{HasCaughtUp, HasSeen, IsFlagOf, IsOfFlag, IsSeen, IsSet, IsShared, settings_of};
 
-use crate::flag::{FlagSignal, StopFlag};
+use crate::flag::{FlagSignal, SeenSettings, StopFlag};
 use crate::rule::{FlagRule, Look, Nothing, Setting};
 use logbook::{Offer, Seen, Start, Word};
 use std::alloc::{AllocError, Global};
@@ -63,6 +63,23 @@ impl StopFlag {
             word: &self.word,
             seen: self.seen.again(),
         }
+    }
+
+    /// Lets the holder have seen what a run's signal has seen.
+    pub fn catch_up(&mut self, run: SeenSettings)
+        requires { IsOfFlag self.old run }
+        ensures { HasCaughtUp self.old run self.new }
+    {
+        self.seen = run.seen;
+    }
+}
+
+impl<'f> FlagSignal<'f> {
+    /// Ends the looks, and returns what the run has seen.
+    pub fn into_seen(self) -> SeenSettings
+        ensures { HasSeen self.entry result }
+    {
+        SeenSettings { seen: self.seen }
     }
 }
 

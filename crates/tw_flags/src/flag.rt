@@ -25,3 +25,9 @@ pub struct FlagSignal<'f> {
     pub(crate) seen: Seen<bool, bool, FlagRule>,
     pub(crate) ghost is_tracked: { word.now ≡ word_in seen.book },
 }
+
+/// What a run has seen of a flag, after the run. It has no bytes.
+#[derive(Drop)]
+pub struct SeenSettings {
+    pub(crate) seen: Seen<bool, bool, FlagRule>,
+}

@@ -5,5 +5,5 @@ mod calls;
 mod flag;
 mod rule;
 
-pub use flag::{FlagSignal, StopFlag};
+pub use flag::{FlagSignal, SeenSettings, StopFlag};
 pub use rule::FlagRule;

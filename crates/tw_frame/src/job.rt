@@ -1,13 +1,14 @@
 //! Jobs, and their results.
 
-ghost use Rattle.std.specs.Prelude.{◌≡◌, ◌<◌, ℕ, List, IfOk, IfSome, OnErr, Some, length, option_map, slice_get};
+ghost use Rattle.std.specs.Prelude.{◌≡◌, ◌<◌, ℕ, List, IfErr, IfOk, OnErr, Some, length, slice_get};
+ghost use Rattle.std.specs.Result.{result_map_both};
 ghost use Rattle.tw_types.specs.Value.{IsProper};
 ghost use Rattle.tw_types.specs.ValueOrder.{named};
 ghost use Rattle.tw_types.specs.declared.value.Value.TheVariants as value;
 ghost use Rattle.tw_code.specs.machine.Position.{with_value};
 ghost use Rattle.tw_frame.specs.Drafts.{MaySet};
 ghost use Rattle.tw_frame.specs.JobBuffers.{IsRun, IsRunOf, done_of};
-ghost use Rattle.tw_frame.specs.Jobs.{AreOf, IsDone, IsJob, MayBeAt, position_of};
+ghost use Rattle.tw_frame.specs.Jobs.{AreOf, IsCut, IsDone, IsJob, MayBeAt, position_of};
 ghost use Rattle.tw_frame.specs.Pace.{IsSeenJob, steps_of};
 
 use crate::context::Context;
@@ -118,7 +119,7 @@ impl<'a> JobState<'a> {
         self.event_no
     }
 
-    /// Runs the job's task in a copy of its context, and copies the resulting context once more. Returns nothing if the stop
+    /// Runs the job's task in a copy of its context, and copies the resulting context once more. Returns how far it was run if the stop
     /// signal is raised.
     pub(crate) fn run<S: StopSignal>(
         &self,
@@ -126,10 +127,11 @@ impl<'a> JobState<'a> {
         after: &mut Context<'a>,
         again: &mut Context<'a>,
         stop: &mut S,
-    ) -> Option<RunOutcome>
+    ) -> Result<RunOutcome, Cut>
         requires { MayBeAt self.now.program.program self.now.procedure self.now.position }
-        ensures run { IfSome result (IsRun self.now.program.program self.now.procedure self.now.position after.new again.new) }
-        ensures seen { IsSeenJob S.says stop.old stop.new (option_map steps_of result) }
+        ensures run { IfOk result (IsRun self.now.program.program self.now.procedure self.now.position after.new again.new) }
+        ensures cut { IfErr result (λ cut. IsCut self.now.program.program self.now.procedure self.now.position cut.steps) }
+        ensures seen { IsSeenJob S.says stop.old stop.new (result_map_both steps_of (λ cut. cut.steps) result) }
     {
         run_in(
             alloc,
@@ -177,6 +179,13 @@ impl<'a> JobState<'a> {
     }
 }
 
+/// How far a job was run that a raised stop signal cut off.
+#[derive(Clone, Copy)]
+pub struct Cut {
+    /// The local steps that its task made up to the last look.
+    pub steps: u64,
+}
+
 /// The result of a run: after how many steps it stopped, and whether an allocation for the next one failed.
 #[derive(Clone, Copy)]
 pub(crate) enum RunOutcome {
@@ -184,8 +193,8 @@ pub(crate) enum RunOutcome {
     Moved { steps: u64, short: bool },
 }
 
-/// Runs a task of a procedure from its position, in a copy of its context, and copies the resulting context once more. Returns nothing
-/// if the stop signal is raised.
+/// Runs a task of a procedure from its position, in a copy of its context, and copies the resulting context once more. Returns how far
+/// it was run if the stop signal is raised.
 fn run_in<'a, S: StopSignal>(
     alloc: Global,
     verified: &'a Verified,
@@ -194,20 +203,21 @@ fn run_in<'a, S: StopSignal>(
     after: &mut Context<'a>,
     again: &mut Context<'a>,
     stop: &mut S,
-) -> Option<RunOutcome>
+) -> Result<RunOutcome, Cut>
     requires { IsJob verified.now.program procedure at.now.registers.types (position_of at.now) }
-    ensures run { IfSome result (IsRun verified.now.program procedure (position_of at.now) after.new again.new) }
-    ensures seen { IsSeenJob S.says stop.old stop.new (option_map steps_of result) }
+    ensures run { IfOk result (IsRun verified.now.program procedure (position_of at.now) after.new again.new) }
+    ensures cut { IfErr result (λ cut. IsCut verified.now.program procedure (position_of at.now) cut.steps) }
+    ensures seen { IsSeenJob S.says stop.old stop.new (result_map_both steps_of (λ cut. cut.steps) result) }
 {
     let p = procedure_of(verified, procedure);
     let procedure = usize::from(procedure);
     if !p.code.as_slice()[at.place].is_local() {
-        return Some(RunOutcome::Unmoved { short: false });
+        return Ok(RunOutcome::Unmoved { short: false });
     }
     let Ok(()) = after.copy_from(alloc, at) else {
-        return Some(RunOutcome::Unmoved { short: true });
+        return Ok(RunOutcome::Unmoved { short: true });
     };
-    let Some(loop_exit) = run_watched(
+    let watched = run_watched(
         alloc,
         p,
         verified.quick(procedure),
@@ -216,14 +226,16 @@ fn run_in<'a, S: StopSignal>(
         &mut after.loops,
         at.place,
         stop,
-    ) else {
-        return None;
+    );
+    let loop_exit = match watched {
+        Ok(loop_exit) => loop_exit,
+        Err(cut) => return Err(cut),
     };
     after.place = loop_exit.place;
     let Ok(()) = again.copy_from(alloc, after) else {
-        return Some(RunOutcome::Unmoved { short: true });
+        return Ok(RunOutcome::Unmoved { short: true });
     };
-    Some(RunOutcome::Moved {
+    Ok(RunOutcome::Moved {
         steps: loop_exit.steps,
         short: loop_exit.short,
     })
@@ -249,26 +261,28 @@ impl<'a> Job<'a> {
         ensures { result.before ≡ self.entry }
     {
         match self.run_until(alloc, &mut Never) {
-            Some(done) => done,
-            None => unreachable!(),
+            Ok(done) => done,
+            Err(_) => unreachable!(),
         }
     }
 
-    /// Like `run`, but looks at a stop signal after 65,536 steps at the latest, and again. If it is raised, the job is dropped.
+    /// Like `run`, but looks at a stop signal after 65,536 steps at the latest, and again. If it is raised, the job is dropped, and
+    /// the error says how far it was run.
     #[inline(always)]
-    pub fn run_until<S: StopSignal>(self, alloc: Global, stop: &mut S) -> Option<Done<'a>>
-        ensures before { IfSome result (λ done. done.before ≡ self.entry) }
-        ensures seen { IsSeenJob S.says stop.old stop.new (option_map (λ done. done.steps) result) }
+    pub fn run_until<S: StopSignal>(self, alloc: Global, stop: &mut S) -> Result<Done<'a>, Cut>
+        ensures before { IfOk result (λ done. done.before ≡ self.entry) }
+        ensures cut { IfErr result (λ cut. IsCut self.entry.program.program self.entry.procedure self.entry.position cut.steps) }
+        ensures seen { IsSeenJob S.says stop.old stop.new (result_map_both (λ done. done.steps) (λ cut. cut.steps) result) }
     {
         let Job { mut job_buffer } = self;
-        let is_stopped = match job_buffer.as_mut() {
+        let went = match job_buffer.as_mut() {
             Some(job_buffer) => job_buffer.run(alloc, stop),
             None => unreachable!(),
         };
-        if is_stopped {
-            return None;
+        match went {
+            Ok(()) => Ok(Done { job_buffer }),
+            Err(cut) => Err(cut),
         }
-        Some(Done { job_buffer })
     }
 }
 

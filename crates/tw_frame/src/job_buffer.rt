@@ -1,12 +1,13 @@
 //! The memory of a job, which moves out with it and comes back with its result.
 
-ghost use Rattle.std.specs.Prelude.{◌≡◌, None, Some, false, true, if◌then◌else◌};
+ghost use Rattle.std.specs.Prelude.{◌≡◌, IfErr, IfOk, false, true};
+ghost use Rattle.std.specs.Result.{result_map_both};
 ghost use Rattle.tw_frame.specs.JobBuffers.{IsRunOf, outcome_of};
-ghost use Rattle.tw_frame.specs.Jobs.{MayBeAt, position_of};
+ghost use Rattle.tw_frame.specs.Jobs.{IsCut, MayBeAt, position_of};
 ghost use Rattle.tw_frame.specs.Pace.{IsSeenJob};
 
 use crate::context::Context;
-use crate::job::{JobState, RunOutcome};
+use crate::job::{Cut, JobState, RunOutcome};
 use std::alloc::{AllocError, Global};
 use std::marker::Model;
 use tw_stop::StopSignal;
@@ -59,14 +60,15 @@ pub(crate) struct JobBuffer<'a> {
 }
 
 impl<'a> JobBuffer<'a> {
-    /// Runs the task of a job buffer in a copy of its context, and copies the resulting context once more. Returns whether the
-    /// stop signal was raised meanwhile.
+    /// Runs the task of a job buffer in a copy of its context, and copies the resulting context once more. Returns how far it was run
+    /// if the stop signal was raised meanwhile.
     #[inline(always)]
-    pub(crate) fn run<S: StopSignal>(&mut self, alloc: Global, stop: &mut S) -> bool
+    pub(crate) fn run<S: StopSignal>(&mut self, alloc: Global, stop: &mut S) -> Result<(), Cut>
         requires { MayBeAt self.old.lent.program.program self.old.lent.procedure self.old.lent.position }
         ensures lent { self.new.lent ≡ self.old.lent }
-        ensures run { result ≡ false → IsRunOf self.new }
-        ensures seen { IsSeenJob S.says stop.old stop.new (if result then None else Some self.new.outcome.steps) }
+        ensures run { IfOk result (λ _. IsRunOf self.new) }
+        ensures cut { IfErr result (λ cut. IsCut self.old.lent.program.program self.old.lent.procedure self.old.lent.position cut.steps) }
+        ensures seen { IsSeenJob S.says stop.old stop.new (result_map_both (λ _. self.new.outcome.steps) (λ cut. cut.steps) result) }
     {
         let JobBuffer {
             lent,
@@ -75,11 +77,11 @@ impl<'a> JobBuffer<'a> {
             outcome,
         } = self;
         match lent.run(alloc, after, again, stop) {
-            Some(went) => {
+            Ok(went) => {
                 *outcome = JobOutcome::of(went);
-                false
+                Ok(())
             }
-            None => true,
+            Err(cut) => Err(cut),
         }
     }
 

@@ -21,5 +21,5 @@ mod texts;
 pub use draft::Draft;
 pub use frame::Frame;
 pub use frame_buffers::FrameBuffers;
-pub use job::{Done, Job, JobState};
+pub use job::{Cut, Done, Job, JobState};
 pub use start::Start;

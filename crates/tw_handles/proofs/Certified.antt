@@ -58,7 +58,7 @@ module _ (verified : TypedProgram) (inputs : List Input) (counts : ActorCounts) 
   after : (seed : Option ℕ) (turns : ℕ) (left : StoppableResult) → IsLeftAfter seed (opened verified inputs counts limit) turns left → IsOfRun verified.program inputs counts left
   after seed turns (stoppable.Ended (left.Over final history)) h = left_in (stoppable.Ended (left.Over final history)) h.0 h.2
   after seed turns (stoppable.Ended (left.NoMemory final history)) h = left_in (stoppable.Ended (left.NoMemory final history)) h.0 h.2
-  after seed turns (stoppable.Stopped final history) h = left_in (stoppable.Stopped final history) h.0 h.2
+  after seed turns (stoppable.Stopped final history cut) h = left_in (stoppable.Stopped final history cut) h.0 h.2
 
   pub of_run : (seed : Option ℕ) (answers : List Bool) (left : StoppableResult) → IsLeftBy seed (opened verified inputs counts limit) answers left → IsOfRun verified.program inputs counts left
   of_run seed answers left h = after seed h.0 left h.4

@@ -63,6 +63,12 @@ rejected = 229
 abbrev pub no_order : ℕ
 no_order = 230
 
+abbrev pub no_list : ℕ
+no_list = 231
+
+abbrev pub unfinished : ℕ
+unfinished = 232
+
 -- returns the code of a run that isn't opened
 abbrev pub open_code : OpenError → ℕ
 open_code InputCount = 201

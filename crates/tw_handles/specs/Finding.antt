@@ -1,5 +1,5 @@
 -- The place of a subscript in an output.
-use Rattle.std.specs.Prelude.{◌≡◌, ◌⊎◌, ℕ, List, [], IsUtf8, Option, Some, None, MatchOption, slice_get}
+use Rattle.std.specs.Prelude.{◌≡◌, ◌⊎◌, ℕ, List, [], IsUtf8, Option, Some, None, slice_get}
 use Rattle.std.specs.declared.cmp.Ordering.{Ordering}
 use Rattle.std.specs.declared.cmp.Ordering.TheVariants.{Less}
 use Rattle.std.specs.FinMap.{get}
@@ -10,9 +10,8 @@ use Rattle.tw_types.specs.StoreCalls.{subscripts_of}
 use Rattle.tw_types.specs.ValueOrder.{Subscript, value_cmp}
 use Rattle.tw_types.specs.declared.value.Value.TheVariants as value
 use Rattle.tw_handles.specs.Asking.{Fails}
-use Rattle.tw_handles.specs.Codes.{done, no_index, no_report, no_utf8}
-use Rattle.tw_handles.specs.Loading.{report_in}
-use Rattle.tw_handles.specs.Reading.{final_of}
+use Rattle.tw_handles.specs.Codes.{done, no_index, no_utf8}
+use Rattle.tw_handles.specs.Reading.{WithOutputs}
 use Rattle.tw_handles.specs.declared.held.Held.{Held}
 
 -- compares a subscript with one that may be missing, which is greater
@@ -51,7 +50,7 @@ IsPlaceIn final index subscript old new code =
     (IsThere final index subscript new × (code ≡ done)) ⊎ (IsNowhere final index subscript × Fails no_index old new code)
 
 abbrev pub IsPlace : Option Held → ℕ → Subscript → ℕ → ℕ → ℕ → Type 0
-IsPlace held index subscript old new code = MatchOption (report_in held) (Fails no_report old new code) (λ left. IsPlaceIn (final_of left) index subscript old new code)
+IsPlace held index subscript old new code = WithOutputs held (λ final. IsPlaceIn final index subscript old new code) old new code
 
 abbrev pub IsTextPlace : List ℕ → Option Held → ℕ → ℕ → ℕ → ℕ → Type 0
 IsTextPlace bytes held index old new code =

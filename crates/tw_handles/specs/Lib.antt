@@ -12,6 +12,8 @@ pub mod Containers
 pub mod EventOrder
 -- The place of a subscript in an output.
 pub mod Finding
+-- Members that are given at once.
+pub mod Lists
 -- The contents of a handle. A program in it is the one that the bytes encode.
 pub mod Loading
 -- Many members of an output at once.

@@ -1,10 +1,12 @@
 -- The contents of a handle, and loading a program.
 use Rattle.std.specs.Prelude.{◌≡◌, ◌≢◌, ◌⊎◌, ◌<◌, ◌≤◌, ◌∷◌, ℕ, List, [], length, unwrap_or, Option, Some, None, slice_get}
 use Rattle.std.specs.Arc.{arc_value}
+use Rattle.tw_code.specs.declared.version.Version.{Version}
+use Rattle.tw_code.specs.declared.version.Version.TheVariants.{One, Two, Four}
 use Rattle.tw_in_turn.specs.declared.run.StoppableResult.{StoppableResult}
 use Rattle.tw_types.specs.declared.input.Input.{Input}
-use Rattle.tw_verdict.specs.Source.{HasSource, IsSourceError, letter, without_line}
-use Rattle.tw_verdict.specs.Verdict.{IsVerdict, accepted}
+use Rattle.tw_verdict.specs.Source.{HasSource, IsSourceError, without_line}
+use Rattle.tw_verdict.specs.Verdict.{IsVerdict, accepted, no_memory}
 use Rattle.tw_verdict.specs.declared.format.Format.{Format}
 use Rattle.tw_verdict.specs.declared.text.SourceVerdict.{SourceVerdict}
 use Rattle.tw_verdict.specs.declared.verdict.Verdict.{Verdict}
@@ -55,24 +57,39 @@ finished_in (Some (Report run)) = Some run
 finished_in (Some (Stop flag)) = None
 finished_in (Some (Text text)) = None
 
--- the handle holds the accepted program of the source; else its contents are as they were, and the verdict has the source's error
-abbrev pub IsSourceLoaded : Format → List ℕ → Option Held → Option Held → SourceVerdict → Type 0
-IsSourceLoaded form source old new verdict =
-    ((verified : TypedProgram) × HasSource form source verified × (program_in new ≡ Some verified) × (verdict ≡ without_line (accepted verified.program)))
+abbrev pub version_number : Version → ℕ
+version_number One = 1
+version_number Two = 2
+version_number Four = 4
+
+-- the handle holds the program, or an allocation failed
+abbrev pub IsKept : TypedProgram → SourceVerdict → Option Held → Option Held → SourceVerdict → Type 0
+IsKept verified reading old new verdict = ((program_in new ≡ Some verified) × (verdict ≡ reading)) ⊎ ((new ≡ old) × (verdict ≡ without_line no_memory))
+
+-- a verdict of a letter, a number and a byte
+abbrev pub verdict_at : ℕ → ℕ → ℕ → SourceVerdict
+verdict_at letter number place = without_line (record { letter = letter; number = number; engines = 0; workers = 0; procedure = 0; place = place })
+
+-- Holds if the handle holds the accepted program of the source; or that is of a later version than the newest, which is F02 at its fourth byte; or the
+-- verdict has the source's error. Then the contents of the handle are as they were.
+abbrev pub IsSourceLoaded : Format → ℕ → List ℕ → Option Held → Option Held → SourceVerdict → Type 0
+IsSourceLoaded form newest source old new verdict =
+    ((verified : TypedProgram) × HasSource form source verified × (((version_number verified.version ≤ newest) × IsKept verified (without_line (accepted verified.program)) old new verdict)
+    ⊎ ((newest < version_number verified.version) × (new ≡ old) × (verdict ≡ verdict_at 70 2 3))))
     ⊎ ((new ≡ old) × (verdict.verdict.letter ≢ 0) × IsSourceError form source verdict)
 
--- the verdict H02
-abbrev pub too_long : SourceVerdict
-too_long = without_line (letter 72 2)
-
--- holds if the source is loaded or rejected; or it has more bytes than these, which is H02
-abbrev pub IsWithinLength : Format → ℕ → List ℕ → Option Held → Option Held → SourceVerdict → Type 0
-IsWithinLength form most source old new verdict =
-    ((length source ≤ most) × IsSourceLoaded form source old new verdict) ⊎ ((most < length source) × (new ≡ old) × (verdict ≡ too_long))
-
--- returns the greatest length of a source, 16 MiB if the list has none
+-- returns an option of a load, or the usual one if there are fewer: the greatest length is 16 MiB, and the newest version 4
 abbrev pub most_of : List ℕ → ℕ
 most_of options = unwrap_or (slice_get options 0) 16777216
+
+abbrev pub newest_of : List ℕ → ℕ
+newest_of options = unwrap_or (slice_get options 1) 4
+
+-- holds if the source is loaded or rejected; or it has more bytes than it may, which is H02
+abbrev pub IsWithinLength : Format → List ℕ → List ℕ → Option Held → Option Held → SourceVerdict → Type 0
+IsWithinLength form options source old new verdict =
+    ((length source ≤ most_of options) × IsSourceLoaded form (newest_of options) source old new verdict)
+    ⊎ ((most_of options < length source) × (new ≡ old) × (verdict ≡ verdict_at 72 2 0))
 
 -- returns a verdict's letter, number, engines, workers, procedure and place, then its line, word and column
 abbrev pub verdict_numbers : SourceVerdict → List ℕ
@@ -83,11 +100,11 @@ verdict_numbers v =
 abbrev pub IsPut : SourceVerdict → List ℕ → List ℕ → ℕ → Type 0
 IsPut verdict old new code = (new ≡ filled (verdict_numbers verdict) old) × (code ≡ loading_code verdict.verdict.letter)
 
--- holds if the source is loaded or rejected, with its verdict; or there are more options than one
+-- holds if the source is loaded or rejected, with its verdict; or there are more options than two
 abbrev pub IsLoading : Format → List ℕ → List ℕ → Option Held → Option Held → List ℕ → List ℕ → ℕ → Type 0
 IsLoading form options source old new before after code =
-    ((length options ≤ 1) × (verdict : SourceVerdict) × IsWithinLength form (most_of options) source old new verdict × IsPut verdict before after code)
-    ⊎ ((1 < length options) × (new ≡ old) × (after ≡ before) × (code ≡ no_options))
+    ((length options ≤ 2) × (verdict : SourceVerdict) × IsWithinLength form options source old new verdict × IsPut verdict before after code)
+    ⊎ ((2 < length options) × (new ≡ old) × (after ≡ before) × (code ≡ no_options))
 
 -- holds if the verdict on the bytes is written
 abbrev pub IsVerified : List ℕ → List ℕ → List ℕ → ℕ → Type 0

@@ -1,10 +1,10 @@
 -- Calls that read many members of an output at once, or values of one that is a map.
-use Rattle.std.specs.Prelude.{◌≡◌, ◌⊎◌, ◌<◌, ◌+◌, ℕ, List, length, Option, Some, None, MatchOption, slice_get}
+use Rattle.std.specs.Prelude.{◌≡◌, ◌⊎◌, ◌<◌, ◌≤◌, ◌+◌, ℕ, List, length, Option, Some, None, slice_get}
 use Rattle.tw_pool.specs.Ends.{FinalView}
-use Rattle.tw_handles.specs.Codes.{done, no_index, no_report}
-use Rattle.tw_handles.specs.Loading.{report_in}
+use Rattle.tw_handles.specs.Asking.{Fails}
+use Rattle.tw_handles.specs.Codes.{done, no_index}
 use Rattle.tw_handles.specs.Members.{member_by}
-use Rattle.tw_handles.specs.Reading.{final_of}
+use Rattle.tw_handles.specs.Reading.{WithOutputs}
 use Rattle.tw_handles.specs.Shown.{AtSubscript, shown_by}
 use Rattle.tw_handles.specs.declared.held.Held.{Held}
 use Rattle.tw_handles.specs.declared.members.Member.{Member}
@@ -18,15 +18,16 @@ IsReadAt (Some e) read = read ≡ Some (member_by e)
 abbrev pub AreReadTo : List AtSubscript → ℕ → ℕ → List Member → Type 0
 AreReadTo es first count new = (k : ℕ) → k < count → IsReadAt (slice_get es (first + k)) (slice_get new k)
 
--- holds if the buffer has the members from a place on, or there are fewer
+-- holds if the buffer has the members from a place on, of which there are enough; or there are fewer
 abbrev pub AreRead : List AtSubscript → ℕ → List Member → List Member → ℕ → Type 0
 AreRead es first old new code =
-    (length new ≡ length old) × ((AreReadTo es first (length old) new × (code ≡ done)) ⊎ ((length es < first + length old) × (code ≡ no_index)))
+    (length new ≡ length old)
+    × (((first + length old ≤ length es) × AreReadTo es first (length old) new × (code ≡ done)) ⊎ ((length es < first + length old) × (code ≡ no_index)))
 
--- likewise for an output
+-- likewise for an output, if there is one
 abbrev pub AreReadIn : FinalView → ℕ → ℕ → List Member → List Member → ℕ → Type 0
-AreReadIn final index first old new code = AreRead (shown_by final index) first old new code
+AreReadIn final index first old new code =
+    ((index < length final.outputs) × AreRead (shown_by final index) first old new code) ⊎ ((length final.outputs ≤ index) × Fails no_index old new code)
 
 abbrev pub AreMembers : Option Held → ℕ → ℕ → List Member → List Member → ℕ → Type 0
-AreMembers held index first old new code =
-    MatchOption (report_in held) ((new ≡ old) × (code ≡ no_report)) (λ left. AreReadIn (final_of left) index first old new code)
+AreMembers held index first old new code = WithOutputs held (λ final. AreReadIn final index first old new code) old new code

@@ -1,5 +1,5 @@
 -- Calls on a report: how the run ended, and its outputs.
-use Rattle.std.specs.Prelude.{◌≡◌, ◌≤◌, ◌<◌, ◌⊎◌, ◌++◌, ◌∷◌, [], ℕ, List, Option, Some, None, MatchOption, drop, length, pos, slice_get, if◌then◌else◌}
+use Rattle.std.specs.Prelude.{◌≡◌, ◌≤◌, ◌<◌, ◌⊎◌, ◌||◌, ◌==◌, ◌++◌, ◌∷◌, [], ℕ, List, Option, Some, None, MatchOption, Result, Ok, Err, MatchResult, drop, length, pos, slice_get, if◌then◌else◌}
 use Rattle.std.specs.FinMap.{get}
 use Rattle.std.specs.Option.{option_and_then}
 use Rattle.tw_in_turn.specs.declared.run.InTurnResult.{InTurnResult}
@@ -20,9 +20,10 @@ use Rattle.tw_types.specs.StoreChecks.{is_unset}
 use Rattle.tw_types.specs.declared.value.Value.{Value}
 use Rattle.tw_types.specs.declared.value.Value.TheVariants as value
 use Rattle.tw_handles.specs.Asking.{Fails}
-use Rattle.tw_handles.specs.Codes.{done, no_index, no_report, no_room, no_text}
-use Rattle.tw_handles.specs.Loading.{report_in}
+use Rattle.tw_handles.specs.Codes.{done, no_index, no_report, no_room, no_text, unfinished}
+use Rattle.tw_handles.specs.Loading.{finished_in, report_in}
 use Rattle.tw_handles.specs.Numbers.{filled}
+use Rattle.tw_handles.specs.declared.finished.Finished.{Finished}
 use Rattle.tw_handles.specs.declared.held.Held.{Held}
 use Rattle.tw_handles.specs.declared.item.Item.{Item}
 
@@ -32,7 +33,7 @@ final_in (left.NoMemory final history) = final
 
 abbrev pub final_of : StoppableResult → FinalView
 final_of (stoppable.Ended left) = final_in left
-final_of (stoppable.Stopped final history) = final
+final_of (stoppable.Stopped final history cut) = final
 
 abbrev pub history_in : InTurnResult → HistoryView
 history_in (left.Over final history) = history
@@ -40,7 +41,7 @@ history_in (left.NoMemory final history) = history
 
 abbrev pub history_of : StoppableResult → HistoryView
 history_of (stoppable.Ended left) = history_in left
-history_of (stoppable.Stopped final history) = history
+history_of (stoppable.Stopped final history cut) = history
 
 -- returns the exit status of `tw run`: 0 quiet, 3 stuck, 4 limit; a finished run has no other
 abbrev pub closing_status : Option Closing → ℕ
@@ -58,7 +59,7 @@ end_in (left.NoMemory final history) = 5
 -- 8 if it was stopped, which no run of `tw` is
 abbrev pub end_status : StoppableResult → ℕ
 end_status (stoppable.Ended left) = end_in left
-end_status (stoppable.Stopped final history) = 8
+end_status (stoppable.Stopped final history cut) = 8
 
 -- returns the numbers of events and of outputs, and the status
 abbrev pub ending_of : StoppableResult → List ℕ
@@ -66,6 +67,18 @@ ending_of left = length (history_of left).events ∷ length (final_of left).outp
 
 abbrev pub IsEnding : Option Held → List ℕ → List ℕ → ℕ → Type 0
 IsEnding held old new code = MatchOption (report_in held) (Fails no_report old new code) (λ left. (new ≡ filled (ending_of left) old) × (code ≡ done))
+
+-- returns the outputs and the store of a report: those of a run that ended by itself, quiet, or whose options ask for what is there
+abbrev pub readable_of : Option Finished → Result FinalView ℕ
+readable_of None = Err no_report
+readable_of (Some run) = if run.partial || (end_status run.left == 0) then Ok (final_of run.left) else Err unfinished
+
+abbrev pub readable : Option Held → Result FinalView ℕ
+readable held = readable_of (finished_in held)
+
+-- what holds of outputs that are read; or the code says why they aren't, and nothing is written
+abbrev pub WithOutputs : {A : Type 0} → Option Held → (FinalView → Type 0) → A → A → ℕ → Type 0
+WithOutputs held Then old new code = MatchResult (readable held) Then (λ why. Fails why old new code)
 
 -- ---- a datum
 
@@ -119,7 +132,7 @@ IsOutputIn final index old new code =
     MatchOption (slice_get final.outputs index) (Fails no_index old new code) (λ id. (new ≡ item_of (get final.store.store.live id)) × (code ≡ done))
 
 abbrev pub IsOutput : Option Held → ℕ → Item → Item → ℕ → Type 0
-IsOutput held index old new code = MatchOption (report_in held) (Fails no_report old new code) (λ left. IsOutputIn (final_of left) index old new code)
+IsOutput held index old new code = WithOutputs held (λ final. IsOutputIn final index old new code) old new code
 
 abbrev pub text_of : Option Value → Option (List ℕ)
 text_of None = None
@@ -142,4 +155,4 @@ IsOutputTextIn final index old new code =
     MatchOption (slice_get final.outputs index) (Fails no_index old new code) (λ id. IsWritten (value_of (get final.store.store.live id)) old new code)
 
 abbrev pub IsOutputText : Option Held → ℕ → List ℕ → List ℕ → ℕ → Type 0
-IsOutputText held index old new code = MatchOption (report_in held) (Fails no_report old new code) (λ left. IsOutputTextIn (final_of left) index old new code)
+IsOutputText held index old new code = WithOutputs held (λ final. IsOutputTextIn final index old new code) old new code

@@ -1,6 +1,6 @@
 -- Texts that calls make of a report or a source. A handle holds such a text, and its bytes are copied from there.
 use Rattle.std.specs.Prelude.{◌≡◌, ◌⊎◌, ℕ, List, length, min, Option, Some, None, MatchOption, true}
-use Rattle.tw_bounds.specs.Runs.{instructions_in}
+use Rattle.tw_in_turn.specs.Stopping.{cut_of, executed_in}
 use Rattle.tw_in_turn.specs.declared.run.StoppableResult.{StoppableResult}
 use Rattle.tw_run_output.specs.Ends.{IsEndReport}
 use Rattle.tw_run_output.specs.Json.{IsEndLine}
@@ -44,7 +44,7 @@ IsTracePrinted held old new code = MatchOption (report_in held) (Fails no_report
 -- a run that was broken off has no JSON line
 abbrev pub IsJsonIn : StoppableResult → Option Held → Option Held → ℕ → Type 0
 IsJsonIn left old new code =
-    MatchOption (final_of left).closing (Fails no_end old new code) (λ closing. IsTextMade (IsEndLine (final_of left) (history_of left).events closing) old new code)
+    MatchOption (final_of left).closing (Fails no_end old new code) (λ closing. IsTextMade (IsEndLine (final_of left) (history_of left).events (cut_of left) closing) old new code)
 
 abbrev pub IsJsonPrinted : Option Held → Option Held → Option Held → ℕ → Type 0
 IsJsonPrinted held old new code = MatchOption (report_in held) (Fails no_report old new code) (λ left. IsJsonIn left old new code)
@@ -55,7 +55,7 @@ capped number = min number 18446744073709551615
 
 abbrev pub IsInstructionCount : Option Held → ℕ → ℕ → ℕ → Type 0
 IsInstructionCount held old new code =
-    MatchOption (report_in held) (Fails no_report old new code) (λ left. (new ≡ capped (instructions_in (history_of left).events)) × (code ≡ done))
+    MatchOption (report_in held) (Fails no_report old new code) (λ left. (new ≡ capped (executed_in left)) × (code ≡ done))
 
 -- ---- reading a text
 

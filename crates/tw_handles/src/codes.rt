@@ -46,6 +46,11 @@ pub(crate) const REJECTED: u8 = 229;
 /// The report has no certificate, since its run wasn't asked for one.
 pub(crate) const NO_ORDER: u8 = 230;
 
+/// Lists of members that don't fit each other.
+pub(crate) const NO_LIST: u8 = 231;
+/// The run didn't end by itself, and its options didn't ask for partial outputs.
+pub(crate) const UNFINISHED: u8 = 232;
+
 /// Returns the code of a run that isn't opened.
 pub(crate) fn of_open(why: OpenError) -> u8
     ensures { result ≡ open_code why }

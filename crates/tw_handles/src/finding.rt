@@ -9,7 +9,7 @@ ghost use Rattle.tw_handles.specs.Finding.{HasNone, HasSubscript, IsNowhere, IsP
 use crate::codes;
 use crate::handle::Handle;
 use crate::held::Held;
-use crate::report::final_of;
+use crate::report::readable;
 use std::alloc::Global;
 use std::cmp::Ordering;
 use tw_pool::Final;
@@ -76,10 +76,9 @@ fn find_in(outcome: &Final, index: usize, subscript: ValueRef<'_>, place: &mut u
 fn find_held(held: &Held, index: usize, subscript: ValueRef<'_>, place: &mut usize) -> u8
     ensures { IsPlace (Some held.now) index (named subscript.entry) place.old place.new result }
 {
-    match held {
-        Held::Report(run) => find_in(final_of(&run.left), index, subscript, place),
-        Held::Program(_) | Held::Inputs(_) | Held::Stop(_) | Held::Container(_) | Held::Text(_) =>
-            codes::NO_REPORT,
+    match readable(held) {
+        Ok(outcome) => find_in(outcome, index, subscript, place),
+        Err(code) => code,
     }
 }
 

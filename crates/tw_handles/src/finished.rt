@@ -3,9 +3,10 @@
 use crate::certificate::Certificate;
 use tw_in_turn::StoppableResult;
 
-/// The result of a run, and its certificate, if the run was asked for one.
+/// The result of a run, its certificate, if the run was asked for one, and whether its outputs are read although it didn't end by itself.
 #[derive(Drop)]
 pub struct Finished {
     pub left: StoppableResult,
     pub certificate: Option<Certificate>,
+    pub partial: bool,
 }

@@ -52,7 +52,7 @@ fn add_held(held: &mut Held, input: Input) -> u8
 }
 
 /// Appends an input to those of a handle.
-fn add(alloc: Global, inputs: &mut Handle, input: Input) -> u8
+pub(crate) fn add(alloc: Global, inputs: &mut Handle, input: Input) -> u8
     ensures { IsAdded input inputs.old.held inputs.new.held result }
 {
     let Some(mut whole) = inputs.take(alloc) else {

@@ -2,7 +2,7 @@
 
 ghost use Rattle.std.specs.Prelude.{◌≡◌, IfOk, Some};
 ghost use Rattle.tw_handles.specs.Codes.{loading_code};
-ghost use Rattle.tw_handles.specs.Loading.{IsLoading, IsSourceLoaded, IsVerified, IsWithinLength, most_of as most_of_is, program_in, too_long as too_long_is, verdict_numbers};
+ghost use Rattle.tw_handles.specs.Loading.{IsKept, IsLoading, IsSourceLoaded, IsVerified, IsWithinLength, program_in, verdict_at as verdict_at_is, verdict_numbers, version_number};
 ghost use Rattle.tw_handles.specs.Numbers.{filled};
 ghost use Rattle.tw_verdict.specs.Format.{format_of as format_is};
 
@@ -10,13 +10,29 @@ use crate::codes;
 use crate::handle::Handle;
 use crate::held::Held;
 use crate::numbers::put;
+use crate::running::option_at;
 use std::alloc::{AllocError, Global};
 use std::sync::Arc;
+use tw_code::Version;
 use tw_verdict::{Format, SourceVerdict, Verdict, format_of, read_source, verdict_of};
 use tw_verify::Verified;
 
 /// The greatest length of a source, if the caller says none: that of a session.
 const USUAL_MOST: u64 = 16_777_216;
+
+/// The highest version of the language, if the caller says none: the last one when the options of a load had no version.
+const USUAL_NEWEST: u64 = 4;
+
+/// Returns the number of a program's version.
+fn version_of(verified: &Verified) -> u64
+    ensures { result ≡ version_number verified.now.version }
+{
+    match verified.program().version() {
+        Version::One => 1,
+        Version::Two => 2,
+        Version::Four => 4,
+    }
+}
 
 /// Puts an accepted program into a handle.
 fn handle_of(alloc: Global, verified: Verified) -> Result<Handle, AllocError>
@@ -28,14 +44,15 @@ fn handle_of(alloc: Global, verified: Verified) -> Result<Handle, AllocError>
     }
 }
 
-/// Reads and verifies a source. If it is accepted, the handle holds the program, and its former contents are freed.
-fn load(alloc: Global, format: Format, source: &[u8], program: &mut Handle) -> SourceVerdict
-    ensures { IsSourceLoaded format source.now program.old.held program.new.held result }
+/// Puts an accepted program into a handle, whose former contents are freed. Returns the verdict on it.
+fn keep(
+    alloc: Global,
+    verified: Verified,
+    reading: SourceVerdict,
+    program: &mut Handle,
+) -> SourceVerdict
+    ensures { IsKept verified reading program.old.held program.new.held result }
 {
-    let (found, reading) = read_source(alloc, format, source);
-    let Some(verified) = found else {
-        return reading;
-    };
     match handle_of(alloc, verified) {
         Ok(handle) => {
             *program = handle;
@@ -45,17 +62,37 @@ fn load(alloc: Global, format: Format, source: &[u8], program: &mut Handle) -> S
     }
 }
 
-/// Returns the verdict on a source that is too long, H02.
-fn too_long() -> SourceVerdict
-    ensures { result ≡ too_long_is }
+/// Reads and verifies a source. If it is accepted, and of a version up to `newest`, the handle holds the program, and its former contents are freed.
+fn load(
+    alloc: Global,
+    format: Format,
+    newest: u64,
+    source: &[u8],
+    program: &mut Handle,
+) -> SourceVerdict
+    ensures { IsSourceLoaded format newest source.now program.old.held program.new.held result }
+{
+    let (found, reading) = read_source(alloc, format, source);
+    match found {
+        Some(verified) if version_of(&verified) <= newest => {
+            keep(alloc, verified, reading, program)
+        }
+        Some(_) => verdict_at(b'F', 2, 3),
+        None => reading,
+    }
+}
+
+/// Returns a verdict of a letter, a number, and a byte of the source.
+fn verdict_at(letter: u8, number: u8, place: usize) -> SourceVerdict
+    ensures { result ≡ verdict_at_is letter number place }
 {
     let verdict = Verdict {
-        letter: b'H',
-        number: 2,
+        letter,
+        number,
         engines: 0,
         workers: 0,
         procedure: 0,
-        place: 0,
+        place,
     };
     SourceVerdict {
         verdict,
@@ -65,30 +102,21 @@ fn too_long() -> SourceVerdict
     }
 }
 
-/// Like `load`, for a source that has at most so many bytes.
+/// Like `load`, for a source that has at most so many bytes; a longer one is H02.
 fn load_within(
     alloc: Global,
     format: Format,
-    most: u64,
+    options: &[u64],
     source: &[u8],
     program: &mut Handle,
 ) -> SourceVerdict
-    ensures { IsWithinLength format most source.now program.old.held program.new.held result }
+    ensures { IsWithinLength format options.now source.now program.old.held program.new.held result }
 {
-    if source.len() as u64 > most {
-        too_long()
+    if source.len() as u64 > option_at(options, 0, USUAL_MOST) {
+        verdict_at(b'H', 2, 0)
     } else {
-        load(alloc, format, source, program)
-    }
-}
-
-/// Returns the first of the options of a load: the greatest length.
-fn most_of(options: &[u64]) -> u64
-    ensures { result ≡ most_of_is options.now }
-{
-    match options.get(0) {
-        Some(most) => *most,
-        None => USUAL_MOST,
+        let newest = option_at(options, 1, USUAL_NEWEST);
+        load(alloc, format, newest, source, program)
     }
 }
 
@@ -114,9 +142,9 @@ fn put_verdict(verdict: SourceVerdict, numbers: &mut [u64]) -> u8
 }
 
 /// Reads and verifies a program's bytes, hex text or assembly text. The letter of a format is `b`, `h` or `t`; any other lets it be found. `options`
-/// are the greatest length, 16 MiB if it is left out; a longer source is H02. If the program is accepted, the handle holds it, and its
-/// former contents are freed. The verdict is written in numbers, in the order of its fields. Returns `NO_OPTIONS` if there are more
-/// options.
+/// are the greatest length, 16 MiB if it is left out, and the highest version of the language, 4 if it is left out. A longer source is H02, and a
+/// program of a later version F02. If the program is accepted, the handle holds it, and its former contents are freed. The verdict is written in
+/// numbers, in the order of its fields. Returns `NO_OPTIONS` if there are more options.
 pub fn load_source(
     alloc: Global,
     source: &[u8],
@@ -127,11 +155,11 @@ pub fn load_source(
 ) -> u8
     ensures { IsLoading (format_is format source.now) options.now source.now program.old.held program.new.held numbers.old numbers.new result }
 {
-    if options.len() > 1 {
+    if options.len() > 2 {
         return codes::NO_OPTIONS;
     }
     let format = format_of(format, source);
-    let verdict = load_within(alloc, format, most_of(options), source, program);
+    let verdict = load_within(alloc, format, options, source, program);
     put_verdict(verdict, numbers)
 }
 

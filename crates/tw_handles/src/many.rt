@@ -1,6 +1,6 @@
 //! Calls that read many members of an output at once, or values of one that is a map.
 
-ghost use Rattle.std.specs.Prelude.{◌≡◌, IfSome, Some, option_map};
+ghost use Rattle.std.specs.Prelude.{◌≡◌, ◌↔◌, ◌<◌, ◌≤◌, ◌+◌, IfSome, IsTrue, Some, length, option_map};
 ghost use Rattle.std.specs.Option.{option_copied};
 ghost use Rattle.tw_store.specs.Served.{KnowsPlaces};
 ghost use Rattle.tw_handles.specs.Many.{AreMembers, AreRead, AreReadIn};
@@ -11,7 +11,7 @@ use crate::handle::Handle;
 use crate::held::Held;
 use crate::item::value_item;
 use crate::members::Member;
-use crate::report::final_of;
+use crate::report::readable;
 use crate::shown::shown_in;
 use std::alloc::Global;
 use tw_pool::Final;
@@ -30,12 +30,28 @@ fn output_datum<'f>(outcome: &'f Final, index: usize) -> Option<&'f Datum>
     }
 }
 
+/// Returns whether there are so many from a place on.
+fn has_so_many(count: usize, first: usize, many: usize) -> bool
+    ensures is { IsTrue result ↔ first + many ≤ count }
+    ensures small { IsTrue result → first + many < 18446744073709551616 }
+{
+    first <= count && many <= count - first
+}
+
+/// Returns whether a datum has so many members or values from a place on.
+fn has_members(outcome: &Final, datum: &Datum, first: usize, many: usize) -> bool
+    ensures is { IsTrue result ↔ first + many ≤ length (shown_of outcome.now datum.now.datum.content) }
+    ensures small { IsTrue result → first + many < 18446744073709551616 }
+{
+    has_so_many(datum.count(), first, many)
+}
+
 /// Describes the members or values from a place on, as many as there is room for.
 fn read_members(outcome: &Final, datum: &Datum, first: usize, room: &mut [Member]) -> u8
     requires { KnowsPlaces outcome.now.store datum.now }
     ensures { AreRead (shown_of outcome.now datum.now.datum.content) first room.old room.new result }
 {
-    if room.len() > datum.count().saturating_sub(first) {
+    if !has_members(outcome, datum, first, room.len()) {
         return codes::NO_INDEX;
     }
     for k in 0..room.len() {
@@ -54,9 +70,12 @@ fn read_members(outcome: &Final, datum: &Datum, first: usize, room: &mut [Member
 fn members_in_output(outcome: &Final, index: usize, first: usize, room: &mut [Member]) -> u8
     ensures { AreReadIn outcome.now index first room.old room.new result }
 {
+    if outcome.outputs().len() <= index {
+        return codes::NO_INDEX;
+    }
     match output_datum(outcome, index) {
         Some(datum) => read_members(outcome, datum, first, room),
-        None if room.is_empty() => codes::DONE,
+        None if first == 0 && room.is_empty() => codes::DONE,
         None => codes::NO_INDEX,
     }
 }
@@ -65,10 +84,9 @@ fn members_in_output(outcome: &Final, index: usize, first: usize, room: &mut [Me
 fn members_held(held: &Held, index: usize, first: usize, room: &mut [Member]) -> u8
     ensures { AreMembers (Some held.now) index first room.old room.new result }
 {
-    match held {
-        Held::Report(run) => members_in_output(final_of(&run.left), index, first, room),
-        Held::Program(_) | Held::Inputs(_) | Held::Stop(_) | Held::Container(_) | Held::Text(_) =>
-            codes::NO_REPORT,
+    match readable(held) {
+        Ok(outcome) => members_in_output(outcome, index, first, room),
+        Err(code) => code,
     }
 }
 

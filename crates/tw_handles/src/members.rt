@@ -8,7 +8,7 @@ use crate::codes;
 use crate::handle::Handle;
 use crate::held::Held;
 use crate::item::{Item, value_item, write_text};
-use crate::report::final_of;
+use crate::report::readable;
 use crate::shown::{Shown, shown_in};
 use std::alloc::Global;
 use tw_pool::Final;
@@ -56,10 +56,9 @@ fn member_in(outcome: &Final, index: usize, place: usize, member: &mut Member) -
 fn member_held(held: &Held, index: usize, place: usize, member: &mut Member) -> u8
     ensures { IsMember (Some held.now) index place member.old member.new result }
 {
-    match held {
-        Held::Report(run) => member_in(final_of(&run.left), index, place, member),
-        Held::Program(_) | Held::Inputs(_) | Held::Stop(_) | Held::Container(_) | Held::Text(_) =>
-            codes::NO_REPORT,
+    match readable(held) {
+        Ok(outcome) => member_in(outcome, index, place, member),
+        Err(code) => code,
     }
 }
 
@@ -96,10 +95,9 @@ fn member_text_in(outcome: &Final, index: usize, place: usize, room: &mut [u8]) 
 fn member_text_held(held: &Held, index: usize, place: usize, room: &mut [u8]) -> u8
     ensures { IsMemberText (Some held.now) index place room.old room.new result }
 {
-    match held {
-        Held::Report(run) => member_text_in(final_of(&run.left), index, place, room),
-        Held::Program(_) | Held::Inputs(_) | Held::Stop(_) | Held::Container(_) | Held::Text(_) =>
-            codes::NO_REPORT,
+    match readable(held) {
+        Ok(outcome) => member_text_in(outcome, index, place, room),
+        Err(code) => code,
     }
 }
 
@@ -136,10 +134,9 @@ fn subscript_text_in(outcome: &Final, index: usize, place: usize, room: &mut [u8
 fn subscript_text_held(held: &Held, index: usize, place: usize, room: &mut [u8]) -> u8
     ensures { IsSubscriptText (Some held.now) index place room.old room.new result }
 {
-    match held {
-        Held::Report(run) => subscript_text_in(final_of(&run.left), index, place, room),
-        Held::Program(_) | Held::Inputs(_) | Held::Stop(_) | Held::Container(_) | Held::Text(_) =>
-            codes::NO_REPORT,
+    match readable(held) {
+        Ok(outcome) => subscript_text_in(outcome, index, place, room),
+        Err(code) => code,
     }
 }
 

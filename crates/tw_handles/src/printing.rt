@@ -1,7 +1,7 @@
 //! Calls that print a report.
 
 ghost use Rattle.std.specs.Prelude.{◌≡◌, IfOk, Some, string_bytes};
-ghost use Rattle.tw_bounds.specs.Runs.{instructions_in as instructions_in_is};
+ghost use Rattle.tw_in_turn.specs.Stopping.{cut_of, executed_in};
 ghost use Rattle.tw_run_output.specs.Ends.{IsEndReport};
 ghost use Rattle.tw_run_output.specs.Json.{IsEndLine};
 ghost use Rattle.tw_handles.specs.Reading.{final_of as final_is, history_of as history_is};
@@ -109,15 +109,15 @@ fn closing_of(left: &StoppableResult) -> Option<Closing>
 /// Returns the JSON line of a run with this end.
 fn line_of(alloc: Global, left: &StoppableResult, closing: Closing) -> Result<String, AllocError>
     requires { (final_is left.now).closing ≡ Some closing }
-    ensures { IfOk result (λ line. IsEndLine (final_is left.now) (history_is left.now).events closing (string_bytes line)) }
+    ensures { IfOk result (λ line. IsEndLine (final_is left.now) (history_is left.now).events (cut_of left.now) closing (string_bytes line)) }
 {
-    end_line(alloc, final_of(left), history_of(left), closing)
+    end_line(alloc, final_of(left), history_of(left), left.cut(), closing)
 }
 
 /// Prints the JSON line of a run with this end into the handle of a text.
 fn put_line(alloc: Global, left: &StoppableResult, closing: Closing, text: &mut Handle) -> u8
     requires { (final_is left.now).closing ≡ Some closing }
-    ensures { IsTextMade (IsEndLine (final_is left.now) (history_is left.now).events closing) text.old.held text.new.held result }
+    ensures { IsTextMade (IsEndLine (final_is left.now) (history_is left.now).events (cut_of left.now) closing) text.old.held text.new.held result }
 {
     match line_of(alloc, left, closing) {
         Ok(line) => keep_text(alloc, line.into_bytes(), text),
@@ -169,11 +169,11 @@ fn capped(number: u128) -> u64
     }
 }
 
-/// Returns how many instructions the events of a run executed, at most 2 ^ 64 - 1.
+/// Returns how many instructions a run executed, with those of a task that was cut off, at most 2 ^ 64 - 1.
 pub(crate) fn instructions_of(left: &StoppableResult) -> u64
-    ensures { result ≡ capped_is (instructions_in_is (history_is left.now).events) }
+    ensures { result ≡ capped_is (executed_in left.now) }
 {
-    capped(instructions_in(history_of(left)))
+    capped(instructions_in(history_of(left))).saturating_add(left.cut())
 }
 
 /// Writes how many instructions a report's run executed, if the contents are a report.
@@ -190,7 +190,7 @@ fn instructions_held(held: &Held, count: &mut u64) -> u8
     }
 }
 
-/// Writes how many instructions a run executed, 2 ^ 64 - 1 if they were more.
+/// Writes how many instructions a run executed, with those of a task that was cut off; 2 ^ 64 - 1 if they were more.
 pub fn instructions(alloc: Global, report: &mut Handle, count: &mut u64) -> u8
     ensures kept { report.new.held ≡ report.old.held }
     ensures is { IsInstructionCount report.old.held count.old count.new result }

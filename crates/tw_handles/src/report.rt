@@ -1,7 +1,7 @@
 //! Calls that read a report.
 
-ghost use Rattle.std.specs.Prelude.{◌≡◌, Some};
-ghost use Rattle.tw_handles.specs.Reading.{IsOutput, IsOutputIn, IsOutputText, IsOutputTextIn, IsEnding, closing_status as closing_status_is, end_in as end_in_is, end_status as end_status_is, final_in as final_in_is, final_of as final_is, history_in as history_in_is, history_of as history_is, ending_of};
+ghost use Rattle.std.specs.Prelude.{◌≡◌, Err, MatchResult, Ok, Some};
+ghost use Rattle.tw_handles.specs.Reading.{IsOutput, IsOutputIn, IsOutputText, IsOutputTextIn, IsEnding, closing_status as closing_status_is, end_in as end_in_is, end_status as end_status_is, final_in as final_in_is, final_of as final_is, history_in as history_in_is, history_of as history_is, ending_of, readable as readable_is};
 ghost use Rattle.tw_handles.specs.Numbers.{filled};
 
 use crate::codes;
@@ -41,6 +41,7 @@ pub(crate) fn final_of(left: &StoppableResult) -> &Final
         StoppableResult::Stopped {
             outcome,
             history: _,
+            cut: _,
         } => outcome,
     }
 }
@@ -70,6 +71,7 @@ pub(crate) fn history_of(left: &StoppableResult) -> &History
         StoppableResult::Stopped {
             outcome: _,
             history,
+            cut: _,
         } => history,
     }
 }
@@ -111,6 +113,7 @@ fn end_status(left: &StoppableResult) -> u8
         StoppableResult::Stopped {
             outcome: _,
             history: _,
+            cut: _,
         } => STOPPED,
     }
 }
@@ -151,6 +154,25 @@ pub fn report_ending(alloc: Global, report: &mut Handle, numbers: &mut [u64]) ->
     code
 }
 
+/// Returns the outputs and the store of a report, if they are read. Those of a run that didn't end by itself, quiet, are read only if its options
+/// ask for what is there: otherwise returns `UNFINISHED`.
+pub(crate) fn readable(held: &Held) -> Result<&Final, u8>
+    ensures { MatchResult result (λ outcome. readable_is (Some held.now) ≡ Ok outcome.now) (λ code. readable_is (Some held.now) ≡ Err code) }
+{
+    match held {
+        Held::Report(run) => {
+            if run.partial || end_status(&run.left) == 0 {
+                Ok(final_of(&run.left))
+            } else {
+                Err(codes::UNFINISHED)
+            }
+        }
+        Held::Program(_) | Held::Inputs(_) | Held::Stop(_) | Held::Container(_) | Held::Text(_) => {
+            Err(codes::NO_REPORT)
+        }
+    }
+}
+
 /// Describes an output.
 fn output_in(outcome: &Final, index: usize, item: &mut Item) -> u8
     ensures { IsOutputIn outcome.now index item.old item.new result }
@@ -168,10 +190,9 @@ fn output_in(outcome: &Final, index: usize, item: &mut Item) -> u8
 fn output_held(held: &Held, index: usize, item: &mut Item) -> u8
     ensures { IsOutput (Some held.now) index item.old item.new result }
 {
-    match held {
-        Held::Report(run) => output_in(final_of(&run.left), index, item),
-        Held::Program(_) | Held::Inputs(_) | Held::Stop(_) | Held::Container(_) | Held::Text(_) =>
-            codes::NO_REPORT,
+    match readable(held) {
+        Ok(outcome) => output_in(outcome, index, item),
+        Err(code) => code,
     }
 }
 
@@ -204,10 +225,9 @@ fn text_in(outcome: &Final, index: usize, room: &mut [u8]) -> u8
 fn text_held(held: &Held, index: usize, room: &mut [u8]) -> u8
     ensures { IsOutputText (Some held.now) index room.old room.new result }
 {
-    match held {
-        Held::Report(run) => text_in(final_of(&run.left), index, room),
-        Held::Program(_) | Held::Inputs(_) | Held::Stop(_) | Held::Container(_) | Held::Text(_) =>
-            codes::NO_REPORT,
+    match readable(held) {
+        Ok(outcome) => text_in(outcome, index, room),
+        Err(code) => code,
     }
 }
 

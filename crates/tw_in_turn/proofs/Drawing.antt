@@ -40,15 +40,15 @@ reached first index count inside low = elim (cases_lt index first) as (λ _. IsR
 pub some_busy : (p : PoolView) (first : ℕ) → MayTurn p → first < actor_count p.layout → ((k : ℕ) → k < actor_count p.layout → IsIdle p (actor_from p.layout first k)) → ⊥
 some_busy p first may inside idle = some_turn p may (λ index low. let r = reached first index (actor_count p.layout) inside low in subst (λ n. IsIdle p (actor_at p.layout n)) r.is (idle r.skipped r.within))
 
-no_end : (reason : End) → Ends reason Idle → ⊥
-no_end end.Over over = let no_way : Idle ≡ Over over.0 = over.1 in cc
-no_end end.NoMemory refused = refused
-no_end end.Stopped stopped = let no_way : Idle ≡ Run stopped.0 = stopped.1 in cc
+no_end : (reason : End) (p : PoolView) → Ends reason p Idle → ⊥
+no_end end.Over p over = let no_way : Idle ≡ Over over.0 = over.1 in cc
+no_end end.NoMemory p refused = refused
+no_end (end.Stopped cut) p stopped = let no_way : Idle ≡ Run stopped.0 = stopped.1 in cc
 
 -- a step that is the last isn't an idle actor's
-pub busy_at_end : (reason : End) (old new : PoolView) (actor : Actor) (answer : Turn) → IsMove old actor answer new → Ends reason answer → IsIdle old actor → ⊥
+pub busy_at_end : (reason : End) (old new : PoolView) (actor : Actor) (answer : Turn) → IsMove old actor answer new → Ends reason new answer → IsIdle old actor → ⊥
 busy_at_end reason old new actor answer m ends idle =
-    no_end reason (subst (Ends reason) (moving.idle_answer old new actor m.given answer m.turn m.has idle).0 ends)
+    no_end reason new (subst (Ends reason new) (moving.idle_answer old new actor m.given answer m.turn m.has idle).0 ends)
 
 -- nor is one that makes an event
 pub busy_if_more : (old new : PoolView) (actor : Actor) (answer : Turn) → IsMove old actor answer new → length old.history < length new.history → IsIdle old actor → ⊥

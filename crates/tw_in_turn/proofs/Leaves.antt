@@ -9,4 +9,4 @@ use Rattle.tw_in_turn.specs.declared.run.StoppableResult.TheVariants.{Ended, Sto
 pub left_if : (seed : Option ℕ) (first : PoolView) (answers : List Bool) (left : StoppableResult) → IsLeftBy seed first answers left → IsLeftIf true seed first left
 left_if seed first answers (Ended (result.Over final history)) (turns, count, many, is, (p, comes, shut, ended)) = (p, comes.0, shut, ended)
 left_if seed first answers (Ended (result.NoMemory final history)) (turns, count, many, is, (p, comes, shut)) = (p, comes.0, shut)
-left_if seed first answers (Stopped final history) (turns, count, many, is, (p, after, shut)) = (turns, p, refl, after, shut)
+left_if seed first answers (Stopped final history cut) (turns, count, many, is, (p, after, shut, more)) = (turns, p, refl, after, shut, more)

@@ -1,8 +1,10 @@
 mod Bounded
+mod Cutting
 mod Drawing
 mod Frames
 pub mod Leaves
 mod Leaving
+mod Metered
 mod Moving
 mod Opening
 mod Rounding

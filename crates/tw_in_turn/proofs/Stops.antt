@@ -8,9 +8,9 @@ use Rattle.tw_in_turn.specs.declared.rounds.End.{End}
 use Rattle.tw_in_turn.specs.declared.rounds.End.TheVariants.{Over, NoMemory, Stopped}
 use Rattle.tw_in_turn.proofs.Watching.{with_last}
 
-pub ends_after : (seed : Option ℕ) (first : PoolView) (turns : ℕ) (end : End) (p : PoolView) → IsReachedAfter seed first turns (Ends end) p → EndsAfter seed first (with_last end turns) end p
+pub ends_after : (seed : Option ℕ) (first : PoolView) (turns : ℕ) (end : End) (p : PoolView) → IsReachedAfter seed first turns (Ends end p) p → EndsAfter seed first (with_last end turns) end p
 ends_after seed first turns Over p comes = comes
 ends_after seed first turns NoMemory p comes = comes
-ends_after seed first turns Stopped p (c, count) =
+ends_after seed first turns (Stopped cut) p (c, count) =
     let on : Continues c.answer = subst Continues (sym c.is.1) tt in
-    subst (λ n. IsAfter seed first (suc n) p) count (c.before, c.actor, c.answer, c.after, c.next, c.last, on)
+    (subst (λ n. IsAfter seed first (suc n) p) count (c.before, c.actor, c.answer, c.after, c.next, c.last, on), c.is.2)

@@ -122,18 +122,18 @@ without_kept turns index now kept had count low = omega (arith, low)
 abbrev pub with_last : Stop → ℕ → ℕ
 with_last Over count = count
 with_last NoMemory count = count
-with_last Stopped count = suc count
+with_last (Stopped cut) count = suc count
 
 pub last_enough : (end : Stop) (turns index all had count : ℕ) → index + all ≤ had + count → with_last end (turns + index) + all ≤ turns + had + with_last end count
 last_enough Over turns index all had count low = omega (arith, low)
 last_enough NoMemory turns index all had count low = omega (arith, low)
-last_enough Stopped turns index all had count low = omega (arith, low)
+last_enough (Stopped cut) turns index all had count low = omega (arith, low)
 
 -- with a seed, idle steps don't count
 pub drawn_last : (end : Stop) (turns all had count : ℕ) → all ≤ had + count → with_last end turns + all ≤ turns + had + with_last end count
 drawn_last Over turns all had count low = omega (arith, low)
 drawn_last NoMemory turns all had count low = omega (arith, low)
-drawn_last Stopped turns all had count low = omega (arith, low)
+drawn_last (Stopped cut) turns all had count low = omega (arith, low)
 
 module _ {S : Type 0} (says : S → Bool → S → Type 0) (p q r s : S) (count inside : ℕ) (before : Looked says p q (noes count)) (look : says q false r) where
   one : Looked says p r (noes (count + 1))
@@ -151,7 +151,7 @@ module _ {S : Type 0} (says : S → Bool → S → Type 0) (p q r s : S) (count 
   pub last_looks : (end : Stop) → Looked says r s (answers_in (Some end) inside) → Looked says p s (looks (with_last end (count + inside)) (is_stop end))
   last_looks Over within = last_no within
   last_looks NoMemory within = last_no within
-  last_looks Stopped within =
+  last_looks (Stopped cut) within =
       let sum : count + 1 + inside ≡ suc (count + inside) = omega arith in
       subst (λ n. Looked says p s (looks n true)) sum (more_looks says p r s (count + 1) inside true one within)
 

@@ -1,5 +1,5 @@
 -- Runs in one thread of a program whose events have a bound.
-use Rattle.std.specs.Prelude.{◌≡◌, ◌<◌, ◌≤◌, ℕ, List, length, Option, Some, None}
+use Rattle.std.specs.Prelude.{◌≡◌, ◌<◌, ◌≤◌, ℕ, Bool, List, length, Option, Some, None}
 use Rattle.tw_types.specs.declared.input.Input.{Input}
 use Rattle.tw_types.specs.Layout.{ActorCounts}
 use Rattle.tw_code.specs.format.Program.{IsProgram}
@@ -15,7 +15,9 @@ use Rattle.tw_pool.specs.History.{HistoryView}
 use Rattle.tw_pool.specs.Openings.{opened}
 use Rattle.tw_pool.specs.PoolView.{PoolView, HasState}
 use Rattle.tw_in_turn.specs.declared.run.InTurnResult.TheVariants as left
+use Rattle.tw_in_turn.specs.declared.run.StoppableResult.{StoppableResult}
 use Rattle.tw_in_turn.specs.InTurn.{IsLeft}
+use Rattle.tw_in_turn.specs.Stopping.{IsLeftIf, executed_in}
 
 -- an accepted program, and a bound of the events of main's task, with all tasks that descend from it
 pub record IsBoundedBy (verified : TypedProgram) (most : ℕ) : Type 0 where
@@ -40,3 +42,9 @@ abbrev pub EndsByItself : TypedProgram → ℕ → Type 0
 EndsByItself verified most =
     (inputs : List Input) (layout : ActorCounts) (limit : ℕ) (seed : Option ℕ) (final : FinalView) (history : HistoryView) → AreInputsOf verified.program inputs → most < limit
     → IsLeft seed (opened verified inputs layout limit) (left.Over final history) → HasEndedByItself final.closing
+
+-- holds if no run executes more instructions, also with those of a task that was cut off
+abbrev pub ExecutesFew : TypedProgram → ℕ → Type 0
+ExecutesFew verified most =
+    (inputs : List Input) (layout : ActorCounts) (limit : ℕ) (seed : Option ℕ) (may_stop : Bool) (left : StoppableResult) → AreInputsOf verified.program inputs
+    → IsLeftIf may_stop seed (opened verified inputs layout limit) left → executed_in left ≤ most

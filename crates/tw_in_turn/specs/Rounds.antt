@@ -12,25 +12,25 @@ use Rattle.tw_host.specs.Sees.{IsDoneOf}
 use Rattle.tw_in_turn.specs.declared.rounds.End.{End}
 use Rattle.tw_in_turn.specs.declared.rounds.End.TheVariants.{Over, NoMemory, Stopped}
 use Rattle.tw_stop.specs.Looks.{looks, noes}
-use Rattle.tw_in_turn.specs.Stopping.{IsReachedAfter, looks_within}
+use Rattle.tw_in_turn.specs.Stopping.{IsReachedAfter, MayExecute, looks_within}
 use Rattle.tw_in_turn.specs.InTurn.{Continues, Has, IsAfter, IsIdle, IsMove, IsOver, IsOutOfMemory}
 
--- holds for the reason why no step follows this result; a stop cuts off the job that was issued
-abbrev pub Ends : End → Turn → Type 0
-Ends Over answer = IsOver answer
-Ends NoMemory answer = IsOutOfMemory answer
-Ends Stopped answer = (job : JobView) × (answer ≡ Run job)
+-- holds for the reason why no step follows this result, in the pool after it; a stop cuts off the job that was issued
+abbrev pub Ends : End → PoolView → Turn → Type 0
+Ends Over p answer = IsOver answer
+Ends NoMemory p answer = IsOutOfMemory answer
+Ends (Stopped cut) p answer = (job : JobView) × (answer ≡ Run job) × MayExecute p cut
 
 -- holds for the reason why no step follows the first so many, which lead to this pool
 abbrev pub EndsAfter : Option ℕ → PoolView → ℕ → End → PoolView → Type 0
 EndsAfter seed first turns Over p = IsReachedAfter seed first turns IsOver p
 EndsAfter seed first turns NoMemory p = IsReachedAfter seed first turns IsOutOfMemory p
-EndsAfter seed first turns Stopped p = IsAfter seed first turns p
+EndsAfter seed first turns (Stopped cut) p = IsAfter seed first turns p × MayExecute p cut
 
 abbrev pub is_stop : End → Bool
 is_stop Over = false
 is_stop NoMemory = false
-is_stop Stopped = true
+is_stop (Stopped cut) = true
 
 -- ---- looks while tasks run
 
@@ -51,7 +51,7 @@ abbrev pub answers_in : Option End → ℕ → List Bool
 answers_in None count = noes count
 answers_in (Some Over) count = noes count
 answers_in (Some NoMemory) count = noes count
-answers_in (Some Stopped) count = looks count true
+answers_in (Some (Stopped cut)) count = looks count true
 
 -- holds for the looks in a step of an actor, from the result that it kept to the one that it keeps
 abbrev pub IsWatched : (List Bool → Type 0) → PoolView → Option DoneView → PoolView → Option DoneView → Option End → Type 0
@@ -73,7 +73,7 @@ pub record Keeps (p : PoolView) (actor : Actor) (given : Option DoneView) : Type
 -- holds if an actor keeps what it needs for its next step, or if no step follows
 abbrev pub ContinuesOrEnds : PoolView → Actor → Turn → Option DoneView → Option End → Type 0
 ContinuesOrEnds p actor answer kept None = Continues answer × Keeps p actor kept
-ContinuesOrEnds p actor answer kept (Some end) = Ends end answer
+ContinuesOrEnds p actor answer kept (Some end) = Ends end p answer
 
 -- only events are new
 pub record IsGrown (old new : PoolView) : Type 0 where

@@ -8,5 +8,5 @@ mod theorems;
 mod timed;
 
 pub use run::{InTurnResult, StoppableResult, run_in_turn, run_until};
-pub use theorems::{ends_below_limit, one_run};
+pub use theorems::{ends_below_limit, executes_few, one_run};
 pub use timed::run_timed;

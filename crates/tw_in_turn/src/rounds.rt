@@ -19,8 +19,8 @@ pub(crate) enum End {
     Over,
     /// An allocation failed.
     NoMemory,
-    /// The stop signal is raised.
-    Stopped,
+    /// The stop signal is raised. The number is that of the local instructions of a task that was cut off.
+    Stopped(u64),
 }
 
 /// Makes one step of an actor, with its kept `Done`. Runs a job that it is issued at once, and keeps the `Done` for its next step. The job
@@ -40,8 +40,9 @@ fn turn_one<'a, S: StopSignal>(
 {
     match pool.turn(alloc, actor, kept.take()) {
         Turn::Run(job) => {
-            let Some(done) = job.run_until(alloc, stop) else {
-                return Some(End::Stopped);
+            let done = match job.run_until(alloc, stop) {
+                Ok(done) => done,
+                Err(cut) => return Some(End::Stopped(cut.steps)),
             };
             let _steps = done.steps();
             if done.short() {
@@ -72,7 +73,7 @@ fn turn_round<'a, S: StopSignal>(
     let layout = pool.layout();
     for index in 0..layout.actor_count() {
         if stop.is_raised() {
-            return Some(End::Stopped);
+            return Some(End::Stopped(0));
         }
         let actor = layout.actor_at(index);
         if let Some(end) = turn_one(alloc, pool, actor, &mut kept[index], stop) {
@@ -103,7 +104,7 @@ fn turn_drawn<'a, S: StopSignal>(
     let events = pool.history().len();
     for skipped in 0..count {
         if stop.is_raised() {
-            return Some(End::Stopped);
+            return Some(End::Stopped(0));
         }
         let index = (first + skipped) % count;
         if let Some(end) = turn_one(alloc, pool, layout.actor_at(index), &mut kept[index], stop) {

@@ -5,7 +5,7 @@ ghost use Rattle.tw_stop.specs.Looks.{Looked};
 ghost use Rattle.tw_pool.specs.Openings.{IsRejection, MayOpen, opened};
 ghost use Rattle.tw_pool.specs.PoolView.{PoolView};
 ghost use Rattle.tw_in_turn.specs.InTurn.{IsLeft};
-ghost use Rattle.tw_in_turn.specs.Stopping.{IsLeftBy};
+ghost use Rattle.tw_in_turn.specs.Stopping.{IsLeftBy, cut_of};
 ghost use Rattle.tw_in_turn.specs.Rounds.{AreKept, IsOpened, all_owed};
 
 use crate::rounds::{End, turn_all};
@@ -30,8 +30,29 @@ pub enum InTurnResult {
 pub enum StoppableResult {
     /// It ended without being stopped.
     Ended(InTurnResult),
-    /// The stop signal was raised before its end.
-    Stopped { outcome: Final, history: History },
+    /// The stop signal was raised before its end. A task that was cut off had executed so many local instructions, whose event isn't
+    /// made.
+    Stopped {
+        outcome: Final,
+        history: History,
+        cut: u64,
+    },
+}
+
+impl StoppableResult {
+    /// Returns how many local instructions a task that was cut off had executed.
+    pub fn cut(&self) -> u64
+        ensures { result ≡ cut_of self.now }
+    {
+        match self {
+            StoppableResult::Ended(_) => 0,
+            StoppableResult::Stopped {
+                outcome: _,
+                history: _,
+                cut,
+            } => *cut,
+        }
+    }
 }
 
 /// Returns the kept `Done`s before a run in one thread: none for each actor.
@@ -73,7 +94,11 @@ pub fn run_until<S: StopSignal>(
     match end {
         End::Over => Ok(StoppableResult::Ended(InTurnResult::Over { outcome, history })),
         End::NoMemory => Ok(StoppableResult::Ended(InTurnResult::NoMemory { outcome, history })),
-        End::Stopped => Ok(StoppableResult::Stopped { outcome, history }),
+        End::Stopped(cut) => Ok(StoppableResult::Stopped {
+            outcome,
+            history,
+            cut,
+        }),
     }
 }
 

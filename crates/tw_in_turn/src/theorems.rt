@@ -1,14 +1,17 @@
 //! Theorems on runs in one thread.
 
 ghost use Rattle.std.specs.Prelude.{◌≡◌, ℕ, Option};
-ghost use Rattle.tw_in_turn.specs.Bounded.{EndsByItself, HasFew, IsBoundedBy};
+ghost use Rattle.tw_code.specs.format.Program.{IsProgram};
+ghost use Rattle.tw_soundness.specs.NoTrap.{AreRight};
+ghost use Rattle.tw_bounds.specs.Runs.{IsBoundOfMain, instructions_alone};
+ghost use Rattle.tw_in_turn.specs.Bounded.{EndsByItself, ExecutesFew, HasFew, IsBoundedBy};
 ghost use Rattle.tw_in_turn.specs.InTurn.{IsReachedWith, IsLeft, IsOver};
 ghost use Rattle.tw_in_turn.specs.Same.{AreSameFinals};
 ghost use Rattle.tw_in_turn.specs.declared.run.InTurnResult.TheVariants as left;
 ghost use Rattle.tw_pool.specs.Ends.{FinalView};
 ghost use Rattle.tw_pool.specs.History.{HistoryView};
 ghost use Rattle.tw_pool.specs.PoolView.{PoolView};
-ghost use Rattle.tw_verify.specs.Typed.{TypedProgram};
+ghost use Rattle.tw_verify.specs.Typed.{TypedProgram, typings_of};
 
 /// Proves that two runs in one thread from the same opening, with the same seed or none, end in the same pool: with the same events. Also
 /// that they leave the same results.
@@ -23,4 +26,10 @@ pub fn one_run()
 pub fn ends_below_limit()
     ensures few { (verified : TypedProgram) (most : ℕ) → IsBoundedBy verified most → HasFew verified most }
     ensures itself { (verified : TypedProgram) (most : ℕ) → IsBoundedBy verified most → EndsByItself verified most }
+{}
+
+/// Proves that no run executes more instructions than main's bound, also with those of a task that was cut off.
+pub fn executes_few()
+    ensures { (verified : TypedProgram) (most : ℕ) → IsProgram verified.program → AreRight verified.program (typings_of verified)
+        → IsBoundOfMain verified.program instructions_alone most → ExecutesFew verified most }
 {}

@@ -24,7 +24,7 @@ use Rattle.tw_code.specs.declared.instr.DataInstr.TheVariants as on_data
 use Rattle.tw_code.specs.machine.Data.{Context, after_insert, after_look, after_put, data_instr, datum_at, datum_of, if_absent, suits, suits_entry, suits_subscript, sum_with}
 use Rattle.tw_code.specs.machine.Position.{int_at, must_have_type, of_type_at, value_at}
 use Rattle.tw_code.specs.machine.Rights.{Rights, held, must_be_empty, right_at}
-use Rattle.tw_isolation.specs.Isolation.{HasRight}
+use Rattle.tw_isolation.specs.Isolation.{changed_register}
 
 -- ---- one change after the other
 
@@ -140,63 +140,64 @@ module _ (P : ℕ → Type 0) where
 
 -- ---- the instructions on data
 
-found : (rights : Rights) (register id : ℕ) → held rights register ≡ Ok id → HasRight rights id
-found rights register id is = (register, by (right_at rights register) is)
+found : (rights : Rights) (register id : ℕ) → held rights register ≡ Ok id → right_at rights register ≡ Some id
+found rights register id is = by (right_at rights register) is
   where
     by : (o : Option ℕ) → ok_or o EmptyRegister ≡ Ok id → o ≡ Some id
     by None e = cc
     by (Some other) e = let same : other ≡ id = cc in ap (λ (n : ℕ). Some n) same
 
-module _ (c : Context) where
-  abbrev Mine : ℕ → Type 0
-  Mine = HasRight c.rights
+module _ (c : Context) (P : ℕ → Type 0) where
+  -- P holds of the datum whose content the instruction changes
+  abbrev IsOfChanged : DataInstr → Type 0
+  IsOfChanged i = (register id : ℕ) → changed_register i ≡ Some register → right_at c.rights register ≡ Some id → P id
 
-  insert_lives : (id : ℕ) → Mine id → (at : Subscript) (member register skip : ℕ) (there : Option ℕ) → Lives Mine c.store (after_insert c id at member register skip there).store
-  insert_lives id mine at member register skip None = lives Mine c.store (inserted c.store id at member) (changed_later Mine c.store id (with_member at member) (λ x. refl) (λ x. inr mine))
-  insert_lives id mine at member register skip (Some other) = lives Mine c.store c.store (same Mine c.store.live)
+  insert_lives : (id : ℕ) → P id → (at : Subscript) (member register skip : ℕ) (there : Option ℕ) → Lives P c.store (after_insert c id at member register skip there).store
+  insert_lives id mine at member register skip None = lives P c.store (inserted c.store id at member) (changed_later P c.store id (with_member at member) (λ x. refl) (λ x. inr mine))
+  insert_lives id mine at member register skip (Some other) = lives P c.store c.store (same P c.store.live)
 
-  look_lives : (register skip : ℕ) (there : Option ℕ) → Lives Mine c.store (after_look c register skip there).store
-  look_lives register skip None = lives Mine c.store c.store (same Mine c.store.live)
-  look_lives register skip (Some member) = lives Mine c.store (read_copied c.store member) (changed_later Mine c.store member one_read_more (λ x. refl) (λ x. inl refl))
+  look_lives : (register skip : ℕ) (there : Option ℕ) → Lives P c.store (after_look c register skip there).store
+  look_lives register skip None = lives P c.store c.store (same P c.store.live)
+  look_lives register skip (Some member) = lives P c.store (read_copied c.store member) (changed_later P c.store member one_read_more (λ x. refl) (λ x. inl refl))
 
-  entry_lives : (id : ℕ) → Mine id → (at : Subscript) (skip : ℕ) (x : Option Value) → Lives Mine c.store (after_put c id at skip x).store
-  entry_lives id mine at skip None = lives Mine c.store c.store (same Mine c.store.live)
-  entry_lives id mine at skip (Some x) = lives Mine c.store (value_put c.store id at x) (changed_later Mine c.store id (with_entry at x) (λ x. refl) (λ x. inr mine))
+  entry_lives : (id : ℕ) → P id → (at : Subscript) (skip : ℕ) (x : Option Value) → Lives P c.store (after_put c id at skip x).store
+  entry_lives id mine at skip None = lives P c.store c.store (same P c.store.live)
+  entry_lives id mine at skip (Some x) = lives P c.store (value_put c.store id at x) (changed_later P c.store id (with_entry at x) (λ x. refl) (λ x. inr mine))
 
-  unchanged : Lives Mine c.store c.store
-  unchanged = lives Mine c.store c.store (same Mine c.store.live)
+  unchanged : Lives P c.store c.store
+  unchanged = lives P c.store c.store (same P c.store.live)
 
   -- one line for each instruction
-  pub data_lives : (i : DataInstr) → WhereOk (data_instr i c) (λ e. Lives Mine c.store e.store)
-  data_lives (on_data.New write read ty) =
-      ok_then (must_be_empty c.rights write) (λ _. ok_then (must_be_empty c.rights read) (λ _. ok_then (must (not (write == read)) WrongRegister) (λ _. record { is = created_lives Mine c.store ty })))
-  data_lives (on_data.Store datum from) =
+  pub data_lives : (i : DataInstr) → IsOfChanged i → WhereOk (data_instr i c) (λ e. Lives P c.store e.store)
+  data_lives (on_data.New write read ty) of_changed =
+      ok_then (must_be_empty c.rights write) (λ _. ok_then (must_be_empty c.rights read) (λ _. ok_then (must (not (write == read)) WrongRegister) (λ _. record { is = created_lives P c.store ty })))
+  data_lives (on_data.Store datum from) of_changed =
       ok_both (value_at c.position from) (λ x _. ok_then (must (suits x (datum_at c datum)) WrongRegister) (λ _. ok_both (held c.rights datum) (λ id h. ok_then (may_store x (datum_of c id)) (λ _.
-      record { is = lives Mine c.store (stored c.store id x) (after_later Mine c.store id (set_to x) (λ x. refl) (λ x. inr (found c.rights datum id h))) }))))
-  data_lives (on_data.Get to datum) =
+      record { is = lives P c.store (stored c.store id x) (after_later P c.store id (set_to x) (λ x. refl) (λ x. inr (of_changed datum id refl (found c.rights datum id h)))) }))))
+  data_lives (on_data.Get to datum) of_changed =
       ok_both (value_at c.position to) (λ old _. ok_then (must (suits old (datum_at c datum)) WrongRegister) (λ _. ok_both (held c.rights datum) (λ id _. ok_then (may_retrieve (datum_of c id)) (λ _. ok_both (ok_or (store.value_at c.store id) UnsetDatum) (λ x _. record { is = unchanged })))))
-  data_lives (on_data.Insert by container subscript member skip) =
+  data_lives (on_data.Insert by container subscript member skip) of_changed =
       ok_both (of_type_at c.position subscript by) (λ at _. ok_both (held c.rights container) (λ id h. ok_both (held c.rights member) (λ inner _. ok_then (may_insert by (datum_of c id) (datum_of c inner)) (λ _.
-      record { is = insert_lives id (found c.rights container id h) at inner member skip (member_at c.store id at) }))))
-  data_lives (on_data.Look by member container subscript skip) =
+      record { is = insert_lives id (of_changed container id refl (found c.rights container id h)) at inner member skip (member_at c.store id at) }))))
+  data_lives (on_data.Look by member container subscript skip) of_changed =
       ok_both (of_type_at c.position subscript by) (λ at _. ok_then (must_be_empty c.rights member) (λ _. ok_both (held c.rights container) (λ id _. ok_then (may_look c.store id at) (λ _. record { is = look_lives member skip (member_at c.store id at) }))))
-  data_lives (on_data.Size to container) =
+  data_lives (on_data.Size to container) of_changed =
       ok_then (must_have_type c.position to scalar.Int) (λ _. ok_both (held c.rights container) (λ id _. ok_then (may_read_members (datum_of c id)) (λ _. record { is = unchanged })))
-  data_lives (on_data.SubscriptAt by to container index skip) =
+  data_lives (on_data.SubscriptAt by to container index skip) of_changed =
       ok_then (must_have_type c.position to by) (λ _. ok_both (int_at c.position index) (λ count _. ok_both (held c.rights container) (λ id _. ok_then (may_read_subscripts_by by (datum_of c id)) (λ _. record { is = unchanged }))))
-  data_lives (on_data.InsertValue register subscript from skip) =
+  data_lives (on_data.InsertValue register subscript from skip) of_changed =
       ok_both (value_at c.position subscript) (λ at _. ok_both (value_at c.position from) (λ x _. ok_then (must (suits_entry at x (datum_at c register)) WrongRegister) (λ _. ok_both (held c.rights register) (λ id h. ok_then (may_put at x (datum_of c id)) (λ _.
-      record { is = entry_lives id (found c.rights register id h) at skip (if_absent (entry_at c.store id at) x) })))))
-  data_lives (on_data.AddValue register subscript from) =
+      record { is = entry_lives id (of_changed register id refl (found c.rights register id h)) at skip (if_absent (entry_at c.store id at) x) })))))
+  data_lives (on_data.AddValue register subscript from) of_changed =
       ok_both (value_at c.position subscript) (λ at _. ok_both (int_at c.position from) (λ n _. ok_then (must (suits_subscript at (datum_at c register)) WrongRegister) (λ _. ok_both (held c.rights register) (λ id h. ok_then (may_add at (datum_of c id)) (λ _.
-      record { is = lives Mine c.store (value_put c.store id at (sum_with (entry_at c.store id at) n)) (changed_later Mine c.store id (with_entry at (sum_with (entry_at c.store id at) n)) (λ x. refl) (λ x. inr (found c.rights register id h))) })))))
-  data_lives (on_data.GetValue to register subscript skip) =
+      record { is = lives P c.store (value_put c.store id at (sum_with (entry_at c.store id at) n)) (changed_later P c.store id (with_entry at (sum_with (entry_at c.store id at) n)) (λ x. refl) (λ x. inr (of_changed register id refl (found c.rights register id h)))) })))))
+  data_lives (on_data.GetValue to register subscript skip) of_changed =
       ok_both (value_at c.position to) (λ old _. ok_both (value_at c.position subscript) (λ at _. ok_then (must (suits_entry at old (datum_at c register)) WrongRegister) (λ _. ok_both (held c.rights register) (λ id _. ok_then (may_read_entry at (scalar_of old) (datum_of c id)) (λ _. record { is = unchanged })))))
-  data_lives (on_data.CopyRead to from) =
-      ok_then (must_be_empty c.rights to) (λ _. ok_both (held c.rights from) (λ id _. ok_then (may_be_read (datum_of c id)) (λ _. record { is = lives Mine c.store (read_copied c.store id) (changed_later Mine c.store id one_read_more (λ x. refl) (λ x. inl refl)) })))
-  data_lives (on_data.CopyWrite to from) =
-      ok_then (must_be_empty c.rights to) (λ _. ok_both (held c.rights from) (λ id _. ok_then (may_copy_write (datum_of c id)) (λ _. record { is = lives Mine c.store (write_copied c.store id) (changed_later Mine c.store id one_write_more (λ x. refl) (λ x. inl refl)) })))
-  data_lives (on_data.DropRead right) =
-      ok_both (held c.rights right) (λ id _. ok_then (may_drop_read (datum_of c id)) (λ _. record { is = lives Mine c.store (read_dropped c.store id) (dropped Mine 3 c.store.live id) }))
-  data_lives (on_data.DropWrite right) =
-      ok_both (held c.rights right) (λ id _. ok_then (may_drop_write (datum_of c id)) (λ _. record { is = lives Mine c.store (write_dropped c.store id) (after_later Mine c.store id one_write_less (λ x. refl) (λ x. inl refl)) }))
+  data_lives (on_data.CopyRead to from) of_changed =
+      ok_then (must_be_empty c.rights to) (λ _. ok_both (held c.rights from) (λ id _. ok_then (may_be_read (datum_of c id)) (λ _. record { is = lives P c.store (read_copied c.store id) (changed_later P c.store id one_read_more (λ x. refl) (λ x. inl refl)) })))
+  data_lives (on_data.CopyWrite to from) of_changed =
+      ok_then (must_be_empty c.rights to) (λ _. ok_both (held c.rights from) (λ id _. ok_then (may_copy_write (datum_of c id)) (λ _. record { is = lives P c.store (write_copied c.store id) (changed_later P c.store id one_write_more (λ x. refl) (λ x. inl refl)) })))
+  data_lives (on_data.DropRead right) of_changed =
+      ok_both (held c.rights right) (λ id _. ok_then (may_drop_read (datum_of c id)) (λ _. record { is = lives P c.store (read_dropped c.store id) (dropped P 3 c.store.live id) }))
+  data_lives (on_data.DropWrite right) of_changed =
+      ok_both (held c.rights right) (λ id _. ok_then (may_drop_write (datum_of c id)) (λ _. record { is = lives P c.store (write_dropped c.store id) (after_later P c.store id one_write_less (λ x. refl) (λ x. inl refl)) }))

@@ -1,4 +1,4 @@
-//! A theorem on isolation: an event of a task changes only data on which the task has rights.
+//! A theorem on isolation: which data an event may change, and with which right.
 #![tactic(auto)]
 
 mod theorems;

@@ -1,8 +1,10 @@
 //! Theorems on isolation.
 
-ghost use Rattle.tw_isolation.specs.Isolation.{AreIsolated};
+ghost use Rattle.tw_isolation.specs.Isolation.{AreIsolated, ChangesByWriteRight};
 
-/// Proves that an event changes no datum on which its task has no right, and no task of another actor.
+/// Proves that an event changes the content of a datum only by STORE, INS, TINS, MINS or MADD of its own task, and no task of
+/// another actor. In an accepted program that task has a write right on the datum.
 pub fn isolated()
-    ensures { AreIsolated }
+    ensures isolated { AreIsolated }
+    ensures by_right { ChangesByWriteRight }
 {}

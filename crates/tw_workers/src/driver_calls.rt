@@ -146,7 +146,13 @@ impl<'h, 'a, N: Named, G: Gate> DriverCalls<'a> for ObservedHost<'h, 'a, N, G> {
     fn run(&self, alloc: Global, _seat: &mut Seat<N>, job: Job<'a>) -> Option<Done<'a>> {
         if self.gate.may_stop() {
             let mut end = RunEnd { host: self.host };
-            job.run_until(alloc, &mut end)
+            match job.run_until(alloc, &mut end) {
+                Ok(done) => Some(done),
+                Err(cut) => {
+                    self.gate.cut_off(cut.steps);
+                    None
+                }
+            }
         } else {
             Some(job.run(alloc))
         }

@@ -66,6 +66,14 @@ pub trait Gate {
     /// Is called after each job that the observer has to see, in the thread that has run it.
     fn after_job<R: Wait>(&self, rt: &R, actor: Actor, task: u64);
 
+    /// Receives for an observer how many local instructions a job had executed when it was cut off.
+    fn cut_off(&self, _steps: u64) {}
+
+    /// Returns how many local instructions an observer's jobs that were cut off had executed, if it counts them.
+    fn cut(&self) -> u64 {
+        0
+    }
+
     /// Is called once by an observer's run, beside the threads that do the work. It may look at their progress until the work is
     /// over, as often as it likes.
     fn monitor<R: Wait + Clock, P: Progress>(&self, _rt: &R, _work: &P) {}

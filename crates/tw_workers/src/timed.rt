@@ -4,6 +4,7 @@ ghost use Rattle.std.specs.Prelude.{◌≡◌, false};
 
 use crate::gate::{Gate, Progress, SoFar};
 use std::sync::Wait;
+use std::sync::atomic::{AtomicU64, Ordering};
 use std::thread;
 use std::time::{Clock, Duration};
 use tw_stop::Deadline;
@@ -55,11 +56,23 @@ fn watch<R: Wait + Clock, P: Progress>(rt: &R, work: &P) {
     unreachable!()
 }
 
-/// Another job observer, and a deadline after which the work is stopped.
+/// Another job observer, a deadline after which the work is stopped, and what the jobs executed that were cut off then.
 #[derive(Drop)]
 pub struct Timed<'g, G: Gate, C: Clock> {
-    pub gate: &'g G,
-    pub deadline: &'g Deadline<'g, C>,
+    gate: &'g G,
+    deadline: &'g Deadline<'g, C>,
+    cut: AtomicU64,
+}
+
+impl<'g, G: Gate, C: Clock> Timed<'g, G, C> {
+    /// Makes the observer of work that begins, beside another one.
+    pub fn new(gate: &'g G, deadline: &'g Deadline<'g, C>) -> Timed<'g, G, C> {
+        Timed {
+            gate,
+            deadline,
+            cut: AtomicU64::new(0),
+        }
+    }
 }
 
 impl<'g, G: Gate, C: Clock> Gate for Timed<'g, G, C> {
@@ -85,6 +98,16 @@ impl<'g, G: Gate, C: Clock> Gate for Timed<'g, G, C> {
     /// Calls the other observer, beside the deadline, after a job.
     fn after_job<R: Wait>(&self, rt: &R, actor: Actor, task: u64) {
         self.gate.after_job(rt, actor, task);
+    }
+
+    /// Adds the local instructions of a job that was cut off at the deadline.
+    fn cut_off(&self, steps: u64) {
+        self.cut.fetch_add(steps, Ordering::SeqCst);
+    }
+
+    /// Returns the local instructions of the jobs that were cut off at the deadline.
+    fn cut(&self) -> u64 {
+        self.cut.load(Ordering::SeqCst)
     }
 
     /// Stops the work once the deadline is past. The other observer monitors it, too, for as long as it likes.

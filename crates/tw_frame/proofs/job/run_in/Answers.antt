@@ -42,18 +42,18 @@ budget-requires g c =
     let k = known c.args.verified.now c.args.procedure c.args.at.now.registers.types (position_of c.args.at.now) c.requires c.procedure_of-p.result.now c.procedure_of-p.ensures.is c.procedure_of-p.ensures.accepted in
     omega (arith, c.from-procedure.ensures, k.in_program)
 
-pub run_watched-requires-clause-ready : goal.run_watched-requires-clause-ready
-run_watched-requires-clause-ready g c =
+pub run_watched-watched-requires-clause-ready : goal.run_watched-watched-requires-clause-ready
+run_watched-watched-requires-clause-ready g c =
     let k = known c.args.verified.now c.args.procedure c.args.at.now.registers.types (position_of c.args.at.now) c.requires c.procedure_of-p.result.now c.procedure_of-p.ensures.is c.procedure_of-p.ensures.accepted in
     ready c.args.verified.now c.args.procedure c.args.at.now.registers.types (position_of c.args.at.now) c.procedure_of-p.result.now k c.from-procedure.result c.from-procedure.ensures c.quick.result.now c.budget.result c.quick.ensures c.budget.ensures.is
 
-pub run_watched-requires-clause-typed : goal.run_watched-requires-clause-typed
-run_watched-requires-clause-typed g c =
+pub run_watched-watched-requires-clause-typed : goal.run_watched-watched-requires-clause-typed
+run_watched-watched-requires-clause-typed g c =
     let k = known c.args.verified.now c.args.procedure c.args.at.now.registers.types (position_of c.args.at.now) c.requires c.procedure_of-p.result.now c.procedure_of-p.ensures.is c.procedure_of-p.ensures.accepted in
     ap (λ (x : Context). x.registers.types) c.in-Ok.ensures.copy ∙ k.typed
 
-pub run_watched-requires-clause-fits_place : goal.run_watched-requires-clause-fits_place
-run_watched-requires-clause-fits_place g c =
+pub run_watched-watched-requires-clause-fits_place : goal.run_watched-watched-requires-clause-fits_place
+run_watched-watched-requires-clause-fits_place g c =
     let k = known c.args.verified.now c.args.procedure c.args.at.now.registers.types (position_of c.args.at.now) c.requires c.procedure_of-p.result.now c.procedure_of-p.ensures.is c.procedure_of-p.ensures.accepted in
     rw c.in-Ok.ensures.copy k.fits_place
 
@@ -61,27 +61,37 @@ pub returns-in_default-copy_from-clause-run : goal.returns-in_default-copy_from-
 returns-in_default-copy_from-clause-run g c =
     let k = known c.args.verified.now c.args.procedure c.args.at.now.registers.types (position_of c.args.at.now) c.requires c.procedure_of-p.result.now c.procedure_of-p.ensures.is c.procedure_of-p.ensures.accepted in
     short_before c.args.verified.now c.args.procedure c.args.at.now.registers.types (position_of c.args.at.now) c.procedure_of-p.result.now k c.index-as_slice-at.result (there c.args.verified.now c.args.procedure c.args.at.now.registers.types (position_of c.args.at.now) c.procedure_of-p.result.now k c.as_slice.result.now c.index-as_slice-at.result c.as_slice.ensures c.index-as_slice-at.is) (sym c.is_local.ensures ∙ c.if-not-is_local.false)
-    (subst (λ (ts : List Scalar). HasText ts) (c.run_watched.ensures.typed ∙ sym k.typed) c.in_default-copy_from.ensures.texts)
+    (subst (λ (ts : List Scalar). HasText ts) (c.run_watched-watched.ensures.typed ∙ sym k.typed) c.in_default-copy_from.ensures.texts)
 
 pub returns-clause-run : goal.returns-clause-run
 returns-clause-run g c =
     let k = known c.args.verified.now c.args.procedure c.args.at.now.registers.types (position_of c.args.at.now) c.requires c.procedure_of-p.result.now c.procedure_of-p.ensures.is c.procedure_of-p.ensures.accepted in
-    let came : Position = position_at c.in-Some.loop_exit.place c.run_watched.new.registers c.run_watched.new.loops in
-    let reached : IsReached c.procedure_of-p.result.now (position_of c.args.at.now) c.in-Some.loop_exit.steps came =
-    subst (λ (x : Context). IsReached c.procedure_of-p.result.now (position_at c.args.at.now.place x.registers x.loops) c.in-Some.loop_exit.steps came) c.in-Ok.ensures.copy c.in-Some.ensures.reached in
-    let below = is_below c.procedure_of-p.result.now c.quick.result.now c.budget.result (ready c.args.verified.now c.args.procedure c.args.at.now.registers.types (position_of c.args.at.now) c.procedure_of-p.result.now k c.from-procedure.result c.from-procedure.ensures c.quick.result.now c.budget.result c.quick.ensures c.budget.ensures.is) (position_of c.args.at.now) c.in-Some.loop_exit.steps came reached in (
+    let came : Position = position_at c.in-Ok-watched.loop_exit.place c.run_watched-watched.new.registers c.run_watched-watched.new.loops in
+    let reached : IsReached c.procedure_of-p.result.now (position_of c.args.at.now) c.in-Ok-watched.loop_exit.steps came =
+    subst (λ (x : Context). IsReached c.procedure_of-p.result.now (position_at c.args.at.now.place x.registers x.loops) c.in-Ok-watched.loop_exit.steps came) c.in-Ok.ensures.copy c.in-Ok-watched.ensures.reached in
+    let below = is_below c.procedure_of-p.result.now c.quick.result.now c.budget.result (ready c.args.verified.now c.args.procedure c.args.at.now.registers.types (position_of c.args.at.now) c.procedure_of-p.result.now k c.from-procedure.result c.from-procedure.ensures c.quick.result.now c.budget.result c.quick.ensures c.budget.ensures.is) (position_of c.args.at.now) c.in-Ok-watched.loop_exit.steps came reached in (
       record {
         p = c.procedure_of-p.result.now;
         here = k.here;
         reached = reached;
-        stops = c.in-Some.ensures.stops;
+        stops = c.in-Ok-watched.ensures.stops;
         few = omega (arith, below, c.budget.ensures.within);
       },
       λ q there. record {
-        typed = c.run_watched.ensures.typed ∙ done_run c.args.verified.now c.args.procedure c.args.at.now.registers.types (position_of c.args.at.now) c.procedure_of-p.result.now k q there;
+        typed = c.run_watched-watched.ensures.typed ∙ done_run c.args.verified.now c.args.procedure c.args.at.now.registers.types (position_of c.args.at.now) c.procedure_of-p.result.now k q there;
         same = ap (λ (x : Context). x.registers) c.in-Ok-copy_from.ensures.copy;
       },
     )
+
+pub returns-in-Err-clause-cut : goal.returns-in-Err-clause-cut
+returns-in-Err-clause-cut g c =
+    let k = known c.args.verified.now c.args.procedure c.args.at.now.registers.types (position_of c.args.at.now) c.requires c.procedure_of-p.result.now c.procedure_of-p.ensures.is c.procedure_of-p.ensures.accepted in
+    let came = c.in-Err.ensures.cut in
+    let steps = c.in-Err.cut.steps in
+    let reached : IsReached c.procedure_of-p.result.now (position_of c.args.at.now) steps came.0 =
+    subst (λ (x : Context). IsReached c.procedure_of-p.result.now (position_at c.args.at.now.place x.registers x.loops) steps came.0) c.in-Ok.ensures.copy came.1 in
+    let below = is_below c.procedure_of-p.result.now c.quick.result.now c.budget.result (ready c.args.verified.now c.args.procedure c.args.at.now.registers.types (position_of c.args.at.now) c.procedure_of-p.result.now k c.from-procedure.result c.from-procedure.ensures c.quick.result.now c.budget.result c.quick.ensures c.budget.ensures.is) (position_of c.args.at.now) steps came.0 reached in
+    record { p = c.procedure_of-p.result.now; here = k.here; at = came.0; reached = reached; few = omega (arith, below, c.budget.ensures.within) }
 
 pub returns-then-not-is_local-clause-seen : goal.returns-then-not-is_local-clause-seen
 returns-then-not-is_local-clause-seen g c = unseen g.S.StopSignal.says c.args.stop.now
@@ -91,4 +101,4 @@ returns-in_default-clause-seen g c = unseen g.S.StopSignal.says c.args.stop.now
 
 pub returns-in_default-copy_from-clause-seen : goal.returns-in_default-copy_from-clause-seen
 returns-in_default-copy_from-clause-seen g c =
-    nothing g.S.StopSignal.says c.args.stop.now c.run_watched.new.stop c.in-Some.loop_exit.steps c.in-Some.ensures.seen
+    nothing g.S.StopSignal.says c.args.stop.now c.run_watched-watched.new.stop c.in-Ok-watched.loop_exit.steps c.in-Ok-watched.ensures.seen

@@ -5,16 +5,8 @@ use Rattle.tw_handles.specs.Many.{IsReadAt}
 use Rattle.tw_handles.specs.Shown.{AtSubscript, shown_of}
 use Rattle.tw_handles.specs.declared.item.Item.{Item}
 use Rattle.tw_handles.specs.declared.members.Member.{Member}
-use Rattle.tw_handles.proofs.Contents.{count_shown}
 use Rattle.tw_handles.proofs.Filling.{read_more}
 use Rattle.tw_handles.proofs.many.read_members.Goals as goal
-
-pub returns-then-room-saturating_sub : goal.returns-then-room-saturating_sub
-returns-then-room-saturating_sub c =
-    let content = c.args.datum.now.datum.content in
-    let es = shown_of c.args.outcome.now content in
-    let short : length es < c.args.first + length c.args.room.now = omega (arith, count_shown c.args.outcome.now content, c.count.ensures, c.saturating_sub.ensures, c.if-room-saturating_sub.true) in
-    (refl, inr (short, refl))
 
 pub returns-in-None : goal.returns-in-None
 returns-in-None c =

@@ -1,4 +1,5 @@
-use Rattle.std.proofs.Common.{IfOk, string_bytes, subst}
+use Rattle.std.proofs.Common.{IfOk, ℕ, string_bytes, subst}
+use Rattle.tw_in_turn.specs.Stopping.{cut_of}
 use Rattle.tw_pool.specs.Ends.{FinalView}
 use Rattle.tw_pool.specs.History.{HistoryView}
 use Rattle.tw_run_output.specs.Json.{IsEndLine}
@@ -7,5 +8,7 @@ use Rattle.tw_handles.proofs.printing.line_of.Goals as goal
 
 pub returns : goal.returns
 returns c =
-    let same_history = subst (λ (h : HistoryView). IfOk c.end_line.result (λ line. IsEndLine c.final_of.result.now h.events c.args.closing (string_bytes line))) c.history_of.ensures c.end_line.ensures in
-    subst (λ (f : FinalView). IfOk c.end_line.result (λ line. IsEndLine f (history_of c.args.left.now).events c.args.closing (string_bytes line))) c.final_of.ensures same_history
+    let left = c.args.left.now in
+    let same_cut = subst (λ (n : ℕ). IfOk c.end_line.result (λ line. IsEndLine c.final_of.result.now c.history_of.result.now.events n c.args.closing (string_bytes line))) c.cut.ensures c.end_line.ensures in
+    let same_history = subst (λ (h : HistoryView). IfOk c.end_line.result (λ line. IsEndLine c.final_of.result.now h.events (cut_of left) c.args.closing (string_bytes line))) c.history_of.ensures same_cut in
+    subst (λ (f : FinalView). IfOk c.end_line.result (λ line. IsEndLine f (history_of left).events (cut_of left) c.args.closing (string_bytes line))) c.final_of.ensures same_history

@@ -61,7 +61,7 @@ returns-then-is_raised-clause-round g c =
       seen.0,
       last_look Says c.args.stop.now c.loop-skipped.stop c.is_raised.new.self seen.0 true seen.1 yes,
       omega (arith, seen.2),
-      λ start after. subst (λ (p : PoolView). IsAfter (Some c.args.seed) start c.args.steps p) (sym inv.same) after,
+      λ start after. (subst (λ (p : PoolView). IsAfter (Some c.args.seed) start c.args.steps p) (sym inv.same) after, tt),
     )
 
 pub returns-then-events-len-clause-round : goal.returns-then-events-len-clause-round

@@ -4,6 +4,7 @@ use Rattle.tw_pool.specs.Turns.{IsTurn}
 use Rattle.tw_in_turn.specs.InTurn.{Continues, IsOutOfMemory, IsWorkOf}
 use Rattle.tw_in_turn.specs.Rounds.{ContinuesOrEnds, Keeps}
 use Rattle.tw_in_turn.specs.declared.rounds.End.TheVariants.{NoMemory, Over, Stopped}
+use Rattle.tw_in_turn.proofs.Cutting as cutting
 use Rattle.tw_in_turn.proofs.Moving as moving
 use Rattle.tw_in_turn.proofs.Watching as watching
 use Rattle.tw_in_turn.proofs.rounds.turn_one.Goals as goal
@@ -11,22 +12,24 @@ use Rattle.tw_in_turn.proofs.rounds.turn_one.Goals as goal
 pub returns-then-short-clause-turned : goal.returns-then-short-clause-turned
 returns-then-short-clause-turned g c =
     let t = subst (λ (o : Option DoneView). IsTurn c.args.pool.now c.args.actor o c.turn.result c.turn.new.self) c.take.ensures.value c.turn.ensures in
-    let work : IsWorkOf c.in-Run.job true c.in-Some.done = moving.work_of c.in-Run.job c.in-Some.done true c.in-Some.ensures.before (sym c.if-short.ensures) c.steps-steps.ensures.done in
-    let comes : ContinuesOrEnds c.turn.new.self c.args.actor c.turn.result c.take.new.self (Some NoMemory) = subst IsOutOfMemory (sym c.in-Run.is) (c.in-Some.done, work) in
+    let work : IsWorkOf c.in-Run.job true c.in-Ok.done = moving.work_of c.in-Run.job c.in-Ok.done true c.in-Ok.ensures.before (sym c.if-short.ensures) c.steps-steps.ensures.done in
+    let comes : ContinuesOrEnds c.turn.new.self c.args.actor c.turn.result c.take.new.self (Some NoMemory) = subst IsOutOfMemory (sym c.in-Run.is) (c.in-Ok.done, work) in
     moving.turned_is c.args.pool.now c.turn.new.self c.args.actor c.args.kept.now c.turn.result t c.requires.keeps.has c.requires.may.within c.take.new.self (Some NoMemory) comes
 
 pub returns-in-Run-clause-turned : goal.returns-in-Run-clause-turned
 returns-in-Run-clause-turned g c =
     let t = subst (λ (o : Option DoneView). IsTurn c.args.pool.now c.args.actor o c.turn.result c.turn.new.self) c.take.ensures.value c.turn.ensures in
-    let work : IsWorkOf c.in-Run.job false c.in-Some.done = moving.work_of c.in-Run.job c.in-Some.done false c.in-Some.ensures.before (sym c.if-short.ensures) c.steps-steps.ensures.done in
-    let comes : ContinuesOrEnds c.turn.new.self c.args.actor c.turn.result (Some c.in-Some.done) None = (subst Continues (sym c.in-Run.is) tt, moving.keeps_work c.args.pool.now c.turn.new.self c.args.actor c.args.kept.now c.turn.result t c.requires.keeps.has c.requires.keeps.program c.in-Run.job c.in-Some.done c.in-Run.is work) in
-    moving.turned_is c.args.pool.now c.turn.new.self c.args.actor c.args.kept.now c.turn.result t c.requires.keeps.has c.requires.may.within (Some c.in-Some.done) None comes
+    let work : IsWorkOf c.in-Run.job false c.in-Ok.done = moving.work_of c.in-Run.job c.in-Ok.done false c.in-Ok.ensures.before (sym c.if-short.ensures) c.steps-steps.ensures.done in
+    let comes : ContinuesOrEnds c.turn.new.self c.args.actor c.turn.result (Some c.in-Ok.done) None = (subst Continues (sym c.in-Run.is) tt, moving.keeps_work c.args.pool.now c.turn.new.self c.args.actor c.args.kept.now c.turn.result t c.requires.keeps.has c.requires.keeps.program c.in-Run.job c.in-Ok.done c.in-Run.is work) in
+    moving.turned_is c.args.pool.now c.turn.new.self c.args.actor c.args.kept.now c.turn.result t c.requires.keeps.has c.requires.may.within (Some c.in-Ok.done) None comes
 
-pub returns-in_default-clause-turned : goal.returns-in_default-clause-turned
-returns-in_default-clause-turned g c =
+pub returns-in-Err-clause-turned : goal.returns-in-Err-clause-turned
+returns-in-Err-clause-turned g c =
     let t = subst (λ (o : Option DoneView). IsTurn c.args.pool.now c.args.actor o c.turn.result c.turn.new.self) c.take.ensures.value c.turn.ensures in
-    let comes : ContinuesOrEnds c.turn.new.self c.args.actor c.turn.result c.take.new.self (Some Stopped) = (c.in-Run.job, c.in-Run.is) in
-    moving.turned_is c.args.pool.now c.turn.new.self c.args.actor c.args.kept.now c.turn.result t c.requires.keeps.has c.requires.may.within c.take.new.self (Some Stopped) comes
+    let steps = c.in-Err.cut.steps in
+    let more = cutting.may_execute c.args.pool.now c.turn.new.self c.args.actor c.args.kept.now c.turn.result t c.requires.keeps.has c.in-Run.job c.in-Run.is steps c.in-Err.ensures.cut in
+    let comes : ContinuesOrEnds c.turn.new.self c.args.actor c.turn.result c.take.new.self (Some (Stopped steps)) = (c.in-Run.job, c.in-Run.is, more) in
+    moving.turned_is c.args.pool.now c.turn.new.self c.args.actor c.args.kept.now c.turn.result t c.requires.keeps.has c.requires.may.within c.take.new.self (Some (Stopped steps)) comes
 
 pub returns-in-Ended-clause-turned : goal.returns-in-Ended-clause-turned
 returns-in-Ended-clause-turned g c =
@@ -62,22 +65,22 @@ pub returns-then-short-clause-watched : goal.returns-then-short-clause-watched
 returns-then-short-clause-watched g c =
     let t = subst (λ (o : Option DoneView). IsTurn c.args.pool.now c.args.actor o c.turn.result c.turn.new.self) c.take.ensures.value c.turn.ensures in
     let more = watching.in_step c.args.pool.now c.turn.new.self c.args.actor c.args.kept.now c.turn.result t in
-    let seen = c.in-Some.ensures.seen in
+    let seen = c.in-Ok.ensures.seen in
     (seen.count, seen.looked, watching.kept_none c.args.pool.now c.turn.new.self c.args.kept.now c.take.new.self seen.count more c.take.ensures.after)
 
-pub returns-in_default-clause-watched : goal.returns-in_default-clause-watched
-returns-in_default-clause-watched g c =
+pub returns-in-Err-clause-watched : goal.returns-in-Err-clause-watched
+returns-in-Err-clause-watched g c =
     let t = subst (λ (o : Option DoneView). IsTurn c.args.pool.now c.args.actor o c.turn.result c.turn.new.self) c.take.ensures.value c.turn.ensures in
     let more = watching.in_step c.args.pool.now c.turn.new.self c.args.actor c.args.kept.now c.turn.result t in
-    let seen = c.in_default.ensures.seen in
-    (seen.0, seen.1, watching.kept_none c.args.pool.now c.turn.new.self c.args.kept.now c.take.new.self seen.0 more c.take.ensures.after)
+    let seen = c.in-Err.ensures.seen in
+    (seen.count, seen.looked, watching.kept_none c.args.pool.now c.turn.new.self c.args.kept.now c.take.new.self seen.count more c.take.ensures.after)
 
 pub returns-in-Run-clause-watched : goal.returns-in-Run-clause-watched
 returns-in-Run-clause-watched g c =
     let t = subst (λ (o : Option DoneView). IsTurn c.args.pool.now c.args.actor o c.turn.result c.turn.new.self) c.take.ensures.value c.turn.ensures in
     let more = watching.in_step c.args.pool.now c.turn.new.self c.args.actor c.args.kept.now c.turn.result t in
-    let seen = c.in-Some.ensures.seen in
-    let mine = watching.owed_by c.in-Some.done seen.count seen.few in
+    let seen = c.in-Ok.ensures.seen in
+    let mine = watching.owed_by c.in-Ok.done seen.count seen.few in
     (seen.count, seen.looked, omega (arith, more, mine))
 
 pub returns-in-Ended-clause-watched : goal.returns-in-Ended-clause-watched

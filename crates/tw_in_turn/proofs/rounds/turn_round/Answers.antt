@@ -56,7 +56,7 @@ returns-in-Some-clause-round g c = λ rounds.
       watching.last_looks Says c.args.stop.now c.loop-index.stop c.is_raised.new.self c.turn_one.new.stop seen.0 watched.0 seen.1 denied end watched.1,
       watching.last_enough end turns index (looks_within new.history) (looks_at first c.args.kept.now) (seen.0 + watched.0) (omega (arith, seen.2, more)),
       λ start after. ends_after None start (turns + index) end new
-          (rounding.the_last start now new first.layout rounds index t.answer (Ends end) same low (inv.after start rounds after) (subst (λ (a : Actor). IsMove now a t.answer new) actor_is t.move) t.comes),
+          (rounding.the_last start now new first.layout rounds index t.answer (Ends end new) same low (inv.after start rounds after) (subst (λ (a : Actor). IsMove now a t.answer new) actor_is t.move) t.comes),
     )
 
 pub loop-index-preserved : goal.loop-index-preserved
@@ -126,5 +126,5 @@ returns-then-is_raised-clause-round g c = λ rounds.
       seen.0,
       last_look Says c.args.stop.now c.loop-index.stop c.is_raised.new.self seen.0 true seen.1 yes,
       watching.without_kept turns index c.loop-index.pool c.loop-index.kept (looks_at c.args.pool.now c.args.kept.now) seen.0 seen.2,
-      λ start after. c.loop-index.invariant.after start rounds after,
+      λ start after. (c.loop-index.invariant.after start rounds after, tt),
     )

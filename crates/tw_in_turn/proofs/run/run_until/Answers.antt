@@ -42,6 +42,6 @@ returns-clause-left g c =
     let first = opened c.args.verified.now c.args.inputs.now c.args.layout c.args.limit in
     let ends = c.in-Stopped.ensures.ends in
     let watched = all_looks c.in_ok-pool.pool p c.as_mut_slice.result.now c.shut-outcome-2.result.1 ends.0 ends.1 (ap (λ (q : PoolView). q.history) c.in_ok-pool.ensures.opened) (ap all_owed c.as_mut_slice.ensures.value ∙ c.in-Ok.ensures.nothing) c.shut-outcome-2.ensures.left.events ends.2 in
-    let after = subst (λ (q : PoolView). IsAfter c.args.seed q ends.0 p) c.in_ok-pool.ensures.opened ends.4 in
+    let after = subst (λ (q : PoolView). IsAfter c.args.seed q ends.0 p) c.in_ok-pool.ensures.opened ends.4.0 in
     let left = left_in c.in_ok-pool.pool first p c.shut-outcome-2.result.0 c.shut-outcome-2.result.1 c.in_ok-pool.ensures.opened c.turn_all-end.ensures.grown c.shut-outcome-2.ensures.left c.shut-outcome-2.ensures.ends_well in
-    (looks ends.1 true, ends.3, (ends.0, ends.1, watched, refl, (p, after, left)))
+    (looks ends.1 true, ends.3, (ends.0, ends.1, watched, refl, (p, after, left, ends.4.1)))

@@ -1,0 +1,13 @@
+-- An input that is made of lists, and then appended.
+use Rattle.std.proofs.Common.{◌≡◌, inl, inr, ℕ, Err, Ok, subst, sym}
+use Rattle.std.specs.Prelude.{MatchResult, Option, Result}
+use Rattle.tw_types.specs.declared.input.Input.{Input}
+use Rattle.tw_handles.specs.Asking.{Fails}
+use Rattle.tw_handles.specs.Lists.{IsListAdded, IsWhy}
+use Rattle.tw_handles.specs.Running.{IsAdded}
+use Rattle.tw_handles.specs.declared.held.Held.{Held}
+
+pub joined : (Fit : Type 0) (given : Input) (old new : Option Held) (code : ℕ) (made : Result Input ℕ) → MatchResult made (λ input. Fit × (input ≡ given)) (IsWhy Fit)
+    → MatchResult made (λ input. IsAdded input old new code) (λ why. Fails why old new code) → IsListAdded Fit given old new code
+joined Fit given old new code (Ok input) is added = inl (is.0, subst (λ (x : Input). IsAdded x old new code) is.1 added)
+joined Fit given old new code (Err why) is added = inr (added.0, subst (λ (n : ℕ). IsWhy Fit n) (sym added.1) is)

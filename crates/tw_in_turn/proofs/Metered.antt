@@ -1,0 +1,56 @@
+-- The instructions of a run, with those of a task that was cut off, are within main's bound.
+use Rattle.std.proofs.Common.{◌≡◌, ◌≤◌, ◌+◌, ℕ, zero, suc, Bool, List, Option, ap, arith, subst, sym}
+use Rattle.std.proofs.lemmas.List.Sums.{sum_by-append}
+use Rattle.tw_types.specs.declared.input.Input.{Input}
+use Rattle.tw_types.specs.Layout.{ActorCounts}
+use Rattle.tw_types.specs.Outcome.{Went}
+use Rattle.tw_code.specs.format.Program.{IsProgram}
+use Rattle.tw_code.specs.machine.Inputs.{AreInputsOf}
+use Rattle.tw_code.specs.machine.Opening.{reached}
+use Rattle.tw_code.specs.machine.State.{State}
+use Rattle.tw_soundness.specs.NoTrap.{AreRight}
+use Rattle.tw_verify.specs.Typed.{TypedProgram, typings_of}
+use Rattle.tw_bounds.specs.Runs.{IsBoundOfMain, instructions_alone, instructions_by, instructions_in}
+use Rattle.tw_bounds.proofs.Along.{within}
+use Rattle.tw_pool.specs.Ends.{FinalView}
+use Rattle.tw_pool.specs.History.{HistoryView}
+use Rattle.tw_pool.specs.Openings.{opened}
+use Rattle.tw_pool.specs.PoolView.{HasState, PoolView, with_events}
+use Rattle.tw_in_turn.specs.Bounded.{ExecutesFew}
+use Rattle.tw_in_turn.specs.InTurn.{IsLeftIn}
+use Rattle.tw_in_turn.specs.Stopping.{MayExecute}
+use Rattle.tw_in_turn.specs.declared.run.InTurnResult.TheVariants as result
+use Rattle.tw_in_turn.specs.declared.run.StoppableResult.TheVariants.{Ended, Stopped}
+
+module _ (verified : TypedProgram) (most : ℕ) (is : IsProgram verified.program) (are : AreRight verified.program (typings_of verified)) (main : IsBoundOfMain verified.program instructions_alone most) where
+  few : (p : PoolView) (s : State) → p.program ≡ verified → AreInputsOf verified.program p.inputs → HasState p s → instructions_in p.history ≤ most
+  few p s same given at =
+      let h = within verified.program (typings_of verified) is are instructions_alone main.0 main.1 most main.2 p.inputs p.layout p.history s given
+      (subst (λ (program : TypedProgram). reached program.program p.inputs p.layout p.history ≡ Went s) same at) in
+      omega (arith, h)
+
+  in_left : (inputs : List Input) (layout : ActorCounts) (limit : ℕ) (p : PoolView) (final : FinalView) (history : HistoryView) → AreInputsOf verified.program inputs → IsLeftIn (opened verified inputs layout limit) p final history
+      → (cut : ℕ) → MayExecute p cut → instructions_in history.events + cut ≤ most
+  in_left inputs layout limit p final history given l = by
+    where
+      program : p.program ≡ verified
+      program = ap (λ (q : PoolView). q.program) l.of_first
+
+      own : AreInputsOf verified.program p.inputs
+      own = subst (λ (xs : List Input). AreInputsOf verified.program xs) (sym (ap (λ (q : PoolView). q.inputs) l.of_first)) given
+
+      same : instructions_in history.events ≡ instructions_in p.history
+      same = ap instructions_in l.shut.events
+
+      by : (cut : ℕ) → MayExecute p cut → instructions_in history.events + cut ≤ most
+      by zero more = let all = few p l.shut.state program own l.shut.has_state in omega (arith, all, same)
+      by (suc n) more =
+          let all = few (with_events p more.events) more.state program own more.has_state in
+          let sum = sum_by-append instructions_by p.history more.events in
+          let rest = more.instructions in
+          omega (arith, all, same, sum, rest)
+
+  pub executes_few : ExecutesFew verified most
+  executes_few inputs layout limit seed may_stop (Ended (result.Over final history)) given (p, comes, l, ended) = in_left inputs layout limit p final history given l 0 tt
+  executes_few inputs layout limit seed may_stop (Ended (result.NoMemory final history)) given (p, comes, l) = in_left inputs layout limit p final history given l 0 tt
+  executes_few inputs layout limit seed may_stop (Stopped final history cut) given (turns, p, may, after, l, more) = in_left inputs layout limit p final history given l cut more
