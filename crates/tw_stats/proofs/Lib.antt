@@ -1,6 +1,2 @@
-pub mod Numbers
-pub mod Longest
-pub mod Nexts
-pub mod Histories
-pub mod Openings
-pub mod Totals
+pub mod Tables
+pub mod Sums

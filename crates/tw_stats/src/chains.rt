@@ -1,16 +1,11 @@
 //! The longest chain of events that wait for one another.
 
-ghost use Rattle.std.specs.Prelude.{◌≡◌, ◌∷◌, ◌++◌, [], List, OnOk};
-ghost use Rattle.tw_code.specs.declared.procedure.Procedure.{Procedure};
-ghost use Rattle.tw_machine.specs.Moments.{Moment};
-ghost use Rattle.tw_stats.specs.Kept.{AreChains, IsLater, IsSmall, things_in};
-ghost use Rattle.tw_stats.specs.Waits.{provides, needs};
+ghost use Rattle.std.specs.Prelude.{◌+◌, ◌-◌, ◌<◌, ◌^◌, ℕ, min, OnOk};
+ghost use Rattle.tw_stats.specs.Sums.{AreChains};
 
-use crate::counts::size_of;
 use crate::dependencies::Dependencies;
 use crate::depths::Depths;
 use std::alloc::{AllocError, Global};
-use tw_types::Event;
 
 /// The lengths of chains so far, in steps.
 #[derive(Drop)]
@@ -24,7 +19,7 @@ pub struct Chains {
 impl Chains {
     /// Makes chains without events.
     pub fn new(alloc: Global) -> Chains
-        ensures { (program : List Procedure) → AreChains program [] result }
+        ensures { (most : ℕ) → AreChains result most }
     {
         Chains {
             longest: 0,
@@ -32,18 +27,16 @@ impl Chains {
         }
     }
 
-    /// Adds an event, with what it needs and what it provides.
+    /// Adds an event of so many steps, with what it needs and what it provides.
     pub fn add(
         &mut self,
-        event: &Event,
+        steps: u64,
         needed: &Dependencies,
         brought: &Dependencies,
     ) -> Result<(), AllocError>
-        ensures { OnOk result ((program : List Procedure) (moments : List Moment) (m : Moment) → m.event ≡ event.now → needs m ≡ things_in needed.now → provides program m ≡ things_in brought.now
-            → IsLater moments m → IsSmall (moments ++ m ∷ []) → AreChains program moments self.old → AreChains program (moments ++ m ∷ []) self.new) }
+        ensures { OnOk result ((most : ℕ) → most < 2 ^ 64 → AreChains self.old most → AreChains self.new (min (most + steps) (2 ^ 64 - 1))) }
     {
-        let before = self.depths.deepest(needed);
-        let depth = before.saturating_add(size_of(event));
+        let depth = self.depths.deepest(needed).saturating_add(steps);
         self.longest = self.longest.max(depth);
         self.depths.deepen(brought, depth)
     }

@@ -1,16 +1,11 @@
-//! Counts of events by kind and by actor.
+//! Counts of events, tasks and instructions.
 
-ghost use Rattle.std.specs.Prelude.{◌≡◌, ◌∷◌, ◌++◌, [], List, OnOk};
-ghost use Rattle.tw_code.specs.machine.Bounds.{size_of};
-ghost use Rattle.tw_machine.specs.Moments.{Moment};
-ghost use Rattle.tw_stats.specs.Kept.{AreCounts, IsSmall};
-ghost use Rattle.tw_stats.specs.Numbers.{kind_of};
+ghost use Rattle.std.specs.Prelude.{◌≡◌, ◌+◌, ◌-◌, ◌^◌, min, OnOk};
+ghost use Rattle.tw_stats.specs.Sums.{AddUp, IsShare};
 
-use crate::actors::Actors;
+use crate::share::Share;
 use crate::table::Table;
 use std::alloc::{AllocError, Global};
-use tw_machine::actor_of;
-use tw_types::Event;
 
 /// The counts of all events of a trace.
 #[derive(Drop)]
@@ -19,55 +14,36 @@ pub struct Counts {
     /// The number of steps: one for each local instruction, and one for each other event.
     pub steps: u64,
     pub kinds: Table,
-    pub actors: Actors,
-}
-
-/// Returns the index of an event's kind.
-fn kind_of(event: &Event) -> u64
-    ensures { result ≡ kind_of event.now }
-{
-    match *event {
-        Event::Take(_) => 0,
-        Event::Local(_, _) => 1,
-        Event::Call(_) => 2,
-        Event::End(_) => 3,
-        Event::Ask(_, _, _) => 4,
-        Event::Deliver(_, _, _, _) => 5,
-        Event::Release(_, _) => 6,
-    }
-}
-
-/// Returns how many steps an event is.
-pub fn size_of(event: &Event) -> u64
-    ensures { result ≡ size_of event.now }
-{
-    match *event {
-        Event::Local(_, steps) => steps,
-        Event::Take(_) | Event::Call(_) | Event::End(_) => 1,
-        Event::Ask(_, _, _) | Event::Deliver(_, _, _, _) | Event::Release(_, _) => 1,
-    }
+    /// The number of tasks of each procedure, by its number.
+    pub tasks: Table,
+    /// The number of instructions that the tasks of each procedure execute.
+    pub instructions: Table,
 }
 
 impl Counts {
     /// Makes counts of zero.
     pub fn new(alloc: Global) -> Counts
-        ensures { AreCounts [] result }
+        ensures none { result.steps ≡ 0 }
+        ensures sums { AddUp result }
     {
         Counts {
             events: 0,
             steps: 0,
             kinds: Table::new(alloc),
-            actors: Actors::new(alloc),
+            tasks: Table::new(alloc),
+            instructions: Table::new(alloc),
         }
     }
 
-    /// Counts an event.
-    pub fn add(&mut self, event: &Event) -> Result<(), AllocError>
-        ensures { OnOk result ((moments : List Moment) (m : Moment) → m.event ≡ event.now → IsSmall (moments ++ m ∷ []) → AreCounts moments self.old → AreCounts (moments ++ m ∷ []) self.new) }
+    /// Counts an event of a task of this procedure; the number of an event that no task executes has no effect.
+    pub fn add(&mut self, share: Share, procedure: u64) -> Result<(), AllocError>
+        ensures steps { OnOk result (self.new.steps ≡ min (self.old.steps + share.steps) (2 ^ 64 - 1)) }
+        ensures sums { OnOk result (IsShare share → AddUp self.old → AddUp self.new) }
     {
         self.events = self.events.saturating_add(1);
-        self.steps = self.steps.saturating_add(size_of(event));
-        self.kinds.add(kind_of(event), 1)?;
-        self.actors.add(actor_of(event))
+        self.steps = self.steps.saturating_add(share.steps);
+        self.kinds.add(share.kind, 1)?;
+        self.tasks.add(procedure, share.tasks)?;
+        self.instructions.add(procedure, share.instructions)
     }
 }

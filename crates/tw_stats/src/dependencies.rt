@@ -1,9 +1,5 @@
 //! The dependencies of one event.
 
-ghost use Rattle.std.specs.Prelude.{◌≡◌, option_map, option_to_list};
-ghost use Rattle.tw_stats.specs.Kept.{things_in};
-ghost use Rattle.tw_stats.specs.Waits.{brings_by, needs_by, task_of};
-
 use crate::dependency::Dependency;
 use crate::executor::Executor;
 use tw_types::{DatumId, Event};
@@ -16,9 +12,7 @@ pub struct Dependencies {
 }
 
 /// Returns the task that executed an event, as a dependency, if one did.
-fn task_of(executor: &Option<Executor>) -> Option<Dependency>
-    ensures { option_to_list result ≡ task_of executor.now }
-{
+fn task_of(executor: &Option<Executor>) -> Option<Dependency> {
     match executor {
         Some(executor) => Some(Dependency::Task(executor.task)),
         None => None,
@@ -26,9 +20,7 @@ fn task_of(executor: &Option<Executor>) -> Option<Dependency>
 }
 
 /// Returns a datum as a dependency, if there is one.
-fn datum(id: &Option<DatumId>) -> Option<Dependency>
-    ensures { result ≡ option_map Dependency.Datum id.now }
-{
+fn datum(id: &Option<DatumId>) -> Option<Dependency> {
     match id {
         Some(id) => Some(Dependency::Datum(*id)),
         None => None,
@@ -36,9 +28,7 @@ fn datum(id: &Option<DatumId>) -> Option<Dependency>
 }
 
 /// Returns what an event waits for.
-pub fn needs(event: &Event, executor: &Option<Executor>, asked: &Option<DatumId>) -> Dependencies
-    ensures { things_in result ≡ needs_by event.now executor.now asked.now }
-{
+pub fn needs(event: &Event, executor: &Option<Executor>, asked: &Option<DatumId>) -> Dependencies {
     match *event {
         Event::Take(_) | Event::Local(_, _) | Event::Call(_) | Event::End(_) => Dependencies {
             first: task_of(executor),
@@ -64,9 +54,7 @@ pub fn provides(
     event: &Event,
     executor: &Option<Executor>,
     made: &Option<Dependency>,
-) -> Dependencies
-    ensures { things_in result ≡ brings_by event.now executor.now made.now }
-{
+) -> Dependencies {
     match *event {
         Event::Take(_) | Event::Local(_, _) | Event::End(_) => Dependencies {
             first: task_of(executor),

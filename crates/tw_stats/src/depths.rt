@@ -1,9 +1,7 @@
 //! The length of the longest chain that provides a dependency.
 
-ghost use Rattle.std.specs.Prelude.{◌≡◌, OnOk, if◌then◌else◌, max, option_to_list};
-ghost use Rattle.tw_stats.specs.declared.dependency.Dependency.{Dependency as AThing};
-ghost use Rattle.tw_stats.specs.Kept.{IsDeepened, deepest, depth_at, things_in};
-ghost use Rattle.tw_stats.specs.Waits.{same_thing};
+ghost use Rattle.std.specs.Prelude.{◌≤◌, ℕ, OnOk};
+ghost use Rattle.tw_stats.specs.Sums.{AreWithin};
 
 use crate::dependencies::Dependencies;
 use crate::dependency::Dependency;
@@ -22,7 +20,7 @@ pub struct Depths {
 impl Depths {
     /// Makes depths of nothing.
     pub fn new(alloc: Global) -> Depths
-        ensures { (x : AThing) → depth_at result x ≡ 0 }
+        ensures { (most : ℕ) → AreWithin result most }
     {
         Depths {
             tasks: Table::new(alloc),
@@ -34,7 +32,7 @@ impl Depths {
 
     /// Returns the depth of a dependency.
     fn at(&self, dependency: Dependency) -> u64
-        ensures { result ≡ depth_at self.now dependency }
+        ensures { (most : ℕ) → AreWithin self.now most → result ≤ most }
     {
         match dependency {
             Dependency::Task(task) => self.tasks.at(task.number()),
@@ -46,7 +44,7 @@ impl Depths {
 
     /// Returns the depth of a dependency, or 0 if there is none.
     fn at_most_one(&self, dependency: &Option<Dependency>) -> u64
-        ensures { result ≡ deepest self.now (option_to_list dependency.now) }
+        ensures { (most : ℕ) → AreWithin self.now most → result ≤ most }
     {
         match dependency {
             Some(dependency) => self.at(*dependency),
@@ -54,9 +52,9 @@ impl Depths {
         }
     }
 
-    /// Returns the greatest number of these dependencies, 0 if there are none.
+    /// Returns the greatest depth of these dependencies, 0 if there are none.
     pub fn deepest(&self, dependencies: &Dependencies) -> u64
-        ensures { result ≡ deepest self.now (things_in dependencies.now) }
+        ensures { (most : ℕ) → AreWithin self.now most → result ≤ most }
     {
         self.at_most_one(&dependencies.first)
             .max(self.at_most_one(&dependencies.second))
@@ -64,7 +62,7 @@ impl Depths {
 
     /// Raises the depth of a dependency to at least this one.
     fn deepen_at(&mut self, dependency: Dependency, depth: u64) -> Result<(), AllocError>
-        ensures { OnOk result ((x : AThing) → depth_at self.new x ≡ max (depth_at self.old x) (if same_thing dependency x then depth else 0)) }
+        ensures { OnOk result ((most : ℕ) → depth ≤ most → AreWithin self.old most → AreWithin self.new most) }
     {
         match dependency {
             Dependency::Task(task) => self.tasks.raise(task.number(), depth),
@@ -76,7 +74,7 @@ impl Depths {
 
     /// Raises the depth of a dependency to at least this one, if there is a dependency.
     fn deepen_one(&mut self, dependency: &Option<Dependency>, depth: u64) -> Result<(), AllocError>
-        ensures { OnOk result (IsDeepened self.old (option_to_list dependency.now) depth self.new) }
+        ensures { OnOk result ((most : ℕ) → depth ≤ most → AreWithin self.old most → AreWithin self.new most) }
     {
         match dependency {
             Some(dependency) => self.deepen_at(*dependency, depth),
@@ -84,9 +82,9 @@ impl Depths {
         }
     }
 
-    /// Raises the number of each of these dependencies to at least this depth.
+    /// Raises the depth of each of these dependencies to at least this one.
     pub fn deepen(&mut self, dependencies: &Dependencies, depth: u64) -> Result<(), AllocError>
-        ensures { OnOk result (IsDeepened self.old (things_in dependencies.now) depth self.new) }
+        ensures { OnOk result ((most : ℕ) → depth ≤ most → AreWithin self.old most → AreWithin self.new most) }
     {
         self.deepen_one(&dependencies.first, depth)?;
         self.deepen_one(&dependencies.second, depth)

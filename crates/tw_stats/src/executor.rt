@@ -1,8 +1,5 @@
 //! The task that executes an event.
 
-ghost use Rattle.std.specs.Prelude.{◌≡◌};
-ghost use Rattle.tw_stats.specs.Waits.{doer_in, doer_of};
-
 use tw_machine::{Frame, Plain};
 use tw_types::{Actor, TaskNo};
 
@@ -17,9 +14,7 @@ pub struct Executor {
 
 impl Executor {
     /// Returns the task of a frame, with what it has executed.
-    fn of(frame: &Frame) -> Executor
-        ensures { result ≡ doer_of frame.now }
-    {
+    fn of(frame: &Frame) -> Executor {
         Executor {
             task: frame.task(),
             procedure: frame.procedure(),
@@ -28,9 +23,7 @@ impl Executor {
     }
 
     /// Returns the task that an actor runs, if it runs one.
-    pub fn by(plain: &Plain, actor: Actor) -> Option<Executor>
-        ensures { result ≡ doer_in plain.now.state actor }
-    {
+    pub fn by(plain: &Plain, actor: Actor) -> Option<Executor> {
         match plain.state().frame(actor) {
             Some(frame) => Some(Executor::of(frame)),
             None => None,

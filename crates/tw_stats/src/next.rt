@@ -1,9 +1,5 @@
 //! The numbers that the next task and the next rule get.
 
-ghost use Rattle.std.specs.Prelude.{◌≡◌};
-ghost use Rattle.tw_stats.specs.Kept.{AreNextAfter, IsFirst, IsNext};
-ghost use Rattle.tw_code.specs.machine.State.{State};
-
 use crate::dependency::Dependency;
 use tw_types::{RuleNo, TaskNo};
 
@@ -16,30 +12,22 @@ pub struct Next {
 
 impl Next {
     /// Returns the numbers at an opening, when main is put and no rule is made.
-    pub fn first() -> Next
-        ensures { (s : State) → IsFirst s → IsNext s result }
-    {
+    pub fn first() -> Next {
         Next { task: 2, rule: 1 }
     }
 
     /// Returns the number of the next task.
-    pub fn task(self) -> TaskNo
-        ensures { result ≡ self.task }
-    {
+    pub fn task(self) -> TaskNo {
         TaskNo::new(self.task)
     }
 
     /// Returns the number of the next rule.
-    pub fn rule(self) -> RuleNo
-        ensures { result ≡ self.rule }
-    {
+    pub fn rule(self) -> RuleNo {
         RuleNo::new(self.rule)
     }
 
     /// Advances past an event that makes this.
-    pub fn advance_past(&mut self, made: &Option<Dependency>)
-        ensures { AreNextAfter self.old made.now self.new }
-    {
+    pub fn advance_past(&mut self, made: &Option<Dependency>) {
         match made {
             Some(Dependency::Task(_)) => self.task = self.task.saturating_add(1),
             Some(Dependency::Rule(_)) => self.rule = self.rule.saturating_add(1),

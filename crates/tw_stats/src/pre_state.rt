@@ -1,13 +1,5 @@
 //! The state before an event, as far as statistics need it.
 
-ghost use Rattle.std.specs.Prelude.{◌≡◌, option_map};
-ghost use Rattle.std.specs.FinMap.{get};
-ghost use Rattle.std.specs.Option.{option_and_then, option_copied};
-ghost use Rattle.tw_code.specs.machine.Rights.{right_at};
-ghost use Rattle.tw_code.specs.machine.State.{State};
-ghost use Rattle.tw_stats.specs.Kept.{IsPreStateOf, IsNext, executor_before};
-ghost use Rattle.tw_stats.specs.Waits.{asked_at, if_closed, is_closed_at, made_at, made_by, made_in, written};
-
 use crate::dependency::Dependency;
 use crate::executor::Executor;
 use crate::next::Next;
@@ -24,9 +16,7 @@ pub struct PreState {
 }
 
 /// Returns the task that executes the event, if the task runs before the event.
-fn executor_before(plain: &Plain, event: &Event) -> Option<Executor>
-    ensures { result ≡ executor_before event.now plain.now.state }
-{
+fn executor_before(plain: &Plain, event: &Event) -> Option<Executor> {
     match *event {
         Event::Local(actor, _) | Event::Call(actor) | Event::End(actor) => Executor::by(
             plain, actor,
@@ -37,16 +27,12 @@ fn executor_before(plain: &Plain, event: &Event) -> Option<Executor>
 }
 
 /// Returns a rule, if it is pending.
-fn rule_at(plain: &Plain, rule: RuleNo) -> Option<&Rule>
-    ensures { option_copied result ≡ get plain.now.state.rules rule }
-{
+fn rule_at(plain: &Plain, rule: RuleNo) -> Option<&Rule> {
     plain.state().rules().get(&rule.number())
 }
 
 /// Returns whether a datum is closed.
-fn is_closed(plain: &Plain, id: DatumId) -> bool
-    ensures { result ≡ is_closed_at (get plain.now.state.store.live id) }
-{
+fn is_closed(plain: &Plain, id: DatumId) -> bool {
     match plain.state().datum(id) {
         Some(datum) => datum.closed(),
         None => false,
@@ -54,16 +40,12 @@ fn is_closed(plain: &Plain, id: DatumId) -> bool
 }
 
 /// Returns this datum, if it is closed.
-fn if_closed(plain: &Plain, id: DatumId) -> Option<DatumId>
-    ensures { result ≡ if_closed plain.now.state id }
-{
+fn if_closed(plain: &Plain, id: DatumId) -> Option<DatumId> {
     if is_closed(plain, id) { Some(id) } else { None }
 }
 
 /// Returns the datum about which an engine asks, if it is closed.
-fn asked_at(plain: &Plain, event: &Event) -> Option<DatumId>
-    ensures { result ≡ asked_at event.now plain.now.state }
-{
+fn asked_at(plain: &Plain, event: &Event) -> Option<DatumId> {
     match *event {
         Event::Ask(_, rule, parameter) => {
             let rule = rule_at(plain, rule)?;
@@ -76,9 +58,7 @@ fn asked_at(plain: &Plain, event: &Event) -> Option<DatumId>
 }
 
 /// Returns the right register of the datum that an instruction writes.
-fn written(instr: &DataInstr) -> Option<u8>
-    ensures { result ≡ written instr.now }
-{
+fn written(instr: &DataInstr) -> Option<u8> {
     match *instr {
         DataInstr::Store { datum, .. } => Some(datum),
         DataInstr::Insert { container, .. } => Some(container),
@@ -93,18 +73,14 @@ fn written(instr: &DataInstr) -> Option<u8>
 }
 
 /// Returns the datum that an instruction of the task writes.
-fn written_by(frame: &Frame, instr: &DataInstr) -> Option<Dependency>
-    ensures { result ≡ option_map Dependency.Datum (option_and_then (right_at frame.now.rights) (written instr.now)) }
-{
+fn written_by(frame: &Frame, instr: &DataInstr) -> Option<Dependency> {
     let register = written(instr)?;
     let id = frame.right(register)?;
     Some(Dependency::Datum(id))
 }
 
 /// Returns what an instruction of the task makes or writes for others.
-fn made_by(next: Next, frame: &Frame, instr: &Instr) -> Option<Dependency>
-    ensures { (s : State) → IsNext s next → result ≡ made_by s frame.now (Some instr.now) }
-{
+fn made_by(next: Next, frame: &Frame, instr: &Instr) -> Option<Dependency> {
     match instr {
         Instr::Data(instr) => written_by(frame, instr),
         Instr::Rule(_) => Some(Dependency::Rule(next.rule())),
@@ -114,9 +90,7 @@ fn made_by(next: Next, frame: &Frame, instr: &Instr) -> Option<Dependency>
 }
 
 /// Returns what the next instruction of an actor's task makes.
-fn made_in(next: Next, plain: &Plain, actor: Actor) -> Option<Dependency>
-    ensures { IsNext plain.now.state next → result ≡ made_in plain.now.program plain.now.state (get plain.now.state.frames actor) }
-{
+fn made_in(next: Next, plain: &Plain, actor: Actor) -> Option<Dependency> {
     let frame = plain.state().frame(actor)?;
     let procedure = plain
         .program()
@@ -127,9 +101,7 @@ fn made_in(next: Next, plain: &Plain, actor: Actor) -> Option<Dependency>
 }
 
 /// Returns what an event makes or writes for others.
-fn made_at(next: Next, plain: &Plain, event: &Event) -> Option<Dependency>
-    ensures { IsNext plain.now.state next → result ≡ made_at plain.now.program event.now plain.now.state }
-{
+fn made_at(next: Next, plain: &Plain, event: &Event) -> Option<Dependency> {
     match *event {
         Event::Call(actor) => made_in(next, plain, actor),
         Event::Release(_, _) => Some(Dependency::Task(next.task())),
@@ -140,9 +112,7 @@ fn made_at(next: Next, plain: &Plain, event: &Event) -> Option<Dependency>
 
 impl PreState {
     /// Returns the facts about an event in the machine's current state. Call it before the event is executed.
-    pub fn of(next: Next, plain: &Plain, event: &Event) -> PreState
-        ensures { IsNext plain.now.state next → IsPreStateOf plain.now.program event.now plain.now.state result }
-    {
+    pub fn of(next: Next, plain: &Plain, event: &Event) -> PreState {
         PreState {
             executor: executor_before(plain, event),
             asked: asked_at(plain, event),

@@ -1,7 +1,7 @@
 //! Tables of numbers.
 
-ghost use Rattle.std.specs.Prelude.{◌≡◌, ◌+◌, ◌≤◌, ℕ, OnOk, length, slice_index};
-ghost use Rattle.tw_stats.specs.Kept.{IsAdded, IsBlank, IsRaised, IsSet, number_at};
+ghost use Rattle.std.specs.Prelude.{◌≡◌, ◌+◌, ◌<◌, ◌≤◌, ◌^◌, [], ℕ, OnOk, length, slice_index};
+ghost use Rattle.tw_stats.specs.Tables.{IsAdded, IsSet, IsWithin, number_at, sum_of, total};
 
 use std::alloc::{AllocError, Global};
 
@@ -12,9 +12,11 @@ pub struct Table {
 }
 
 /// Appends zeros until there is an item at the index.
+#[tactic(auto, using(crate::proofs::Tables::zero_more))]
 fn reach(items: &mut Vec<u64>, index: usize) -> Result<(), AllocError>
     ensures there { OnOk result (index + 1 ≤ length items.new.items) }
     ensures same { OnOk result ((k : ℕ) → slice_index items.new.items k ≡ slice_index items.old.items k) }
+    ensures total { OnOk result (total items.new.items ≡ total items.old.items) }
 {
     for _ in items.len()..=index {
         items.push(0)?;
@@ -25,7 +27,7 @@ fn reach(items: &mut Vec<u64>, index: usize) -> Result<(), AllocError>
 impl Table {
     /// Makes a table without entries.
     pub fn new(alloc: Global) -> Table
-        ensures { IsBlank result }
+        ensures { result.items.items ≡ [] }
     {
         Table {
             items: Vec::new(alloc),
@@ -40,8 +42,10 @@ impl Table {
     }
 
     /// Sets the number at a key.
+    #[tactic(auto, using(crate::proofs::Tables::set_total))]
     fn set(&mut self, key: u64, number: u64) -> Result<(), AllocError>
-        ensures { OnOk result (IsSet self.old key number self.new) }
+        ensures each { OnOk result (IsSet self.old key number self.new) }
+        ensures sum { OnOk result (sum_of self.new + number_at self.old key ≡ sum_of self.old + number) }
     {
         let index = key as usize;
         reach(&mut self.items, index)?;
@@ -51,7 +55,7 @@ impl Table {
 
     /// Adds an amount to the number of a key.
     pub fn add(&mut self, key: u64, amount: u64) -> Result<(), AllocError>
-        ensures { OnOk result (IsAdded self.old key amount self.new) }
+        ensures { OnOk result (sum_of self.old + amount < 2 ^ 64 → IsAdded self.old key amount self.new) }
     {
         let number = self.at(key).saturating_add(amount);
         self.set(key, number)
@@ -59,7 +63,7 @@ impl Table {
 
     /// Raises the number of a key to at least this one.
     pub fn raise(&mut self, key: u64, number: u64) -> Result<(), AllocError>
-        ensures { OnOk result (IsRaised self.old key number self.new) }
+        ensures { OnOk result ((most : ℕ) → number ≤ most → IsWithin self.old most → IsWithin self.new most) }
     {
         let number = self.at(key).max(number);
         self.set(key, number)

@@ -1,21 +1,22 @@
 -- The texts of forests that are put together.
-use Rattle.std.proofs.Common.{arith, ◌≡◌, ◌+◌, ◌<◌, ◌≤◌, ℕ, zero, suc, Bool, true, false, List, [], ◌∷◌, ◌++◌, length, take, get_or, refl, sym, ap, subst, ◌∙◌, append_assoc}
-use Rattle.std.specs.Prelude.{if◌then◌else◌}
+use Rattle.std.proofs.Common.{Global, Vec, ◌≡◌, ℕ, false, List, [], ◌∷◌, ◌++◌, codes, refl, sym, ap, subst, ◌∙◌, append_assoc}
+use Rattle.std.proofs.Math.Logic.{∥∥₁_map, ∥∥₁_map₂}
 use Rattle.std.proofs.lemmas.List.{append-nil}
 use Rattle.std.specs.List.{flat_map}
-use Rattle.tw_timeline.specs.declared.attributes.Attribute.{Attribute}
-use Rattle.tw_timeline.specs.declared.attributes.Name.{Name}
-use Rattle.tw_timeline.specs.Xml.{Forest, Nothing, Words, Element, all, below, close_text, escaped, joined, open_text, plain, titled, with_words, xml_text}
-use Rattle.tw_writer.proofs.Pieces as pieces
+use Rattle.tw_timeline.specs.declared.page.Attribute.{Attribute}
+use Rattle.tw_timeline.specs.Page.{HoldsXml}
+use Rattle.tw_timeline.specs.Xml.{Forest, Nothing, Words, Element, IsXml, close_text, escaped, open_text, xml_text}
+use Rattle.tw_writer.proofs.Pieces.{both_added}
 use Rattle.tw_writer.specs.Appended.{IsAppended}
 use Rattle.tw_writer.specs.declared.writer.Writer.{Writer}
 
-pub nothing_text : xml_text Nothing ≡ []
-unfolding xml_text
-nothing_text = refl
+-- returns one forest after the other
+joined : Forest → Forest → Forest
+joined Nothing following = following
+joined (Words words rest) following = Words words (joined rest following)
+joined (Element name attributes inside rest) following = Element name attributes inside (joined rest following)
 
--- returns the text of one forest after the other
-pub joined_text : (first following : Forest) → xml_text (joined first following) ≡ xml_text first ++ xml_text following
+joined_text : (first following : Forest) → xml_text (joined first following) ≡ xml_text first ++ xml_text following
 unfolding xml_text joined
 joined_text Nothing following = refl
 joined_text (Words words rest) following =
@@ -26,91 +27,84 @@ joined_text (Element name attributes inside rest) following =
     ∙ ap (λ (t : List ℕ). open_text name attributes ++ t) (sym (append_assoc (xml_text inside) (close_text name ++ xml_text rest) (xml_text following)))
     ∙ sym (append_assoc (open_text name attributes) (xml_text inside ++ (close_text name ++ xml_text rest)) (xml_text following))
 
--- returns the text of an element alone
-pub element_text : (name : Name) (attributes : List Attribute) (inside : Forest) → xml_text (Element name attributes inside Nothing) ≡ open_text name attributes ++ (xml_text inside ++ close_text name)
+-- ---- what functions append
+
+pub empty_xml : IsXml []
 unfolding xml_text
-element_text name attributes inside = ap (λ (t : List ℕ). open_text name attributes ++ (xml_text inside ++ t)) (append-nil (close_text name))
+empty_xml = ∣ (Nothing, refl) ∣₁
 
-pub expanded_text : (name : Name) (attributes : List Attribute) → xml_text (plain name attributes) ≡ open_text name attributes ++ close_text name
-expanded_text name attributes = element_text name attributes Nothing ∙ ap (λ (t : List ℕ). open_text name attributes ++ (t ++ close_text name)) nothing_text
+pub element_text : (name : List ℕ) (attributes : List Attribute) (inside : Forest) → open_text name attributes ++ (xml_text inside ++ close_text name) ≡ xml_text (Element name attributes inside Nothing)
+unfolding xml_text
+element_text name attributes inside = ap (λ (t : List ℕ). open_text name attributes ++ (xml_text inside ++ t)) (sym (append-nil (close_text name)))
 
-pub words_text : (name : Name) (attributes : List Attribute) (words : List ℕ) → xml_text (with_words name attributes words) ≡ open_text name attributes ++ (flat_map escaped words ++ close_text name)
+pub words_text : (name : List ℕ) (attributes : List Attribute) (words : List ℕ)
+    → open_text name attributes ++ (flat_map escaped words ++ close_text name) ≡ xml_text (Element name attributes (Words words Nothing) Nothing)
 unfolding xml_text
 words_text name attributes words =
-    element_text name attributes (Words words Nothing) ∙ ap (λ (t : List ℕ). open_text name attributes ++ (t ++ close_text name)) (append-nil (flat_map escaped words))
+    ap (λ (t : List ℕ). open_text name attributes ++ (t ++ close_text name)) (sym (append-nil (flat_map escaped words))) ∙ element_text name attributes (Words words Nothing)
 
--- returns the text of the shapes of all
-pub all_text : {X : Type 0} (f : X → Forest) (xs : List X) → xml_text (all f xs) ≡ flat_map (λ x. xml_text (f x)) xs
-all_text f [] = nothing_text
-all_text f (x ∷ xs) = joined_text (f x) (all f xs) ∙ ap (λ (t : List ℕ). xml_text (f x) ++ t) (all_text f xs)
+more : (text : List ℕ) (f : Forest) → IsXml text → IsXml (text ++ xml_text f)
+more text f is = ∥∥₁_map is (λ g. (joined g.0 f, ap (λ (t : List ℕ). t ++ xml_text f) g.1 ∙ sym (joined_text g.0 f)))
 
--- returns the text of the shapes of one more number
-pub below_more : (f : ℕ → Forest) (n : ℕ) → xml_text (below f (n + 1)) ≡ xml_text (below f n) ++ xml_text (f n)
-below_more f n =
-    let next : n + 1 ≡ suc n = omega arith in
-    ap (λ (k : ℕ). xml_text (below f k)) next ∙ joined_text (below f n) (f n)
+-- a writer that held XML holds XML after an element was appended
+pub appended : (a b : Writer) (f : Forest) → HoldsXml a → IsAppended a b (xml_text f) → HoldsXml b
+appended a b f before added fine = subst IsXml (sym (added.added fine)) (more a.bytes.items f (before (added.fine fine)))
 
--- ---- elements that are written in another way
+-- ---- pages within others
 
-pub plain_same : (name : Name) (row attributes : List Attribute) → row ≡ attributes → plain name row ≡ plain name attributes
-plain_same name row attributes e = ap (λ (attrs : List Attribute). plain name attrs) e
+within : (name : List ℕ) (attributes : List Attribute) (text : List ℕ) → IsXml text → IsXml (open_text name attributes ++ (text ++ close_text name))
+within name attributes text is =
+    ∥∥₁_map is (λ g. (Element name attributes g.0 Nothing, ap (λ (t : List ℕ). open_text name attributes ++ (t ++ close_text name)) g.1 ∙ element_text name attributes g.0))
 
-pub words_same : (name : Name) (row attributes : List Attribute) (text words : List ℕ) → row ≡ attributes → text ≡ words → with_words name row text ≡ with_words name attributes words
-words_same name row attributes text words e f = ap (λ (attrs : List Attribute). with_words name attrs text) e ∙ ap (λ (t : List ℕ). with_words name attributes t) f
+-- ---- what pages hold
 
-pub titled_same : (name : Name) (row attributes : List Attribute) (text words : List ℕ) → row ≡ attributes → text ≡ words → titled name row text ≡ titled name attributes words
-titled_same name row attributes text words e f = ap (λ (attrs : List Attribute). titled name attrs text) e ∙ ap (λ (t : List ℕ). titled name attributes t) f
+abbrev words_shape : List ℕ → List Attribute → List ℕ → Forest
+words_shape name attributes words = Element name attributes (Words words Nothing) Nothing
 
--- ---- what is added to a writer
+-- a page that held XML holds XML after an element with words was added
+pub words_added : (a b : Writer) (name : List ℕ) (attributes : List Attribute) (words : List ℕ) → HoldsXml a
+    → IsAppended a b (open_text name attributes ++ (flat_map escaped words ++ close_text name)) → HoldsXml b
+words_added a b name attributes words before added = appended a b (words_shape name attributes words) before (subst (λ (t : List ℕ). IsAppended a b t) (words_text name attributes words) added)
 
--- adds nothing
-pub none_added : (w : Writer) (b : Bool) (shape : Forest) → b ≡ true → IsAppended w w (xml_text (if b then Nothing else shape))
-none_added w true shape e = pieces.same_added w w [] (xml_text Nothing) (sym nothing_text) (pieces.none_added w)
-none_added w false shape e = cc
+-- likewise after an element with a title was added
+pub titled_added : (a b : Writer) (name : List ℕ) (attributes : List Attribute) (title : List ℕ) → HoldsXml a
+    → IsAppended a b (open_text name attributes ++ ((open_text (codes "title") [] ++ (flat_map escaped title ++ close_text (codes "title"))) ++ close_text name)) → HoldsXml b
+titled_added a b name attributes title before added =
+    let inside = words_shape (codes "title") [] title in
+    appended a b (Element name attributes inside Nothing) before
+    (subst (λ (t : List ℕ). IsAppended a b t)
+    (ap (λ (t : List ℕ). open_text name attributes ++ (t ++ close_text name)) (words_text (codes "title") [] title) ∙ element_text name attributes inside) added)
 
-pub none_left : (w : Writer) (b : Bool) (shape : Forest) → b ≡ false → IsAppended w w (xml_text (if b then shape else Nothing))
-none_left w false shape e = none_added w true shape refl
-none_left w true shape e = cc
+-- an element that holds all of a page is XML
+pub within_holds : (a b : Writer) (name : List ℕ) (attributes : List Attribute) (text : List ℕ) → a.bytes.items ≡ [] → IsXml text
+    → IsAppended a b (open_text name attributes ++ (text ++ close_text name)) → HoldsXml b
+within_holds a b name attributes text none is added fine =
+    subst IsXml (sym (added.added fine ∙ ap (λ (t : List ℕ). t ++ (open_text name attributes ++ (text ++ close_text name))) none)) (within name attributes text is)
 
--- adds one forest, and another after it
-pub both_added : (a b c : Writer) (first rest : Forest) → IsAppended a b (xml_text first) → IsAppended b c (xml_text rest) → IsAppended a c (xml_text (joined first rest))
-both_added a b c first rest before after = pieces.same_added a c _ _ (sym (joined_text first rest)) (pieces.both_added a b c (xml_text first) (xml_text rest) before after)
+-- a page that held XML holds XML after another page was added
+pub page_added : (a b : Writer) (text : List ℕ) → HoldsXml a → IsXml text → IsAppended a b text → HoldsXml b
+page_added a b text before is added fine =
+    subst IsXml (sym (added.added fine)) (∥∥₁_map₂ (before (added.fine fine)) is (λ f g. (joined f.0 g.0, ap (λ (t : List ℕ). t ++ text) f.1 ∙ ap (λ (t : List ℕ). xml_text f.0 ++ t) g.1 ∙ sym (joined_text f.0 g.0))))
 
--- adds a forest that is written in another way
-pub shape_same : (a b : Writer) (one two : Forest) → one ≡ two → IsAppended a b (xml_text one) → IsAppended a b (xml_text two)
-shape_same a b one two same added = subst (λ (f : Forest). IsAppended a b (xml_text f)) same added
+-- a page whose bytes are as before, and that is short if it was short, holds XML as before
+pub same_held : (a b : Writer) → HoldsXml a → b.bytes ≡ a.bytes → (b.is_short ≡ false → a.is_short ≡ false) → HoldsXml b
+same_held a b before same fine is = subst (λ (v : Vec ℕ Global). IsXml v.items) (sym same) (before (fine is))
 
--- adds both, each perhaps written in another way
-pub following : (a b c : Writer) (one first two rest : Forest) → one ≡ first → IsAppended a b (xml_text one) → two ≡ rest → IsAppended b c (xml_text two) → IsAppended a c (xml_text (joined first rest))
-following a b c one first two rest same before other after = both_added a b c first rest (shape_same a b one first same before) (shape_same b c two rest other after)
+pub empty_held : (w : Writer) → w.bytes.items ≡ [] → HoldsXml w
+empty_held w none fine = subst IsXml (sym none) empty_xml
 
--- adds a forest, if there is one
-pub some_added : (a b : Writer) (none : Bool) (one two : Forest) → none ≡ false → one ≡ two → IsAppended a b (xml_text one) → IsAppended a b (xml_text (if none then Nothing else two))
-some_added a b none one two e same after = shape_same a b one (if none then Nothing else two) (same ∙ ap (λ (t : Bool). if t then Nothing else two) (sym e)) after
+-- three pieces, one after the other
+pub three_added : (a b c d : Writer) (x y z : List ℕ) → IsAppended a b x → IsAppended b c y → IsAppended c d z → IsAppended a d (x ++ (y ++ z))
+three_added a b c d x y z first second third = both_added a b d x (y ++ z) first (both_added b c d y z second third)
 
--- adds an element: its start tag, its content, and its end tag
-pub around : (a b c d : Writer) (name : Name) (row attributes : List Attribute) (text : List ℕ) (shape : Forest) → row ≡ attributes → IsAppended a b (open_text name row) → IsAppended b c text
-    → xml_text shape ≡ open_text name attributes ++ (text ++ close_text name) → IsAppended c d (close_text name) → IsAppended a d (xml_text shape)
-around a b c d name row attributes text shape same opened inside is after =
-    let begun = pieces.same_added a b _ _ (ap (λ (attrs : List Attribute). open_text name attrs) same) opened in
-    pieces.same_added a d _ _ (sym is) (pieces.both_added a b d _ _ begun (pieces.both_added b c d _ _ inside after))
+-- likewise where what is inside, or the other page, is XML only if no piece of it is missing, which is noted last
+module _ (a b c inside : Writer) (same : c.bytes ≡ b.bytes) (before : c.is_short ≡ false → b.is_short ≡ false) (other : c.is_short ≡ false → inside.is_short ≡ false) where
+  held_last : (b.is_short ≡ false → inside.is_short ≡ false → IsXml b.bytes.items) → HoldsXml c
+  held_last holds fine = subst (λ (v : Vec ℕ Global). IsXml v.items) (sym same) (holds (before fine) (other fine))
 
--- adds an element without content
-pub closed : (a b c : Writer) (name : Name) (attributes : List Attribute) → IsAppended a b (open_text name attributes) → IsAppended b c (close_text name) → IsAppended a c (xml_text (plain name attributes))
-closed a b c name attributes opened after = pieces.same_added a c _ _ (sym (expanded_text name attributes)) (pieces.both_added a b c _ _ opened after)
+  pub page_noted : HoldsXml a → HoldsXml inside → IsAppended a b inside.bytes.items → HoldsXml c
+  page_noted held is added = held_last (λ fine whole. page_added a b inside.bytes.items held (is whole) added fine)
 
--- ---- loops
-
-module _ {X : Type 0} (f : X → Forest) (xs : List X) (i : ℕ) where
-  -- adds one more
-  pub one_added : (x : X) (a b c : Writer) → i < length xs → x ≡ get_or xs i x → IsAppended a b (flat_map (λ y. xml_text (f y)) (take i xs)) → IsAppended b c (xml_text (f x))
-      → IsAppended a c (flat_map (λ y. xml_text (f y)) (take (i + 1) xs))
-  one_added x a b c inside is before after = pieces.one_more (λ y. xml_text (f y)) xs i x a b c inside is before after
-
-  -- has added all of them
-  pub all_added : (a b : Writer) → length xs ≤ i → IsAppended a b (flat_map (λ y. xml_text (f y)) (take i xs)) → IsAppended a b (xml_text (all f xs))
-  all_added a b last before = pieces.same_added a b _ _ (sym (all_text f xs)) (pieces.all_of (λ y. xml_text (f y)) xs i a b last before)
-
--- adds one more number
-pub number_added : (f : ℕ → Forest) (n : ℕ) (a b c : Writer) → IsAppended a b (xml_text (below f n)) → IsAppended b c (xml_text (f n)) → IsAppended a c (xml_text (below f (n + 1)))
-number_added f n a b c before after = pieces.same_added a c _ _ (sym (below_more f n)) (pieces.both_added a b c _ _ before after)
+pub within_noted : (a b c inside : Writer) (name : List ℕ) (attributes : List Attribute) → a.bytes.items ≡ [] → HoldsXml inside
+    → IsAppended a b (open_text name attributes ++ (inside.bytes.items ++ close_text name)) → c.bytes ≡ b.bytes → (c.is_short ≡ false → b.is_short ≡ false) → (c.is_short ≡ false → inside.is_short ≡ false) → HoldsXml c
+within_noted a b c inside name attributes none is added same before other = held_last a b c inside same before other (λ fine whole. within_holds a b name attributes inside.bytes.items none (is whole) added fine)

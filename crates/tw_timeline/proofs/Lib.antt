@@ -1,3 +1,2 @@
-pub mod Circles
 pub mod Forests
-pub mod History
+pub mod Printed

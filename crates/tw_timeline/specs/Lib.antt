@@ -1,7 +1,3 @@
--- Timeline defines the timeline of a drawing, Shapes its parts, Places their coordinates, and Xml how XML is written. `History` defines what a
--- drawing shows of a trace.
+-- XML, whose elements are closed and whose texts are escaped, and a writer that holds it.
 pub mod Xml
-pub mod Places
-pub mod Shapes
-pub mod Timeline
-pub mod History
+pub mod Page

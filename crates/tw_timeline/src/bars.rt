@@ -1,237 +1,184 @@
-//! Bars, which show tasks.
+//! Bars, which show tasks, and lines to them from the events that made them.
 
-ghost use Rattle.std.specs.Prelude.{◌≡◌, ◌++◌, codes, decimal, IfOk};
-ghost use Rattle.tw_timeline.specs.Shapes.{bar_shape, bar_box, bar_class, bar_label, bar_parts, bar_title, bar_width, end_in, events_text, first_fitting, fits, full_text, has_bar, label_text, labelled, name_or};
-ghost use Rattle.tw_symbols.specs.Symbols.{bracketed, name_at};
-ghost use Rattle.tw_timeline.specs.Xml.{all, xml_text};
-ghost use Rattle.tw_writer.specs.Appended.{Holds, IsAppended};
+ghost use Rattle.std.specs.Prelude.{◌<◌};
 
-use crate::attributes::{Attribute, Key, Name, Word, fixed, number};
-use crate::drawing::Bar;
-use crate::elements::{numbered, put_titled, put_words};
-use crate::marks::rectangle;
+use crate::drawing::{Bar, Thread};
+use crate::page::{Page, labelled, rectangle, text};
 use crate::places::{View, lane_top};
 use std::alloc::{AllocError, Global};
 use tw_symbols::Symbols;
 use tw_types::Layout;
-use tw_writer::Writer;
+use tw_writer::{Piece, Writer};
 
-/// Returns the attributes of a text: its class, and the place of its first letter.
-pub fn labelled(class: Word, x: usize, y: usize) -> [Attribute; 3]
-    ensures { result ≡ labelled class x y }
-{
-    [
-        fixed(Key::Class, class),
-        number(Key::X, x),
-        number(Key::Y, y),
-    ]
-}
-
-/// Adds two numbers, each after words.
-fn put_two(out: &mut Writer, first: (&str, usize), second: (&str, usize))
-    ensures { IsAppended out.old out.new (first.entry.0.now ++ (decimal first.entry.1 ++ (second.entry.0.now ++ decimal second.entry.1))) }
-{
-    out.put_numbered(first.0, first.1);
-    out.put_numbered(second.0, second.1);
-}
-
-/// Adds a number between words.
-fn put_within(out: &mut Writer, before: &str, number: usize, following: &str)
-    ensures { IsAppended out.old out.new (before.now ++ (decimal number ++ following.now)) }
-{
-    out.put_numbered(before, number);
-    out.put(following);
-}
-
-/// Adds the events of a bar; an open one has no last event.
-fn put_events(out: &mut Writer, from: u32, to: Option<u32>)
-    ensures { IsAppended out.old out.new (events_text from to) }
-{
-    match to {
-        None => put_within(out, ", from event ", from as usize, " on"),
-        Some(to) => put_two(out, (", events ", from as usize), (" to ", to as usize)),
-    }
-}
-
-/// Adds a procedure's name in brackets, if it has one.
-fn put_name(out: &mut Writer, names: &Symbols, procedure: u8)
-    ensures { IsAppended out.old out.new (bracketed (name_at names.now procedure)) }
-{
-    let done = names.put(&mut out.bytes, usize::from(procedure));
-    out.note(done);
-}
-
-/// Returns the tooltip of a bar: its task, its procedure and its events.
-fn bar_title(alloc: Global, names: &Symbols, bar: &Bar) -> Writer
-    ensures { Holds result (bar_title names.now bar.now) }
-{
-    let mut title = Writer::new(alloc);
-    let task = bar.task.number() as usize;
-    put_two(
-        &mut title,
-        ("task ", task),
-        (" of procedure ", usize::from(bar.procedure)),
+/// Returns the tooltip of a bar: its task, its procedure and its events. An open bar has no last event.
+fn bar_title(alloc: Global, names: &Symbols, bar: &Bar) -> Writer {
+    let mut title = text(
+        alloc,
+        &[
+            Piece::Text("task "),
+            Piece::Number(bar.task.number() as usize),
+            Piece::Text(" of procedure "),
+            Piece::Number(usize::from(bar.procedure)),
+        ],
     );
-    put_name(&mut title, names, bar.procedure);
-    put_events(&mut title, bar.from, bar.to);
+    let done = names.put(&mut title.bytes, usize::from(bar.procedure));
+    title.note(done);
+    match bar.to {
+        None => {
+            title.put_numbered(", from event ", bar.from as usize);
+            title.put(" on");
+        }
+        Some(to) => {
+            title.put_numbered(", events ", bar.from as usize);
+            title.put_numbered(" to ", to as usize);
+        }
+    }
     title
 }
 
-/// Returns whether a text fits into a width, at seven units for a letter.
-fn fits(text: &[u8], width: usize) -> bool
-    ensures { result ≡ fits text.now width }
-{
-    text.len() <= width / 7
-}
-
-/// Returns a procedure's name, or its number if it has none.
-fn name_or_number(alloc: Global, names: &Symbols, number: u8) -> Result<Vec<u8>, AllocError>
-    ensures { IfOk result (λ text. text.items ≡ name_or (name_at names.now number) number) }
-{
-    let name = names.procedure(usize::from(number));
-    if name.is_empty() {
-        numbered(alloc, "p", u64::from(number)).finish()
-    } else {
-        name.to_vec(alloc)
-    }
-}
-
-/// Returns the label of a bar with its task and its procedure.
-fn full_text(alloc: Global, task: u64, procedure: &[u8]) -> Writer
-    ensures { Holds result (full_text task procedure.now) }
-{
-    let mut text = numbered(alloc, "t", task);
-    text.put(" ");
-    text.put_bytes(procedure);
-    text
-}
-
-/// Returns the first of three texts that fits, or an empty one.
-fn first_fitting<'a>(a: &'a [u8], b: &'a [u8], c: &'a [u8], width: usize) -> &'a [u8]
-    ensures { result.now ≡ first_fitting a.entry.now b.entry.now c.entry.now width }
-{
-    if fits(a, width) {
+/// Returns the first of three texts that fits into a width at seven units for a letter, or an empty one.
+fn first_fitting<'a>(a: &'a [u8], b: &'a [u8], c: &'a [u8], width: usize) -> &'a [u8] {
+    let most = width / 7;
+    if a.len() <= most {
         a
-    } else if fits(b, width) {
+    } else if b.len() <= most {
         b
-    } else if fits(c, width) {
+    } else if c.len() <= most {
         c
     } else {
         &[]
     }
 }
 
-/// Returns the label of a bar: its task and its procedure if both fit, or its procedure, or nothing.
+/// Returns the label of a bar: its task and its procedure if both fit, or its procedure, or its procedure's number, or nothing.
 fn label_text(
     alloc: Global,
     names: &Symbols,
     bar: &Bar,
     width: usize,
-) -> Result<Vec<u8>, AllocError>
-    ensures { IfOk result (λ text. text.items ≡ label_text names.now bar.now width) }
-{
-    let number = numbered(alloc, "p", u64::from(bar.procedure)).finish()?;
-    let procedure = name_or_number(alloc, names, bar.procedure)?;
-    let full = full_text(alloc, bar.task.number(), &procedure).finish()?;
-    first_fitting(&full, &procedure, &number, width).to_vec(alloc)
-}
-
-/// Returns the last event of a bar that is shown; for an open bar it is the last shown event.
-fn end_in(view: View, to: Option<u32>) -> u32
-    ensures { result ≡ end_in view to }
-{
-    match to {
-        None => view.last(),
-        Some(to) => to.min(view.last()),
-    }
-}
-
-/// Returns the width of a bar, from the beginning of its first event to the end of its last, or a little past the shown events.
-fn bar_width(view: View, bar: &Bar) -> usize
-    ensures { result ≡ bar_width view bar.now }
-{
-    let bar = *bar;
-    view.right_of(bar.to).saturating_sub(view.left_of(bar.from))
+) -> Result<Vec<u8>, AllocError> {
+    let mut number = Writer::new(alloc);
+    number.put_numbered("p", usize::from(bar.procedure));
+    let number = number.finish()?;
+    let name = names.procedure(usize::from(bar.procedure));
+    let procedure = if name.is_empty() { &number[..] } else { name };
+    let mut full = Writer::new(alloc);
+    full.put_numbered("t", bar.task.number() as usize);
+    full.put(" ");
+    full.put_bytes(procedure);
+    let full = full.finish()?;
+    first_fitting(&full, procedure, &number, width).to_vec(alloc)
 }
 
 /// Returns whether a bar is drawn: some of its events are shown, and if there are too many events for a marker each, it is long.
-fn has_bar(view: View, bar: &Bar) -> bool
-    ensures { result ≡ has_bar view bar.now }
-{
-    let bar = *bar;
-    let least = if view.is_coarse() { 24 } else { 0 };
-    bar.from <= view.last()
-        && view.first() <= end_in(view, bar.to)
-        && least <= bar_width(view, &bar)
-}
-
-/// Returns the class of a bar, by whether it is open.
-fn bar_class(bar: &Bar) -> Word
-    ensures { result ≡ bar_class bar.now.to }
-{
-    match bar.to {
-        None => Word::Open,
-        Some(_) => Word::Bar,
-    }
-}
-
-/// Adds the rectangle of a bar, with its tooltip.
-fn put_bar_box(out: &mut Writer, names: &Symbols, layout: Layout, view: View, bar: &Bar)
-    ensures { IsAppended out.old out.new (xml_text (bar_box names.now layout view bar.now)) }
-{
-    let title = bar_title(out.alloc, names, bar);
-    let top = lane_top(layout, bar.actor) + 16;
-    let row = rectangle(
-        bar_class(bar),
-        view.left_of(bar.from),
-        top,
-        bar_width(view, bar),
-        18,
-    );
-    put_titled(out, Name::Rectangle, &row, &title);
-}
-
-/// Adds the label of a bar.
-fn put_bar_label(out: &mut Writer, names: &Symbols, layout: Layout, view: View, bar: &Bar)
-    ensures { IsAppended out.old out.new (xml_text (bar_label names.now layout view bar.now)) }
-{
-    let Ok(text) = label_text(out.alloc, names, bar, bar_width(view, bar)) else {
-        out.fail();
-        return;
+fn has_bar(view: View, bar: &Bar, width: usize) -> bool {
+    let end = match bar.to {
+        None => view.last,
+        Some(to) => to.min(view.last),
     };
-    if text.is_empty() {
+    let least = if view.is_coarse() { 24 } else { 0 };
+    bar.from <= view.last && view.first <= end && least <= width
+}
+
+/// Adds a bar, and its label.
+fn put_bar(out: &mut Page, names: &Symbols, layout: Layout, view: View, bar: &Bar) {
+    let left = view.left_of(bar.from);
+    let width = view.right_of(bar.to).saturating_sub(left);
+    if !has_bar(view, bar, width) {
         return;
     }
-    let row = labelled(
-        Word::Label,
-        view.left_of(bar.from) + 1,
-        lane_top(layout, bar.actor) + 12,
-    );
-    put_words(out, Name::Text, &row, &text);
-}
-
-/// Adds the rectangle and the label of a bar.
-fn put_parts(out: &mut Writer, names: &Symbols, layout: Layout, view: View, bar: &Bar)
-    ensures { IsAppended out.old out.new (xml_text (bar_parts names.now layout view bar.now)) }
-{
-    put_bar_box(out, names, layout, view, bar);
-    put_bar_label(out, names, layout, view, bar);
-}
-
-/// Adds a bar, if it is drawn.
-fn put_bar(out: &mut Writer, names: &Symbols, layout: Layout, view: View, bar: &Bar)
-    ensures { IsAppended out.old out.new (xml_text (bar_shape names.now layout view bar.now)) }
-{
-    if has_bar(view, bar) {
-        put_parts(out, names, layout, view, bar);
+    let top = lane_top(layout, bar.actor);
+    let class = if bar.to.is_some() { "bar" } else { "open" };
+    let title = bar_title(out.alloc, names, bar);
+    out.put_titled("rect", &rectangle(class, left, top + 16, width, 18), &title);
+    match label_text(out.alloc, names, bar, width) {
+        Ok(label) => {
+            if !label.is_empty() {
+                out.put_words("text", &labelled("label", left + 1, top + 12), &label);
+            }
+        }
+        Err(_) => out.fail(),
     }
 }
 
 /// Adds a bar for each task that is shown.
-pub fn put_bars(out: &mut Writer, names: &Symbols, layout: Layout, view: View, bars: &[Bar])
-    ensures { IsAppended out.old out.new (xml_text (all (bar_shape names.now layout view) bars.now)) }
-{
+pub fn put_bars(out: &mut Page, names: &Symbols, layout: Layout, view: View, bars: &[Bar]) {
     for bar in bars {
         put_bar(out, names, layout, view, bar);
+    }
+}
+
+/// Returns the route of a curve between two points, horizontal at both ends.
+pub fn curve(alloc: Global, from: (usize, usize), to: (usize, usize)) -> Writer {
+    let middle = from.0 / 2 + to.0 / 2;
+    text(
+        alloc,
+        &[
+            Piece::Text("M "),
+            Piece::Number(from.0),
+            Piece::Text(" "),
+            Piece::Number(from.1),
+            Piece::Text(" C "),
+            Piece::Number(middle),
+            Piece::Text(" "),
+            Piece::Number(from.1),
+            Piece::Text(" "),
+            Piece::Number(middle),
+            Piece::Text(" "),
+            Piece::Number(to.1),
+            Piece::Text(" "),
+            Piece::Number(to.0),
+            Piece::Text(" "),
+            Piece::Number(to.1),
+        ],
+    )
+}
+
+/// Returns the curve from the event that made a task to just above the beginning of its bar.
+fn thread_route(alloc: Global, layout: Layout, view: View, thread: &Thread) -> Writer {
+    let (from, to) = (thread.from, thread.to);
+    let start = if view.is_shown(from.number) {
+        view.across(from.number as usize) + view.mark_inset()
+    } else {
+        view.left_of(from.number)
+    };
+    let end = if view.is_shown(to.number) {
+        view.across(to.number as usize)
+    } else {
+        view.right_of(Some(to.number))
+    };
+    curve(
+        alloc,
+        (start, lane_top(layout, from.actor) + 25),
+        (end, lane_top(layout, to.actor) + 15),
+    )
+}
+
+/// Adds a line from the event that made a task to its bar, if one of both is shown and the line is one of those that are drawn.
+fn put_thread(out: &mut Page, layout: Layout, view: View, thread: &Thread) {
+    let seen = view.is_shown(thread.from.number) || view.is_shown(thread.to.number);
+    if !seen || !view.has_line(thread.task.number()) {
+        return;
+    }
+    let title = text(
+        out.alloc,
+        &[
+            Piece::Text("task "),
+            Piece::Number(thread.task.number() as usize),
+            Piece::Text(", made at event "),
+            Piece::Number(thread.from.number as usize),
+            Piece::Text(", taken at event "),
+            Piece::Number(thread.to.number as usize),
+        ],
+    );
+    let class = if view.is_wide() { "thread" } else { "thin" };
+    let route = thread_route(out.alloc, layout, view, thread);
+    out.put_titled_path(class, &route, &title);
+}
+
+/// Adds a line to each task that a shown event makes or takes, or to some of these if they are too many.
+pub fn put_threads(out: &mut Page, layout: Layout, view: View, threads: &[Thread]) {
+    for thread in threads {
+        put_thread(out, layout, view, thread);
     }
 }

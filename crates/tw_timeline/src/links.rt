@@ -1,130 +1,76 @@
 //! Boxes and arrows, which show a circle of rules that wait for one another.
 
-ghost use Rattle.std.specs.Prelude.{◌≡◌, ◌<◌, ◌^◌};
-ghost use Rattle.tw_timeline.specs.Shapes.{arrow, arrow_height, back, box_left, forward, wait_shape, wait_arrow, wait_box};
-ghost use Rattle.tw_timeline.specs.Xml.{all, xml_text};
-ghost use Rattle.tw_writer.specs.Appended.{IsAppended};
+ghost use Rattle.std.specs.Prelude.{◌<◌, ◌^◌};
 
-use crate::attributes::{Name, Point, Value, Word};
-use crate::bars::labelled;
+use crate::bars::curve;
 use crate::drawing::Wait;
-use crate::elements::{numbered, put_plain, put_written};
-use crate::marks::{rectangle, way_row};
+use crate::page::{Page, labelled, rectangle, text};
 use crate::places::bottom;
+use std::alloc::Global;
 use tw_types::Layout;
-use tw_writer::Writer;
+use tw_writer::{Piece, Writer};
 
 /// Returns the left edge of the box at a place in the circle.
 fn box_left(place: u32) -> usize
-    ensures value { result ≡ box_left place }
-    ensures small { result < 2 ^ 41 }
+    ensures { result < 2 ^ 41 }
 {
     90 + 220 * (place as usize)
 }
 
-/// Adds the rule that waits, as a box.
-fn put_wait_box(out: &mut Writer, layout: Layout, wait: &Wait)
-    ensures { IsAppended out.old out.new (xml_text (wait_box layout wait.now)) }
-{
-    let text = numbered(out.alloc, "rule ", wait.link.rule.number());
-    let left = box_left(wait.from);
-    let top = bottom(layout) + 30;
-    put_plain(
-        out,
-        Name::Rectangle,
-        &rectangle(Word::Rule, left, top, 110, 30),
-    );
-    put_written(
-        out,
-        Name::Text,
-        &labelled(Word::RuleName, left + 12, top + 20),
-        &text,
-    );
-}
-
-/// Returns the path from a box to one on its right.
-fn forward(left: usize, next: usize, top: usize) -> Value
-    requires left { left < 2 ^ 41 }
-    requires top { top < 200000 }
-    ensures { result ≡ forward left next top }
-{
-    let from = Point {
-        x: left + 110,
-        y: top + 15,
-    };
-    let to = Point {
-        x: next,
-        y: top + 15,
-    };
-    Value::Curve(from, to)
-}
-
-/// Returns the path from a box to itself, or to one that isn't on its right.
-fn back(left: usize, next: usize, top: usize) -> Value
+/// Returns the route of an arrow from one box to the next: over those between, or under them if it leads back.
+fn arrow(alloc: Global, left: usize, next: usize, top: usize) -> Writer
     requires left { left < 2 ^ 41 }
     requires next { next < 2 ^ 41 }
     requires top { top < 200000 }
-    ensures { result ≡ back left next top }
-{
-    let from = Point {
-        x: left + 80,
-        y: top + 30,
-    };
-    let to = Point {
-        x: next + 30,
-        y: top + 30,
-    };
-    Value::Under(from, to, top + 56)
-}
-
-/// Returns the route of an arrow from one box to the next, over or under those between.
-fn arrow(left: usize, next: usize, top: usize) -> Value
-    requires left { left < 2 ^ 41 }
-    requires next { next < 2 ^ 41 }
-    requires top { top < 200000 }
-    ensures { result ≡ arrow left next top }
 {
     if left < next {
-        forward(left, next, top)
-    } else {
-        back(left, next, top)
+        return curve(alloc, (left + 110, top + 15), (next, top + 15));
     }
+    text(
+        alloc,
+        &[
+            Piece::Text("M "),
+            Piece::Number(left + 80),
+            Piece::Text(" "),
+            Piece::Number(top + 30),
+            Piece::Text(" V "),
+            Piece::Number(top + 56),
+            Piece::Text(" H "),
+            Piece::Number(next + 30),
+            Piece::Text(" V "),
+            Piece::Number(top + 30),
+        ],
+    )
 }
 
-/// Returns the height of the datum's name beside its arrow.
-fn arrow_height(left: usize, next: usize, top: usize) -> usize
-    requires top { top < 200000 }
-    ensures { result ≡ arrow_height left next top }
-{
-    if left < next { top + 10 } else { top + 50 }
-}
-
-/// Adds the arrow from a rule to the one that may write the datum, with the datum beside it.
-fn put_wait_arrow(out: &mut Writer, layout: Layout, wait: &Wait)
-    ensures { IsAppended out.old out.new (xml_text (wait_arrow layout wait.now)) }
-{
-    let text = numbered(out.alloc, "datum ", wait.link.datum.number());
-    let left = box_left(wait.from);
-    let next = box_left(wait.to);
+/// Adds a rule of the circle as a box, and the arrow to the rule for which it waits, with the datum beside it.
+fn put_wait(out: &mut Page, layout: Layout, wait: &Wait) {
+    let (left, next) = (box_left(wait.from), box_left(wait.to));
     let top = bottom(layout) + 30;
-    let row = way_row(Word::Wait, arrow(left, next, top));
-    put_plain(out, Name::Path, &row);
-    let place = labelled(Word::Number, left + 120, arrow_height(left, next, top));
-    put_written(out, Name::Text, &place, &text);
-}
-
-/// Adds a rule of the circle, with the arrow to the rule for which it waits.
-fn put_wait(out: &mut Writer, layout: Layout, wait: &Wait)
-    ensures { IsAppended out.old out.new (xml_text (wait_shape layout wait.now)) }
-{
-    put_wait_box(out, layout, wait);
-    put_wait_arrow(out, layout, wait);
+    let rule = text(
+        out.alloc,
+        &[
+            Piece::Text("rule "),
+            Piece::Number(wait.link.rule.number() as usize),
+        ],
+    );
+    out.put("rect", &rectangle("rule", left, top, 110, 30));
+    out.put_written("text", &labelled("rule-name", left + 12, top + 20), &rule);
+    let route = arrow(out.alloc, left, next, top);
+    out.put_path("wait", &route);
+    let height = if left < next { top + 10 } else { top + 50 };
+    let datum = text(
+        out.alloc,
+        &[
+            Piece::Text("datum "),
+            Piece::Number(wait.link.datum.number() as usize),
+        ],
+    );
+    out.put_written("text", &labelled("number", left + 120, height), &datum);
 }
 
 /// Adds a box and an arrow for each rule.
-pub fn put_waits(out: &mut Writer, layout: Layout, waits: &[Wait])
-    ensures { IsAppended out.old out.new (xml_text (all (wait_shape layout) waits.now)) }
-{
+pub fn put_waits(out: &mut Page, layout: Layout, waits: &[Wait]) {
     for wait in waits {
         put_wait(out, layout, wait);
     }

@@ -1,7 +1,6 @@
 //! The shown range of a trace, and the coordinates of its parts, in units from the timeline's upper left corner.
 
-ghost use Rattle.std.specs.Prelude.{◌≡◌, ◌<◌, ◌≤◌, ◌*◌, ◌/◌, ◌^◌};
-ghost use Rattle.tw_timeline.specs.Places.{across, between, bottom, column_count, column_start, is_coarse, is_shown, is_wide, lane_top, least_step, left_of, line_step, mark_inset, mark_width, right_of, room, shown, shows_none, span, tick_step, view_of};
+ghost use Rattle.std.specs.Prelude.{◌<◌, ◌≤◌, ◌^◌};
 
 use tw_types::{Actor, Layout};
 
@@ -18,9 +17,7 @@ pub struct Settings {
 
 impl Settings {
     /// Returns the settings for the events from one number to another, at a width of 4,000 units at most.
-    pub fn between(from: u32, to: u32) -> Settings
-        ensures { result ≡ between from to }
-    {
+    pub fn between(from: u32, to: u32) -> Settings {
         Settings {
             from,
             to,
@@ -32,8 +29,8 @@ impl Settings {
 /// The range that is shown: its first and last event, and the most units that all of its events may take.
 #[derive(Clone, Copy)]
 pub struct View {
-    first: u32,
-    last: u32,
+    pub first: u32,
+    pub last: u32,
     most: u16,
 }
 
@@ -41,18 +38,14 @@ pub struct View {
 fn scaled(part: usize, units: usize, all: usize) -> usize
     requires part { part ≤ 4294967296 }
     requires units { units ≤ 65536 }
-    requires some { 0 < all }
-    ensures value { result ≡ part * units / all }
     ensures small { result < 2 ^ 49 }
 {
-    part * units / all
+    part * units / all.max(1)
 }
 
 impl View {
     /// Returns the part of a timeline of this many events that the settings show.
-    pub fn of(settings: Settings, events: u32) -> View
-        ensures { result ≡ view_of settings events }
-    {
+    pub fn of(settings: Settings, events: u32) -> View {
         View {
             first: settings.from.max(1),
             last: settings.to.min(events),
@@ -60,53 +53,26 @@ impl View {
         }
     }
 
-    /// Returns the number of the first event.
-    pub fn first(self) -> u32
-        ensures { result ≡ self.first }
-    {
-        self.first
-    }
-
-    /// Returns the number of the last event.
-    pub fn last(self) -> u32
-        ensures { result ≡ self.last }
-    {
-        self.last
-    }
-
     /// Returns how many events are shown.
     fn shown(self) -> usize
-        ensures value { result ≡ shown self }
-        ensures small { result ≤ 4294967296 }
+        ensures { result ≤ 4294967296 }
     {
         (self.last as usize + 1).saturating_sub(self.first as usize)
     }
 
     /// Returns whether the event of this number is shown.
-    pub fn is_shown(self, number: u32) -> bool
-        ensures { result ≡ is_shown self number }
-    {
+    pub fn is_shown(self, number: u32) -> bool {
         self.first <= number && number <= self.last
     }
 
-    /// Returns whether no event is shown.
-    pub fn shows_none(self) -> bool
-        ensures { result ≡ shows_none self }
-    {
-        self.last < self.first
-    }
-
     /// Returns whether there are too many events for a marker each.
-    pub fn is_coarse(self) -> bool
-        ensures { result ≡ is_coarse self }
-    {
+    pub fn is_coarse(self) -> bool {
         usize::from(self.most) < 2 * self.shown()
     }
 
     /// Returns the width of all shown events: 48 units each while these are few, then 16, and less if they don't fit.
     fn span(self) -> usize
-        ensures value { result ≡ span self }
-        ensures small { result < 65536 }
+        ensures { result < 65536 }
     {
         let shown = self.shown();
         let wide = (48 * shown).min(1440).max(16 * shown);
@@ -116,17 +82,15 @@ impl View {
     /// Returns the left edge of the event of this number, and that of the first shown one for earlier events.
     pub fn across(self, number: usize) -> usize
         requires { number ≤ 4294967296 }
-        ensures value { result ≡ across self number }
-        ensures small { result < 2 ^ 50 }
+        ensures { result < 2 ^ 50 }
     {
         let before = number.saturating_sub(self.first as usize);
-        90 + scaled(before, self.span(), self.shown().max(1))
+        90 + scaled(before, self.span(), self.shown())
     }
 
     /// Returns the left edge of what begins with an event: ten units to the left of all events, if that one comes before them.
     pub fn left_of(self, number: u32) -> usize
-        ensures value { result ≡ left_of self number }
-        ensures small { result < 2 ^ 50 }
+        ensures { result < 2 ^ 50 }
     {
         if number < self.first {
             80
@@ -138,8 +102,7 @@ impl View {
     /// Returns the right edge of what ends with an event: ten units to the right of all events if that one comes after them, and their right edge if
     /// nothing has ended it.
     pub fn right_of(self, number: Option<u32>) -> usize
-        ensures value { result ≡ right_of self number }
-        ensures small { result < 2 ^ 51 }
+        ensures { result < 2 ^ 51 }
     {
         let edge = self.across(self.last as usize + 1);
         match number {
@@ -151,56 +114,42 @@ impl View {
 
     /// Returns the width of one event.
     fn room(self) -> usize
-        ensures value { result ≡ room self }
-        ensures small { result < 65536 }
+        ensures { result < 65536 }
     {
         self.span() / self.shown().max(1)
     }
 
     /// Returns the width of a marker.
-    pub fn mark_width(self) -> usize
-        ensures value { result ≡ mark_width self }
-        ensures small { result ≤ 16 }
-    {
+    pub fn mark_width(self) -> usize {
         (self.room() / 2 + 1).min(16)
     }
 
     /// Returns the distance of a marker from the left edge of its event.
     pub fn mark_inset(self) -> usize
-        ensures value { result ≡ mark_inset self }
-        ensures small { result < 65536 }
+        ensures { result < 65536 }
     {
         self.room().saturating_sub(self.mark_width()) / 2
     }
 
-    /// Returns the number of events from one tick to the next: a round number that leaves enough space.
-    pub fn tick_step(self) -> u32
-        ensures value { result ≡ tick_step self }
-        ensures some { 0 < result }
-    {
-        least_step(self.shown(), self.span(), &TICK_STEPS)
+    /// Returns whether there is a tick at an event: at round numbers, so that ticks are 40 units apart.
+    pub fn has_tick(self, number: u32) -> bool {
+        self.is_shown(number) && number % least_step(self.shown(), self.span()).max(1) == 0
     }
 
-    /// Returns the step between the task numbers to which a line is drawn.
-    pub fn line_step(self) -> u64
-        ensures value { result ≡ line_step self }
-        ensures some { 0 < result }
-    {
+    /// Returns whether a line to the task of this number is drawn; if there are too many, some are.
+    pub fn has_line(self, task: u64) -> bool {
         let step = 2 * self.shown() / usize::from(self.most).max(1);
-        step.max(1) as u64
+        task % (step.max(1) as u64) == 0
     }
 
     /// Returns whether lines are thick enough to be seen one by one.
-    pub fn is_wide(self) -> bool
-        ensures { result ≡ is_wide self }
-    {
+    pub fn is_wide(self) -> bool {
         16 <= self.room()
     }
 
     /// Returns how many columns there are for all events.
     pub fn column_count(self) -> usize
-        ensures value { result ≡ column_count self }
-        ensures small { result < 6554 }
+        ensures { result < 6554 }
     {
         usize::from(self.most) / 10
     }
@@ -208,10 +157,8 @@ impl View {
     /// Returns the number of a column's first event.
     pub fn column_start(self, column: usize) -> usize
         requires { column < 65536 }
-        ensures value { result ≡ column_start self column }
-        ensures small { result < 2 ^ 50 }
     {
-        self.first as usize + scaled(self.shown(), column, self.column_count().max(1))
+        self.first as usize + scaled(self.shown(), column, self.column_count())
     }
 }
 
@@ -221,12 +168,11 @@ const TICK_STEPS: [u32; 19] = [
 ];
 
 /// Returns the least of the steps that leaves 40 units between two ticks.
-fn least_step(shown: usize, span: usize, steps: &[u32]) -> u32
+fn least_step(shown: usize, span: usize) -> u32
     requires shown { shown ≤ 4294967296 }
     requires span { span < 65536 }
-    ensures { result ≡ least_step shown span steps.now }
 {
-    for step in steps {
+    for step in &TICK_STEPS {
         if 40 * shown <= (*step as usize) * span {
             return *step;
         }
@@ -236,16 +182,14 @@ fn least_step(shown: usize, span: usize, steps: &[u32]) -> u32
 
 /// Returns the upper edge of an actor's row.
 pub fn lane_top(layout: Layout, actor: Actor) -> usize
-    ensures value { result ≡ lane_top layout actor }
-    ensures small { result < 100000 }
+    ensures { result < 100000 }
 {
     60 + 44 * layout.index_of(actor)
 }
 
 /// Returns the lower edge of the last row.
 pub fn bottom(layout: Layout) -> usize
-    ensures value { result ≡ bottom layout }
-    ensures small { result < 100000 }
+    ensures { result < 100000 }
 {
     60 + 44 * layout.actor_count()
 }

@@ -1,6 +1,5 @@
-use Rattle.std.proofs.Common.{refl}
-use Rattle.tw_stats.proofs.Longest.{chains_none}
+use Rattle.std.proofs.Common.{arith}
 use Rattle.tw_stats.proofs.chains.Chains.new.Goals as goal
 
 pub returns : goal.returns
-returns c = λ program. chains_none program _ refl c.new.ensures
+returns c = λ most. record { longest = omega arith; depths = c.new.ensures most }

@@ -1,10 +1,10 @@
-use Rattle.tw_stats.specs.declared.stats_builder.StatsBuilder.{StatsBuilder}
-use Rattle.tw_stats.specs.Kept.{things_in}
-use Rattle.tw_stats.proofs.Histories.{tally_more}
+use Rattle.std.proofs.Common.{arith, ℕ, subst, sym}
+use Rattle.tw_stats.specs.Sums.{AreChains}
 use Rattle.tw_stats.proofs.stats_builder.StatsBuilder.count_event.Goals as goal
 
 pub returns : goal.returns
-returns c = λ first events s h pre_state went before state_after small.
-    let new : StatsBuilder = record { counts = c.add.new.self; procedures = c.add-2.new.self; chains = c.add-3.new.self; next = c.advance_past.new.self } in
-    tally_more first events c.args.event.now s c.args.plain.now.state c.args.self.now new c.args.pre_state.now c.executor_after-executor.result (things_in c.needs-needed.result) (things_in c.provides-brought.result) h pre_state went before state_after small
-    (c.executor_after-executor.ensures s pre_state.executor) c.needs-needed.ensures c.provides-brought.ensures c.in_ok-add.ensures c.in_ok-add-2.ensures c.in_ok-add-3.ensures c.advance_past.ensures
+returns c = λ h. record {
+  fits = omega (arith, c.in_ok-add.ensures.steps);
+  counts = c.in_ok-add.ensures.sums c.share_of-share.ensures h.counts;
+  chains = subst (λ (n : ℕ). AreChains c.add-3.new.self n) (sym c.in_ok-add.ensures.steps) (c.in_ok-add-3.ensures c.args.self.now.counts.steps h.fits h.chains);
+}
