@@ -61,10 +61,10 @@ run_answer rows = if is_given picture rows then written.Picture (given_range row
 
 -- return how a program is run, and how it is run on each line: without options, and with those that clap found
 abbrev pub bare_run : RunOptions
-bare_run = record { answer = written.Report; layout = actors 1 1 1; limit = 10000; caps = uncapped; trace = false; in_turn = false; seed = None; seconds = None }
+bare_run = record { answer = written.Report; layout = actors 1 1 1; limit = 1000000; caps = uncapped; trace = false; in_turn = false; seed = None; seconds = None }
 
 abbrev pub bare_each : EachOrder
-bare_each = record { layout = actors 1 1 1; limit = 10000; jobs = 1; seconds = None; caps = uncapped }
+bare_each = record { layout = actors 1 1 1; limit = 1000000; jobs = 1; seconds = None; caps = uncapped }
 
 abbrev pub given_run : List Row → RunOptions
 given_run rows = record { answer = run_answer rows; layout = given_actors rows; limit = requested limit rows; caps = given_caps rows; trace = is_given trace rows; in_turn = is_given in_turn rows; seed = given_seed rows; seconds = given_seconds rows }

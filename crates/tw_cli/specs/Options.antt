@@ -45,7 +45,7 @@ abbrev pub workers : NumberOption
 workers = record { name = codes "workers"; most = 16; default = 1 }
 
 abbrev pub limit : NumberOption
-limit = record { name = codes "limit"; most = 1000000; default = 10000 }
+limit = record { name = codes "limit"; most = 1000000; default = 1000000 }
 
 -- the numbers of the first and the last event that a timeline shows
 abbrev pub first_shown : NumberOption

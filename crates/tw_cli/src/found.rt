@@ -51,11 +51,12 @@ pub(crate) fn layout_given(matches: &ArgMatches<'_>) -> Option<Layout>
     Layout::new(engines as u8, servers as u8, workers as u8).ok()
 }
 
-/// Returns the maximum number of events from `--limit`. Returns none if it is out of its range.
+/// Returns the maximum number of events from `--limit`, the largest one without it. Returns none if it is out of its range.
 pub(crate) fn limit_given(matches: &ArgMatches<'_>) -> Option<EventLimit>
     ensures { result ≡ number_of limit (rows_of (found_of matches.now)) }
 {
-    let events = number_given(matches, "limit", EventLimit::MAX as u64, 10_000)?;
+    let most = EventLimit::MAX as u64;
+    let events = number_given(matches, "limit", most, most)?;
     EventLimit::new(events as usize)
 }
 

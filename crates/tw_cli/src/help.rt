@@ -11,7 +11,7 @@ pub(crate) struct CommandHelp<'a> {
 }
 
 /// The program's version, which the newest section of CHANGELOG.md names.
-pub(crate) const VERSION: &str = "0.25.1";
+pub(crate) const VERSION: &str = "0.26";
 
 pub(crate) const ABOUT: &str = "Assembles, checks and runs dataflow programs of the task host.";
 
@@ -107,7 +107,8 @@ need --picture: the timeline shows the events from one number to the other, coun
 --stats, --picture and the lines of a stuck run of a text execute every event again, in one thread, after the run; this takes
 as long as all local instructions of the run together.
 Exit status: 0 quiet, 1 rejected, 2 command line or input rejected, 3 stuck, 4 event limit or stopped,
-5 out of memory, 7 a read or write failed, 66 a FILE can't be read. With --each it is 0 if all lines are run, and 1 if one is rejected.",
+5 out of memory, 7 a read or write failed, 66 a FILE can't be read. With --each it is 0 if all lines end quiet, 1 if one is
+rejected, else 4 if one ended by the limit or was stopped, else 3 if one is stuck.",
 };
 
 pub(crate) const REPLAY: CommandHelp<'static> = CommandHelp {
@@ -162,7 +163,7 @@ pub(crate) const SERVERS_HELP: &str = "How many servers: 1 to 4 (default: 1)";
 pub(crate) const WORKERS_HELP: &str = "How many workers: 1 to 16 (default: 1)";
 
 pub(crate) const LIMIT_HELP: &str =
-    "The maximum number of events: 1 to 1000000 (default of run: 10000)";
+    "The maximum number of events: 1 to 1000000 (default of run: 1000000)";
 
 pub(crate) const MOST_TASKS_HELP: &str =
     "Reject a program whose run may take more tasks: 1 to 18446744073709551615";

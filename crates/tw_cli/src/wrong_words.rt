@@ -26,7 +26,7 @@ fn range_line(given: &ArgMatches<'_>) -> Option<&'static str> {
         Some("error: --servers takes a number from 1 to 4\n")
     } else if number_given(given, "workers", 16, 1).is_none() {
         Some("error: --workers takes a number from 1 to 16\n")
-    } else if number_given(given, "limit", 1_000_000, 10_000).is_none() {
+    } else if number_given(given, "limit", 1_000_000, 1).is_none() {
         Some("error: --limit takes a number from 1 to 1000000\n")
     } else if number_given(given, "jobs", 64, 1).is_none() {
         Some("error: --jobs takes a number from 1 to 64\n")

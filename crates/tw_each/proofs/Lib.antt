@@ -6,3 +6,4 @@ pub mod Slices
 pub mod Room
 pub mod WholeReplies
 pub mod Sharing
+mod Worse

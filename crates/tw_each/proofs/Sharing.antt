@@ -1,12 +1,16 @@
 -- Shares of lines, and what threads answer to them.
-use Rattle.std.proofs.Common.{◌≡◌, ◌+◌, ◌^◌, ◌<◌, ◌≤◌, ◌++◌, ◌||◌, ◌∙◌, ℕ, zero, suc, Bool, Bor, false, List, [], ◌∷◌, Ok, Err, Result, arith, ap, append_assoc, drop, length, map, refl, subst, sym, take}
+use Rattle.std.proofs.Common.{◌≡◌, ◌+◌, ◌^◌, ◌<◌, ◌≤◌, ◌++◌, ◌∙◌, ℕ, zero, suc, Bor, List, [], ◌∷◌, Ok, Err, Result, arith, ap, append_assoc, drop, length, map, refl, subst, sym, take}
 use Rattle.std.specs.Prelude.{IfOk, slice_index_or}
 use Rattle.std.proofs.Math.Seq.{take-add}
 use Rattle.std.proofs.lemmas.List.{append-nil, length-append, length-map, length-take-le, map-append, take-append-drop}
 use Rattle.std.specs.declared.alloc.AllocError.{AllocError}
 use Rattle.tw_each.specs.Answers.{AreAnswers, Way}
 use Rattle.tw_each.specs.Shares.{AreMerged, AreShares}
-use Rattle.tw_each.proofs.LineAnswers.{answers_joined, or_assoc, or_false}
+use Rattle.tw_each.specs.Worst.{worse}
+use Rattle.tw_each.specs.declared.worst.WorstEnd.{WorstEnd}
+use Rattle.tw_each.specs.declared.worst.WorstEnd.TheVariants as ends
+use Rattle.tw_each.proofs.Worse.{worse_assoc, worse_quiet}
+use Rattle.tw_each.proofs.LineAnswers.{answers_joined}
 use Rattle.tw_each.specs.declared.lines.Answers.{Answers}
 use Rattle.tw_each.specs.declared.shares.Share.{Share}
 
@@ -30,43 +34,43 @@ share_fits before lines (s ∷ shares) (suc i) x (others, first, parts, rest) fi
     share_fits (before + length s.lines.now) others shares i x rest (omega (arith, long, fits)) (omega (arith, lt)) is
 
 -- the answers of all shares are those to all lines
-pub shares_answered : (w : Way) (before : ℕ) (lines : List (Bor (List ℕ))) (shares : List Share) (results : List (Result Answers AllocError)) (text : List ℕ) (refused : Bool) → AreShares before lines shares → length results ≡ length shares
-    → ((i : ℕ) (s : Share) (r : Result Answers AllocError) → i < length shares → slice_index_or shares i s ≡ s → slice_index_or results i r ≡ r → IfOk r (λ a. AreAnswers w s.before (map (λ l. l.now) s.lines.now) a.text.items a.refused))
-    → AreMerged results text refused → AreAnswers w before (map (λ l. l.now) lines) text refused
-shares_answered w before lines [] [] text refused none same each merged = subst (λ (ls : List (Bor (List ℕ))). AreAnswers w before (map (λ l. l.now) ls) text refused) (sym none) merged
-shares_answered w before lines [] (r ∷ results) text refused none same each merged = absurd (omega (arith, same))
-shares_answered w before lines (s ∷ shares) [] text refused h same each merged = absurd (omega (arith, same))
-shares_answered w before lines (s ∷ shares) (Err why ∷ results) text refused h same each merged = absurd merged
-shares_answered w before lines (s ∷ shares) (Ok answers ∷ results) text refused (others, first, parts, rest) same each (more, any, are, text_is, refused_is) =
+pub shares_answered : (w : Way) (before : ℕ) (lines : List (Bor (List ℕ))) (shares : List Share) (results : List (Result Answers AllocError)) (text : List ℕ) (worst : WorstEnd) → AreShares before lines shares → length results ≡ length shares
+    → ((i : ℕ) (s : Share) (r : Result Answers AllocError) → i < length shares → slice_index_or shares i s ≡ s → slice_index_or results i r ≡ r → IfOk r (λ a. AreAnswers w s.before (map (λ l. l.now) s.lines.now) a.text.items a.worst))
+    → AreMerged results text worst → AreAnswers w before (map (λ l. l.now) lines) text worst
+shares_answered w before lines [] [] text worst none same each merged = subst (λ (ls : List (Bor (List ℕ))). AreAnswers w before (map (λ l. l.now) ls) text worst) (sym none) merged
+shares_answered w before lines [] (r ∷ results) text worst none same each merged = absurd (omega (arith, same))
+shares_answered w before lines (s ∷ shares) [] text worst h same each merged = absurd (omega (arith, same))
+shares_answered w before lines (s ∷ shares) (Err why ∷ results) text worst h same each merged = absurd merged
+shares_answered w before lines (s ∷ shares) (Ok answers ∷ results) text worst (others, first, parts, rest) same each (more, any, are, text_is, worst_is) =
     let f = λ (l : Bor (List ℕ)). l.now in
-    let here = subst (λ (n : ℕ). AreAnswers w n (map f s.lines.now) answers.text.items answers.refused) first (each 0 s (Ok answers) (omega arith) refl refl) in
+    let here = subst (λ (n : ℕ). AreAnswers w n (map f s.lines.now) answers.text.items answers.worst) first (each 0 s (Ok answers) (omega arith) refl refl) in
     let later = shares_answered w (before + length s.lines.now) others shares results more any rest (omega (arith, same)) (λ i t r lt is got. each (suc i) t r (omega (arith, lt)) is got) are in
     let after = subst (λ (n : ℕ). AreAnswers w (before + n) (map f others) more any) (sym (length-map s.lines.now f)) later in
-    let joined = answers_joined w before (map f s.lines.now) (map f others) answers.text.items more answers.refused any here after in
+    let joined = answers_joined w before (map f s.lines.now) (map f others) answers.text.items more answers.worst any here after in
     let split : map f s.lines.now ++ map f others ≡ map f lines = sym (ap (map f) parts ∙ map-append f s.lines.now others) in
-    subst (λ (r : Bool). AreAnswers w before (map f lines) text r) (sym refused_is)
-    (subst (λ (t : List ℕ). AreAnswers w before (map f lines) t (answers.refused || any)) (sym text_is)
-    (subst (λ (ls : List (List ℕ)). AreAnswers w before ls (answers.text.items ++ more) (answers.refused || any)) split joined))
+    subst (λ (r : WorstEnd). AreAnswers w before (map f lines) text r) (sym worst_is)
+    (subst (λ (t : List ℕ). AreAnswers w before (map f lines) t (worse answers.worst any)) (sym text_is)
+    (subst (λ (ls : List (List ℕ)). AreAnswers w before ls (answers.text.items ++ more) (worse answers.worst any)) split joined))
 
 -- the answers of one share more
-pub merged_more : (results : List (Result Answers AllocError)) (answers : Answers) (text : List ℕ) (refused : Bool) → AreMerged results text refused → AreMerged (results ++ Ok answers ∷ []) (text ++ answers.text.items) (refused || answers.refused)
-merged_more [] answers text refused (none, well) =
-    ([], false, (refl, refl), ap (λ (t : List ℕ). t ++ answers.text.items) none ∙ sym (append-nil answers.text.items), ap (λ (r : Bool). r || answers.refused) well ∙ sym (or_false answers.refused))
-merged_more (Err why ∷ results) answers text refused merged = absurd merged
-merged_more (Ok first ∷ results) answers text refused (rest, others, are, text_is, refused_is) = (
+pub merged_more : (results : List (Result Answers AllocError)) (answers : Answers) (text : List ℕ) (worst : WorstEnd) → AreMerged results text worst → AreMerged (results ++ Ok answers ∷ []) (text ++ answers.text.items) (worse worst answers.worst)
+merged_more [] answers text worst (none, well) =
+    ([], ends.Quiet, (refl, refl), ap (λ (t : List ℕ). t ++ answers.text.items) none ∙ sym (append-nil answers.text.items), ap (λ (r : WorstEnd). worse r answers.worst) well ∙ sym (worse_quiet answers.worst))
+merged_more (Err why ∷ results) answers text worst merged = absurd merged
+merged_more (Ok first ∷ results) answers text worst (rest, others, are, text_is, worst_is) = (
   rest ++ answers.text.items,
-  others || answers.refused,
+  worse others answers.worst,
   merged_more results answers rest others are,
   ap (λ (t : List ℕ). t ++ answers.text.items) text_is ∙ append_assoc first.text.items rest answers.text.items,
-  ap (λ (r : Bool). r || answers.refused) refused_is ∙ sym (or_assoc first.refused others answers.refused),
+  ap (λ (r : WorstEnd). worse r answers.worst) worst_is ∙ sym (worse_assoc first.worst others answers.worst),
 )
 
-pub one_merged_more : (results : List (Result Answers AllocError)) (r : Result Answers AllocError) (answers : Answers) (text new : List ℕ) (refused any : Bool) → AreMerged results text refused → r ≡ Ok answers → new ≡ text ++ answers.text.items
-    → any ≡ (refused || answers.refused) → AreMerged (results ++ r ∷ []) new any
-one_merged_more results r answers text new refused any h is text_is any_is =
-    let more = merged_more results answers text refused h in
+pub one_merged_more : (results : List (Result Answers AllocError)) (r : Result Answers AllocError) (answers : Answers) (text new : List ℕ) (worst any : WorstEnd) → AreMerged results text worst → r ≡ Ok answers → new ≡ text ++ answers.text.items
+    → any ≡ (worse worst answers.worst) → AreMerged (results ++ r ∷ []) new any
+one_merged_more results r answers text new worst any h is text_is any_is =
+    let more = merged_more results answers text worst h in
     subst (λ (x : Result Answers AllocError). AreMerged (results ++ x ∷ []) new any) (sym is)
-    (subst (λ (t : List ℕ). AreMerged (results ++ Ok answers ∷ []) t any) (sym text_is) (subst (λ (b : Bool). AreMerged (results ++ Ok answers ∷ []) (text ++ answers.text.items) b) (sym any_is) more))
+    (subst (λ (t : List ℕ). AreMerged (results ++ Ok answers ∷ []) t any) (sym text_is) (subst (λ (b : WorstEnd). AreMerged (results ++ Ok answers ∷ []) (text ++ answers.text.items) b) (sym any_is) more))
 
 -- so many lines more are shared
 pub one_share_more : (before done : ℕ) (lines rest : List (Bor (List ℕ))) (shares new : List Share) (share : Share) → done ≤ length lines → rest ≡ drop done lines → share.lines.now ≡ take (length share.lines.now) rest

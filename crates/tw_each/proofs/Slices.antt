@@ -1,11 +1,13 @@
 -- Some of the lines that are answered, after others.
-use Rattle.std.proofs.Common.{◌≡◌, ◌+◌, ◌≤◌, ◌++◌, ◌||◌, ◌∙◌, ℕ, Bool, Bor, List, Option, ap, drop, length, map, subst, sym, take}
+use Rattle.std.proofs.Common.{◌≡◌, ◌+◌, ◌≤◌, ◌++◌, ◌∙◌, ℕ, Bor, List, Option, ap, drop, length, map, subst, sym, take}
 use Rattle.std.proofs.Math.Seq.{take-add}
 use Rattle.std.proofs.lemmas.List.{length-map, length-take-le, map-append, take-append-drop}
 use Rattle.tw_each.specs.Answers.{Way}
 use Rattle.tw_each.specs.Stream.{AreWritten, Stops}
 use Rattle.tw_each.specs.declared.stream.StreamError.{StreamError}
-use Rattle.tw_each.proofs.LineAnswers.{or_assoc}
+use Rattle.tw_each.specs.Worst.{worse}
+use Rattle.tw_each.specs.declared.worst.WorstEnd.{WorstEnd}
+use Rattle.tw_each.proofs.Worse.{worse_assoc}
 use Rattle.tw_each.proofs.Written.{stops_on, stops_within, written_on}
 
 abbrev texts : List (Bor (List ℕ)) → List (List ℕ)
@@ -21,23 +23,23 @@ front_and_rest : (lines : List (Bor (List ℕ))) (done : ℕ) → texts lines �
 front_and_rest lines done = ap texts (sym (take-append-drop done lines)) ∙ map-append (λ (line : Bor (List ℕ)). line.now) (take done lines) (drop done lines)
 
 -- the answers to so many lines are written
-abbrev pub AreDone : Way → ℕ → Bool → List (Bor (List ℕ)) → ℕ → Bool → Option (List ℕ) → Option (List ℕ) → Type 0
-AreDone w before earlier lines done refused old new = (bad : Bool) × (refused ≡ (earlier || bad)) × AreWritten w before (texts (take done lines)) old new bad
+abbrev pub AreDone : Way → ℕ → WorstEnd → List (Bor (List ℕ)) → ℕ → WorstEnd → Option (List ℕ) → Option (List ℕ) → Type 0
+AreDone w before earlier lines done worst old new = (bad : WorstEnd) × (worst ≡ (worse earlier bad)) × AreWritten w before (texts (take done lines)) old new bad
 
-pub more_done : (w : Way) (before : ℕ) (earlier : Bool) (lines others some : List (Bor (List ℕ))) (done count : ℕ) (refused bad : Bool) (old mid new : Option (List ℕ)) → done ≤ length lines → others ≡ drop done lines → some ≡ take count others
-    → AreDone w before earlier lines done refused old mid → AreWritten w (before + done) (texts some) mid new bad → AreDone w before earlier lines (done + count) (refused || bad) old new
-more_done w before earlier lines others some done count refused bad old mid new within rest part (known, is, written) also =
+pub more_done : (w : Way) (before : ℕ) (earlier : WorstEnd) (lines others some : List (Bor (List ℕ))) (done count : ℕ) (worst bad all : WorstEnd) (old mid new : Option (List ℕ)) → all ≡ worse worst bad → done ≤ length lines → others ≡ drop done lines → some ≡ take count others
+    → AreDone w before earlier lines done worst old mid → AreWritten w (before + done) (texts some) mid new bad → AreDone w before earlier lines (done + count) all old new
+more_done w before earlier lines others some done count worst bad all old mid new all_is within rest part (known, is, written) also =
     let same : texts some ≡ texts (take count (drop done lines)) = ap texts (part ∙ ap (take count) rest) in
     let here = subst (λ (n : ℕ). AreWritten w (before + n) (texts some) mid new bad) (sym (front_length lines done within)) also in
-    let all = written_on w before (texts (take done lines)) (texts some) old mid new known bad written here in (
-      known || bad,
-      ap (λ (b : Bool). b || bad) is ∙ sym (or_assoc earlier known bad),
-      subst (λ (ls : List (List ℕ)). AreWritten w before ls old new (known || bad)) (ap (λ (ls : List (List ℕ)). texts (take done lines) ++ ls) same ∙ sym (front_more lines done count)) all,
+    let whole = written_on w before (texts (take done lines)) (texts some) old mid new known bad written here in (
+      worse known bad,
+      all_is ∙ ap (λ (b : WorstEnd). worse b bad) is ∙ sym (worse_assoc earlier known bad),
+      subst (λ (ls : List (List ℕ)). AreWritten w before ls old new (worse known bad)) (ap (λ (ls : List (List ℕ)). texts (take done lines) ++ ls) same ∙ sym (front_more lines done count)) whole,
     )
 
-pub more_stops : (w : Way) (before : ℕ) (earlier : Bool) (lines others some : List (Bor (List ℕ))) (done count : ℕ) (refused : Bool) (why : StreamError) (old mid new : Option (List ℕ)) → done ≤ length lines → others ≡ drop done lines → some ≡ take count others
-    → AreDone w before earlier lines done refused old mid → Stops w (before + done) (texts some) mid new why → Stops w before (texts lines) old new why
-more_stops w before earlier lines others some done count refused why old mid new within rest part (known, is, written) also =
+pub more_stops : (w : Way) (before : ℕ) (earlier : WorstEnd) (lines others some : List (Bor (List ℕ))) (done count : ℕ) (worst : WorstEnd) (why : StreamError) (old mid new : Option (List ℕ)) → done ≤ length lines → others ≡ drop done lines → some ≡ take count others
+    → AreDone w before earlier lines done worst old mid → Stops w (before + done) (texts some) mid new why → Stops w before (texts lines) old new why
+more_stops w before earlier lines others some done count worst why old mid new within rest part (known, is, written) also =
     let same : texts some ≡ texts (take count (drop done lines)) = ap texts (part ∙ ap (take count) rest) in
     let here = subst (λ (n : ℕ). Stops w (before + n) (texts some) mid new why) (sym (front_length lines done within)) also in
     let all = stops_on w before (texts (take done lines)) (texts some) old mid new known why written here in

@@ -1,5 +1,5 @@
 -- Replies to a program and the lines that are read with it.
-use Rattle.std.proofs.Common.{◌≡◌, ◌∙◌, Bool, Bor, ℕ, List, Option, ap, codes, inl, inr, map, subst, sym}
+use Rattle.std.proofs.Common.{◌≡◌, ◌∙◌, Bor, ℕ, List, Option, ap, codes, inl, inr, map, subst, sym}
 use Rattle.std.specs.Prelude.{MatchOption}
 use Rattle.tw_order.specs.declared.order.Source.{Source}
 use Rattle.tw_order.specs.declared.runs.EachOrder.{EachOrder}
@@ -13,22 +13,24 @@ use Rattle.tw_source.specs.declared.source.SourceText.{SourceText}
 use Rattle.tw_verify.specs.Typed.{TypedProgram}
 use Rattle.tw_each.specs.Answers.{AreAnswers, Way}
 use Rattle.tw_each.specs.Ready.{IsEachInput, IsReady}
-use Rattle.tw_each.specs.Reply.{RepliesByEach, RepliesByParts, close_of, way_of}
+use Rattle.tw_each.specs.Reply.{RepliesByEach, RepliesByParts, way_of}
 use Rattle.tw_each.specs.declared.together.LineParts.{LineParts}
 use Rattle.tw_each.specs.declared.reply.Ready.TheVariants as ready
 use Rattle.tw_each.specs.declared.together.EachInput.TheVariants.{Parts, Rejected}
+use Rattle.tw_each.specs.Worst.{close_of}
+use Rattle.tw_each.specs.declared.worst.WorstEnd.{WorstEnd}
 
 -- ---- a program
 
 -- the reply to an admitted program is the answers to its lines
 pub answered : (source : Source) (order : EachOrder) (input : List ℕ) (given : List (List ℕ)) (text : Option SourceText) (verified : TypedProgram) (w : Way) (answers : List ℕ)
-    (refused : Bool) (r : Reply) → IsReady source order input (ready.Run text verified) → w ≡ way_of (text_of text) order verified → AreAnswers w 0 given answers refused → r.text ≡ answers
-    → r.close ≡ close_of refused → RepliesByParts source order input given r
-answered source order input given text verified w answers refused r (program, read, is, kept) way_is made text_is closes =
+    (worst : WorstEnd) (r : Reply) → IsReady source order input (ready.Run text verified) → w ≡ way_of (text_of text) order verified → AreAnswers w 0 given answers worst → r.text ≡ answers
+    → r.close ≡ close_of worst → RepliesByParts source order input given r
+answered source order input given text verified w answers worst r (program, read, is, kept) way_is made text_is closes =
     let way : w ≡ way_of (source_text source input) order verified = way_is ∙ ap (λ (t : Option (List ℕ)). way_of t order verified) is in
-    let whole = subst (λ (way : Way). AreAnswers way 0 given answers refused) way made in
-    let printed = subst (λ (t : List ℕ). AreAnswers (way_of (source_text source input) order verified) 0 given t refused) (sym text_is) whole in
-    inl (program, read, (verified, refused, kept, printed, closes))
+    let whole = subst (λ (way : Way). AreAnswers way 0 given answers worst) way made in
+    let printed = subst (λ (t : List ℕ). AreAnswers (way_of (source_text source input) order verified) 0 given t worst) (sym text_is) whole in
+    inl (program, read, (verified, worst, kept, printed, closes))
 
 -- ---- a program and lines
 

@@ -1,16 +1,19 @@
 -- Bytes that are read, and answers that are written.
-use Rattle.std.proofs.Common.{◌≡◌, ◌+◌, ◌++◌, ◌||◌, ◌∙◌, ℕ, Bool, true, false, List, [], ◌∷◌, Option, None, Some, IfSome, Result, Ok, Err, arith, ap, append_assoc, drop, get_or, inl, inr, length, refl, subst, sym}
+use Rattle.std.proofs.Common.{◌≡◌, ◌+◌, ◌++◌, ◌∙◌, ℕ, Bool, true, List, [], ◌∷◌, Option, None, Some, IfSome, Result, Ok, Err, arith, ap, append_assoc, drop, get_or, inl, inr, length, refl, subst, sym}
 use Rattle.std.specs.Prelude.{MatchBool, nat_lt}
 use Rattle.std.proofs.lemmas.Bool.Decides.{when_true}
 use Rattle.std.proofs.lemmas.Bool.{cases_lt, lt-ltb}
 use Rattle.std.proofs.lemmas.List.{append-nil, length-take-le, take_all}
 use Rattle.std.specs.Io.KnownBytes.{Appends, Consumes, IsAtEnd, Keeps}
 use Rattle.tw_source.specs.Input.{most_bytes}
-use Rattle.tw_each.specs.Answers.{IsLine, IsShortLine, Way, numbered, too_long, unread_line}
+use Rattle.tw_each.specs.Answers.{IsLine, IsShortLine, Way, IsUnread}
 use Rattle.tw_each.specs.Stream.{Adds, AreSomeWritten, AreWritten, Stops, kept}
 use Rattle.tw_each.specs.declared.stream.AnsweredLines.{AnsweredLines}
 use Rattle.tw_each.specs.declared.stream.StreamError.{StreamError}
 use Rattle.tw_each.specs.declared.stream.StreamError.TheVariants.{NoMemory, Read, Write}
+use Rattle.tw_each.specs.Worst.{worse}
+use Rattle.tw_each.specs.declared.worst.WorstEnd.{WorstEnd}
+use Rattle.tw_each.specs.declared.worst.WorstEnd.TheVariants as ends
 use Rattle.tw_each.proofs.LineAnswers.{answers_joined}
 
 -- ---- known bytes
@@ -59,11 +62,11 @@ keeps_same (Some xs) = refl
 
 -- ---- answers that are written
 
-pub none_written : (w : Way) (before : ℕ) (old : Option (List ℕ)) → AreWritten w before [] old old false
+pub none_written : (w : Way) (before : ℕ) (old : Option (List ℕ)) → AreWritten w before [] old old ends.Quiet
 none_written w before old = ([], (refl, refl), nothing_appended old)
 
 none_of : (w : Way) (before : ℕ) (lines : List (List ℕ)) (old : Option (List ℕ)) → AreSomeWritten w before lines old old
-none_of w before lines old = ([], lines, false, refl, none_written w before old)
+none_of w before lines old = ([], lines, ends.Quiet, refl, none_written w before old)
 
 -- an error before the first write
 pub stops_first : (w : Way) (before : ℕ) (lines : List (List ℕ)) (old : Option (List ℕ)) (why : StreamError) → Stops w before lines old old why
@@ -71,50 +74,50 @@ stops_first w before lines old Read = none_of w before lines old
 stops_first w before lines old Write = tt
 stops_first w before lines old NoMemory = none_of w before lines old
 
-pub written_on : (w : Way) (before : ℕ) (first more : List (List ℕ)) (old mid new : Option (List ℕ)) (refused bad : Bool) → AreWritten w before first old mid refused
-    → AreWritten w (before + length first) more mid new bad → AreWritten w before (first ++ more) old new (refused || bad)
-written_on w before first more old mid new refused bad (text, are, added) (rest, others, also) =
-    (text ++ rest, answers_joined w before first more text rest refused bad are others, appended_on old mid new text rest added also)
+pub written_on : (w : Way) (before : ℕ) (first more : List (List ℕ)) (old mid new : Option (List ℕ)) (worst bad : WorstEnd) → AreWritten w before first old mid worst
+    → AreWritten w (before + length first) more mid new bad → AreWritten w before (first ++ more) old new (worse worst bad)
+written_on w before first more old mid new worst bad (text, are, added) (rest, others, also) =
+    (text ++ rest, answers_joined w before first more text rest worst bad are others, appended_on old mid new text rest added also)
 
-some_on : (w : Way) (before : ℕ) (first more : List (List ℕ)) (old mid new : Option (List ℕ)) (refused : Bool) → AreWritten w before first old mid refused
+some_on : (w : Way) (before : ℕ) (first more : List (List ℕ)) (old mid new : Option (List ℕ)) (worst : WorstEnd) → AreWritten w before first old mid worst
     → AreSomeWritten w (before + length first) more mid new → AreSomeWritten w before (first ++ more) old new
-some_on w before first more old mid new refused here (next, others, bad, same, there) =
-    (first ++ next, others, refused || bad, ap (λ (ls : List (List ℕ)). first ++ ls) same ∙ sym (append_assoc first next others), written_on w before first next old mid new refused bad here there)
+some_on w before first more old mid new worst here (next, others, bad, same, there) =
+    (first ++ next, others, worse worst bad, ap (λ (ls : List (List ℕ)). first ++ ls) same ∙ sym (append_assoc first next others), written_on w before first next old mid new worst bad here there)
 
 -- an error after some answers
-pub stops_on : (w : Way) (before : ℕ) (first more : List (List ℕ)) (old mid new : Option (List ℕ)) (refused : Bool) (why : StreamError) → AreWritten w before first old mid refused
+pub stops_on : (w : Way) (before : ℕ) (first more : List (List ℕ)) (old mid new : Option (List ℕ)) (worst : WorstEnd) (why : StreamError) → AreWritten w before first old mid worst
     → Stops w (before + length first) more mid new why → Stops w before (first ++ more) old new why
-stops_on w before first more old mid new refused Read here there = some_on w before first more old mid new refused here there
-stops_on w before first more old mid new refused Write here there = tt
-stops_on w before first more old mid new refused NoMemory here there = some_on w before first more old mid new refused here there
+stops_on w before first more old mid new worst Read here there = some_on w before first more old mid new worst here there
+stops_on w before first more old mid new worst Write here there = tt
+stops_on w before first more old mid new worst NoMemory here there = some_on w before first more old mid new worst here there
 
 -- an error of which the lines after those that were read are no matter
 pub stops_within : (w : Way) (before : ℕ) (lines more : List (List ℕ)) (old new : Option (List ℕ)) (why : StreamError) → Stops w before lines old new why → Stops w before (lines ++ more) old new why
-stops_within w before lines more old new Read (first, others, refused, same, h) = (first, others ++ more, refused, ap (λ (ls : List (List ℕ)). ls ++ more) same ∙ append_assoc first others more, h)
+stops_within w before lines more old new Read (first, others, worst, same, h) = (first, others ++ more, worst, ap (λ (ls : List (List ℕ)). ls ++ more) same ∙ append_assoc first others more, h)
 stops_within w before lines more old new Write h = tt
-stops_within w before lines more old new NoMemory (first, others, refused, same, h) = (first, others ++ more, refused, ap (λ (ls : List (List ℕ)). ls ++ more) same ∙ append_assoc first others more, h)
+stops_within w before lines more old new NoMemory (first, others, worst, same, h) = (first, others ++ more, worst, ap (λ (ls : List (List ℕ)). ls ++ more) same ∙ append_assoc first others more, h)
 
 -- ---- a line of which only a part is kept
 
-pub kept_line : (w : Way) (n : ℕ) (line answer : List ℕ) (refused : Bool) → IsLine w n (kept line) answer refused → IsLine w n line answer refused
-kept_line w n line answer refused h = elim (cases_lt most_bytes (length line)) [
-  | inr short ↦ subst (λ (l : List ℕ). IsLine w n l answer refused) (take_all (most_bytes + 1) line (omega (arith, short))) h
+pub kept_line : (w : Way) (n : ℕ) (line answer : List ℕ) (worst : WorstEnd) → IsLine w n (kept line) answer worst → IsLine w n line answer worst
+kept_line w n line answer worst h = elim (cases_lt most_bytes (length line)) [
+  | inr short ↦ subst (λ (l : List ℕ). IsLine w n l answer worst) (take_all (most_bytes + 1) line (omega (arith, short))) h
   | inl long ↦
       let cut : nat_lt most_bytes (length (kept line)) ≡ true = lt-ltb most_bytes (length (kept line)) (omega (arith, length-take-le (most_bytes + 1) line (omega (arith, long)))) in
-      let answered = when_true ((answer ≡ numbered n (unread_line too_long)) × (refused ≡ true)) (IsShortLine w n (kept line) answer refused) cut h in
-      subst (λ (b : Bool). MatchBool b ((answer ≡ numbered n (unread_line too_long)) × (refused ≡ true)) (IsShortLine w n line answer refused)) (sym (lt-ltb most_bytes (length line) long)) answered
+      let answered = when_true (IsUnread n answer × (worst ≡ ends.Refused)) (IsShortLine w n (kept line) answer worst) cut h in
+      subst (λ (b : Bool). MatchBool b (IsUnread n answer × (worst ≡ ends.Refused)) (IsShortLine w n line answer worst)) (sym (lt-ltb most_bytes (length line) long)) answered
 ]
 
-kept_written : (w : Way) (before : ℕ) (line : List ℕ) (lines : List (List ℕ)) (old new : Option (List ℕ)) (refused : Bool) → AreWritten w before (kept line ∷ lines) old new refused → AreWritten w before (line ∷ lines) old new refused
-kept_written w before line lines old new refused (text, (first, rest, bad, others, is, are, text_is, refused_is), added) =
-    (text, (first, rest, bad, others, kept_line w (before + 1) line first bad is, are, text_is, refused_is), added)
+kept_written : (w : Way) (before : ℕ) (line : List ℕ) (lines : List (List ℕ)) (old new : Option (List ℕ)) (worst : WorstEnd) → AreWritten w before (kept line ∷ lines) old new worst → AreWritten w before (line ∷ lines) old new worst
+kept_written w before line lines old new worst (text, (first, rest, bad, others, is, are, text_is, worst_is), added) =
+    (text, (first, rest, bad, others, kept_line w (before + 1) line first bad is, are, text_is, worst_is), added)
 
 kept_some : (w : Way) (before : ℕ) (line : List ℕ) (lines : List (List ℕ)) (old new : Option (List ℕ)) → AreSomeWritten w before (kept line ∷ lines) old new → AreSomeWritten w before (line ∷ lines) old new
-kept_some w before line lines old new ([], others, refused, same, h) = ([], line ∷ lines, refused, refl, h)
-kept_some w before line lines old new (l ∷ first, others, refused, same, h) =
+kept_some w before line lines old new ([], others, worst, same, h) = ([], line ∷ lines, worst, refl, h)
+kept_some w before line lines old new (l ∷ first, others, worst, same, h) =
     let rest : lines ≡ first ++ others = ap (drop 1) same in
     let is : l ≡ kept line = sym (ap (λ (ls : List (List ℕ)). get_or ls 0 []) same) in
-    (line ∷ first, others, refused, ap (λ (ls : List (List ℕ)). line ∷ ls) rest, kept_written w before line first old new refused (subst (λ (k : List ℕ). AreWritten w before (k ∷ first) old new refused) is h))
+    (line ∷ first, others, worst, ap (λ (ls : List (List ℕ)). line ∷ ls) rest, kept_written w before line first old new worst (subst (λ (k : List ℕ). AreWritten w before (k ∷ first) old new worst) is h))
 
 pub kept_stops : (w : Way) (before : ℕ) (line : List ℕ) (lines : List (List ℕ)) (old new : Option (List ℕ)) (why : StreamError) → Stops w before (kept line ∷ lines) old new why → Stops w before (line ∷ lines) old new why
 kept_stops w before line lines old new Read h = kept_some w before line lines old new h

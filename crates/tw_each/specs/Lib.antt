@@ -5,3 +5,5 @@ pub mod Stream
 -- The next step of a program, and the shares of lines that threads answer.
 pub mod Ready
 pub mod Shares
+-- The worst end of lines, and what a session ends with.
+pub mod Worst

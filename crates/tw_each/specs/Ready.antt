@@ -4,6 +4,7 @@ use Rattle.std.specs.Prelude.{◌≡◌, ◌⊎◌, ℕ, List, Some, None, IsUtf
 use Rattle.tw_code.specs.format.Program.{Versioned}
 use Rattle.tw_order.specs.declared.order.Source.{Source}
 use Rattle.tw_order.specs.declared.runs.EachOrder.{EachOrder}
+use Rattle.tw_program_output.specs.ErrorJson.{IsJsonReply}
 use Rattle.tw_source.specs.Failure.{coded, failed}
 use Rattle.tw_source.specs.Inputs.{cut_inputs, lines_in}
 use Rattle.tw_source.specs.Program.{source_text}
@@ -15,7 +16,7 @@ use Rattle.tw_each.specs.declared.reply.Ready.{Ready}
 use Rattle.tw_each.specs.declared.reply.Ready.TheVariants as ready
 use Rattle.tw_each.specs.declared.together.EachInput.{EachInput}
 use Rattle.tw_each.specs.declared.together.EachInput.TheVariants.{Parts, Rejected}
-use Rattle.tw_each.specs.Reply.{IsRead, IsRejectionText, json_reply}
+use Rattle.tw_each.specs.Reply.{IsRead, IsRejectionText}
 
 -- holds for the program that is read, which is admitted, and its text, if any; or for the text that rejects it
 abbrev pub IsReady : Source → EachOrder → List ℕ → Ready → Type 0
@@ -32,7 +33,7 @@ IsTextInput text (Rejected r) = (cut_inputs (lines_in text) ≡ None) × (reply 
 -- holds for the reply to what isn't UTF-8
 abbrev pub IsNoTextReply : EachInput → Type 0
 IsNoTextReply (Parts parts) = ⊥
-IsNoTextReply (Rejected r) = reply r.text.items r.close ≡ json_reply (failed (coded 72 3 position.Nowhere))
+IsNoTextReply (Rejected r) = IsJsonReply (failed (coded 72 3 position.Nowhere)) (reply r.text.items r.close)
 
 -- holds for a program and lines, or for the reply to what is none
 abbrev pub IsEachInput : List ℕ → EachInput → Type 0

@@ -1,31 +1,22 @@
 -- The reply to a program and the lines of inputs after it.
-use Rattle.std.specs.Prelude.{◌≡◌, ◌⊎◌, ℕ, Bool, true, false, List, Option, Some, MatchOption, codes, is_some, IsUtf8}
+use Rattle.std.specs.Prelude.{◌≡◌, ◌⊎◌, ℕ, List, Option, Some, MatchOption, codes, is_some, IsUtf8}
 use Rattle.tw_code.specs.declared.procedure.Procedure.{Procedure}
 use Rattle.tw_code.specs.format.Program.{Versioned}
 use Rattle.tw_verify.specs.Typed.{TypedProgram}
 use Rattle.tw_order.specs.declared.runs.EachOrder.{EachOrder}
 use Rattle.tw_order.specs.declared.form.Places.TheVariants.{Hidden}
 use Rattle.tw_order.specs.declared.order.Source.{Source}
-use Rattle.tw_json_output.specs.Run.{json_line}
 use Rattle.tw_program_output.specs.Admission.{IsAdmitted, IsRejected}
-use Rattle.tw_program_output.specs.ErrorJson.{error_json}
-use Rattle.tw_source.specs.Failure.{coded, failed, uncoded}
+use Rattle.tw_program_output.specs.ErrorJson.{IsJsonReply}
+use Rattle.tw_source.specs.Failure.{coded, failed}
 use Rattle.tw_source.specs.declared.failure.Position.TheVariants as position
 use Rattle.tw_source.specs.Inputs.{cut_inputs, lines_in}
 use Rattle.tw_source.specs.Program.{RepliesBySource, HasProgram, source_text}
 use Rattle.tw_source.specs.Reply.{Reply, reply}
-use Rattle.tw_source.specs.declared.close.Close.{Close}
-use Rattle.tw_source.specs.declared.close.Close.TheVariants.{CommandLine, Refused, Success}
+use Rattle.tw_source.specs.declared.close.Close.TheVariants.{CommandLine}
 use Rattle.tw_each.specs.Answers.{AreAnswers, Way, too_long}
-
--- returns an error's reply as a JSON object
-abbrev pub json_reply : Reply → Reply
-json_reply error = reply (json_line (error_json error)) error.close
-
--- returns how a session ends, by whether a line is refused
-abbrev pub close_of : Bool → Close
-close_of false = Success
-close_of true = Refused (uncoded position.Nowhere)
+use Rattle.tw_each.specs.Worst.{close_of}
+use Rattle.tw_each.specs.declared.worst.WorstEnd.{WorstEnd}
 
 abbrev pub way_of : Option (List ℕ) → EachOrder → TypedProgram → Way
 way_of text order verified = record { text = text; verified = verified; layout = order.layout; limit = order.limit; may_stop = is_some order.seconds }
@@ -33,7 +24,7 @@ way_of text order verified = record { text = text; verified = verified; layout =
 -- holds for the answers of a program to these lines
 abbrev pub IsAnswered : Option (List ℕ) → EachOrder → List Procedure → List (List ℕ) → Reply → Type 0
 IsAnswered text order program given r =
-    (verified : TypedProgram) × (refused : Bool) × (verified.program ≡ program) × AreAnswers (way_of text order verified) 0 given r.text refused × (r.close ≡ close_of refused)
+    (verified : TypedProgram) × (worst : WorstEnd) × (verified.program ≡ program) × AreAnswers (way_of text order verified) 0 given r.text worst × (r.close ≡ close_of worst)
 
 -- holds for a program that is read and admitted
 abbrev pub IsRead : Source → EachOrder → List ℕ → Versioned → Type 0
@@ -46,7 +37,7 @@ IsRejectionText source order input error =
 
 -- holds for it as a JSON object
 abbrev pub IsRejectionLine : Source → EachOrder → List ℕ → Reply → Type 0
-IsRejectionLine source order input r = (error : Reply) × IsRejectionText source order input error × (r ≡ json_reply error)
+IsRejectionLine source order input r = (error : Reply) × IsRejectionText source order input error × IsJsonReply error r
 
 -- holds for the reply to a program and lines of inputs
 abbrev pub RepliesByParts : Source → EachOrder → List ℕ → List (List ℕ) → Reply → Type 0
@@ -61,8 +52,8 @@ RepliesInUtf8 source order input r =
 -- holds for the reply to what is read
 abbrev pub RepliesByEach : Source → EachOrder → List ℕ → Reply → Type 0
 RepliesByEach source order input r =
-    (IsUtf8 input × RepliesInUtf8 source order input r) ⊎ ((IsUtf8 input → ⊥) × (r ≡ json_reply (failed (coded 72 3 position.Nowhere))))
+    (IsUtf8 input × RepliesInUtf8 source order input r) ⊎ ((IsUtf8 input → ⊥) × IsJsonReply (failed (coded 72 3 position.Nowhere)) r)
 
--- returns the reply to too many bytes
-abbrev pub too_long_reply : Reply
-too_long_reply = json_reply (failed too_long)
+-- holds for the reply to too many bytes
+abbrev pub IsTooLongReply : Reply → Type 0
+IsTooLongReply r = IsJsonReply (failed too_long) r

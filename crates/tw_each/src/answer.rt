@@ -1,20 +1,22 @@
 //! The answer to one line.
 
-ghost use Rattle.std.specs.Prelude.{◌≡◌, ◌≢◌, ◌++◌, List, None, ℕ, Bool, IfOk, MatchResult, string_bytes, true, unwrap_or};
+ghost use Rattle.std.specs.Prelude.{◌≡◌, ◌≢◌, ◌++◌, List, None, ℕ, Bool, IfOk, MatchResult, string_bytes, unwrap_or};
 ghost use Rattle.tw_code.specs.machine.Opening.{main_params};
 ghost use Rattle.tw_in_turn.specs.InTurn.{IsLeft};
 ghost use Rattle.tw_in_turn.specs.Stopping.{IsLeftIf};
 ghost use Rattle.tw_in_turn.specs.declared.run.StoppableResult.TheVariants.{Ended};
-ghost use Rattle.tw_run_output.specs.Json.{IsEndLine};
 ghost use Rattle.tw_pool.specs.Openings.{IsRejection};
 ghost use Rattle.tw_pool.specs.PoolView.{PoolView};
 ghost use Rattle.tw_pool.specs.declared.open.OpenError.TheVariants.{NoMemory};
 ghost use Rattle.tw_inputs.specs.JsonInputs.{AreInputsOf, HasFaultOf};
 ghost use Rattle.tw_inputs.specs.JsonLines.{line_id, line_json};
-ghost use Rattle.tw_each.specs.Answers.{IsAnswer, IsFaultAnswer, IsInputsAnswer, IsLeftLine, IsRejectedLine, labelled, numbered, unread_line, way};
+ghost use Rattle.tw_json_output.specs.Lines.{IsJsonLine};
+ghost use Rattle.tw_each.specs.Answers.{IsAnswer, IsEnded, IsFaultAnswer, IsInputsAnswer, IsLeftLine, IsRejectedLine, labelled, numbered, way};
+ghost use Rattle.tw_each.specs.declared.worst.WorstEnd.TheVariants.{Refused};
 
 use crate::numbered::put_labelled_line;
 use crate::runs_line::RunsLine;
+use crate::worst::WorstEnd;
 use std::alloc::{AllocError, Global};
 use tw_code::main_params;
 use tw_in_turn::{InTurnResult, StoppableResult};
@@ -40,11 +42,11 @@ pub struct EachRun<'a> {
     pub seconds: Option<u64>,
 }
 
-/// An object's line, and whether it is that of an error.
+/// An object's line, and how the line that it answers ended.
 #[derive(Drop)]
 pub struct AnswerLine {
     pub line: String,
-    pub refused: bool,
+    pub end: WorstEnd,
 }
 
 /// Returns the parameters for which a line has inputs.
@@ -54,14 +56,30 @@ fn params_of<'a>(run: &EachRun<'a>) -> &'a [Param]
     main_params(run.verified.program().procedures())
 }
 
+/// Returns the line of a run that ended so.
+fn ending_line(
+    alloc: Global,
+    outcome: &Final,
+    history: &History,
+    cut: u64,
+    closing: Closing,
+) -> Result<AnswerLine, AllocError>
+    ensures { IfOk result (λ answer. IsEnded outcome.now history.now.events cut closing (string_bytes answer.line) answer.end) }
+{
+    Ok(AnswerLine {
+        line: end_line(alloc, outcome, history, cut, closing)?,
+        end: WorstEnd::of(closing),
+    })
+}
+
 /// Returns the line of a run that ended.
-fn ended_line(alloc: Global, left: InTurnResult) -> Result<String, AllocError>
+fn ended_line(alloc: Global, left: InTurnResult) -> Result<AnswerLine, AllocError>
     requires { (first : PoolView) × IsLeft None first left }
-    ensures { IfOk result (λ line. IsLeftLine (Ended left) (string_bytes line)) }
+    ensures { IfOk result (λ answer. IsLeftLine (Ended left) (string_bytes answer.line) answer.end) }
 {
     match left {
         InTurnResult::Over { outcome, history } => match outcome.closing() {
-            Some(closing) => end_line(alloc, &outcome, &history, closing),
+            Some(closing) => ending_line(alloc, &outcome, &history, 0, closing),
             None => unreachable!(),
         },
         InTurnResult::NoMemory { .. } => Err(AllocError),
@@ -69,21 +87,30 @@ fn ended_line(alloc: Global, left: InTurnResult) -> Result<String, AllocError>
 }
 
 /// Returns the line of a run that was stopped. It may have reached its end before.
-fn stopped_line(alloc: Global, outcome: &Final, history: &History) -> Result<String, AllocError>
-    ensures { IfOk result (λ line. IsEndLine outcome.now history.now.events (unwrap_or outcome.now.closing Closing.Stopped) (string_bytes line)) }
+fn stopped_line(
+    alloc: Global,
+    outcome: &Final,
+    history: &History,
+    cut: u64,
+) -> Result<AnswerLine, AllocError>
+    ensures { IfOk result (λ answer. IsEnded outcome.now history.now.events cut (unwrap_or outcome.now.closing Closing.Stopped) (string_bytes answer.line) answer.end) }
 {
     let closing = outcome.closing().unwrap_or(Closing::Stopped);
-    end_line(alloc, outcome, history, closing)
+    ending_line(alloc, outcome, history, cut, closing)
 }
 
 /// Returns the line of what a run left.
-fn left_line(alloc: Global, left: StoppableResult) -> Result<String, AllocError>
+fn left_line(alloc: Global, left: StoppableResult) -> Result<AnswerLine, AllocError>
     requires { (may_stop : Bool) × (first : PoolView) × IsLeftIf may_stop None first left }
-    ensures { IfOk result (λ line. IsLeftLine left (string_bytes line)) }
+    ensures { IfOk result (λ answer. IsLeftLine left (string_bytes answer.line) answer.end) }
 {
     match left {
         StoppableResult::Ended(left) => ended_line(alloc, left),
-        StoppableResult::Stopped { outcome, history } => stopped_line(alloc, &outcome, &history),
+        StoppableResult::Stopped {
+            outcome,
+            history,
+            cut,
+        } => stopped_line(alloc, &outcome, &history, cut),
     }
 }
 
@@ -110,17 +137,14 @@ fn inputs_answer<L: RunsLine>(
     run: &EachRun<'_>,
     inputs: &[Input],
 ) -> Result<AnswerLine, AllocError>
-    ensures { IfOk result (λ answer. IsInputsAnswer (way run.now) inputs.now (string_bytes answer.line) answer.refused) }
+    ensures { IfOk result (λ answer. IsInputsAnswer (way run.now) inputs.now (string_bytes answer.line) answer.end) }
 {
     match runner.run(alloc, run, inputs) {
-        Ok(left) => Ok(AnswerLine {
-            line: left_line(alloc, left)?,
-            refused: false,
-        }),
+        Ok(left) => left_line(alloc, left),
         Err(OpenError::NoMemory) => Err(AllocError),
         Err(why) => Ok(AnswerLine {
             line: rejected_line(alloc, run, inputs, why)?,
-            refused: true,
+            end: WorstEnd::Refused,
         }),
     }
 }
@@ -134,12 +158,12 @@ fn fault_answer(
     place: Place,
     scratch: &mut Scratch,
 ) -> Result<AnswerLine, AllocError>
-    ensures { IfOk result (λ answer. IsFaultAnswer place (string_bytes answer.line) answer.refused) }
+    ensures { IfOk result (λ answer. IsFaultAnswer (string_bytes answer.line) answer.end) }
 {
     let error = line_fault_text(alloc, params_of(run), text, place, number, scratch)?;
     Ok(AnswerLine {
         line: error_line(alloc, &unreadable_reply(error, place))?,
-        refused: true,
+        end: WorstEnd::Refused,
     })
 }
 
@@ -156,7 +180,7 @@ fn line_answer<L: RunsLine>(
     requires { MatchResult inputs
         (λ given. AreInputsOf (main_params run.now.verified.now.program) (line_json text.now) given.items)
         (HasFaultOf (main_params run.now.verified.now.program) (line_json text.now)) }
-    ensures { IfOk result (λ answer. IsAnswer (way run.now) text.now (string_bytes answer.line) answer.refused) }
+    ensures { IfOk result (λ answer. IsAnswer (way run.now) text.now (string_bytes answer.line) answer.end) }
 {
     match inputs {
         Ok(inputs) => inputs_answer(alloc, runner, run, &inputs),
@@ -164,7 +188,7 @@ fn line_answer<L: RunsLine>(
     }
 }
 
-/// Appends the answer to the line with this number, and returns whether it is refused.
+/// Appends the answer to the line with this number, and returns its end.
 pub fn put_answer<L: RunsLine>(
     alloc: Global,
     out: &mut Vec<u8>,
@@ -173,26 +197,26 @@ pub fn put_answer<L: RunsLine>(
     number: usize,
     text: &str,
     scratch: &mut Scratch,
-) -> Result<bool, AllocError>
-    ensures { IfOk result (λ refused. (line : List ℕ) × IsAnswer (way run.now) text.now line refused × (out.new.items ≡ out.old.items ++ labelled number (line_id text.now) line)) }
+) -> Result<WorstEnd, AllocError>
+    ensures { IfOk result (λ end. (line : List ℕ) × IsAnswer (way run.now) text.now line end × (out.new.items ≡ out.old.items ++ labelled number (line_id text.now) line)) }
 {
     let InputLine { id, inputs } = read_line(alloc, params_of(run), text, scratch)?;
     let answer = line_answer(alloc, runner, run, number, text, inputs, scratch)?;
     put_labelled_line(alloc, out, number, &id, answer.line.as_bytes())?;
-    Ok(answer.refused)
+    Ok(answer.end)
 }
 
-/// Appends the error of the line with this number, which isn't read as inputs. Returns that it is refused.
+/// Appends the error of the line with this number, which isn't read as inputs. Returns that it is rejected.
 pub fn put_unread(
     alloc: Global,
     out: &mut Vec<u8>,
     number: usize,
     failure: Failure,
-) -> Result<bool, AllocError>
-    ensures { IfOk result (λ refused. (refused ≡ true) × (out.new.items ≡ out.old.items ++ numbered number (unread_line failure))) }
+) -> Result<WorstEnd, AllocError>
+    ensures { IfOk result (λ end. (end ≡ Refused) × ((line : List ℕ) × IsJsonLine line × (out.new.items ≡ out.old.items ++ numbered number line))) }
 {
     let error = failed_reply(alloc, failure)?;
     let line = error_line(alloc, &error)?;
     put_labelled_line(alloc, out, number, &None, line.as_bytes())?;
-    Ok(true)
+    Ok(WorstEnd::Refused)
 }

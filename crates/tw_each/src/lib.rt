@@ -15,10 +15,12 @@ mod streamed;
 mod team;
 mod threads;
 mod together;
+mod worst;
 
 pub use line_count::LineCount;
-pub use reply::{close_of, too_long_reply};
+pub use reply::too_long_reply;
 pub use stream::StreamError;
 pub use streamed::{Streamed, stream_each};
 pub use threads::LineThreads;
 pub use together::{each_reply, each_reply_in_turn};
+pub use worst::{WorstEnd, close_of};

@@ -1,11 +1,12 @@
 //! The answers to all lines, in their order.
 
 ghost use Rattle.std.specs.Prelude.{◌≡◌, ◌+◌, ◌^◌, ◌<◌, ◌++◌, List, ℕ, IfOk, length, map};
-ghost use Rattle.tw_each.specs.Answers.{AreAnswers, IsLine, IsShortLine, is_blank, other_bytes as other_bytes_is, too_long as too_long_is, way};
+ghost use Rattle.tw_each.specs.Answers.{AreAnswers, IsLine, IsShortLine, is_blank, too_long as too_long_is, way};
 
 use crate::answer::{EachRun, put_answer, put_unread};
 use crate::line_count::LineCount;
 use crate::runs_line::RunsLine;
+use crate::worst::WorstEnd;
 use std::alloc::{AllocError, Global};
 use tw_inputs::Scratch;
 use tw_source::{Failure, Position, is_gap};
@@ -13,17 +14,15 @@ use tw_source::{Failure, Position, is_gap};
 /// The maximum number of bytes of a line.
 pub(crate) const MOST_BYTES: usize = 16_777_216;
 
-/// Answers to lines, and whether one of them is refused.
+/// Answers to lines, and the worst of their ends.
 #[derive(Drop)]
 pub struct Answers {
     pub text: Vec<u8>,
-    pub refused: bool,
+    pub worst: WorstEnd,
 }
 
 /// Returns the error of a line that isn't UTF-8.
-fn other_bytes() -> Failure
-    ensures { result ≡ other_bytes_is }
-{
+fn other_bytes() -> Failure {
     Failure::coded(b'H', 3, Position::Nowhere)
 }
 
@@ -41,7 +40,7 @@ fn is_blank(line: &[u8]) -> bool
     line.iter().all(|byte| is_gap(*byte))
 }
 
-/// Appends the answer to a line that isn't too long, if it isn't blank. Returns whether it is refused.
+/// Appends the answer to a line that isn't too long, if it isn't blank. Returns its end.
 fn put_short_line<L: RunsLine>(
     alloc: Global,
     out: &mut Vec<u8>,
@@ -50,11 +49,11 @@ fn put_short_line<L: RunsLine>(
     number: usize,
     line: &[u8],
     scratch: &mut Scratch,
-) -> Result<bool, AllocError>
-    ensures { IfOk result (λ refused. (text : List ℕ) × IsShortLine (way run.now) number line.now text refused × (out.new.items ≡ out.old.items ++ text)) }
+) -> Result<WorstEnd, AllocError>
+    ensures { IfOk result (λ end. (text : List ℕ) × IsShortLine (way run.now) number line.now text end × (out.new.items ≡ out.old.items ++ text)) }
 {
     if is_blank(line) {
-        return Ok(false);
+        return Ok(WorstEnd::Quiet);
     }
     match str::from_utf8(line) {
         Ok(text) => put_answer(alloc, out, runner, run, number, text, scratch),
@@ -62,7 +61,7 @@ fn put_short_line<L: RunsLine>(
     }
 }
 
-/// Appends the answer to the line with this number, if it isn't blank. Returns whether it is refused.
+/// Appends the answer to the line with this number, if it isn't blank. Returns its end.
 fn put_line<L: RunsLine>(
     alloc: Global,
     out: &mut Vec<u8>,
@@ -71,8 +70,8 @@ fn put_line<L: RunsLine>(
     number: usize,
     line: &[u8],
     scratch: &mut Scratch,
-) -> Result<bool, AllocError>
-    ensures { IfOk result (λ refused. (text : List ℕ) × IsLine (way run.now) number line.now text refused × (out.new.items ≡ out.old.items ++ text)) }
+) -> Result<WorstEnd, AllocError>
+    ensures { IfOk result (λ end. (text : List ℕ) × IsLine (way run.now) number line.now text end × (out.new.items ≡ out.old.items ++ text)) }
 {
     if line.len() > MOST_BYTES {
         return put_unread(alloc, out, number, too_long());
@@ -90,14 +89,14 @@ pub fn answer_lines<L: RunsLine>(
     lines: &[&[u8]],
 ) -> Result<Answers, AllocError>
     requires { before + length lines.now < 2 ^ 63 }
-    ensures { IfOk result (λ answers. AreAnswers (way run.now) before (map (λ line. line.now) lines.now) answers.text.items answers.refused) }
+    ensures { IfOk result (λ answers. AreAnswers (way run.now) before (map (λ line. line.now) lines.now) answers.text.items answers.worst) }
 {
     let mut text = Vec::new(alloc);
-    let mut refused = false;
+    let mut worst = WorstEnd::Quiet;
     let mut scratch = Scratch::new(alloc);
     for index in 0..lines.len() {
         let number = before + index + 1;
-        refused |= put_line(
+        let end = put_line(
             alloc,
             &mut text,
             runner,
@@ -106,7 +105,8 @@ pub fn answer_lines<L: RunsLine>(
             lines[index],
             &mut scratch,
         )?;
+        worst = worst.worse(end);
         count.add();
     }
-    Ok(Answers { text, refused })
+    Ok(Answers { text, worst })
 }

@@ -1,43 +1,30 @@
 //! How a program becomes ready to run on lines, or the reply that rejects it.
 
 ghost use Rattle.std.specs.Prelude.{◌≡◌, IfOk};
+ghost use Rattle.tw_program_output.specs.ErrorJson.{IsJsonReply};
 ghost use Rattle.tw_source.specs.Reply.{reply};
 ghost use Rattle.tw_source.specs.Source.{text_of};
 ghost use Rattle.tw_each.specs.Answers.{way};
 ghost use Rattle.tw_each.specs.Ready.{IsReady};
-ghost use Rattle.tw_each.specs.Reply.{close_of, json_reply, way_of, too_long_reply as too_long_reply_is};
+ghost use Rattle.tw_each.specs.Reply.{IsTooLongReply, way_of};
 
 use crate::answer::EachRun;
 use crate::lines::too_long;
 use std::alloc::{AllocError, Global};
 use tw_order::{EachOrder, Places, Source};
 use tw_program_output::{Admitted, admit, error_line};
-use tw_source::{
-    Close, Failure, Position, ReadProgram, Reply, SourceText, failed_reply, parse_error_reply,
-    read_program,
-};
+use tw_source::{ReadProgram, Reply, SourceText, failed_reply, parse_error_reply, read_program};
 use tw_verify::Verified;
 
 /// Returns an error's reply as a JSON object.
 pub(crate) fn json_reply(alloc: Global, error: Reply) -> Result<Reply, AllocError>
-    ensures { IfOk result (λ r. reply r.text.items r.close ≡ json_reply (reply error.text.items error.close)) }
+    ensures { IfOk result (λ r. IsJsonReply (reply error.text.items error.close) (reply r.text.items r.close)) }
 {
     let line = error_line(alloc, &error)?;
     Ok(Reply {
         text: line.into_bytes(),
         close: error.close,
     })
-}
-
-/// Returns how lines end, by whether one of them was refused.
-pub fn close_of(refused: bool) -> Close
-    ensures { result ≡ close_of refused }
-{
-    if refused {
-        Close::Refused(Failure::uncoded(Position::Nowhere))
-    } else {
-        Close::Success
-    }
 }
 
 /// A program that may be run on lines, with the text from which it was read, if from any; or the text that rejects it.
@@ -94,7 +81,7 @@ pub(crate) fn each_run<'a>(
 
 /// Returns the reply to a program, or a program with its lines, of too many bytes.
 pub fn too_long_reply(alloc: Global) -> Result<Reply, AllocError>
-    ensures { IfOk result (λ r. reply r.text.items r.close ≡ too_long_reply_is) }
+    ensures { IfOk result (λ r. IsTooLongReply (reply r.text.items r.close)) }
 {
     let error = failed_reply(alloc, too_long())?;
     json_reply(alloc, error)

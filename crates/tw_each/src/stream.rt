@@ -11,6 +11,7 @@ use crate::pace::{Begun, Pace};
 use crate::parts::{keep, lines_from, parts_of};
 use crate::team::LineCrew;
 use crate::threads::divided;
+use crate::worst::WorstEnd;
 use std::alloc::AllocError;
 use std::io::{ErrorKind, Read, Write};
 use std::thread::Threads;
@@ -49,7 +50,7 @@ pub(crate) struct LineWork<'a, 'b, H, C> {
 #[derive(Clone, Copy)]
 pub(crate) struct AnsweredLines {
     pub(crate) number: usize,
-    pub(crate) refused: bool,
+    pub(crate) worst: WorstEnd,
     pub(crate) pace: Pace,
 }
 
@@ -73,14 +74,14 @@ fn write_some<H: Threads + Sync, C: Clock + Sync, W: Write>(
     before: usize,
     lines: &[&[u8]],
     writer: &mut W,
-) -> Result<bool, StreamError>
+) -> Result<WorstEnd, StreamError>
     requires { before + length lines.now < 2 ^ 63 }
     ensures written { IfOk result (AreWritten (way work.now.run.now) before (map (λ line. line.now) lines.now) (W.contents writer.old) (W.contents writer.new)) }
     ensures stopped { IfErr result (Stops (way work.now.run.now) before (map (λ line. line.now) lines.now) (W.contents writer.old) (W.contents writer.new)) }
 {
     let answers = divided(work.crew, work.run, before, lines)?;
     write_text(writer, &answers.text)?;
-    Ok(answers.refused)
+    Ok(answers.worst)
 }
 
 /// Answers lines, and writes the answers soon. `answered` are the lines before them.
@@ -94,19 +95,20 @@ fn write_lines<H: Threads + Sync, C: Clock + Sync, W: Write>(
     ensures { Adds (way work.now.run.now) answered (map (λ line. line.now) lines.now) (W.contents writer.old) (W.contents writer.new) result }
 {
     let mut pace = answered.pace;
-    let mut refused = answered.refused;
+    let mut worst = answered.worst;
     let mut done = 0;
     while done < lines.len() {
         let begun = Begun::now(work.crew.clock);
         let (_, others) = lines.split_at(done);
         let (some, _) = others.split_at(pace.lines(others.len()));
-        refused |= write_some(work, answered.number + done, some, writer)?;
+        let end = write_some(work, answered.number + done, some, writer)?;
+        worst = worst.worse(end);
         pace = pace.after(begun, work.crew.clock);
         done += some.len();
     }
     Ok(AnsweredLines {
         number: answered.number + done,
-        refused,
+        worst,
         pace,
     })
 }
@@ -185,28 +187,28 @@ fn take_chunk<H: Threads + Sync, C: Clock + Sync, W: Write>(
     take_parts(work, answered, begun, &parts, writer)
 }
 
-/// Answers the line that ends without a line feed, if there is one. Returns whether any line was refused.
+/// Answers the line that ends without a line feed, if there is one. Returns the worst end of all lines.
 fn finish<H: Threads + Sync, C: Clock + Sync, W: Write>(
     work: &LineWork<'_, '_, H, C>,
     answered: AnsweredLines,
     begun: &[u8],
     writer: &mut W,
-) -> Result<bool, StreamError>
+) -> Result<WorstEnd, StreamError>
     ensures { (bytes : List ℕ) → IsAt bytes answered.number begun.now → AnswersLast (way work.now.run.now) answered bytes (W.contents writer.old) (W.contents writer.new) result }
 {
     if begun.is_empty() {
-        return Ok(answered.refused);
+        return Ok(answered.worst);
     }
     let last = write_begun(work, answered, begun, &[], writer)?;
-    Ok(last.refused)
+    Ok(last.worst)
 }
 
-/// Reads lines to the end, and writes the answer to each as soon as it and those before it are there. Returns whether any line was refused.
+/// Reads lines to the end, and writes the answer to each as soon as it and those before it are there. Returns the worst end of all lines.
 pub(crate) fn answer_stream<H: Threads + Sync, C: Clock + Sync, R: Read, W: Write>(
     work: &LineWork<'_, '_, H, C>,
     reader: &mut R,
     writer: &mut W,
-) -> Result<bool, StreamError>
+) -> Result<WorstEnd, StreamError>
     ensures { AnswersAll (way work.now.run.now) (R.remaining reader.old) (R.remaining reader.new) (W.contents writer.old) (W.contents writer.new) result }
 {
     let mut chunk = Vec::new(work.crew.alloc);
@@ -214,7 +216,7 @@ pub(crate) fn answer_stream<H: Threads + Sync, C: Clock + Sync, R: Read, W: Writ
     let mut begun = Vec::new(work.crew.alloc);
     let mut answered = AnsweredLines {
         number: 0,
-        refused: false,
+        worst: WorstEnd::Quiet,
         pace: Pace::new(work.crew.team.size()),
     };
     for _ in 0..u64::MAX {

@@ -10,6 +10,7 @@ use crate::reply::{Ready, each_run, json_reply, read_ready, too_long_reply};
 use crate::stream::{LineWork, StreamError, answer_stream};
 use crate::team::{LineCrew, LineTeam};
 use crate::threads::LineThreads;
+use crate::worst::WorstEnd;
 use std::io::{Read, Write};
 use std::thread::Threads;
 use std::time::Clock;
@@ -20,13 +21,13 @@ use tw_verify::Verified;
 /// The end of a program that is run on lines.
 #[derive(Drop)]
 pub enum Streamed {
-    /// All lines are answered, and this says whether one was refused.
-    Answered(bool),
+    /// All lines are answered, and this is the worst of their ends.
+    Answered(WorstEnd),
     /// The program isn't run, and nothing was read or written.
     Rejected(Reply),
 }
 
-/// Runs a program on the lines that are read. Returns whether any line was refused.
+/// Runs a program on the lines that are read. Returns the worst end of all lines.
 fn stream_lines<H: Threads + Sync, C: Clock + Sync, R: Read, W: Write>(
     crew: &LineCrew<'_, H, C>,
     order: &EachOrder,
@@ -34,7 +35,7 @@ fn stream_lines<H: Threads + Sync, C: Clock + Sync, R: Read, W: Write>(
     verified: &Verified,
     reader: &mut R,
     writer: &mut W,
-) -> Result<bool, StreamError>
+) -> Result<WorstEnd, StreamError>
     ensures { AnswersAll (way_of (text_of source.now) order.now verified.now) (R.remaining reader.old) (R.remaining reader.new) (W.contents writer.old) (W.contents writer.new) result }
 {
     let run = each_run(source, order, verified);
@@ -60,8 +61,8 @@ fn stream_source<H: Threads + Sync, C: Clock + Sync, R: Read, W: Write>(
     }
     match read_ready(crew.alloc, source, order, input)? {
         Ready::Run(text, verified) => {
-            let refused = stream_lines(crew, order, &text, &verified, reader, writer)?;
-            Ok(Streamed::Answered(refused))
+            let worst = stream_lines(crew, order, &text, &verified, reader, writer)?;
+            Ok(Streamed::Answered(worst))
         }
         Ready::Rejected(error) => {
             let reply = json_reply(crew.alloc, error)?;

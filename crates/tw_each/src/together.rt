@@ -3,15 +3,17 @@
 ghost use Rattle.std.specs.Prelude.{◌≡◌, IfOk, map};
 ghost use Rattle.tw_source.specs.Reply.{reply};
 ghost use Rattle.tw_each.specs.Ready.{IsEachInput, IsTextInput};
-ghost use Rattle.tw_each.specs.Reply.{RepliesByEach, RepliesByParts, close_of as close_of_is};
+ghost use Rattle.tw_each.specs.Reply.{RepliesByEach, RepliesByParts};
+ghost use Rattle.tw_each.specs.Worst.{close_of as close_of_is};
 
 use crate::line_count::LineCount;
 use crate::lines::{Answers, answer_lines};
 use crate::parts::parts_of;
-use crate::reply::{Ready, close_of, each_run, json_reply, read_ready};
+use crate::reply::{Ready, each_run, json_reply, read_ready};
 use crate::runs_line::WithoutClock;
 use crate::team::{LineCrew, LineTeam};
 use crate::threads::{LineThreads, divided};
+use crate::worst::close_of;
 use std::alloc::{AllocError, Global};
 use std::thread::Threads;
 use std::time::Clock;
@@ -65,11 +67,11 @@ fn each_input<'a>(alloc: Global, input: &'a [u8]) -> Result<EachInput<'a>, Alloc
 /// Returns the reply with all answers.
 fn answered_reply(answers: Answers) -> Reply
     ensures text { result.text.items ≡ answers.text.items }
-    ensures close { result.close ≡ close_of_is answers.refused }
+    ensures close { result.close ≡ close_of_is answers.worst }
 {
     Reply {
         text: answers.text,
-        close: close_of(answers.refused),
+        close: close_of(answers.worst),
     }
 }
 

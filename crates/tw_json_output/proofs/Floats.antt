@@ -45,10 +45,6 @@ one_more k d (json.member l e ms) value rest =
     (both (has_float d) (members_have_float ms) value later)
     (both (has_float e) (members_have_float (json.put k d ms)) here (one_more k d ms value later))
 
-pub strings : (texts : List (List ℕ)) → items_have_float (items_of (map json.string texts)) ≡ false
-strings [] = refl
-strings (t ∷ ts) = strings ts
-
 integer : (n : ℤ) → has_float (json.number (of_integer n)) ≡ false
 integer (pos n) = refl
 integer (negsuc n) = refl

@@ -1,8 +1,4 @@
--- The outputs as JSON values, and the objects of a run and of a printed text.
+-- The outputs as JSON values, the object of a run, and lines of JSON.
 pub mod Outputs
 pub mod Run
-pub mod Texts
--- Texts of one line.
 pub mod Lines
--- Objects and arrays that are written piece by piece.
-pub mod Writers

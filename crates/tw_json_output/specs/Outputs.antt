@@ -1,5 +1,5 @@
 -- Outputs as JSON values: an integer is a number, a text a string, and a container or a map an object of its members or values.
-use Rattle.std.specs.Prelude.{ℕ, Bool, true, false, if◌then◌else◌, List, [], ◌∷◌, codes, map, Option, Some, None}
+use Rattle.std.specs.Prelude.{◌++◌, ℕ, Bool, if◌then◌else◌, List, [], ◌∷◌, codes, map, Option, Some, None}
 use Rattle.std.specs.FinMap as fin
 use Rattle.std.specs.Fmt.{signed_decimal}
 use Rattle.std.specs.Option.{option_and_then}
@@ -14,6 +14,7 @@ use Rattle.tw_types.specs.Nesting.{NestedScalar}
 use Rattle.tw_types.specs.Store.{Content, Unset, Set, Contains, Maps, Datum, Data, is_closed}
 use Rattle.tw_types.specs.StoreCalls.{members_in, value_in}
 use Rattle.tw_types.specs.ValueOrder.{Subscript}
+use Rattle.tw_report.specs.Report.{scalar_word}
 
 abbrev pub scalar_json : Value → json.Data
 scalar_json (value.Int n) = json.number (of_integer n)
@@ -64,32 +65,22 @@ output_json live (Some x) = content_json live x.content
 abbrev pub outputs_json : Data → List ℕ → List json.Data
 outputs_json live ids = map (λ id. output_json live (fin.get live id)) ids
 
--- ---- kinds, which distinguish an unset output from a freed one, and an open container from a closed one
+-- ---- kinds, which distinguish an unset output from a freed one, and an open container from a closed one, in the words of the report's lines
+
+-- returns a kind, by the types of subscripts and of what they lead to
+abbrev pub kind_words : List ℕ → List ℕ → Bool → List ℕ
+kind_words by of closed = by ++ (codes " " ++ (of ++ (if closed then codes " closed" else codes " open")))
 
 abbrev pub container_kind : Bool → Scalar → Bool → List ℕ
-container_kind false scalar.Int false = codes "cont int open"
-container_kind false scalar.Int true = codes "cont int closed"
-container_kind false scalar.Text false = codes "cont text open"
-container_kind false scalar.Text true = codes "cont text closed"
-container_kind true scalar.Int false = codes "tcont int open"
-container_kind true scalar.Int true = codes "tcont int closed"
-container_kind true scalar.Text false = codes "tcont text open"
-container_kind true scalar.Text true = codes "tcont text closed"
+container_kind by_text scalar closed = kind_words (if by_text then codes "tcont" else codes "cont") (scalar_word scalar) closed
 
--- returns the kind of a map, by the type of its values; none is sums'
+-- returns the type of a map's values; none is sums'
+abbrev pub values_word : Option Scalar → List ℕ
+values_word None = codes "sum"
+values_word (Some scalar) = scalar_word scalar
+
 abbrev pub map_kind : Bool → Option Scalar → Bool → List ℕ
-map_kind false None false = codes "map sum open"
-map_kind false None true = codes "map sum closed"
-map_kind false (Some scalar.Int) false = codes "map int open"
-map_kind false (Some scalar.Int) true = codes "map int closed"
-map_kind false (Some scalar.Text) false = codes "map text open"
-map_kind false (Some scalar.Text) true = codes "map text closed"
-map_kind true None false = codes "tmap sum open"
-map_kind true None true = codes "tmap sum closed"
-map_kind true (Some scalar.Int) false = codes "tmap int open"
-map_kind true (Some scalar.Int) true = codes "tmap int closed"
-map_kind true (Some scalar.Text) false = codes "tmap text open"
-map_kind true (Some scalar.Text) true = codes "tmap text closed"
+map_kind by_text values closed = kind_words (if by_text then codes "tmap" else codes "map") (values_word values) closed
 
 -- returns the type of a map's values, or none for sums
 abbrev pub values_of : NestedScalar → Option Scalar

@@ -5,7 +5,6 @@
 mod object_writer;
 mod output_kinds;
 mod outputs;
-mod printed_lines;
 mod run_object;
 mod text_object;
 mod theorems;

@@ -1,9 +1,7 @@
 //! The JSON lines of commands that print one text.
 
-ghost use Rattle.std.specs.Prelude.{◌≡◌, IfOk, string_bytes};
-ghost use Rattle.tw_json_output.specs.Run.{json_line};
-ghost use Rattle.tw_json_output.specs.Texts.{explanation_json, explanation_members, printed_json, printed_members, whole_json, with_code, with_status};
-ghost use Rattle.tw_json_output.specs.Writers.{HasMembers, IsWith};
+ghost use Rattle.std.specs.Prelude.{IfOk, string_bytes};
+ghost use Rattle.tw_json_output.specs.Lines.{IsJsonLine};
 
 use crate::object_writer::ObjectWriter;
 use std::alloc::{AllocError, Global};
@@ -21,70 +19,37 @@ pub enum Printed {
     Listing,
 }
 
-/// Returns an object with a status and a text.
-fn whole_object(alloc: Global, status: &str, name: &str, text: &[u8]) -> ObjectWriter
-    ensures { HasMembers result (with_status status.now name.now (whole_json text.now)) }
-{
-    let mut object = ObjectWriter::new(alloc);
-    object.put_word("status", status);
-    object.put_bytes(name, text);
-    object
-}
-
-/// Returns the object of a listing.
-fn listing_object(alloc: Global, text: &[u8]) -> ObjectWriter
-    ensures { HasMembers result (printed_members Printed.Listing text.now) }
-{
-    let mut object = ObjectWriter::new(alloc);
-    object.put_word("status", "disassembled");
-    object.put_lines("listing", text);
-    object
-}
-
-/// Returns the object of a printed text.
-fn printed_object(alloc: Global, printed: Printed, text: &[u8]) -> ObjectWriter
-    ensures { HasMembers result (printed_members printed text.now) }
-{
+/// Returns the status of what is printed.
+fn printed_status(printed: Printed) -> &'static str {
     match printed {
-        Printed::Digits => {
-            let digits = &text[..text.len().saturating_sub(1)];
-            whole_object(alloc, "assembled", "bytes", digits)
-        }
-        Printed::Plain => whole_object(alloc, "assembled", "text", text),
-        Printed::Text => whole_object(alloc, "disassembled", "text", text),
-        Printed::Listing => listing_object(alloc, text),
+        Printed::Digits | Printed::Plain => "assembled",
+        Printed::Text | Printed::Listing => "disassembled",
     }
 }
 
 /// Returns the JSON line of what `asm` or `disasm` would print.
 pub fn printed_line(alloc: Global, printed: Printed, text: &[u8]) -> Result<String, AllocError>
-    ensures { IfOk result (λ line. string_bytes line ≡ json_line (printed_json printed text.now)) }
+    ensures { IfOk result (λ line. IsJsonLine (string_bytes line)) }
 {
-    printed_object(alloc, printed, text).line()
-}
-
-/// Adds the code that is explained, if it is one.
-fn put_code(object: &mut ObjectWriter, code: &[u8])
-    ensures { IsWith object.old object.new (with_code code.now) }
-{
-    if code.is_empty() {
-        return;
+    let mut object = ObjectWriter::new(alloc);
+    object.put_word("status", printed_status(printed));
+    match printed {
+        Printed::Digits => object.put_bytes("bytes", &text[..text.len().saturating_sub(1)]),
+        Printed::Plain | Printed::Text => object.put_bytes("text", text),
+        Printed::Listing => object.put_lines("listing", text),
     }
-    object.put_bytes("code", code);
-}
-
-/// Returns the object of an explanation.
-fn explanation_object(alloc: Global, code: &[u8], text: &[u8]) -> ObjectWriter
-    ensures { HasMembers result (explanation_members code.now text.now) }
-{
-    let mut object = whole_object(alloc, "explained", "text", text);
-    put_code(&mut object, code);
-    object
+    object.line()
 }
 
 /// Returns the JSON line of the explanation of a code. The list of all codes has an empty code.
 pub fn explanation_line(alloc: Global, code: &[u8], text: &[u8]) -> Result<String, AllocError>
-    ensures { IfOk result (λ line. string_bytes line ≡ json_line (explanation_json code.now text.now)) }
+    ensures { IfOk result (λ line. IsJsonLine (string_bytes line)) }
 {
-    explanation_object(alloc, code, text).line()
+    let mut object = ObjectWriter::new(alloc);
+    object.put_word("status", "explained");
+    object.put_bytes("text", text);
+    if !code.is_empty() {
+        object.put_bytes("code", code);
+    }
+    object.line()
 }

@@ -1,5 +1,6 @@
 //! Messages of the command on standard error.
 
+use crate::symbolic::Misnamed;
 use std::io;
 use std::io::ErrorKind;
 use std::rt::Stderr;
@@ -14,8 +15,8 @@ pub struct Answered<'a> {
     pub status: Status,
     /// The arguments of the session.
     pub words: &'a [String],
-    /// The file whose name promises symbolic assembly, if its text isn't symbolic.
-    pub unnamed: Option<&'a str>,
+    /// The file whose name promises another text.
+    pub misnamed: Option<Misnamed<'a>>,
     /// Whether standard input was read as it is.
     pub reads_input: bool,
 }
@@ -102,15 +103,25 @@ fn print_explain_hint(stderr: &Stderr, name: &str, code: ErrorCode) -> io::Resul
     eprintln!(stderr; "tw: {name} explain {letter}{tens}{ones} says more")
 }
 
+/// Prints how a text is read whose file's name promises another one, or what reads it.
+fn print_misnamed(stderr: &Stderr, misnamed: Misnamed<'_>) -> io::Result<()> {
+    match misnamed {
+        Misnamed::Symbolic(path) => eprintln!(stderr;
+            "tw: {path} doesn't begin with a line `names`, so it is read as assembly text without names"
+        ),
+        Misnamed::Python(path) => eprintln!(stderr;
+            "tw: {path} is a Python file: python3 -m yuglemit run {path} compiles and runs it"
+        ),
+    }
+}
+
 /// Prints hints about an error with a code: about its file, standard input, and `explain`.
 fn print_error_hint(stderr: &Stderr, answered: &Answered<'_>, failure: &Failure) -> io::Result<()> {
     let Some(code) = failure.code else {
         return Ok(());
     };
-    if let Some(path) = answered.unnamed {
-        eprintln!(stderr;
-            "tw: {path} doesn't begin with a line `names`, so it is read as assembly text without names"
-        )?;
+    if let Some(misnamed) = answered.misnamed {
+        print_misnamed(stderr, misnamed)?;
     }
     if answered.reads_input && holds_no_program(failure) {
         eprintln!(stderr;

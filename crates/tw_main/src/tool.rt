@@ -6,7 +6,7 @@ use crate::hints::{
     print_notice,
 };
 use crate::progress_printer::ProgressPrinter;
-use crate::symbolic::unnamed_path;
+use crate::symbolic::{Misnamed, find_misnamed};
 use crate::system_files::SystemFiles;
 use std::alloc::{AllocError, Global};
 use std::io::{ErrorKind, IsTerminal, Read};
@@ -94,7 +94,13 @@ impl<'a, H: AllocGlobal + Files + Threads + Wait + Clock + Sync> Tool<'a, H> {
     }
 
     /// Prints why arguments were rejected, and hints about the answer.
-    fn advise(&self, words: &[String], status: Status, unnamed: Option<&str>, reads_input: bool) {
+    fn advise(
+        &self,
+        words: &[String],
+        status: Status,
+        misnamed: Option<Misnamed<'_>>,
+        reads_input: bool,
+    ) {
         let mut stderr = self.streams.stderr;
         complain(self.rt.alloc(), status, words, &mut stderr);
         if self.lacks_lines(words, status) {
@@ -104,7 +110,7 @@ impl<'a, H: AllocGlobal + Files + Threads + Wait + Clock + Sync> Tool<'a, H> {
             name: self.name,
             status,
             words,
-            unnamed,
+            misnamed,
             reads_input,
         };
         let _printed = print_hints(&stderr, &answered);
@@ -142,32 +148,44 @@ impl<'a, H: AllocGlobal + Files + Threads + Wait + Clock + Sync> Tool<'a, H> {
             inputs,
             trace,
         };
-        let unnamed = unnamed_path(others, given.program);
+        let misnamed = find_misnamed(others, given.program);
         let mut writer = self.streams.stdout;
         let reporter = ProgressPrinter::new(self.streams.stderr, is_quiet(words));
         let status = given_session(self.rt, &reporter, words, given, &mut writer);
-        self.advise(words, status, unnamed, false);
+        self.advise(words, status, misnamed, false);
         status
     }
 
     /// Holds a session over a program and lines that are read one after the other.
-    fn answer_lines<R: Read>(&self, words: &[String], program: Vec<u8>, reader: &mut R) -> Status {
-        let unnamed = unnamed_path(words, &program);
+    fn answer_lines<R: Read>(
+        &self,
+        others: &[String],
+        words: &[String],
+        program: Vec<u8>,
+        reader: &mut R,
+    ) -> Status {
+        let misnamed = find_misnamed(others, &program);
         let mut writer = self.streams.stdout;
         let reporter = ProgressPrinter::new(self.streams.stderr, is_quiet(words));
         let status = each_session(self.rt, &reporter, words, program, reader, &mut writer);
-        self.advise(words, status, unnamed, false);
+        self.advise(words, status, misnamed, false);
         status
     }
 
     /// Holds a session over a program and the file of the lines of `--each`; `-` is standard input.
-    fn hold_over_lines(&self, words: &[String], program: Vec<u8>, path: &str) -> Exit {
+    fn hold_over_lines(
+        &self,
+        others: &[String],
+        words: &[String],
+        program: Vec<u8>,
+        path: &str,
+    ) -> Exit {
         if path == "-" {
             let mut stdin = self.streams.stdin;
-            return Exit::Session(self.answer_lines(words, program, &mut stdin));
+            return Exit::Session(self.answer_lines(others, words, program, &mut stdin));
         }
         match fs::open(self.rt, path) {
-            Ok(mut file) => Exit::Session(self.answer_lines(words, program, &mut file)),
+            Ok(mut file) => Exit::Session(self.answer_lines(others, words, program, &mut file)),
             Err(error) => {
                 let _printed = complain_unread(&self.streams.stderr, path, &error);
                 Exit::Unread
@@ -180,7 +198,7 @@ impl<'a, H: AllocGlobal + Files + Threads + Wait + Clock + Sync> Tool<'a, H> {
         let words = made.words;
         match (made.contents, made.lines) {
             (None, _) => Exit::Session(self.hold_over_input(&words)),
-            (Some(files), Some(path)) => self.hold_over_lines(&words, files.program, path),
+            (Some(files), Some(path)) => self.hold_over_lines(others, &words, files.program, path),
             (Some(files), None) => Exit::Session(self.hold_over_files(others, &words, &files)),
         }
     }

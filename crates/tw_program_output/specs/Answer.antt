@@ -1,5 +1,5 @@
--- The answer of a check about an accepted program: what its lines and its object print.
-use Rattle.std.specs.Prelude.{◌≡◌, ℕ, suc, List, [], ◌∷◌, codes, Option, Some, None, option_map}
+-- The answer of a check about an accepted program, whose values are printed.
+use Rattle.std.specs.Prelude.{◌≡◌, ℕ, suc, List, [], ◌∷◌, codes, Option, Some, None, option_map, ⊤}
 use Rattle.tw_types.specs.declared.actor.Kind.{Kind}
 use Rattle.tw_types.specs.declared.actor.Kind.TheVariants.{Control, Leaf}
 use Rattle.tw_code.specs.declared.procedure.Procedure.{Procedure}
@@ -21,11 +21,9 @@ use Rattle.tw_order.specs.declared.check.EventOrder.{EventOrder}
 use Rattle.tw_order.specs.declared.check.EventOrder.TheVariants.{Ignored, Checked}
 use Rattle.tw_order.specs.declared.form.Places.{Places}
 use Rattle.tw_order.specs.declared.form.Places.TheVariants.{Hidden, Shown}
-use Rattle.tw_program_output.specs.Listing.{IsListing}
 use Rattle.tw_program_output.specs.declared.answer.CheckAnswer.{CheckAnswer}
 use Rattle.tw_program_output.specs.declared.answer.FoundBounds.{FoundBounds}
 use Rattle.tw_program_output.specs.declared.answer.ProcedureRow.{ProcedureRow}
-use Rattle.tw_symbols.specs.Symbols.{AreSymbols}
 
 -- ---- procedures
 
@@ -41,11 +39,10 @@ AreRows number (p ∷ others) rows =
 
 -- ---- what may be requested
 
--- holds for the listing, if it is requested
-abbrev pub MayBeListed : Places → Option (List ℕ) → List Procedure → Option (List ℕ) → Type 0
-MayBeListed Hidden source program listing = listing ≡ None
-MayBeListed Shown source program None = ⊥
-MayBeListed Shown source program (Some text) = IsListing source program text
+-- holds for any listing, if it is requested
+abbrev pub MayBeListed : Places → Option (List ℕ) → Type 0
+MayBeListed Hidden listing = listing ≡ None
+MayBeListed Shown listing = ⊤
 
 abbrev pub IsCircleOf : List Procedure → Option Circle → Type 0
 IsCircleOf program None = CallsEnd program 0
@@ -66,11 +63,6 @@ MayBeFound NoBounds limit program found = found ≡ None
 MayBeFound OfMain limit program found = IsFound limit program found
 MayBeFound OfEach limit program found = IsFound limit program found
 
--- returns the call that leads back to its procedure, if one was found
-abbrev pub circle_in : Option FoundBounds → Option Circle
-circle_in None = None
-circle_in (Some found) = found.circle
-
 -- holds for the first insertion that may show the order, if it is requested
 abbrev pub MayBeChecked : EventOrder → List Procedure → Option (Option CopyInsertion) → Type 0
 MayBeChecked Ignored program answer = answer ≡ None
@@ -79,10 +71,9 @@ MayBeChecked Checked program (Some found) = IsFirstCopyInsertion program found
 
 -- ---- the answer
 
--- what a check of this program finds out: its names are those of the text
-pub record IsAnswer (order : CheckOrder) (source : Option (List ℕ)) (program : List Procedure) (answer : CheckAnswer) : Type 0 where
-  pub names : AreSymbols source answer.names
-  pub listing : MayBeListed order.places source program (option_map (λ t. t.items) answer.listing)
+-- what a check of this program finds out
+pub record IsAnswer (order : CheckOrder) (program : List Procedure) (answer : CheckAnswer) : Type 0 where
+  pub listing : MayBeListed order.places (option_map (λ t. t.items) answer.listing)
   pub procedures : AreRows 0 program answer.procedures.items
   pub engines : answer.needs.0 ≡ needed Control program
   pub workers : answer.needs.1 ≡ needed Leaf program

@@ -1,15 +1,12 @@
--- Output about programs. Assembled has what is assembled, Check a check, Rejection the verifier's errors, CheckJson its JSON line, Listing a program with its places.
--- Bounds has the bounds of runs, Admission the caps on them, and which programs are admitted, EventOrder whether the order of events may show, ErrorJson errors as JSON.
+-- Output about programs. Assembled has what is assembled, Check a check, Rejection the verifier's errors, Answer what is found out about an accepted program, Rows
+-- the rows of its text, Listing disassembly, Admission the caps on bounds and which programs are admitted, EventOrder whether the order of events may show.
 pub mod Assembled
 pub mod ErrorJson
 pub mod Answer
+pub mod Rows
 pub mod Check
 pub mod Rejection
-pub mod CheckJson
-pub mod Bounds
 pub mod EventOrder
 pub mod Place
 pub mod Admission
 pub mod Listing
--- The model of what the code keeps of a text's lines.
-pub mod Listed

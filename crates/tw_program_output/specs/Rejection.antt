@@ -1,24 +1,23 @@
 -- The reply to a program that the verifier rejects.
-use Rattle.std.specs.Prelude.{◌≡◌, ℕ, List, [], Option}
+use Rattle.std.specs.Prelude.{◌≡◌, ℕ, List, [], Option, ⊤}
 use Rattle.tw_code.specs.declared.procedure.Procedure.{Procedure}
 use Rattle.tw_code.specs.accepting.WellTyped.{IsFirstRejection}
 use Rattle.tw_order.specs.declared.form.Places.{Places}
 use Rattle.tw_order.specs.declared.form.Places.TheVariants.{Hidden, Shown}
-use Rattle.tw_program_output.specs.Listing.{IsRejectedListing}
 use Rattle.tw_source.specs.Failure.{coded, failed_after}
 use Rattle.tw_source.specs.declared.failure.Failure.{Failure}
 use Rattle.tw_source.specs.declared.failure.Position.TheVariants as position
 use Rattle.tw_source.specs.Reply.{Reply}
-use Rattle.tw_source.specs.Text.{AreDetailsOf}
+use Rattle.tw_source.specs.Text.{IsRejectionLine}
 use Rattle.tw_verify.specs.Rejection.{verify_error_code}
 use Rattle.tw_verify.specs.declared.rejection.VerifyError.{VerifyError}
 
--- holds for what precedes an error: the program's listing if that is requested
-abbrev pub IsListedBefore : Places → Option (List ℕ) → List Procedure → ℕ → ℕ → List ℕ → Type 0
-IsListedBefore Hidden text program number procedure before = before ≡ []
-IsListedBefore Shown text program number procedure before = IsRejectedListing text program number procedure before
+-- holds for what may precede an error: any listing if one is requested
+abbrev pub MayBeBefore : Places → List ℕ → Type 0
+MayBeBefore Hidden before = before ≡ []
+MayBeBefore Shown before = ⊤
 
--- returns the error of the verifier at a place, with the line in its details
+-- returns the error of the verifier at a place, with its line
 abbrev pub rejection : VerifyError → ℕ → ℕ → Option ℕ → Failure
 rejection which procedure place line = coded 86 (verify_error_code which) (position.Place procedure place line)
 
@@ -26,5 +25,4 @@ rejection which procedure place line = coded 86 (verify_error_code which) (posit
 abbrev pub RepliesByRejection : Places → Option (List ℕ) → List Procedure → Reply → Type 0
 RepliesByRejection places text program r =
     (which : VerifyError) × (procedure : ℕ) × (place : ℕ) × (line : Option ℕ) × (before : List ℕ) × (more : List ℕ) × IsFirstRejection program (verify_error_code which) procedure place
-    × IsListedBefore places text program (verify_error_code which) procedure before × AreDetailsOf text which program procedure place line more
-    × (r ≡ failed_after before (rejection which procedure place line) more)
+    × IsRejectionLine text which procedure place line × MayBeBefore places before × (r ≡ failed_after before (rejection which procedure place line) more)

@@ -10,7 +10,7 @@ ghost use Rattle.tw_writer.specs.Appended.{IsAppended};
 use std::alloc::{AllocError, Global};
 use tw_bounds::{Bound, LimitedBounds, largest_budget, least_bounds};
 use tw_order::{Caps, EventLimit};
-use tw_source::{Failure, Position, Reply, put_failure_line, refused_by};
+use tw_source::{Failure, Position, Reply, detailed_reply};
 use tw_verify::Verified;
 use tw_writer::{Piece, Writer};
 
@@ -129,9 +129,5 @@ pub(crate) fn excess_text(
 pub(crate) fn excess_reply(alloc: Global, lines: &[u8]) -> Result<Reply, AllocError>
     ensures { IfOk result (λ r. reply r.text.items r.close ≡ failed_with (coded 79 7 position.Nowhere) lines.now) }
 {
-    let failure = Failure::coded(b'O', 7, Position::Nowhere);
-    let mut text = Vec::new(alloc);
-    put_failure_line(alloc, &mut text, failure)?;
-    text.extend_from_slice(lines)?;
-    Ok(refused_by(text, failure))
+    detailed_reply(alloc, Failure::coded(b'O', 7, Position::Nowhere), lines)
 }

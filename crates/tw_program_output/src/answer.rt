@@ -1,8 +1,7 @@
-//! The answer of a check about an accepted program, which `check_text` and `check_json` print.
+//! The answer of a check about an accepted program, which text and JSON print.
 
 ghost use Rattle.std.specs.Prelude.{◌≡◌, IfOk, option_map};
-ghost use Rattle.tw_program_output.specs.Answer.{AreLimitedBy, AreRows, IsAnswer, IsFound, MayBeChecked, MayBeFound, MayBeListed, circle_in, kind_word};
-ghost use Rattle.tw_source.specs.Source.{MayBeSource, text_of};
+ghost use Rattle.tw_program_output.specs.Answer.{AreLimitedBy, AreRows, IsAnswer, IsFound, MayBeChecked, MayBeFound, MayBeListed, kind_word};
 
 use crate::text_listing::accepted_listing;
 use std::alloc::{AllocError, Global};
@@ -82,8 +81,7 @@ fn requested_listing(
     places: Places,
     verified: &Verified,
 ) -> Result<Option<Vec<u8>>, AllocError>
-    requires { MayBeSource source.now verified.now.program }
-    ensures { IfOk result (λ text. MayBeListed places (text_of source.now) verified.now.program (option_map (λ t. t.items) text)) }
+    ensures { IfOk result (λ text. MayBeListed places (option_map (λ t. t.items) text)) }
 {
     match places {
         Places::Hidden => Ok(None),
@@ -135,16 +133,6 @@ fn found_bounds(
     }
 }
 
-/// Returns the call that leads back to its procedure, if one was found.
-pub(crate) fn circle_in(found: &Option<FoundBounds>) -> Option<Circle>
-    ensures { result ≡ circle_in found.now }
-{
-    match found {
-        Some(found) => found.circle,
-        None => None,
-    }
-}
-
 /// Returns the first insertion that may show the order of events, if it is requested.
 fn found_insertion(
     alloc: Global,
@@ -169,8 +157,7 @@ pub(crate) fn check_answer(
     order: &CheckOrder,
     verified: &Verified,
 ) -> Result<CheckAnswer, AllocError>
-    requires { MayBeSource source.now verified.now.program }
-    ensures { IfOk result (IsAnswer order.now (text_of source.now) verified.now.program) }
+    ensures { IfOk result (IsAnswer order.now verified.now.program) }
 {
     let insertion = found_insertion(alloc, order.event_order, verified)?;
     let bounds = found_bounds(alloc, order, verified)?;

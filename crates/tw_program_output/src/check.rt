@@ -1,11 +1,10 @@
 //! Output of `check` about a program.
 
-ghost use Rattle.std.specs.Prelude.{◌≡◌, IfOk, List, option_map};
+ghost use Rattle.std.specs.Prelude.{◌≡◌, IfOk, map, option_map};
 ghost use Rattle.tw_code.specs.accepting.WellTyped.{IsFirstRejection};
-ghost use Rattle.tw_code.specs.declared.procedure.Procedure.{Procedure};
-ghost use Rattle.tw_program_output.specs.Answer.{IsAnswer};
-ghost use Rattle.tw_program_output.specs.Check.{IsCheckText, IsInForm, IsPrinted, RepliesByCheck, check_text, listing_text, needs_line, procedure_line, procedure_lines, shown_names};
-ghost use Rattle.tw_program_output.specs.Rejection.{IsListedBefore, RepliesByRejection, rejection};
+ghost use Rattle.tw_program_output.specs.Check.{IsCheckText, IsInForm, IsPrinted, RepliesByCheck, check_text, listing_text, needs_cells, needs_line, procedure_cells, procedure_line, procedure_lines, shown_names};
+ghost use Rattle.tw_program_output.specs.Rejection.{MayBeBefore, RepliesByRejection, rejection};
+ghost use Rattle.tw_program_output.specs.Rows.{cell_of};
 ghost use Rattle.tw_source.specs.Failure.{after};
 ghost use Rattle.tw_source.specs.Reply.{reply};
 ghost use Rattle.tw_source.specs.Source.{MayBeSource, text_of};
@@ -14,21 +13,22 @@ ghost use Rattle.tw_verify.specs.Rejection.{verify_error_code};
 ghost use Rattle.tw_writer.specs.Appended.{IsAppended};
 
 use crate::acceptance::{Admitted, admit};
-use crate::answer::{CheckAnswer, ProcedureRow, check_answer, circle_in, kind_word};
-use crate::bounds::{circle_text, put_bounds, put_name};
+use crate::answer::{CheckAnswer, ProcedureRow, check_answer, kind_word};
+use crate::bounds::bounds_text;
 use crate::check_json::check_line;
 use crate::event_order::order_text;
+use crate::rows::{Cell, Shown, put_line};
 use crate::text_listing::refused_listing;
 use std::alloc::{AllocError, Global};
 use tw_code::Program;
 use tw_order::{CheckOrder, Form, Places};
 use tw_source::{
-    Close, Failure, Position, Reply, SourceText, put_failure_line, put_rejection_details,
-    refused_by,
+    Close, Failure, Position, Reply, SourceText, put_failure_line, refused_by, rejection_details,
+    rejection_line,
 };
 use tw_symbols::Symbols;
 use tw_verify::{Refused, Verified};
-use tw_writer::{Piece, Writer};
+use tw_writer::Writer;
 
 /// Adds the listing, if there is one.
 fn put_listing(out: &mut Writer, listing: &Option<Vec<u8>>)
@@ -40,20 +40,34 @@ fn put_listing(out: &mut Writer, listing: &Option<Vec<u8>>)
     }
 }
 
+/// Returns the number, kind, budget and name of a procedure.
+pub(crate) fn procedure_cells<'a>(names: &'a Symbols, row: ProcedureRow) -> [Cell<'a>; 4]
+    ensures { map cell_of result ≡ procedure_cells (name_at names.entry.now row.number) row }
+{
+    [
+        Cell::new("procedure", "proc ", Shown::Number(row.number as u64)),
+        Cell::new("kind", " ", Shown::Word(kind_word(row.kind))),
+        Cell::new("budget", " budget ", Shown::Number(row.budget)),
+        Cell::new("name", "", Shown::Name(names.procedure(row.number))),
+    ]
+}
+
+/// Returns what the targets need.
+pub(crate) fn needs_cells(needs: (u8, u8)) -> [Cell<'static>; 2]
+    ensures { map cell_of result ≡ needs_cells needs.0 needs.1 }
+{
+    let (engines, workers) = (u64::from(needs.0), u64::from(needs.1));
+    [
+        Cell::new("engines", "needs engines ", Shown::Number(engines)),
+        Cell::new("workers", " workers ", Shown::Number(workers)),
+    ]
+}
+
 /// Adds the line of a procedure.
 fn put_procedure_line(out: &mut Writer, names: &Symbols, row: ProcedureRow)
     ensures { IsAppended out.old out.new (procedure_line (name_at names.now row.number) row) }
 {
-    out.put_all(&[
-        Piece::Text("proc "),
-        Piece::Number(row.number),
-        Piece::Text(" "),
-        Piece::Text(kind_word(row.kind)),
-        Piece::Text(" budget "),
-        Piece::Number(row.budget as usize),
-    ]);
-    put_name(out, names, row.number);
-    out.put("\n");
+    put_line(out, &procedure_cells(names, row));
 }
 
 /// Adds the lines of the procedures.
@@ -79,31 +93,25 @@ fn put_budgets(alloc: Global, out: &mut Writer, places: Places, answer: &CheckAn
 fn put_needs(out: &mut Writer, needs: (u8, u8))
     ensures { IsAppended out.old out.new (needs_line needs.0 needs.1) }
 {
-    out.put_all(&[
-        Piece::Text("needs engines "),
-        Piece::Number(usize::from(needs.0)),
-        Piece::Text(" workers "),
-        Piece::Number(usize::from(needs.1)),
-        Piece::Text("\n"),
-    ]);
+    put_line(out, &needs_cells(needs));
 }
 
-/// Returns the lines of an answer, with these about a circle of calls and about the order of events.
+/// Returns the lines of an answer, with these about bounds and about the order of events.
 fn answer_text(
     alloc: Global,
     order: &CheckOrder,
     answer: &CheckAnswer,
-    circle: &[u8],
+    bounds: &[u8],
     last: &[u8],
 ) -> Result<Vec<u8>, AllocError>
-    ensures { IfOk result (λ text. text.items ≡ check_text order.now answer.now circle.now last.now) }
+    ensures { IfOk result (λ text. text.items ≡ check_text order.now answer.now bounds.now last.now) }
 {
     let mut text = Writer::new(alloc);
     put_listing(&mut text, &answer.listing);
     text.put("accepted\n");
     put_budgets(alloc, &mut text, order.places, answer);
     put_needs(&mut text, answer.needs);
-    put_bounds(&mut text, order.bounds, answer, circle);
+    text.put_bytes(bounds);
     text.put_bytes(last);
     text.finish()
 }
@@ -115,12 +123,11 @@ fn check_text(
     order: &CheckOrder,
     answer: &CheckAnswer,
 ) -> Result<Vec<u8>, AllocError>
-    ensures { (program : List Procedure) → MayBeSource source.now program → IsAnswer order.now (text_of source.now) program answer.now
-        → IfOk result (λ text. IsCheckText order.now (text_of source.now) answer.now text.items) }
+    ensures { IfOk result (λ text. IsCheckText order.now answer.now text.items) }
 {
-    let circle = circle_text(alloc, source, circle_in(&answer.bounds))?;
-    let last = order_text(alloc, source, answer.insertion)?;
-    answer_text(alloc, order, answer, &circle, &last)
+    let bounds = bounds_text(alloc, source, order.bounds, answer)?;
+    let last = order_text(alloc, source, order.event_order, answer.insertion)?;
+    answer_text(alloc, order, answer, &bounds, &last)
 }
 
 /// Returns an answer about an accepted program in the requested form.
@@ -131,9 +138,7 @@ fn answer_in_form(
     verified: &Verified,
     answer: &CheckAnswer,
 ) -> Result<Vec<u8>, AllocError>
-    requires source { MayBeSource source.now verified.now.program }
-    requires answer { IsAnswer order.now (text_of source.now) verified.now.program answer.now }
-    ensures { IfOk result (λ text. IsInForm order.now.form order.now (text_of source.now) verified.now.program answer.now text.items) }
+    ensures { IfOk result (λ text. IsInForm order.now.form order.now answer.now text.items) }
 {
     match order.form {
         Form::Text => check_text(alloc, source, order, answer),
@@ -148,8 +153,7 @@ fn requested_text(
     order: CheckOrder,
     verified: &Verified,
 ) -> Result<Vec<u8>, AllocError>
-    requires { MayBeSource source.now verified.now.program }
-    ensures { IfOk result (λ text. IsPrinted order (text_of source.now) verified.now.program text.items) }
+    ensures { IfOk result (λ text. IsPrinted order verified.now.program text.items) }
 {
     let answer = check_answer(alloc, source, &order, verified)?;
     answer_in_form(alloc, source, &order, verified, &answer)
@@ -188,8 +192,7 @@ fn text_before(
     places: Places,
     refused: &Refused,
 ) -> Result<Vec<u8>, AllocError>
-    requires { MayBeSource source.now refused.now.program.procedures }
-    ensures { IfOk result (λ text. IsListedBefore places (text_of source.now) refused.now.program.procedures (verify_error_code refused.now.no) refused.now.procedure text.items) }
+    ensures { IfOk result (λ text. MayBeBefore places text.items) }
 {
     match places {
         Places::Hidden => Ok(Vec::new(alloc)),
@@ -224,7 +227,10 @@ pub(crate) fn rejection_reply(
 {
     let mut text = text_before(alloc, source, places, refused)?;
     let before = text.len();
-    put_failure_line(alloc, &mut text, failure_at(refused, None, before))?;
-    let line = put_rejection_details(alloc, &mut text, source, refused)?;
-    Ok(refused_by(text, failure_at(refused, line, before)))
+    let line = rejection_line(alloc, source, refused)?;
+    let failure = failure_at(refused, line, before);
+    put_failure_line(alloc, &mut text, failure)?;
+    let details = rejection_details(alloc, source, refused, line)?;
+    text.extend_from_slice(&details)?;
+    Ok(refused_by(text, failure))
 }

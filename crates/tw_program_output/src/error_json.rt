@@ -1,10 +1,8 @@
 //! The JSON lines of errors, made from their values.
 
 ghost use Rattle.std.specs.Prelude.{◌≡◌, IfOk, string_bytes};
-ghost use Rattle.tw_json_output.specs.Run.{json_line};
-ghost use Rattle.tw_json_output.specs.Writers.{HasMembers, IsWith};
-ghost use Rattle.tw_program_output.specs.ErrorJson.{error_json, error_members, error_status, failure_in, failure_members, listed_error_json, listed_members, or_uncoded, with_code, with_column, with_line, with_position};
-ghost use Rattle.tw_source.specs.Reply.{reply};
+ghost use Rattle.tw_json_output.specs.Lines.{IsJsonLine};
+ghost use Rattle.tw_program_output.specs.ErrorJson.{failure_in};
 
 use std::alloc::{AllocError, Global};
 use tw_json_output::ObjectWriter;
@@ -23,37 +21,23 @@ pub fn failure_in(close: Close) -> Option<Failure>
 }
 
 /// Returns the status of an error's object.
-fn error_status(close: Close) -> &'static str
-    ensures { result.now ≡ error_status close }
-{
+fn error_status(close: Close) -> &'static str {
     match close {
         Close::Trapped(_) => "trap",
-        Close::Refused(_)
-        | Close::Unreadable(_)
-        | Close::CommandLine
-        | Close::Success
-        | Close::Stuck
-        | Close::Limit => "refused",
+        _ => "refused",
     }
 }
 
 /// Returns the error of a reply; one without code and position if it is of none.
-fn failure_of(close: Close) -> Failure
-    ensures { result ≡ or_uncoded (failure_in close) }
-{
+fn failure_of(close: Close) -> Failure {
     match failure_in(close) {
         Some(failure) => failure,
         None => Failure::uncoded(Position::Nowhere),
     }
 }
 
-/// Adds the code of an error, if it has one.
-fn put_code_member(alloc: Global, object: &mut ObjectWriter, code: Option<ErrorCode>)
-    ensures { IsWith object.old object.new (with_code code) }
-{
-    let Some(code) = code else {
-        return;
-    };
+/// Adds a code.
+fn put_code_member(alloc: Global, object: &mut ObjectWriter, code: ErrorCode) {
     let mut text = Vec::new(alloc);
     match put_code(alloc, &mut text, code) {
         Ok(()) => object.put_bytes("code", &text),
@@ -61,36 +45,16 @@ fn put_code_member(alloc: Global, object: &mut ObjectWriter, code: Option<ErrorC
     }
 }
 
-/// Adds the number of a line, if it is known.
-fn put_line(object: &mut ObjectWriter, line: Option<usize>)
-    ensures { IsWith object.old object.new (with_line line) }
-{
-    match line {
-        Some(line) => object.put_number("line", line as u64),
-        None => {}
-    }
-}
-
-/// Adds a column, which counts from 1; 0 is none.
-fn put_column(object: &mut ObjectWriter, column: usize)
-    ensures { IsWith object.old object.new (with_column column) }
-{
-    if column == 0 {
-        return;
-    }
-    object.put_number("column", column as u64);
-}
-
-/// Adds where an error is.
-fn put_position(object: &mut ObjectWriter, position: Position)
-    ensures { IsWith object.old object.new (with_position position) }
-{
+/// Adds where an error is. A column counts from 1; 0 is none.
+fn put_position(object: &mut ObjectWriter, position: Position) {
     match position {
         Position::Nowhere => {}
         Position::Byte(offset) => object.put_number("byte", offset as u64),
         Position::Line { line, column, .. } => {
             object.put_number("line", line as u64);
-            put_column(object, column);
+            if column != 0 {
+                object.put_number("column", column as u64);
+            }
         }
         Position::Input(input) => object.put_number("input", input as u64),
         Position::Event(event) => object.put_number("event", event as u64),
@@ -101,26 +65,26 @@ fn put_position(object: &mut ObjectWriter, position: Position)
         } => {
             object.put_number("procedure", procedure as u64);
             object.put_number("place", place as u64);
-            put_line(object, line);
+            if let Some(line) = line {
+                object.put_number("line", line as u64);
+            }
         }
     }
 }
 
 /// Returns the object of an error with these lines.
-fn failure_object(alloc: Global, failure: Failure, lines: &[u8]) -> ObjectWriter
-    ensures { HasMembers result (failure_members failure lines.now) }
-{
+fn failure_object(alloc: Global, failure: Failure, lines: &[u8]) -> ObjectWriter {
     let mut object = ObjectWriter::new(alloc);
-    put_code_member(alloc, &mut object, failure.code);
+    if let Some(code) = failure.code {
+        put_code_member(alloc, &mut object, code);
+    }
     put_position(&mut object, failure.position);
     object.put_lines("lines", lines);
     object
 }
 
 /// Returns the object of an error's reply.
-fn error_object(alloc: Global, error: &Reply) -> ObjectWriter
-    ensures { HasMembers result (error_members (reply error.now.text.items error.now.close)) }
-{
+fn error_object(alloc: Global, error: &Reply) -> ObjectWriter {
     let failure = failure_of(error.close);
     let lines = &error.text[failure.before.min(error.text.len())..];
     let mut object = ObjectWriter::new(alloc);
@@ -129,27 +93,19 @@ fn error_object(alloc: Global, error: &Reply) -> ObjectWriter
     object
 }
 
-/// Returns the object of an error's reply that has a listing before it.
-fn listed_object(alloc: Global, error: &Reply) -> ObjectWriter
-    ensures { HasMembers result (listed_members (reply error.now.text.items error.now.close)) }
-{
-    let failure = failure_of(error.close);
-    let listing = &error.text[..failure.before.min(error.text.len())];
-    let mut object = error_object(alloc, error);
-    object.put_lines("listing", listing);
-    object
-}
-
 /// Returns the JSON line of an error's reply.
 pub fn error_line(alloc: Global, error: &Reply) -> Result<String, AllocError>
-    ensures { IfOk result (λ line. string_bytes line ≡ json_line (error_json (reply error.now.text.items error.now.close))) }
+    ensures { IfOk result (λ line. IsJsonLine (string_bytes line)) }
 {
     error_object(alloc, error).line()
 }
 
 /// Returns the JSON line of an error's reply that has a listing before it.
 pub fn listed_error_line(alloc: Global, error: &Reply) -> Result<String, AllocError>
-    ensures { IfOk result (λ line. string_bytes line ≡ json_line (listed_error_json (reply error.now.text.items error.now.close))) }
+    ensures { IfOk result (λ line. IsJsonLine (string_bytes line)) }
 {
-    listed_object(alloc, error).line()
+    let before = failure_of(error.close).before.min(error.text.len());
+    let mut object = error_object(alloc, error);
+    object.put_lines("listing", &error.text[..before]);
+    object.line()
 }

@@ -1,22 +1,22 @@
 //! Output of `check --order`: whether the order of events may show in outputs.
 
-ghost use Rattle.std.specs.Prelude.{◌≡◌, ◌++◌, IfOk, IfSome, List, OnOk, codes, ℕ};
-ghost use Rattle.serde_json.specs.Data as json;
+ghost use Rattle.std.specs.Prelude.{◌≡◌, ◌++◌, IfOk, List, OnOk, ℕ};
 ghost use Rattle.serde_json.specs.View.{view};
 ghost use Rattle.tw_code.specs.declared.instr.Instr.{Instr};
 ghost use Rattle.tw_code.specs.declared.procedure.Procedure.{Procedure};
-ghost use Rattle.tw_copies.specs.Copies.{IsAt, IsFirstCopyInsertion};
-ghost use Rattle.tw_json_output.specs.Writers.{IsWith};
-ghost use Rattle.tw_program_output.specs.EventOrder.{IsOrderLine, MayBeOrderLine, insertion_line, order_json, with_order};
+ghost use Rattle.tw_copies.specs.Copies.{IsAt};
+ghost use Rattle.tw_program_output.specs.Check.{MayHaveOrder};
+ghost use Rattle.tw_program_output.specs.EventOrder.{insertion_line, order_json};
 ghost use Rattle.tw_program_output.specs.Place.{IsPlaced};
 ghost use Rattle.tw_source.specs.Source.{MayBeSource, text_of};
 ghost use Rattle.tw_source.specs.Text.{IsPlaceText};
 
-use crate::place::{place_object, placed_text, put_place};
-use serde_json::Value as Json;
+use crate::place::{place_object, placed_text};
+use serde_json::{Value as Json, json};
 use std::alloc::{AllocError, Global};
 use tw_copies::CopyInsertion;
 use tw_json_output::ObjectWriter;
+use tw_order::EventOrder;
 use tw_source::SourceText;
 
 /// Returns the line of an insertion that may show the order, and the insertion's line of the text if there is a text.
@@ -57,10 +57,7 @@ fn found_text(
     alloc: Global,
     source: &Option<SourceText<'_>>,
     found: Option<CopyInsertion>,
-) -> Result<Vec<u8>, AllocError>
-    ensures { (program : List Procedure) → MayBeSource source.now program → IsFirstCopyInsertion program found
-        → IfOk result (λ text. IsOrderLine (text_of source.now) found text.items) }
-{
+) -> Result<Vec<u8>, AllocError> {
     match found {
         Some(insertion) => insertion_text(alloc, source, insertion),
         None => "order same\n".as_bytes().to_vec(alloc),
@@ -71,14 +68,14 @@ fn found_text(
 pub(crate) fn order_text(
     alloc: Global,
     source: &Option<SourceText<'_>>,
+    requested: EventOrder,
     answer: Option<Option<CopyInsertion>>,
 ) -> Result<Vec<u8>, AllocError>
-    ensures { (program : List Procedure) → MayBeSource source.now program → IfSome answer (IsFirstCopyInsertion program)
-        → IfOk result (λ text. MayBeOrderLine (text_of source.now) answer text.items) }
+    ensures { IfOk result (λ text. MayHaveOrder requested text.items) }
 {
-    match answer {
-        Some(found) => found_text(alloc, source, found),
-        None => Ok(Vec::new(alloc)),
+    match requested {
+        EventOrder::Ignored => Ok(Vec::new(alloc)),
+        EventOrder::Checked => found_text(alloc, source, answer.unwrap_or(None)),
     }
 }
 
@@ -89,31 +86,24 @@ pub fn order_value(alloc: Global, found: Option<CopyInsertion>) -> Result<Json, 
     ensures { IfOk result (λ value. view value ≡ order_json found) }
 {
     match found {
-        Some(insertion) => place_object(alloc, insertion.procedure, insertion.place).finish(),
+        Some(at) => {
+            json!(in alloc; {"place": at.place as u64, "procedure": at.procedure as u64})
+        }
         None => Json::try_from_str(alloc, "same"),
     }
 }
 
-/// Adds the word `same`, or the place of the insertion.
-fn put_found(alloc: Global, object: &mut ObjectWriter, found: Option<CopyInsertion>)
-    ensures { IsWith object.old object.new (json.put (codes "order") (order_json found)) }
-{
-    match found {
-        Some(at) => put_place(alloc, object, "order", at.procedure, at.place),
-        None => object.put_word("order", "same"),
-    }
-}
-
-/// Adds the answer, if there is one.
-pub(crate) fn put_order_member(
+/// Adds the word `same`, or the place of the insertion, if there is an answer.
+pub(crate) fn put_order(
     alloc: Global,
     object: &mut ObjectWriter,
     answer: Option<Option<CopyInsertion>>,
-)
-    ensures { IsWith object.old object.new (with_order answer) }
-{
+) {
     match answer {
-        Some(found) => put_found(alloc, object, found),
+        Some(Some(at)) => {
+            object.put_object("order", place_object(alloc, at.procedure, at.place))
+        }
+        Some(None) => object.put_word("order", "same"),
         None => {}
     }
 }

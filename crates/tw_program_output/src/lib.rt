@@ -5,7 +5,6 @@ mod acceptance;
 mod admission;
 mod answer;
 mod assembled;
-mod bound_rows;
 mod bounds;
 mod check;
 mod check_json;
@@ -13,6 +12,7 @@ mod error_json;
 mod event_order;
 mod listing;
 mod place;
+mod rows;
 mod text_listing;
 
 pub use acceptance::{Admitted, admit};

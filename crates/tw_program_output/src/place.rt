@@ -1,13 +1,12 @@
 //! The place of an instruction, as text and as JSON.
 
 ghost use Rattle.std.specs.Prelude.{◌≡◌, IfOk, List};
-ghost use Rattle.serde_json.specs.Data as json;
 ghost use Rattle.tw_code.specs.declared.procedure.Procedure.{Procedure};
-ghost use Rattle.tw_json_output.specs.Writers.{HasMembers, IsWith};
-ghost use Rattle.tw_program_output.specs.Place.{IsPlaced, place_json, place_members, placed_line};
+ghost use Rattle.tw_program_output.specs.Place.{IsPlaced, placed_line};
 ghost use Rattle.tw_source.specs.Source.{MayBeSourceAt, text_of};
 ghost use Rattle.tw_writer.specs.Appended.{IsAppended};
 
+use crate::rows::{Cell, Shown, row_object};
 use std::alloc::{AllocError, Global};
 use tw_json_output::ObjectWriter;
 use tw_source::{SourceText, put_place_line};
@@ -45,24 +44,12 @@ pub(crate) fn placed_text(
 }
 
 /// Returns the object of a place.
-pub(crate) fn place_object(alloc: Global, procedure: usize, place: usize) -> ObjectWriter
-    ensures { HasMembers result (place_members procedure place) }
-{
-    let mut object = ObjectWriter::new(alloc);
-    object.put_number("procedure", procedure as u64);
-    object.put_number("place", place as u64);
-    object
-}
-
-/// Adds the object of a place.
-pub(crate) fn put_place(
-    alloc: Global,
-    object: &mut ObjectWriter,
-    name: &str,
-    procedure: usize,
-    place: usize,
-)
-    ensures { IsWith object.old object.new (json.put name.now (place_json procedure place)) }
-{
-    object.put_object(name, place_object(alloc, procedure, place));
+pub(crate) fn place_object(alloc: Global, procedure: usize, place: usize) -> ObjectWriter {
+    row_object(
+        alloc,
+        &[
+            Cell::new("procedure", "", Shown::Number(procedure as u64)),
+            Cell::new("place", "", Shown::Number(place as u64)),
+        ],
+    )
 }

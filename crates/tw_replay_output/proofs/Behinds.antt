@@ -14,7 +14,7 @@ use Rattle.std.specs.Prelude.{Bool, MatchBool, codes, false, true}
 use Rattle.tw_code.specs.machine.Inputs.{has_fitting_inputs, has_input_count}
 use Rattle.tw_source.specs.Failure.{code_text, failure_line, position_text}
 use Rattle.tw_source.specs.declared.failure.Position.TheVariants as position
-use Rattle.tw_replay_output.specs.Opening.{AreOpeningDetails, PrintsInputs, PrintsUnfit, count_line}
+use Rattle.tw_replay_output.specs.Opening.{AreOpeningDetails, IsUnfitAt, IsWrongInput}
 use Rattle.tw_replay_output.specs.Replay.{ByOutcome, AreRejectionDetails}
 use Rattle.tw_source.specs.declared.close.Close.TheVariants as close
 use Rattle.tw_source.specs.declared.source.SourceText.{SourceText}
@@ -44,22 +44,22 @@ inputs_refused text program inputs opening.InputCount number r main memory same 
 inputs_refused text program inputs opening.InputType number r main memory same (at, more, answered, is) = (memory, (at, more, answered, is ∙ ap (λ (n : ℕ). failed_with (coded 79 n at) more) same))
 
 -- the first line doesn't say which input is wrong
-said_nowhere : (program : List Procedure) (inputs : List Input) (at : Position) (text : List ℕ) → PrintsInputs program inputs at text → position_text at ≡ []
-said_nowhere program inputs at text h = by_count (has_input_count program inputs) h
+said_nowhere : (program : List Procedure) (inputs : List Input) (at : Position) → IsWrongInput program inputs at → position_text at ≡ []
+said_nowhere program inputs at h = by_count (has_input_count program inputs) h
   where
-    by_fit : (b : Bool) → MatchBool b ((at ≡ position.Nowhere) × (text ≡ [])) (PrintsUnfit program inputs at text) → position_text at ≡ []
-    by_fit true (is, empty) = ap position_text is
-    by_fit false h = ap position_text h.4
+    by_fit : (b : Bool) → MatchBool b (at ≡ position.Nowhere) (IsUnfitAt program inputs at) → position_text at ≡ []
+    by_fit true is = ap position_text is
+    by_fit false h = ap position_text h.2
 
-    by_count : (b : Bool) → MatchBool b (MatchBool (has_fitting_inputs program inputs) ((at ≡ position.Nowhere) × (text ≡ [])) (PrintsUnfit program inputs at text)) ((at ≡ position.Nowhere) × (text ≡ count_line program inputs)) → position_text at ≡ []
+    by_count : (b : Bool) → MatchBool b (MatchBool (has_fitting_inputs program inputs) (at ≡ position.Nowhere) (IsUnfitAt program inputs at)) (at ≡ position.Nowhere) → position_text at ≡ []
     by_count true h = by_fit (has_fitting_inputs program inputs) h
-    by_count false (is, counted) = ap position_text is
+    by_count false is = ap position_text is
 
 pub same_first_line : (text : Option (List ℕ)) (program : List Procedure) (inputs : List Input) (number : ℕ) (at : Position) (more : List ℕ) → AreOpeningDetails text program inputs at more
     → failure_line (coded 79 number position.Nowhere) ≡ failure_line (coded 79 number at)
 same_first_line None program inputs number at more (is, empty) = ap (λ (p : Position). failure_line (coded 79 number p)) (sym is)
 same_first_line (Some text) program inputs number at more h =
-    ap (λ (t : List ℕ). codes "refused " ++ (code_text (record { letter = 79; number = number }) ++ (t ++ codes "\n"))) (sym (said_nowhere program inputs at more h))
+    ap (λ (t : List ℕ). codes "refused " ++ (code_text (record { letter = 79; number = number }) ++ (t ++ codes "\n"))) (sym (said_nowhere program inputs at h))
 
 -- ---- details of a replay
 
@@ -132,26 +132,26 @@ picture_details (Some text) shown start events = refl
 
 -- ---- an answer from a machine on
 
-module _ (names : List (List ℕ)) (source : Option SourceText) (answer : Answer) (first : PlainView) (events : List Event) (r : Reply) where
-  pub with_answer : (given : Answer) → given ≡ answer → IsAnswerFrom names source answer first events r → IsAnswerFrom names source given first events r
-  with_answer given is h = subst (λ (a : Answer). IsAnswerFrom names source a first events r) (sym is) h
+module _ (source : Option SourceText) (answer : Answer) (first : PlainView) (events : List Event) (r : Reply) where
+  pub with_answer : (given : Answer) → given ≡ answer → IsAnswerFrom source answer first events r → IsAnswerFrom source given first events r
+  with_answer given is h = subst (λ (a : Answer). IsAnswerFrom source a first events r) (sym is) h
 
-  pub from_reached : (replaying : Replaying) (answered : Reply) → IsReported answer → IsReplayFrom first events replaying → IsAnswer names answer first events answered
+  pub from_reached : (replaying : Replaying) (answered : Reply) → IsReported answer → IsReplayFrom first events replaying → IsAnswer answer first events answered
       → ((start : Start) (done : List Event) → MayBeSource source start.program → IsReplayOf start done replaying
-      → (more : List ℕ) × AreStateDetails (text_of source) start done replaying.plain.state more × (r ≡ reply (answered.text ++ more) answered.close)) → IsAnswerFrom names source answer first events r
+      → (more : List ℕ) × AreStateDetails (text_of source) start done replaying.plain.state more × (r ≡ reply (answered.text ++ more) answered.close)) → IsAnswerFrom source answer first events r
   from_reached replaying answered reported from is added = λ start opened may.
       let replay = from.replay start opened in
       let (more, are, whole) = added start events may replay in
       (answered, more, is, details_reached (text_of source) answer start events replaying.plain.state more reported replay.leads are, whole)
 
-  pub from_stopped : (X : Type 0) → IsReported answer → IsAnswer names answer first events r → ByOutcome (run first.program first.layout events first.state) (λ s. ⊥) X → IsAnswerFrom names source answer first events r
+  pub from_stopped : (X : Type 0) → IsReported answer → IsAnswer answer first events r → ByOutcome (run first.program first.layout events first.state) (λ s. ⊥) X → IsAnswerFrom source answer first events r
   from_stopped X reported is stopped = λ start opened may.
-      alone (λ (a : Reply). IsAnswer names answer first events a) (text_of source) answer start events r is
+      alone (λ (a : Reply). IsAnswer answer first events a) (text_of source) answer start events r is
       (details_stopped (text_of source) answer start events (run first.program first.layout events first.state) X reported (from_there start first events opened) stopped)
 
-pub json_from : (names : List (List ℕ)) (source : Option SourceText) (first : PlainView) (events : List Event) (r : Reply) → IsAnswer names Json first events r → IsAnswerFrom names source Json first events r
-json_from names source first events r is = λ start opened may. alone (λ (a : Reply). IsAnswer names Json first events a) (text_of source) Json start events r is (json_details (text_of source) start events)
+pub json_from : (source : Option SourceText) (first : PlainView) (events : List Event) (r : Reply) → IsAnswer Json first events r → IsAnswerFrom source Json first events r
+json_from source first events r is = λ start opened may. alone (λ (a : Reply). IsAnswer Json first events a) (text_of source) Json start events r is (json_details (text_of source) start events)
 
-pub picture_from : (names : List (List ℕ)) (source : Option SourceText) (shown : EventRange) (first : PlainView) (events : List Event) (r : Reply) → IsAnswer names (Picture shown) first events r → IsAnswerFrom names source (Picture shown) first events r
-picture_from names source shown first events r is = λ start opened may.
-    alone (λ (a : Reply). IsAnswer names (Picture shown) first events a) (text_of source) (Picture shown) start events r is (picture_details (text_of source) shown start events)
+pub picture_from : (source : Option SourceText) (shown : EventRange) (first : PlainView) (events : List Event) (r : Reply) → IsAnswer (Picture shown) first events r → IsAnswerFrom source (Picture shown) first events r
+picture_from source shown first events r is = λ start opened may.
+    alone (λ (a : Reply). IsAnswer (Picture shown) first events a) (text_of source) (Picture shown) start events r is (picture_details (text_of source) shown start events)

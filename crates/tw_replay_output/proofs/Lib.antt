@@ -1,8 +1,7 @@
 pub mod Playing
-pub mod CountedEvents
+pub mod Nexts
 pub mod Making
 pub mod Replays
 pub mod Behinds
-pub mod Unfits
 pub mod Instructions
 mod ReplayNames

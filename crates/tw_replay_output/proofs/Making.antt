@@ -1,7 +1,7 @@
 -- Events that made rules, and the numbers of these.
 use Rattle.std.proofs.Common.{◌≡◌, ◌+◌, ◌<◌, ◌≤◌, ◌⊎◌, inl, inr, ℕ, zero, suc, List, [], ◌∷◌, ◌++◌, length, get_or, take, Option, Some, None, refl, sym, ap, subst, ◌∙◌, append_assoc, arith}
 use Rattle.std.proofs.lemmas.Option.{same_Some}
-use Rattle.tw_replay_output.proofs.ReplayNames.{AreMade, ComesFrom, DoesRule, Event, Frame, IsLineOf, IsMade, IsMadeSo, IsOpened, IsReplayOf, IsUnmade, PlainView, Procedure, ExpandsTo, Start, State, PrintRules, PrintsCircle, PrintsRule, Went, append-nil, instr_at, length-append, option_map, option_to_list, reached_from, rule_by, rule_done, rule_in, rule_line, rules_in, slice_get, take_more}
+use Rattle.tw_replay_output.proofs.ReplayNames.{AreMade, ComesFrom, DoesRule, Event, Frame, IsLineOf, IsMade, IsMadeSo, IsOpened, IsReplayOf, IsUnmade, PlainView, Procedure, ExpandsTo, Start, State, PrintRules, PrintsCircle, PrintsRule, Went, append-nil, instr_at, length-append, option_to_list, reached_from, rule_by, rule_done, rule_in, rule_line, slice_get, take_more}
 use Rattle.std.specs.FinMap.{get}
 use Rattle.tw_types.specs.declared.actor.Actor.{Actor}
 use Rattle.tw_types.specs.declared.event.Event.TheVariants.{Take, Local, Call, End, Ask, Deliver, Release}
@@ -14,9 +14,7 @@ use Rattle.tw_code.specs.machine.Due.{instr_here}
 use Rattle.tw_code.specs.machine.Machine.{run, step}
 use Rattle.tw_code.specs.machine.Opening.{opening}
 use Rattle.tw_code.specs.machine.Pending.{circle}
-use Rattle.tw_stats.specs.declared.dependency.Dependency.TheVariants.{Datum}
-use Rattle.tw_stats.specs.Waits.{made_at, made_by, made_in}
-use Rattle.tw_stats.proofs.Nexts.{step_more}
+use Rattle.tw_replay_output.proofs.Nexts.{next_rule_is}
 use Rattle.tw_replay_output.specs.declared.replaying.Made.{Made}
 use Rattle.tw_replay_output.specs.declared.replaying.Replaying.{Replaying}
 use Rattle.tw_code.proofs.Runs.{run_more}
@@ -71,38 +69,12 @@ done_so program event s procedure place action d =
 
 -- ---- the number of the next rule
 
-data_rules : (id : Option ℕ) → rules_in (option_map Datum id) ≡ 0
-data_rules None = refl
-data_rules (Some id) = refl
-
-rules_by : (s : State) (f : Frame) (o : Option Instr) → rules_in (made_by s f o) ≡ length (option_to_list (rule_by f o))
-rules_by s f None = refl
-rules_by s f (Some (instr.Local i)) = refl
-rules_by s f (Some (instr.Data i)) = data_rules _
-rules_by s f (Some (instr.Rule action)) = refl
-rules_by s f (Some (instr.Put action)) = refl
-rules_by s f (Some instr.Ret) = refl
-
-rules_here : (program : List Procedure) (s : State) (frame : Option Frame) → rules_in (made_in program s frame) ≡ length (option_to_list (rule_in program frame))
-rules_here program s None = refl
-rules_here program s (Some f) = rules_by s f (instr_here program f)
-
-rules_done : (program : List Procedure) (event : Event) (s : State) → rules_in (made_at program event s) ≡ length (option_to_list (rule_done program event s))
-rules_done program (Take actor) s = refl
-rules_done program (Local actor n) s = refl
-rules_done program (Call actor) s = rules_here program s (get s.frames actor)
-rules_done program (End actor) s = refl
-rules_done program (Ask engine rule parameter) s = refl
-rules_done program (Deliver server datum rule parameter) s = refl
-rules_done program (Release engine rule) s = refl
-
 pub next_on : (start : Start) (event : Event) (s t : State) (made next : List Made) → step start.program start.layout event s ≡ Went t → s.next_rule ≡ length made + 1 → next ≡ made ++ option_to_list (rule_done start.program event s)
     → t.next_rule ≡ length next + 1
 next_on start event s t made next went before is =
-    let more = step_more start.program start.layout event s t went in
-    let count = rules_done start.program event s in
+    let more = next_rule_is start.program start.layout event s t went in
     let long : length next ≡ length made + length (option_to_list (rule_done start.program event s)) = ap length is ∙ length-append made (option_to_list (rule_done start.program event s)) in
-    omega (arith, more.rule, count, long, before)
+    omega (arith, more, long, before)
 
 -- ---- one event more
 

@@ -1,4 +1,4 @@
--- Events, one after the other, in a replay and in a timeline.
+-- Events, one after the other, in a replay.
 use Rattle.std.proofs.Common.{◌≡◌, ◌+◌, ◌<◌, ◌≤◌, ℕ, zero, suc, List, [], ◌∷◌, ◌++◌, length, length-take, get_or, drop, take, Option, Some, None, refl, sym, ap, subst, ◌∙◌, add-one, drop-cons, arith}
 use Rattle.tw_replay_output.proofs.ReplayNames.{◌>>=◌, AllByRecursion, AreShort, Event, Input, IsShort, IsFirstError, NotEnabled, Outcome, PlainView, Procedure, Refused, Spoken as Reply, State, Trap, Trapped, Versioned, Went, coded, drop_all, not_enabled_line, rejection_of, reply, size_of, take_all, take_more, trap_line, uncoded}
 use Rattle.tw_types.specs.declared.cause.Cause.{Cause}
@@ -9,17 +9,13 @@ use Rattle.tw_code.specs.declared.version.Version.{Version}
 use Rattle.tw_code.specs.machine.Machine.{run, step}
 use Rattle.tw_code.specs.machine.Opening.{opening}
 use Rattle.tw_order.specs.declared.runs.ReplayOrder.{ReplayOrder}
-use Rattle.tw_order.specs.declared.range.EventRange.{EventRange}
 use Rattle.tw_instr.specs.Attempts.{IsStopped}
 use Rattle.tw_instr.specs.declared.stopped.Stopped.{Stopped}
 use Rattle.tw_machine.specs.declared.rejection.OpenError.{OpenError}
 use Rattle.tw_machine.specs.declared.rejection.OpenError.TheVariants.{NoMemory}
-use Rattle.tw_timeline.specs.declared.timeline_builder.TimelineBuilder.{TimelineBuilder}
-use Rattle.tw_timeline.specs.History.{HasFew, IsTrail}
-use Rattle.tw_timeline.proofs.History.{trail_length}
 use Rattle.tw_report.specs.Events.{IsEvent}
 use Rattle.tw_source.specs.declared.failure.Position.TheVariants as position
-use Rattle.tw_replay_output.specs.Replay.{ByOutcome, IsAnswered, IsPicture, IsReplayed, OpensOr, after_event, opened, played, played_from, state_reply}
+use Rattle.tw_replay_output.specs.Replay.{ByOutcome, IsAnswered, IsReplayed, OpensOr, after_event, opened, played, played_from, state_reply}
 use Rattle.tw_replay_output.proofs.Behinds.{IsUnopened}
 
 -- ---- one event
@@ -140,27 +136,12 @@ not_made first at events i event why r goes stays inside is stopped answered sam
     run_stopped (r ≡ after_event (i + 1) o (state_reply first.program)) first.program first.layout events i event at.state o (run first.program first.layout events first.state) goes inside is comes here runs
     (stopped_so first.program first.layout events i event at.state o r (played_from first events) inside is comes here same)
 
--- ---- timelines
-
 -- events leave the program and the layout as they are
 pub stays_so : (first at next : PlainView) → at ≡ record first { state = at.state } → next.version ≡ at.version → next.program ≡ at.program → next.layout ≡ at.layout → next ≡ record first { state = next.state }
 stays_so first at next stays w p l =
     ap (λ (v : Version). record next { version = v }) (w ∙ ap (λ (v : PlainView). v.version) stays)
     ∙ ap (λ (ps : List Procedure). record { version = first.version; program = ps; layout = next.layout; state = next.state }) (p ∙ ap (λ (v : PlainView). v.program) stays)
     ∙ ap (λ (a : ActorCounts). record { version = first.version; program = first.program; layout = a; state = next.state }) (l ∙ ap (λ (v : PlainView). v.layout) stays)
-
-pub trail_on : (first : PlainView) (events : List Event) (i : ℕ) (event : Event) (s : State) (t : TimelineBuilder) → i < length events → event ≡ get_or events i event → IsTrail first (take i events ++ event ∷ []) s t → IsTrail first (take (i + 1) events) s t
-trail_on first events i event s t inside is h =
-    subst (λ (es : List Event). IsTrail first es s t) (sym (take_more events i event inside ∙ ap (λ (e : Event). take i events ++ e ∷ []) (sym is))) h
-
-pub few_taken : (first : PlainView) (events : List Event) (i : ℕ) (s : State) (t : TimelineBuilder) → IsTrail first (take i events) s t → length events ≤ 16777217 → HasFew t
-few_taken first events i s t h few =
-    let count : length t.marks.items ≡ length (take i events) = trail_length first (take i events) s t h in
-    let bound : length t.marks.items < 2147483648 = omega (arith, length-take i events) in
-    bound
-
-pub picture_of_all : (names : List (List ℕ)) (shown : EventRange) (first : PlainView) (events : List Event) (i : ℕ) (s : State) (r : Reply) → length events ≤ i → IsPicture names shown first (take i events) s r → IsPicture names shown first events s r
-picture_of_all names shown first events i s r all h = subst (λ (es : List Event). IsPicture names shown first es s r) (take_all i events all) h
 
 -- ---- the opening
 

@@ -22,10 +22,10 @@ pub use Rattle.tw_replay_output.specs.Circle.{DoesRule, AreEndingDetails, IsMade
 pub use Rattle.tw_replay_output.specs.Counted.{AreShort, IsCounting, IsShort}
 pub use Rattle.tw_source.specs.Failure.{coded, failed, failed_with, uncoded}
 pub use Rattle.tw_source.specs.declared.failure.Position.{Position}
-pub use Rattle.tw_replay_output.specs.Replay.{AreBudgets, AreKnownBudgets, IsAnswer, AreAnswerDetails, IsAnswered, IsCounted, IsDetailed, IsNumbered, close_of, opened, played, played_from, start_of, state_reply}
+pub use Rattle.tw_replay_output.specs.Replay.{IsAnswer, AreAnswerDetails, IsAnswered, IsCounted, IsDetailed, IsNumbered, close_of, opened, played, played_from, start_of, state_reply}
 pub use Rattle.tw_source.specs.Reply.{Reply as Spoken, reply}
 pub use Rattle.tw_source.specs.Source.{IsSource, IsTextOf, MayBeSource, plain_of, text_of}
 pub use Rattle.tw_replay_output.specs.Stuck.{AreMade, AreStateDetails, IsAnswerFrom, IsMadeSo, IsOpened, IsPlayed, IsReplayFrom, IsReplayOf, IsUnmade, rule_by, rule_done, rule_in}
 pub use Rattle.tw_source.specs.Text.{IsLineOf, text_line}
 pub use Rattle.tw_report.specs.Lines.{not_enabled_line, trap_line}
-pub use Rattle.tw_stats.specs.Kept.{IsPreStateOf, IsFirst, IsSmall, IsTally, rules_in}
+pub use Rattle.tw_stats.specs.Sums.{IsTally}

@@ -6,7 +6,7 @@ use Rattle.tw_code.specs.accepting.Walk.{greatest_budget}
 use Rattle.tw_code.specs.machine.Bounds.{size_of}
 use Rattle.tw_code.specs.machine.Machine.{run}
 use Rattle.tw_machine.specs.PlainView.{PlainView}
-use Rattle.tw_stats.specs.Kept.{IsTally}
+use Rattle.tw_stats.specs.Sums.{AddsUp}
 use Rattle.tw_replay_output.specs.declared.numbers.Counted.{Counted}
 use Rattle.tw_replay_output.specs.Replay.{ByOutcome, played_from}
 use Rattle.tw_replay_output.specs.Stuck.{IsReplayFrom}
@@ -20,7 +20,7 @@ IsShort event = size_of event ≤ greatest_budget
 abbrev pub AreShort : List Event → Type 0
 AreShort events = AllByRecursion IsShort events
 
--- holds if all events were executed and counted; or if one failed, and this is the reply
+-- holds if all events were executed, and their statistics add up; or if one failed, and this is the reply
 abbrev pub IsCounting : PlainView → List Event → Result Counted StoppedReply → Type 0
-IsCounting first events (Ok c) = IsReplayFrom first events c.replaying × IsTally first events c.replaying.plain.state c.stats_builder
+IsCounting first events (Ok c) = IsReplayFrom first events c.replaying × AddsUp c.stats
 IsCounting first events (Err r) = ByOutcome (run first.program first.layout events first.state) (λ s. ⊥) (reply r.text.items r.close ≡ played_from first events)

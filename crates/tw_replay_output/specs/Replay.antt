@@ -9,9 +9,6 @@ use Rattle.tw_types.specs.Layout.{ActorCounts}
 use Rattle.tw_types.specs.Outcome.{Outcome, Went, NotEnabled, Trap}
 use Rattle.tw_code.specs.declared.procedure.Procedure.{Procedure}
 use Rattle.tw_code.specs.format.Program.{Versioned}
-use Rattle.tw_code.specs.accepting.Flow.{flows}
-use Rattle.tw_code.specs.accepting.Walk.{IsBudget}
-use Rattle.tw_code.specs.accepting.WellTyped.{IsAccepted}
 use Rattle.tw_code.specs.machine.Ending as machine
 use Rattle.tw_code.specs.machine.Machine.{run, step}
 use Rattle.tw_code.specs.machine.Opening.{opening}
@@ -21,26 +18,18 @@ use Rattle.tw_bounds.specs.Runs.{instructions_in}
 use Rattle.tw_order.specs.declared.runs.Answer.{Answer}
 use Rattle.tw_order.specs.declared.runs.Answer.TheVariants.{Json, Numbers, Picture, Report}
 use Rattle.tw_order.specs.declared.runs.ReplayOrder.{ReplayOrder}
-use Rattle.tw_order.specs.declared.range.EventRange.{EventRange}
 use Rattle.tw_json_output.specs.Run.{json_line, run_json}
 use Rattle.tw_machine.specs.PlainView.{PlainView}
 use Rattle.tw_machine.specs.declared.rejection.OpenError.{OpenError}
 use Rattle.tw_machine.specs.declared.rejection.OpenError.TheVariants.{MainShape}
 use Rattle.tw_machine.specs.Opening.{open_error_code, rejection_of}
-use Rattle.tw_timeline.specs.declared.drawing.Drawing.{Drawing}
-use Rattle.tw_machine.specs.Moments.{history}
-use Rattle.tw_timeline.specs.History.{IsDrawing}
-use Rattle.tw_timeline.specs.Timeline.{picture_of}
-use Rattle.tw_timeline.specs.Places.{between}
-use Rattle.tw_timeline.specs.Xml.{xml_text}
-use Rattle.tw_symbols.specs.Symbols.{AreSymbols}
+use Rattle.tw_timeline.specs.Xml.{IsPrinted, IsXml}
 use Rattle.tw_report.specs.History.{IsTraceOf}
 use Rattle.tw_report.specs.Lines.{history_line, not_enabled_line, trap_line}
 use Rattle.tw_source.specs.Failure.{coded, failed_with, uncoded}
 use Rattle.tw_source.specs.declared.failure.Position.{Position}
 use Rattle.tw_source.specs.declared.failure.Position.TheVariants as position
 use Rattle.tw_report.specs.Report.{state_report}
-use Rattle.tw_stats.specs.Text.{AreNumbers}
 use Rattle.tw_replay_output.specs.Circle.{AreEndingDetails, Start, reached_from}
 use Rattle.tw_replay_output.specs.Opening.{AreOpeningDetails}
 use Rattle.tw_source.specs.Reply.{Reply, reply}
@@ -76,10 +65,9 @@ played_from first events = played first.program first.layout 1 events first.stat
 
 -- ---- the timeline
 
--- holds for the drawing of the events that lead to a state, as one text that shows some of them; the procedures have these names
-abbrev pub IsPicture : List (List ℕ) → EventRange → PlainView → List Event → State → Reply → Type 0
-IsPicture names shown first events s r =
-    (d : Drawing) × IsDrawing names first events s d × (r ≡ reply (xml_text (picture_of d (between shown.from shown.to))) (close_of (machine.ending s)))
+-- holds for a timeline of events that lead to a state: XML of printed bytes
+abbrev pub IsPicture : State → Reply → Type 0
+IsPicture s r = IsXml r.text × IsPrinted r.text × (r.close ≡ close_of (machine.ending s))
 
 -- holds by the outcome: `goes` if the events succeed, `stops` if one fails
 abbrev pub ByOutcome : Outcome State → (State → Type 0) → Type 0 → Type 0
@@ -88,31 +76,18 @@ ByOutcome NotEnabled goes stops = stops
 ByOutcome (Trap cause) goes stops = stops
 
 -- holds for their timeline, or for what `replay` prints
-abbrev pub IsDrawn : List (List ℕ) → EventRange → PlainView → List Event → Reply → Type 0
-IsDrawn names shown first events r = ByOutcome (run first.program first.layout events first.state) (λ s. IsPicture names shown first events s r) (r ≡ played_from first events)
+abbrev pub IsDrawn : PlainView → List Event → Reply → Type 0
+IsDrawn first events r = ByOutcome (run first.program first.layout events first.state) (λ s. IsPicture s r) (r ≡ played_from first events)
 
 -- ---- the statistics
 
--- holds for the budgets of the procedures, one each
-abbrev pub AreBudgets : List Procedure → List ℕ → Type 0
-AreBudgets [] [] = Unit {0}
-AreBudgets [] (budget ∷ budgets) = ⊥
-AreBudgets (p ∷ program) [] = ⊥
-AreBudgets (p ∷ program) (budget ∷ budgets) = IsBudget (flows p.code) budget × AreBudgets program budgets
-
--- holds for the budgets of a program that is accepted; those of no other one are known
-abbrev pub AreKnownBudgets : List Procedure → List ℕ → Type 0
-AreKnownBudgets program budgets = (IsAccepted program × AreBudgets program budgets) ⊎ ((IsAccepted program → ⊥) × (budgets ≡ []))
-
--- holds for the report of the state to which the events lead, followed by their statistics
-abbrev pub IsNumbered : List (List ℕ) → PlainView → List Event → State → Reply → Type 0
-IsNumbered names first events s r =
-    (budgets : List ℕ) × (text : List ℕ) × AreKnownBudgets first.program budgets × AreNumbers names first.program first.layout budgets (history first events) text
-    × (r ≡ reply (state_report first.program s ++ text) (close_of (machine.ending s)))
+-- holds for the report of the state to which events lead, followed by their statistics
+abbrev pub IsNumbered : List Procedure → State → Reply → Type 0
+IsNumbered program s r = (text : List ℕ) × (r ≡ reply (state_report program s ++ text) (close_of (machine.ending s)))
 
 -- holds for that, or for what `replay` prints
-abbrev pub IsCounted : List (List ℕ) → PlainView → List Event → Reply → Type 0
-IsCounted names first events r = ByOutcome (run first.program first.layout events first.state) (λ s. IsNumbered names first events s r) (r ≡ played_from first events)
+abbrev pub IsCounted : PlainView → List Event → Reply → Type 0
+IsCounted first events r = ByOutcome (run first.program first.layout events first.state) (λ s. IsNumbered first.program s r) (r ≡ played_from first events)
 
 -- ---- the JSON line
 
@@ -142,12 +117,11 @@ IsShownState first events r = ByOutcome (run first.program first.layout events f
 
 -- ---- an answer
 
--- holds for an answer, if the procedures have these names
-abbrev pub IsAnswer : List (List ℕ) → Answer → PlainView → List Event → Reply → Type 0
-IsAnswer names Report first events r = r ≡ played_from first events
-IsAnswer names Numbers first events r = IsCounted names first events r
-IsAnswer names Json first events r = IsShownState first events r
-IsAnswer names (Picture shown) first events r = IsDrawn names shown first events r
+abbrev pub IsAnswer : Answer → PlainView → List Event → Reply → Type 0
+IsAnswer Report first events r = r ≡ played_from first events
+IsAnswer Numbers first events r = IsCounted first events r
+IsAnswer Json first events r = IsShownState first events r
+IsAnswer (Picture shown) first events r = IsDrawn first events r
 
 -- ---- details of an answer, if the program was read from a text
 
@@ -185,10 +159,9 @@ abbrev pub IsDetailed : (Reply → Type 0) → Option (List ℕ) → Answer → 
 IsDetailed Answers text answer start events r =
     (answered : Reply) × (more : List ℕ) × Answers answered × AreAnswerDetails text answer start events more × (r ≡ reply (answered.text ++ more) answered.close)
 
--- holds for the answer, with the names of the text, followed by its details
+-- holds for the answer, followed by its details
 abbrev pub IsAnswered : Option (List ℕ) → ReplayOrder → Versioned → List Event → Reply → Type 0
-IsAnswered text order program events r =
-    (names : List (List ℕ)) × AreSymbols text names × IsDetailed (λ a. IsAnswer names order.answer (opened order program) events a) text order.answer (start_of order program) events r
+IsAnswered text order program events r = IsDetailed (λ a. IsAnswer order.answer (opened order program) events a) text order.answer (start_of order program) events r
 
 abbrev pub IsReplayed : Option (List ℕ) → ReplayOrder → Versioned → List Event → Reply → Type 0
 IsReplayed text order program events r =

@@ -105,6 +105,6 @@ AreStateDetails None start events s more = more ≡ []
 AreStateDetails (Some text) start events s more = AreEndingDetails text start events s (ending s) more
 
 -- holds for an answer to these events, followed by its details, for each start that opens this machine
-abbrev pub IsAnswerFrom : List (List ℕ) → Option SourceText → Answer → PlainView → List Event → Reply → Type 0
-IsAnswerFrom names source answer first events r =
-    (start : Start) → IsOpened start first → MayBeSource source start.program → IsDetailed (λ a. IsAnswer names answer first events a) (text_of source) answer start events r
+abbrev pub IsAnswerFrom : Option SourceText → Answer → PlainView → List Event → Reply → Type 0
+IsAnswerFrom source answer first events r =
+    (start : Start) → IsOpened start first → MayBeSource source start.program → IsDetailed (λ a. IsAnswer answer first events a) (text_of source) answer start events r

@@ -1,15 +1,13 @@
 //! Output of `picture`.
 
-ghost use Rattle.std.specs.Prelude.{◌≡◌, ◌≤◌, List, IfOk, length};
-ghost use Rattle.tw_types.specs.declared.event.Event.{Event as AnEvent};
+ghost use Rattle.std.specs.Prelude.{◌≤◌, IfOk, length};
 ghost use Rattle.tw_code.specs.machine.Bounds.{AreBelow, opening_bound};
-ghost use Rattle.tw_machine.specs.PlainView.{PlainView};
-ghost use Rattle.tw_timeline.specs.History.{HasFew, IsOpening, IsTrail};
 ghost use Rattle.tw_replay_output.specs.Counted.{AreShort};
 ghost use Rattle.tw_replay_output.specs.Replay.{IsDrawn, IsPicture};
 ghost use Rattle.tw_source.specs.Reply.{reply};
 
 use crate::replay::{close_of, stopped_reply};
+use crate::replaying::Replaying;
 use std::alloc::{AllocError, Global};
 use tw_machine::Plain;
 use tw_order::EventRange;
@@ -26,8 +24,7 @@ fn picture_reply(
     plain: &Plain,
     timeline_builder: TimelineBuilder,
 ) -> Result<Reply, AllocError>
-    requires { HasFew timeline_builder }
-    ensures { IfOk result (λ r. (first : PlainView) (events : List AnEvent) → plain.now ≡ record first { state = plain.now.state } → IsTrail first events plain.now.state timeline_builder → IsPicture names shown first events plain.now.state (reply r.text.items r.close)) }
+    ensures { IfOk result (λ r. IsPicture plain.now.state (reply r.text.items r.close)) }
 {
     let close = close_of(plain.ending());
     let drawing = timeline_builder.drawing(alloc, plain, names)?;
@@ -43,19 +40,18 @@ pub fn draw(
     first: Plain,
     events: &[Event],
 ) -> Result<Reply, AllocError>
-    requires opening { IsOpening first.state }
     requires below { AreBelow opening_bound first.state }
     requires sizes { AreShort events.now }
     requires few { length events.now ≤ 16777217 }
-    ensures { IfOk result (λ r. IsDrawn names shown first events.now (reply r.text.items r.close)) }
+    ensures { IfOk result (λ r. IsDrawn first events.now (reply r.text.items r.close)) }
 {
-    let mut plain = first;
+    let mut replaying = Replaying::new(alloc, first);
     let mut timeline_builder = TimelineBuilder::new(alloc);
     for (index, event) in events.iter().enumerate() {
-        match plain.step(alloc, *event) {
-            Ok(()) => timeline_builder.add_event(&plain, *event)?,
+        match replaying.step(alloc, *event) {
+            Ok(()) => timeline_builder.add_event(&replaying.plain, *event)?,
             Err(stopped) => return stopped_reply(alloc, stopped, index + 1),
         }
     }
-    picture_reply(alloc, shown, names, &plain, timeline_builder)
+    picture_reply(alloc, shown, names, &replaying.plain, timeline_builder)
 }

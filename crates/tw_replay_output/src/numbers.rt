@@ -1,13 +1,10 @@
 //! Output of `replay --stats`, and of `run --stats` about its events.
 
-ghost use Rattle.std.specs.Prelude.{◌≡◌, ◌≤◌, ◌++◌, List, IfOk, OnOk, length};
-ghost use Rattle.tw_types.specs.declared.event.Event.{Event as AnEvent};
+ghost use Rattle.std.specs.Prelude.{◌≡◌, ◌≤◌, ◌++◌, IfOk, OnOk, length};
 ghost use Rattle.tw_code.specs.machine.Bounds.{AreBelow, opening_bound};
-ghost use Rattle.tw_machine.specs.PlainView.{PlainView};
-ghost use Rattle.tw_stats.specs.Kept.{IsFirst, IsTally};
 ghost use Rattle.tw_order.specs.declared.runs.Answer.TheVariants.{Numbers};
 ghost use Rattle.tw_replay_output.specs.Counted.{AreShort, IsCounting};
-ghost use Rattle.tw_replay_output.specs.Replay.{AreBudgets, AreKnownBudgets, IsNumbered};
+ghost use Rattle.tw_replay_output.specs.Replay.{IsNumbered};
 ghost use Rattle.tw_replay_output.specs.Stuck.{IsAnswerFrom};
 ghost use Rattle.tw_source.specs.Reply.{reply};
 
@@ -19,7 +16,7 @@ use tw_code::Program;
 use tw_machine::Plain;
 use tw_report::report_state;
 use tw_source::{Reply, SourceText};
-use tw_stats::StatsBuilder;
+use tw_stats::{Stats, StatsBuilder};
 use tw_symbols::Symbols;
 use tw_types::Event;
 use tw_verify::{Verified, VerifyError, verify};
@@ -35,13 +32,11 @@ pub struct Budgeted {
 #[derive(Drop)]
 pub struct Counted {
     pub replaying: Replaying,
-    pub stats_builder: StatsBuilder,
+    pub stats: Stats,
 }
 
 /// Returns the budgets of the procedures, one each.
-pub fn budgets_of(alloc: Global, verified: &Verified) -> Result<Vec<u64>, AllocError>
-    ensures { IfOk result (λ budgets. AreBudgets verified.now.program budgets.items) }
-{
+pub fn budgets_of(alloc: Global, verified: &Verified) -> Result<Vec<u64>, AllocError> {
     let mut budgets = Vec::new(alloc);
     for number in 0..verified.program().procedures().len() {
         budgets.push(verified.budget(number))?;
@@ -51,8 +46,7 @@ pub fn budgets_of(alloc: Global, verified: &Verified) -> Result<Vec<u64>, AllocE
 
 /// Verifies a program, and returns it with its budgets. If it isn't accepted, there are none.
 pub fn with_budgets(alloc: Global, program: Program) -> Result<Budgeted, AllocError>
-    ensures program { IfOk result (λ b. b.program ≡ program) }
-    ensures budgets { IfOk result (λ b. AreKnownBudgets program.procedures b.budgets.items) }
+    ensures { IfOk result (λ b. b.program ≡ program) }
 {
     match verify(alloc, program) {
         Ok(verified) => {
@@ -83,16 +77,15 @@ pub fn put_bytes(out: &mut Vec<u8>, bytes: &[u8]) -> Result<(), AllocError>
 fn numbers_reply(
     alloc: Global,
     plain: &Plain,
-    stats_builder: &StatsBuilder,
+    stats: &Stats,
     names: &Symbols,
     budgets: &[u64],
 ) -> Result<Reply, AllocError>
-    requires { AreKnownBudgets plain.now.program budgets.now }
-    ensures { IfOk result (λ r. (first : PlainView) (events : List AnEvent) → plain.now ≡ record first { state = plain.now.state } → IsTally first events plain.now.state stats_builder.now → IsNumbered names.now first events plain.now.state (reply r.text.items r.close)) }
+    ensures { IfOk result (λ r. IsNumbered plain.now.program plain.now.state (reply r.text.items r.close)) }
 {
     let close = close_of(plain.ending());
     let mut text = report_state(alloc, plain)?;
-    let numbers = stats_builder.text(alloc, plain, names, budgets)?;
+    let numbers = stats.text(alloc, plain, names, budgets)?;
     put_bytes(&mut text, &numbers)?;
     Ok(Reply { text, close })
 }
@@ -103,7 +96,6 @@ pub fn count(
     first: Plain,
     events: &[Event],
 ) -> Result<Result<Counted, Reply>, AllocError>
-    requires opening { IsFirst first.state }
     requires below { AreBelow opening_bound first.state }
     requires sizes { AreShort events.now }
     requires few { length events.now ≤ 16777217 }
@@ -123,7 +115,7 @@ pub fn count(
     }
     Ok(Ok(Counted {
         replaying,
-        stats_builder,
+        stats: stats_builder.finish(),
     }))
 }
 
@@ -136,19 +128,17 @@ pub fn counted_reply(
     names: &Symbols,
     budgets: &[u64],
 ) -> Result<Reply, AllocError>
-    requires known { AreKnownBudgets first.program budgets.now }
-    requires opening { IsFirst first.state }
     requires below { AreBelow opening_bound first.state }
     requires sizes { AreShort events.now }
     requires few { length events.now ≤ 16777217 }
-    ensures { IfOk result (λ r. IsAnswerFrom names.now source.now Numbers first events.now (reply r.text.items r.close)) }
+    ensures { IfOk result (λ r. IsAnswerFrom source.now Numbers first events.now (reply r.text.items r.close)) }
 {
     match count(alloc, first, events)? {
         Ok(counted) => {
             let answered = numbers_reply(
                 alloc,
                 &counted.replaying.plain,
-                &counted.stats_builder,
+                &counted.stats,
                 names,
                 budgets,
             )?;

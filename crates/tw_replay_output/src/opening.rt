@@ -1,17 +1,13 @@
 //! Finds why a program isn't opened with these inputs.
 
-ghost use Rattle.std.specs.Prelude.{◌≡◌, ◌<◌, ◌+◌, ◌++◌, ℕ, List, IfOk, MatchOption, OnOk, Some, codes, decimal, false, length, take, true};
-ghost use Rattle.tw_types.specs.DataType.{is_map};
-ghost use Rattle.tw_types.specs.Given.{given_by, members_by};
-ghost use Rattle.tw_code.specs.machine.Inputs.{has_fitting_inputs, rises};
-ghost use Rattle.tw_code.specs.machine.Opening.{main_params};
-ghost use Rattle.tw_diagnostics.specs.Words.{type_text};
-ghost use Rattle.tw_replay_output.specs.Opening.{AreOpeningDetails, PrintsInputs, PrintsUnfit, count_line, counts_line, excess_text, has_twice, has_twice_after, many_given, members_text, such_text, type_given, unfit_text};
-ghost use Rattle.tw_source.specs.Examples.{example_word};
+ghost use Rattle.std.specs.Prelude.{◌≡◌, ◌++◌, ℕ, List, IfOk, MatchOption, false, true};
+ghost use Rattle.tw_code.specs.machine.Inputs.{has_fitting_inputs};
+ghost use Rattle.tw_replay_output.specs.Opening.{AreOpeningDetails, IsFirstUnfit, IsUnfitAt, IsWrongInput};
 ghost use Rattle.tw_source.specs.Failure.{coded, failed_with};
 ghost use Rattle.tw_source.specs.Reply.{reply};
 ghost use Rattle.tw_source.specs.Source.{text_of};
 
+use crate::numbers::put_bytes;
 use std::alloc::{AllocError, Global};
 use tw_code::{
     MAX_ENTRIES, MAX_MEMBERS, Procedure, has_fitting_inputs, has_input_count, input_count,
@@ -25,9 +21,7 @@ use tw_source::{
 use tw_types::{AsValue, DataType, Input, Param, Scalar};
 
 /// Adds words that encode the inputs of these parameters, if some take one.
-fn put_such(out: &mut Vec<u8>, params: &[Param]) -> Result<(), AllocError>
-    ensures { OnOk result (out.new.items ≡ out.old.items ++ such_text params.now) }
-{
+fn put_such(out: &mut Vec<u8>, params: &[Param]) -> Result<(), AllocError> {
     if input_count(params) == 0 {
         return Ok(());
     }
@@ -41,32 +35,16 @@ fn put_counts(
     out: &mut Vec<u8>,
     given: usize,
     params: &[Param],
-) -> Result<(), AllocError>
-    ensures { OnOk result (out.new.items ≡ out.old.items ++ counts_line given params.now) }
-{
+) -> Result<(), AllocError> {
     put_numbered(alloc, out, "inputs given: ", given)?;
     put_numbered(alloc, out, ", required: ", input_count(params))?;
     put_such(out, params)?;
     put(out, "\n")
 }
 
-/// Adds the line on how many inputs are given and required.
-fn put_count_line(
-    alloc: Global,
-    out: &mut Vec<u8>,
-    program: &[Procedure],
-    inputs: &[Input],
-) -> Result<(), AllocError>
-    ensures { OnOk result (out.new.items ≡ out.old.items ++ count_line program.now inputs.now) }
-{
-    put_counts(alloc, out, inputs.len(), main_params(program))
-}
-
 /// Returns the type of members with these subscripts, for a parameter of type `asked`: a map if that is one, else a container. There always
 /// is one.
-fn many_given(asked: DataType, by: Scalar, scalar: Scalar) -> Option<DataType>
-    ensures { result ≡ Some (many_given asked by scalar) }
-{
+fn many_given(asked: DataType, by: Scalar, scalar: Scalar) -> Option<DataType> {
     if !asked.is_map() {
         DataType::from(scalar).container(by)
     } else if asked.has_sums() && scalar == Scalar::Int {
@@ -77,9 +55,7 @@ fn many_given(asked: DataType, by: Scalar, scalar: Scalar) -> Option<DataType>
 }
 
 /// Returns the type of an input for a parameter of type `asked`. There always is one.
-fn type_given(asked: DataType, input: &Input) -> Option<DataType>
-    ensures { result ≡ Some (type_given asked (given_by input.now)) }
-{
+fn type_given(asked: DataType, input: &Input) -> Option<DataType> {
     match input {
         Input::Int(_) => Some(DataType::int()),
         Input::Text(_) => Some(DataType::text()),
@@ -91,9 +67,7 @@ fn type_given(asked: DataType, input: &Input) -> Option<DataType>
 }
 
 /// Like `has_twice`, after a subscript.
-fn has_twice_after<K: AsValue, V: AsValue>(first: &K, members: &[(K, V)]) -> bool
-    ensures { result ≡ has_twice_after (K.value first.now) (members_by K.value V.value members.now) }
-{
+fn has_twice_after<K: AsValue, V: AsValue>(first: &K, members: &[(K, V)]) -> bool {
     let mut before = first;
     for (subscript, _) in members {
         if !before.as_value().is_before(subscript.as_value()) {
@@ -105,9 +79,7 @@ fn has_twice_after<K: AsValue, V: AsValue>(first: &K, members: &[(K, V)]) -> boo
 }
 
 /// Returns whether the first subscript that isn't greater than the one before is the same.
-fn has_twice<K: AsValue, V: AsValue>(members: &[(K, V)]) -> bool
-    ensures { result ≡ has_twice (members_by K.value V.value members.now) }
-{
+fn has_twice<K: AsValue, V: AsValue>(members: &[(K, V)]) -> bool {
     match members.split_first() {
         Some((first, others)) => has_twice_after(&first.0, others),
         None => false,
@@ -115,9 +87,7 @@ fn has_twice<K: AsValue, V: AsValue>(members: &[(K, V)]) -> bool
 }
 
 /// Returns the limit that the members of a container or the values of a map exceed.
-fn members_text<K: AsValue, V: AsValue>(asked: DataType, members: &[(K, V)]) -> &'static str
-    ensures { result.now ≡ members_text (is_map asked) (members_by K.value V.value members.now) }
-{
+fn members_text<K: AsValue, V: AsValue>(asked: DataType, members: &[(K, V)]) -> &'static str {
     if asked.is_map() && members.len() > MAX_ENTRIES {
         " has more than 100000 values\n"
     } else if !asked.is_map() && members.len() > MAX_MEMBERS {
@@ -132,9 +102,7 @@ fn members_text<K: AsValue, V: AsValue>(asked: DataType, members: &[(K, V)]) -> 
 }
 
 /// Returns the limit that is exceeded by an input of its parameter's type.
-fn excess_text(asked: DataType, input: &Input) -> &'static str
-    ensures { result.now ≡ excess_text (is_map asked) (given_by input.now) }
-{
+fn excess_text(asked: DataType, input: &Input) -> &'static str {
     match input {
         Input::Int(_) | Input::Text(_) => " is a text of more than 4096 bytes\n",
         Input::Ints(members) => members_text(asked, members.as_slice()),
@@ -145,9 +113,7 @@ fn excess_text(asked: DataType, input: &Input) -> &'static str
 }
 
 /// Adds what type an input has, which one is required, and a word for one of that.
-fn put_types(out: &mut Vec<u8>, given: DataType, asked: DataType) -> Result<(), AllocError>
-    ensures { OnOk result (out.new.items ≡ out.old.items ++ (codes " is " ++ (type_text given ++ (codes ", required: " ++ (type_text asked ++ (codes ", such as " ++ (example_word asked ++ codes "\n"))))))) }
-{
+fn put_types(out: &mut Vec<u8>, given: DataType, asked: DataType) -> Result<(), AllocError> {
     put(out, " is ")?;
     put_type(out, given)?;
     put(out, ", required: ")?;
@@ -158,9 +124,7 @@ fn put_types(out: &mut Vec<u8>, given: DataType, asked: DataType) -> Result<(), 
 }
 
 /// Adds why an input doesn't fit its parameter.
-fn put_unfit_text(out: &mut Vec<u8>, asked: DataType, input: &Input) -> Result<(), AllocError>
-    ensures { OnOk result (out.new.items ≡ out.old.items ++ unfit_text asked (given_by input.now)) }
-{
+fn put_unfit_text(out: &mut Vec<u8>, asked: DataType, input: &Input) -> Result<(), AllocError> {
     match type_given(asked, input) {
         Some(given) => {
             if asked == given {
@@ -175,10 +139,7 @@ fn put_unfit_text(out: &mut Vec<u8>, asked: DataType, input: &Input) -> Result<(
 
 /// Returns how many inputs precede the first that doesn't fit its parameter, if one doesn't.
 pub fn first_unfit(program: &[Procedure], inputs: &[Input]) -> Option<usize>
-    ensures { MatchOption result
-        (has_fitting_inputs program.now inputs.now ≡ true)
-        (λ index. (index < length inputs.now) × (has_fitting_inputs program.now (take index inputs.now) ≡ true)
-        × (has_fitting_inputs program.now (take (index + 1) inputs.now) ≡ false)) }
+    ensures { MatchOption result (has_fitting_inputs program.now inputs.now ≡ true) (IsFirstUnfit program.now inputs.now) }
 {
     for index in 0..inputs.len() {
         if !has_fitting_inputs(program, &inputs[..index + 1]) {
@@ -188,47 +149,69 @@ pub fn first_unfit(program: &[Procedure], inputs: &[Input]) -> Option<usize>
     None
 }
 
-/// Adds the first input that doesn't fit its parameter, and returns which it is.
-fn put_unfit(
+/// Adds how many inputs are given and required; or why the one at a position doesn't fit its parameter.
+fn put_reason(
     alloc: Global,
     out: &mut Vec<u8>,
     program: &[Procedure],
     inputs: &[Input],
-) -> Result<Position, AllocError>
-    ensures { IfOk result (λ at. has_fitting_inputs program.now inputs.now ≡ false
-        → (text : List ℕ) × PrintsUnfit program.now inputs.now at text × (out.new.items ≡ out.old.items ++ text)) }
-{
-    let Some(index) = first_unfit(program, inputs) else {
-        return Ok(Position::Nowhere);
+    at: Position,
+) -> Result<(), AllocError> {
+    let params = main_params(program);
+    if !has_input_count(program, inputs) {
+        return put_counts(alloc, out, inputs.len(), params);
+    }
+    let Position::Input(number) = at else {
+        return Ok(());
     };
-    let Some(param) = input_param(main_params(program), index) else {
-        return Ok(Position::Nowhere);
+    let index = number.saturating_sub(1);
+    let Some(param) = input_param(params, index) else {
+        return Ok(());
     };
     let Some(input) = inputs.get(index) else {
-        return Ok(Position::Nowhere);
+        return Ok(());
     };
-    put_numbered(alloc, out, "input ", index + 1)?;
-    put_unfit_text(out, param.ty, input)?;
-    Ok(Position::Input(index + 1))
+    put_numbered(alloc, out, "input ", number)?;
+    put_unfit_text(out, param.ty, input)
 }
 
-/// Adds why these inputs aren't those that main takes, if they aren't. Returns which input is wrong.
+/// Returns the position of the first input that doesn't fit its parameter.
+fn unfit_position(program: &[Procedure], inputs: &[Input]) -> Position
+    ensures { has_fitting_inputs program.now inputs.now ≡ false → IsUnfitAt program.now inputs.now result }
+{
+    match first_unfit(program, inputs) {
+        Some(index) => Position::Input(index + 1),
+        None => Position::Nowhere,
+    }
+}
+
+/// Returns the position of the wrong input, if there are as many as main takes and one is wrong.
+fn wrong_input(program: &[Procedure], inputs: &[Input]) -> Position
+    ensures { IsWrongInput program.now inputs.now result }
+{
+    if !has_input_count(program, inputs) {
+        Position::Nowhere
+    } else if has_fitting_inputs(program, inputs) {
+        Position::Nowhere
+    } else {
+        unfit_position(program, inputs)
+    }
+}
+
+/// Adds why these inputs aren't those that main takes, if they aren't, and returns which input is wrong.
 fn put_inputs_diagnostic(
     alloc: Global,
     out: &mut Vec<u8>,
     program: &[Procedure],
     inputs: &[Input],
 ) -> Result<Position, AllocError>
-    ensures { IfOk result (λ at. (text : List ℕ) × PrintsInputs program.now inputs.now at text × (out.new.items ≡ out.old.items ++ text)) }
+    ensures { IfOk result (λ at. (more : List ℕ) × IsWrongInput program.now inputs.now at × (out.new.items ≡ out.old.items ++ more)) }
 {
-    if !has_input_count(program, inputs) {
-        put_count_line(alloc, out, program, inputs)?;
-        Ok(Position::Nowhere)
-    } else if has_fitting_inputs(program, inputs) {
-        Ok(Position::Nowhere)
-    } else {
-        put_unfit(alloc, out, program, inputs)
-    }
+    let at = wrong_input(program, inputs);
+    let mut reason = Vec::new(alloc);
+    put_reason(alloc, &mut reason, program, inputs, at)?;
+    put_bytes(out, &reason)?;
+    Ok(at)
 }
 
 /// Adds the details of a failed opening, and returns which input is wrong. Without a text there are none.

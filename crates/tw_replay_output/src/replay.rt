@@ -1,10 +1,9 @@
 //! Output of `replay` and `picture`.
 
-ghost use Rattle.std.specs.Prelude.{◌≡◌, ◌≤◌, [], IfOk, length};
+ghost use Rattle.std.specs.Prelude.{◌≡◌, ◌≤◌, IfOk, length};
 ghost use Rattle.tw_code.specs.machine.Bounds.{AreBelow, opening_bound};
 ghost use Rattle.tw_code.specs.machine.State.{State};
 ghost use Rattle.tw_instr.specs.Attempts.{IsStopped};
-ghost use Rattle.tw_timeline.specs.History.{IsOpening};
 ghost use Rattle.tw_report.specs.History.{lines_in};
 ghost use Rattle.tw_report.specs.Lines.{history_line, not_enabled_line, trap_line};
 ghost use Rattle.tw_types.specs.Cause.{cause_number};
@@ -14,9 +13,8 @@ ghost use Rattle.tw_replay_output.specs.Stuck.{IsAnswerFrom};
 ghost use Rattle.tw_source.specs.Failure.{coded, uncoded};
 ghost use Rattle.tw_source.specs.declared.failure.Position.TheVariants as position;
 ghost use Rattle.tw_source.specs.Source.{MayBeSource, text_of};
-ghost use Rattle.tw_stats.specs.Kept.{IsFirst};
-ghost use Rattle.tw_order.specs.declared.runs.Answer.TheVariants.{Numbers, Report};
-ghost use Rattle.tw_replay_output.specs.Replay.{AreKnownBudgets, ByOutcome, IsReplayed, RepliesByLines, after_event, close_of, state_reply};
+ghost use Rattle.tw_order.specs.declared.runs.Answer.TheVariants.{Report};
+ghost use Rattle.tw_replay_output.specs.Replay.{ByOutcome, IsReplayed, RepliesByLines, after_event, close_of, state_reply};
 ghost use Rattle.tw_source.specs.Reply.{Reply as AReply, reply};
 
 use crate::drawn::draw;
@@ -97,7 +95,7 @@ fn report_reply(
     requires below { AreBelow opening_bound first.state }
     requires sizes { AreShort events.now }
     requires few { length events.now ≤ 16777217 }
-    ensures { IfOk result (λ r. IsAnswerFrom [] source.now Report first events.now (reply r.text.items r.close)) }
+    ensures { IfOk result (λ r. IsAnswerFrom source.now Report first events.now (reply r.text.items r.close)) }
 {
     match play(alloc, first, events)? {
         Ok(replaying) => {
@@ -118,13 +116,10 @@ fn answer_of(
     events: &[Event],
     budgets: &[u64],
 ) -> Result<Reply, AllocError>
-    requires known { answer ≡ Numbers → AreKnownBudgets first.program budgets.now }
-    requires opening { IsOpening first.state }
-    requires numbers { IsFirst first.state }
     requires below { AreBelow opening_bound first.state }
     requires sizes { AreShort events.now }
     requires few { length events.now ≤ 16777217 }
-    ensures { IfOk result (λ r. IsAnswerFrom names source.now answer first events.now (reply r.text.items r.close)) }
+    ensures { IfOk result (λ r. IsAnswerFrom source.now answer first events.now (reply r.text.items r.close)) }
 {
     match answer {
         Answer::Report => report_reply(alloc, source, first, events),
@@ -136,8 +131,7 @@ fn answer_of(
 
 /// Returns the program, with the budgets of its procedures if statistics are requested.
 fn budgeted_for(alloc: Global, answer: Answer, program: Program) -> Result<Budgeted, AllocError>
-    ensures program { IfOk result (λ b. b.program ≡ program) }
-    ensures budgets { IfOk result (λ b. answer ≡ Numbers → AreKnownBudgets program.procedures b.budgets.items) }
+    ensures { IfOk result (λ b. b.program ≡ program) }
 {
     match answer {
         Answer::Numbers => with_budgets(alloc, program),
@@ -158,7 +152,6 @@ fn opened_reply(
     budgets: &[u64],
 ) -> Result<Reply, AllocError>
     requires source { MayBeSource source.now program.procedures }
-    requires known { order.now.answer ≡ Numbers → AreKnownBudgets program.procedures budgets.now }
     requires sizes { AreShort events.now }
     requires few { length events.now ≤ 16777217 }
     ensures { IfOk result (λ r. IsReplayed (text_of source.now) order.now program events.now (reply r.text.items r.close)) }

@@ -6,10 +6,9 @@ ghost use Rattle.tw_code.specs.machine.Bounds.{AreBelow, opening_bound};
 ghost use Rattle.tw_source.specs.Reply.{reply};
 ghost use Rattle.tw_replay_output.specs.Counted.{AreShort};
 ghost use Rattle.tw_replay_output.specs.Replay.{IsShownState, pending_of, shown_state, state_line, status_of};
-ghost use Rattle.tw_stats.specs.Kept.{IsFirst};
 
-use crate::numbers::count;
 use crate::replay::close_of;
+use crate::replaying::play;
 use std::alloc::{AllocError, Global};
 use tw_json_output::{RunEnd, RunNumbers, run_line};
 use tw_machine::Plain;
@@ -91,14 +90,13 @@ fn shown_state(alloc: Global, plain: &Plain, events: &[Event]) -> Result<Reply, 
 
 /// Returns the JSON line of the state to which the events lead, or the reply to the first event that isn't enabled or traps.
 pub fn json_reply(alloc: Global, first: Plain, events: &[Event]) -> Result<Reply, AllocError>
-    requires opening { IsFirst first.state }
     requires below { AreBelow opening_bound first.state }
     requires sizes { AreShort events.now }
     requires few { length events.now ≤ 16777217 }
     ensures { IfOk result (λ r. IsShownState first events.now (reply r.text.items r.close)) }
 {
-    match count(alloc, first, events)? {
-        Ok(counted) => shown_state(alloc, &counted.replaying.plain, events),
+    match play(alloc, first, events)? {
+        Ok(replaying) => shown_state(alloc, &replaying.plain, events),
         Err(reply) => Ok(reply),
     }
 }

@@ -14,5 +14,5 @@ end_order_fine closing None ms before = by (is_cut closing)
   where
     by : (b : Bool) → members_have_float (json.put (codes "order") (if b then json.null else order_json None) ms) ≡ false
     by true = one_more (codes "order") json.null ms refl before
-    by false = order_fine (Some None) ms before
-end_order_fine closing (Some at) ms before = order_fine (Some (Some at)) ms before
+    by false = order_fine None ms before
+end_order_fine closing (Some at) ms before = order_fine (Some at) ms before

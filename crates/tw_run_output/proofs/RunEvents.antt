@@ -17,13 +17,6 @@ use Rattle.tw_soundness.specs.Invariant.{IsHeld}
 use Rattle.tw_soundness.specs.NoTrap.{AreRight}
 use Rattle.tw_soundness.proofs.Along.{event_small}
 use Rattle.tw_soundness.proofs.Safe.{kept_by, opened_held}
-use Rattle.tw_machine.specs.Moments.{history}
-use Rattle.tw_code.specs.declared.version.Version.{Version}
-use Rattle.tw_timeline.specs.declared.drawing.Drawing.{Drawing}
-use Rattle.tw_timeline.specs.History.{IsDrawing}
-use Rattle.tw_stats.specs.declared.stats_builder.StatsBuilder.{StatsBuilder}
-use Rattle.tw_stats.specs.Kept.{IsTally}
-use Rattle.tw_stats.specs.Text.{AreNumbers}
 use Rattle.tw_replay_output.specs.Replay.{ByOutcome}
 
 -- ---- the events of a trace
@@ -67,26 +60,3 @@ pub goes_there : (program : List Procedure) (order : RunOrder) (first : PlainVie
     → run first.program first.layout read first.state ≡ Went s
 goes_there program order first read events s same all goes =
     ap (λ (v : PlainView). run v.program v.layout read v.state) same ∙ ap (λ (es : List Event). reached program order.inputs order.options.layout es) all ∙ goes
-
--- the statistics of the events that were read are those of the run's events
-pub numbers_there : (names : List (List ℕ)) (first begin : PlainView) (read events : List Event) (plain : PlainView) (t : StatsBuilder) (budgets text : List ℕ) → first ≡ begin → read ≡ events → plain ≡ record first { state = plain.state } → IsTally first read plain.state t
-    → ((v : PlainView) (es : List Event) → plain ≡ record v { state = plain.state } → IsTally v es plain.state t → AreNumbers names v.program v.layout budgets (history v es) text) → AreNumbers names begin.program begin.layout budgets (history begin events) text
-numbers_there names first begin read events plain t budgets text same all stays stats_builder prints =
-    subst (λ (v : PlainView). AreNumbers names v.program v.layout budgets (history v events) text) same
-    (subst (λ (es : List Event). AreNumbers names first.program first.layout budgets (history first es) text) all (prints first read stays stats_builder))
-
--- a drawing doesn't depend on the version of the format
-pub other_version : (names : List (List ℕ)) (v w : Version) (program : List Procedure) (order : RunOrder) (events : List Event) (s : State) (d : Drawing) → IsDrawing names (begins v program order) events s d
-    → IsDrawing names (begins w program order) events s d
-other_version names v w program order events s d h = record {
-  layout = h.layout;
-  names_are = h.names_are;
-  count = h.count;
-  marks = h.marks;
-  bars = h.bars;
-  threads = h.threads;
-  closing = h.closing;
-  waits = h.waits;
-  arrows = h.arrows;
-  rules = h.rules;
-}

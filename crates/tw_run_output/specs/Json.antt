@@ -1,5 +1,5 @@
 -- The JSON line of a finished run.
-use Rattle.std.specs.Prelude.{◌≡◌, ℕ, List, length, codes, Option, Some, None}
+use Rattle.std.specs.Prelude.{◌≡◌, ◌+◌, ℕ, List, length, codes, Option, Some, None}
 use Rattle.serde_json.specs.Data as json
 use Rattle.tw_types.specs.declared.event.Event.{Event}
 use Rattle.tw_types.specs.declared.pending.Link.{Link}
@@ -34,18 +34,26 @@ circle_in program s (Stuck rules) = circle program s
 circle_in program s Stopped = None
 circle_in program s Limit = None
 
--- return the members of the object of a run that has ended in this state, and the object's line
-abbrev pub members_of : List Procedure → List Event → State → Closing → json.Members
-members_of program events s closing =
-    end_members (status_of closing) (pending_of closing) (circle_in program s closing) (length events) (instructions_in events) s.store.live s.outputs
+-- returns the local instructions of tasks that were cut off, if the run ended by a stop
+abbrev pub cut_at : Closing → ℕ → ℕ
+cut_at Quiet cut = 0
+cut_at (Stuck rules) cut = 0
+cut_at Stopped cut = cut
+cut_at Limit cut = 0
 
-abbrev pub run_line : List Procedure → List Event → State → Closing → List ℕ
-run_line program events s closing = json_line (json.object (members_of program events s closing))
+-- return the members of the object of a run that has ended in this state, and the object's line. Its instructions are those of the events, and
+-- those of tasks that were cut off.
+abbrev pub members_of : List Procedure → List Event → ℕ → State → Closing → json.Members
+members_of program events cut s closing =
+    end_members (status_of closing) (pending_of closing) (circle_in program s closing) (length events) (instructions_in events + cut_at closing cut) s.store.live s.outputs
+
+abbrev pub run_line : List Procedure → List Event → ℕ → State → Closing → List ℕ
+run_line program events cut s closing = json_line (json.object (members_of program events cut s closing))
 
 -- holds for the members of this end of a run
-abbrev pub AreEndMembers : FinalView → List Event → Closing → json.Members → Type 0
-AreEndMembers final events closing members = InEachState final (λ program s. members ≡ members_of program events s closing)
+abbrev pub AreEndMembers : FinalView → List Event → ℕ → Closing → json.Members → Type 0
+AreEndMembers final events cut closing members = InEachState final (λ program s. members ≡ members_of program events cut s closing)
 
 -- holds for the line of this end of a run
-abbrev pub IsEndLine : FinalView → List Event → Closing → List ℕ → Type 0
-IsEndLine final events closing line = InEachState final (λ program s. line ≡ run_line program events s closing)
+abbrev pub IsEndLine : FinalView → List Event → ℕ → Closing → List ℕ → Type 0
+IsEndLine final events cut closing line = InEachState final (λ program s. line ≡ run_line program events cut s closing)

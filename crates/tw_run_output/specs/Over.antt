@@ -32,8 +32,8 @@ pub record IsRunOver (program : List Procedure) (order : RunOrder) (final : Fina
   pub few : length events ≤ order.options.limit
   pub reaches : reached program order.inputs order.options.layout events ≡ Went state
   pub reports : (printed : List ℕ) → IsReportAs final (Some closing) printed → printed ≡ end_report program state (Some closing)
-  pub members : (found : json.Members) → AreEndMembers final events closing found → found ≡ members_of program events state closing
-  pub shows : (line : List ℕ) → IsEndLine final events closing line → line ≡ run_line program events state closing
+  pub members : (cut : ℕ) (found : json.Members) → AreEndMembers final events cut closing found → found ≡ members_of program events cut state closing
+  pub shows : (cut : ℕ) (line : List ℕ) → IsEndLine final events cut closing line → line ≡ run_line program events cut state closing
 
 -- returns the text of the program, if it was read from one and the run is stuck
 abbrev pub stuck_source : Option SourceText → Closing → Option SourceText

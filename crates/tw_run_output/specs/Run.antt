@@ -14,16 +14,8 @@ use Rattle.tw_pool.specs.declared.answer.Closing.TheVariants.{Quiet, Stuck, Stop
 use Rattle.tw_order.specs.declared.runs.RunAnswer.{RunAnswer}
 use Rattle.tw_order.specs.declared.runs.RunAnswer.TheVariants.{Json, Numbers, Order, OrderJson, Picture, Report}
 use Rattle.tw_order.specs.declared.runs.RunOrder.{RunOrder}
-use Rattle.tw_order.specs.declared.range.EventRange.{EventRange}
 use Rattle.tw_machine.specs.PlainView.{PlainView}
-use Rattle.tw_timeline.specs.declared.drawing.Drawing.{Drawing}
-use Rattle.tw_machine.specs.Moments.{history}
-use Rattle.tw_timeline.specs.History.{IsDrawing}
-use Rattle.tw_timeline.specs.Timeline.{picture_of}
-use Rattle.tw_timeline.specs.Places.{between}
-use Rattle.tw_timeline.specs.Xml.{xml_text}
-use Rattle.tw_symbols.specs.Symbols.{AreSymbols}
-use Rattle.tw_stats.specs.Text.{AreNumbers}
+use Rattle.tw_timeline.specs.Xml.{IsPrinted, IsXml}
 use Rattle.tw_report.specs.Events.{event_line}
 use Rattle.tw_run_output.specs.Ends.{end_report}
 use Rattle.tw_run_output.specs.Json.{members_of, run_line}
@@ -31,7 +23,6 @@ use Rattle.tw_run_output.specs.EventOrder.{IsOrderText, order_line}
 use Rattle.tw_source.specs.declared.close.Close.{Close}
 use Rattle.tw_source.specs.declared.close.Close.TheVariants as close
 use Rattle.tw_replay_output.specs.Circle.{Start, PrintsCircle}
-use Rattle.tw_replay_output.specs.Replay.{AreBudgets}
 
 -- returns the lines of the run's events, if they are requested
 abbrev pub trace_text : Bool → List Event → List ℕ
@@ -60,28 +51,17 @@ run_report text program order s closing = end_report program s (Some closing) ++
 abbrev pub begins : Version → List Procedure → RunOrder → PlainView
 begins version program order = record { version = version; program = program; layout = order.options.layout; state = opening program order.inputs }
 
--- holds if these are the statistics of the run's events, with these names of procedures; they are the same in each version of the format
-abbrev pub AreRunNumbers : List (List ℕ) → List Procedure → RunOrder → List Event → List ℕ → Type 0
-AreRunNumbers names program order events text =
-    (version : Version) → (budgets : List ℕ) × AreBudgets program budgets × AreNumbers names program order.options.layout budgets (history (begins version program order) events) text
-
--- holds if this is the timeline of the events in this range; it is the same in each version, too
-abbrev pub IsRunPicture : List (List ℕ) → EventRange → List Procedure → RunOrder → List Event → State → List ℕ → Type 0
-IsRunPicture names shown program order events s text =
-    (version : Version) → (d : Drawing) × IsDrawing names (begins version program order) events s d × (text ≡ xml_text (picture_of d (between shown.from shown.to)))
-
--- holds if this is the requested output, with the names of the text: the report, also with statistics or the order, a JSON line, or a timeline
+-- holds if this is the requested output: the report, also with statistics or the order, a JSON line, or a timeline, which is XML of printed bytes
 abbrev pub IsRunText : RunAnswer → Option (List ℕ) → List Procedure → RunOrder → List Event → State → Closing → List ℕ → Type 0
 IsRunText Report text program order events s closing printed = printed ≡ run_report text program order s closing
-IsRunText Json text program order events s closing printed = printed ≡ run_line program events s closing
+IsRunText Json text program order events s closing printed = (cut : ℕ) × (printed ≡ run_line program events cut s closing)
 IsRunText Order text program order events s closing printed =
     (found : Option CopyInsertion) × (lines : List ℕ) × IsFirstContest program order.inputs order.options.layout events found × IsOrderText text closing found lines × (printed ≡ run_report text program order s closing ++ lines)
 IsRunText OrderJson text program order events s closing printed =
-    (found : Option CopyInsertion) × IsFirstContest program order.inputs order.options.layout events found × (printed ≡ order_line closing found (members_of program events s closing))
+    (found : Option CopyInsertion) × (cut : ℕ) × IsFirstContest program order.inputs order.options.layout events found × (printed ≡ order_line closing found (members_of program events cut s closing))
 IsRunText Numbers text program order events s closing printed =
-    (names : List (List ℕ)) × (numbers : List ℕ) × AreSymbols text names × AreRunNumbers names program order events numbers × (printed ≡ run_report text program order s closing ++ numbers)
-IsRunText (Picture shown) text program order events s closing printed =
-    (names : List (List ℕ)) × AreSymbols text names × IsRunPicture names shown program order events s printed
+    (numbers : List ℕ) × (printed ≡ run_report text program order s closing ++ numbers)
+IsRunText (Picture shown) text program order events s closing printed = IsXml printed × IsPrinted printed
 
 -- returns the start of the run
 abbrev pub start_of : List Procedure → RunOrder → Start

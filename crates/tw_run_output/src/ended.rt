@@ -15,8 +15,8 @@ ghost use Rattle.tw_run_output.specs.EventOrder.{order_line};
 ghost use Rattle.tw_run_output.specs.Json.{AreEndMembers, IsEndLine};
 ghost use Rattle.tw_run_output.specs.Over.{IsBegun, IsFinished, IsRunOver};
 ghost use Rattle.tw_source.specs.Reply.{reply};
-ghost use Rattle.tw_run_output.specs.Run.{AreReportedDetails, AreRunDetails, AreRunNumbers, IsRunOutput, IsRunPicture, IsRunText, begins, close_of, limit_details, trace_text};
-ghost use Rattle.tw_symbols.specs.Symbols.{AreSymbols};
+ghost use Rattle.tw_run_output.specs.Run.{AreReportedDetails, AreRunDetails, IsRunOutput, IsRunText, begins, close_of, limit_details, trace_text};
+ghost use Rattle.tw_timeline.specs.Xml.{IsPrinted, IsXml};
 ghost use Rattle.tw_source.specs.Source.{MayBeSource, text_of};
 
 use crate::end_report::report_as;
@@ -166,8 +166,7 @@ fn put_run_numbers(
     requires finished { IsFinished verified.program order.now history.now.events }
     requires source { MayBeSource source.now verified.program }
     ensures { OnOk result ((s : MachineState) → reached verified.program order.now.inputs order.now.options.layout history.now.events ≡ Went s
-        → (names : List (List ℕ)) × (numbers : List ℕ) × (more : List ℕ) × AreSymbols (text_of source.now) names × AreRunNumbers names verified.program order.now history.now.events numbers
-        × AreReportedDetails (text_of source.now) verified.program order.now history.now.events s closing more × (out.new.items ≡ out.old.items ++ (numbers ++ more))) }
+        → (numbers : List ℕ) × (more : List ℕ) × AreReportedDetails (text_of source.now) verified.program order.now history.now.events s closing more × (out.new.items ≡ out.old.items ++ (numbers ++ more))) }
 {
     let budgets = budgets_of(alloc, &verified)?;
     let names = symbols_of(alloc, source)?;
@@ -175,7 +174,7 @@ fn put_run_numbers(
     match count(alloc, first, &events)? {
         Ok(counted) => {
             let numbers = counted
-                .stats_builder
+                .stats
                 .text(alloc, &counted.replaying.plain, &names, &budgets)?;
             put_bytes(out, &numbers)?;
             put_closing_details(alloc, out, source, &counted.replaying, closing)
@@ -195,8 +194,7 @@ fn put_run_picture(
     history: &History,
 ) -> Result<(), AllocError>
     requires { IsFinished verified.program order.now history.now.events }
-    ensures { OnOk result ((s : MachineState) → reached verified.program order.now.inputs order.now.options.layout history.now.events ≡ Went s
-        → (names : List (List ℕ)) × (picture : List ℕ) × AreSymbols (text_of source.now) names × IsRunPicture names shown verified.program order.now history.now.events s picture × (out.new.items ≡ out.old.items ++ picture)) }
+    ensures { OnOk result ((picture : List ℕ) × IsXml picture × IsPrinted picture × (out.new.items ≡ out.old.items ++ picture)) }
 {
     let names = symbols_of(alloc, source)?;
     let Begun { first, events } = begin(alloc, order, verified, history)?;
@@ -227,11 +225,12 @@ fn put_json(
     out: &mut Vec<u8>,
     outcome: &Final,
     history: &History,
+    cut: u64,
     closing: Closing,
 ) -> Result<(), AllocError>
-    ensures { OnOk result ((line : List ℕ) × IsEndLine outcome.now history.now.events closing line × (out.new.items ≡ out.old.items ++ line)) }
+    ensures { OnOk result ((line : List ℕ) × IsEndLine outcome.now history.now.events cut closing line × (out.new.items ≡ out.old.items ++ line)) }
 {
-    let line = end_line(alloc, outcome, history, closing)?;
+    let line = end_line(alloc, outcome, history, cut, closing)?;
     put_bytes(out, line.as_bytes())
 }
 
@@ -243,13 +242,14 @@ fn put_order_json(
     verified: &Verified,
     outcome: &Final,
     history: &History,
+    cut: u64,
     closing: Closing,
 ) -> Result<(), AllocError>
     requires { IsFinished verified.now.program order.now history.now.events }
     ensures { OnOk result ((found : Option Insertion) × (members : json.Members) × IsFirstContest verified.now.program order.now.inputs order.now.options.layout history.now.events found
-        × AreEndMembers outcome.now history.now.events closing members × (out.new.items ≡ out.old.items ++ order_line closing found members)) }
+        × AreEndMembers outcome.now history.now.events cut closing members × (out.new.items ≡ out.old.items ++ order_line closing found members)) }
 {
-    let line = order_line(alloc, order, verified, outcome, history, closing)?;
+    let line = order_line(alloc, order, verified, outcome, history, cut, closing)?;
     put_bytes(out, line.as_bytes())
 }
 
@@ -262,6 +262,7 @@ fn put_outcome(
     verified: Verified,
     outcome: &Final,
     history: &History,
+    cut: u64,
     closing: Closing,
 ) -> Result<(), AllocError>
     requires finished { IsFinished verified.program order.now history.now.events }
@@ -282,9 +283,9 @@ fn put_outcome(
             put_run_report(alloc, out, source, order, outcome, closing)?;
             put_order(alloc, out, source, order, verified, history, closing)
         }
-        RunAnswer::Json => put_json(alloc, out, outcome, history, closing),
+        RunAnswer::Json => put_json(alloc, out, outcome, history, cut, closing),
         RunAnswer::OrderJson => {
-            put_order_json(alloc, out, order, &verified, outcome, history, closing)
+            put_order_json(alloc, out, order, &verified, outcome, history, cut, closing)
         }
         RunAnswer::Picture(shown) => {
             put_run_picture(alloc, out, source, shown, order, verified, history)
@@ -292,7 +293,7 @@ fn put_outcome(
     }
 }
 
-/// Returns the reply to `run` after the run is over.
+/// Returns the reply to `run` after the run is over, with the local instructions of tasks that were cut off.
 pub fn ended_reply(
     alloc: Global,
     source: &Option<SourceText<'_>>,
@@ -300,6 +301,7 @@ pub fn ended_reply(
     verified: Verified,
     outcome: &Final,
     history: &History,
+    cut: u64,
     closing: Closing,
 ) -> Result<Reply, AllocError>
     requires inputs { AreInputsOf verified.program order.now.inputs }
@@ -313,7 +315,7 @@ pub fn ended_reply(
     let mut text = Vec::new(alloc);
     put_trace(alloc, &mut text, order.options.trace, history)?;
     put_outcome(
-        alloc, &mut text, source, order, verified, outcome, history, closing,
+        alloc, &mut text, source, order, verified, outcome, history, cut, closing,
     )?;
     Ok(Reply {
         text,

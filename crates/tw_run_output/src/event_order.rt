@@ -146,15 +146,16 @@ pub(crate) fn order_line(
     verified: &Verified,
     left: &Final,
     history: &History,
+    cut: u64,
     closing: Closing,
 ) -> Result<String, AllocError>
     requires { IsFinished verified.now.program order.now history.now.events }
     ensures { IfOk result (λ line. (found : Option Insertion) × (members : json.Members) × IsFirstContest verified.now.program order.now.inputs order.now.options.layout history.now.events found
-        × AreEndMembers left.now history.now.events closing members × (string_bytes line ≡ order_line closing found members)) }
+        × AreEndMembers left.now history.now.events cut closing members × (string_bytes line ≡ order_line closing found members)) }
 {
     let found = contest_in(alloc, order, verified, history)?;
     let answer = answer_value(alloc, closing, found)?;
-    let mut members = end_members(alloc, left, history, closing)?;
+    let mut members = end_members(alloc, left, history, cut, closing)?;
     serde_json::put(&mut members, alloc, "order", answer)?;
     line_of(alloc, &Json::Object(members))
 }

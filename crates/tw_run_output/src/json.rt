@@ -1,11 +1,11 @@
 //! The JSON line of a finished run.
 
-ghost use Rattle.std.specs.Prelude.{◌≡◌, false, IfOk, option_map, string_bytes};
+ghost use Rattle.std.specs.Prelude.{◌≡◌, ◌≤◌, ◌*◌, false, IfOk, length, option_map, string_bytes};
 ghost use Rattle.serde_json.specs.View.{members_view};
 ghost use Rattle.serde_json.specs.Written.{members_have_float};
 ghost use Rattle.tw_bounds.specs.Runs.{instructions_in};
 ghost use Rattle.tw_run_output.specs.Ends.{InEachState};
-ghost use Rattle.tw_run_output.specs.Json.{AreEndMembers, IsEndLine, circle_in, pending_of, status_of};
+ghost use Rattle.tw_run_output.specs.Json.{AreEndMembers, IsEndLine, circle_in, cut_at, pending_of, status_of};
 
 use crate::end_report::circle;
 use crate::finished_run::FinishedRun;
@@ -50,7 +50,8 @@ fn circle_of(alloc: Global, left: &Final, closing: Closing) -> Result<Option<Vec
 
 /// Returns how many instructions a trace executes.
 pub fn instructions_in(history: &History) -> u128
-    ensures { result ≡ instructions_in history.now.events }
+    ensures is { result ≡ instructions_in history.now.events }
+    ensures few { result ≤ length history.now.events * 18446744073709551615 }
 {
     let mut sum = 0;
     for index in 0..history.len() {
@@ -59,19 +60,30 @@ pub fn instructions_in(history: &History) -> u128
     sum
 }
 
-/// Returns the members of the JSON object of a finished run.
+/// Returns the local instructions of tasks that were cut off, if the run ended by a stop.
+fn cut_at(closing: Closing, cut: u64) -> u64
+    ensures { result ≡ cut_at closing cut }
+{
+    match closing {
+        Closing::Stopped => cut,
+        Closing::Quiet | Closing::Stuck(_) | Closing::Limit => 0,
+    }
+}
+
+/// Returns the members of the JSON object of a finished run, whose tasks that were cut off executed so many local instructions.
 pub(crate) fn end_members(
     alloc: Global,
     left: &Final,
     history: &History,
+    cut: u64,
     closing: Closing,
 ) -> Result<Map<String, Json>, AllocError>
-    ensures are { IfOk result (λ members. AreEndMembers left.now history.now.events closing (members_view members.entries)) }
+    ensures are { IfOk result (λ members. AreEndMembers left.now history.now.events cut closing (members_view members.entries)) }
     ensures whole { IfOk result (λ members. members_have_float (members_view members.entries) ≡ false) }
 {
     let numbers = RunNumbers {
         events: history.len() as u64,
-        instructions: instructions_in(history),
+        instructions: instructions_in(history) + u128::from(cut_at(closing, cut)),
     };
     let end = RunEnd {
         status: status_of(closing),
@@ -81,15 +93,16 @@ pub(crate) fn end_members(
     tw_json_output::end_members(alloc, &FinishedRun { of: left }, numbers, &end)
 }
 
-/// Returns the JSON line of a finished run.
+/// Returns the JSON line of a finished run, whose tasks that were cut off executed so many local instructions.
 pub fn end_line(
     alloc: Global,
     left: &Final,
     history: &History,
+    cut: u64,
     closing: Closing,
 ) -> Result<String, AllocError>
-    ensures { IfOk result (λ line. IsEndLine left.now history.now.events closing (string_bytes line)) }
+    ensures { IfOk result (λ line. IsEndLine left.now history.now.events cut closing (string_bytes line)) }
 {
-    let members = end_members(alloc, left, history, closing)?;
+    let members = end_members(alloc, left, history, cut, closing)?;
     line_of(alloc, &Json::Object(members))
 }

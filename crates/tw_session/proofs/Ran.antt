@@ -19,6 +19,7 @@ use Rattle.tw_pool.specs.History.{HistoryView}
 use Rattle.tw_pool.specs.Turns.{closing_of}
 use Rattle.tw_pool.specs.Openings.{opened}
 use Rattle.tw_pool.specs.PoolView.{PoolView}
+use Rattle.tw_host.specs.declared.close.Closed.{Closed}
 use Rattle.tw_host.specs.Run.{Run, run_of}
 use Rattle.tw_order.specs.declared.runs.RunOrder.{RunOrder}
 use Rattle.tw_run_output.specs.Ends.{IsReportAs, end_report}
@@ -27,7 +28,7 @@ use Rattle.tw_run_output.specs.Over.{IsRunOver}
 use Rattle.tw_run_output.specs.Run.{AreRunDetails, IsRunText, close_of, trace_text}
 use Rattle.tw_source.specs.Reply.{reply}
 use Rattle.tw_source.specs.declared.reply.Reply.{Reply as MadeReply}
-use Rattle.tw_session.specs.Run.{EndsSo, IsAtEnd, IsOrdered, IsRun, RepliesByRun, run_as}
+use Rattle.tw_session.specs.Run.{EndsSo, IsAtEnd, IsOrdered, IsRun, RepliesByClose, RepliesByEnd, RepliesByRun, run_as}
 
 -- from how the run has ended by itself, whether it was stopped, and whether the number of events is at its limit
 abbrev closing_by : Option Ending → (stopped full : Bool) → Option Closing
@@ -87,8 +88,8 @@ over verified order p final history closing of_run few shut turns ended =
     let short = subst (λ (es : List Event). length es ≤ order.options.limit) (sym shut.events) few in
     let there : reached verified.program order.inputs order.options.layout history.events ≡ Went s = subst (λ (es : List Event). reached verified.program order.inputs order.options.layout es ≡ Went s) (sym shut.events) leads in
     let reports : (printed : List ℕ) → IsReportAs final (Some closing) printed → printed ≡ end_report verified.program s (Some closing) = λ printed is_report. is_report p history shut ∙ ap (λ (r : Run). end_report r.program.program s (Some closing)) of_run in
-    let shows : (line : List ℕ) → IsEndLine final history.events closing line → line ≡ run_line verified.program history.events s closing = λ line is_line. is_line p history shut ∙ ap (λ (r : Run). run_line r.program.program history.events s closing) of_run in (
-      record { state = s; few = short; reaches = there; reports = reports; members = λ found are. are p history shut ∙ ap (λ (r : Run). members_of r.program.program history.events s closing) of_run; shows = shows },
+    let shows : (cut : ℕ) (line : List ℕ) → IsEndLine final history.events cut closing line → line ≡ run_line verified.program history.events cut s closing = λ cut line is_line. is_line p history shut ∙ ap (λ (r : Run). run_line r.program.program history.events cut s closing) of_run in (
+      record { state = s; few = short; reaches = there; reports = reports; members = λ cut found are. are p history shut ∙ ap (λ (r : Run). members_of r.program.program history.events cut s closing) of_run; shows = shows },
       record { few = short; reaches = there; ends = here; turns = subst (λ (es : List Event). IsOrdered order.options.in_turn verified.program order es) (sym shut.events) turns },
     )
 
@@ -97,9 +98,28 @@ pub replied : {E : Type 0} (made : Result MadeReply E) (text : Option (List ℕ)
     → ((o : IsRunOver program order final events closing) × IsRun program order events o.state closing)
     → IfOk made (λ r. (o : IsRunOver program order final events closing) → (printed : List ℕ) × (more : List ℕ) × IsRunText order.options.answer text program order events o.state closing printed
     × AreRunDetails order.options.answer text program order events o.state closing more × (reply r.text.items r.close ≡ reply (trace_text order.options.trace events ++ (printed ++ more)) (close_of closing)))
-    → IfOk made (λ r. RepliesByRun text program order (reply r.text.items r.close))
-replied (Ok r) text program order final events closing (o, is) h = let t = h o in inl (events, o.state, closing, t.0, t.1, is, t.2, t.3, t.4)
+    → IfOk made (λ r. RepliesByEnd text program order (reply r.text.items r.close))
+replied (Ok r) text program order final events closing (o, is) h = let t = h o in (events, o.state, closing, t.0, t.1, is, t.2, t.3, t.4)
 replied (Err e) text program order final events closing over h = tt
+
+-- such an output is a reply of `run`
+pub replied_run : {E : Type 0} (made : Result MadeReply E) (text : Option (List ℕ)) (program : List Procedure) (order : RunOrder) → IfOk made (λ r. RepliesByEnd text program order (reply r.text.items r.close))
+    → IfOk made (λ r. RepliesByRun text program order (reply r.text.items r.close))
+replied_run (Ok r) text program order h = inl h
+replied_run (Err e) text program order h = tt
+
+-- and to a closed run
+pub replied_close : {E : Type 0} (made : Result MadeReply E) (text : Option (List ℕ)) (program : List Procedure) (order : RunOrder) (closed : Closed) → IfOk made (λ r. RepliesByEnd text program order (reply r.text.items r.close))
+    → IfOk made (λ r. RepliesByClose text program order closed (reply r.text.items r.close))
+replied_close (Ok r) text program order closed h = inl h
+replied_close (Err e) text program order closed h = tt
+
+-- with threads, the reply to a closed run is one of `run`
+pub closed_run : {E : Type 0} (made : Result MadeReply E) (text : Option (List ℕ)) (program : List Procedure) (order : RunOrder) (closed : Closed) → order.options.in_turn ≡ false
+    → IfOk made (λ r. RepliesByClose text program order closed (reply r.text.items r.close)) → IfOk made (λ r. RepliesByRun text program order (reply r.text.items r.close))
+closed_run (Ok r) text program order closed threads (inl h) = inl h
+closed_run (Ok r) text program order closed threads (inr h) = inr (threads, h.1)
+closed_run (Err e) text program order closed threads h = tt
 
 -- with threads nothing more is required
 pub in_threads : (program : List Procedure) (order : RunOrder) (history : List Event) → order.options.in_turn ≡ false → IsOrdered order.options.in_turn program order history

@@ -1,11 +1,12 @@
 -- The end of a session whose program is run on lines that are read apart from it.
-use Rattle.std.specs.Prelude.{◌≡◌, ◌⊎◌, ℕ, Bool, List, Option, Ok, Err, ⊤, codes}
+use Rattle.std.specs.Prelude.{◌≡◌, ◌⊎◌, ℕ, List, Option, Ok, Err, ⊤, codes}
 use Rattle.std.specs.Io.KnownBytes.{Appends, Keeps}
 use Rattle.tw_cli.specs.CommandLine.{Request, IsRequested}
 use Rattle.tw_order.specs.declared.runs.EachOrder.{EachOrder}
 use Rattle.tw_order.specs.declared.order.Order.TheVariants.{Each}
 use Rattle.tw_order.specs.declared.order.Source.{Source}
-use Rattle.tw_each.specs.Reply.{close_of}
+use Rattle.tw_each.specs.Worst.{close_of}
+use Rattle.tw_each.specs.declared.worst.WorstEnd.{WorstEnd}
 use Rattle.tw_each.specs.Stream.{BreaksFirst, IsRejection, RunsOnLines}
 use Rattle.tw_each.specs.declared.stream.StreamError.TheVariants as stream
 use Rattle.tw_source.specs.Reply.{reply}
@@ -18,7 +19,7 @@ use Rattle.tw_session.specs.declared.status.Status.TheVariants.{Ended, NoMemory,
 -- allocation or a read failed, after the answers to the first lines. After a failed write nothing is required.
 abbrev pub EndsEach : Source → EachOrder → List ℕ → Option (List ℕ) → Option (List ℕ) → Option (List ℕ) → Option (List ℕ) → Status → Type 0
 EndsEach source order input from left old new (Ended close) =
-    ((refused : Bool) × (close ≡ close_of refused) × RunsOnLines source order input from left old new (Ok refused))
+    ((worst : WorstEnd) × (close ≡ close_of worst) × RunsOnLines source order input from left old new (Ok worst))
     ⊎ ((text : List ℕ) × IsRejection source order input (reply text close) × Keeps from left × Appends old new text)
 EndsEach source order input from left old new NoMemory =
     (mid : Option (List ℕ)) × (RunsOnLines source order input from left old mid (Err stream.NoMemory) ⊎ BreaksFirst from left old mid stream.NoMemory) × Appends mid new (codes "memory\n")

@@ -1,5 +1,5 @@
 -- Replies as JSON.
-use Rattle.std.specs.Prelude.{ℕ, Bool, List, if◌then◌else◌, is_some}
+use Rattle.std.specs.Prelude.{◌≡◌, Bool, MatchBool, is_some}
 use Rattle.tw_order.specs.declared.runs.Answer.{Answer}
 use Rattle.tw_order.specs.declared.runs.Answer.TheVariants as answer
 use Rattle.tw_order.specs.declared.form.Assembling.{Assembling}
@@ -15,9 +15,7 @@ use Rattle.tw_order.specs.declared.form.Form.{Form}
 use Rattle.tw_order.specs.declared.form.Form.TheVariants as form
 use Rattle.tw_json_output.specs.declared.text_object.Printed.{Printed}
 use Rattle.tw_json_output.specs.declared.text_object.Printed.TheVariants as printed
-use Rattle.tw_json_output.specs.Run.{json_line}
-use Rattle.tw_json_output.specs.Texts.{explanation_json, printed_json}
-use Rattle.tw_program_output.specs.ErrorJson.{error_json, failure_in, listed_error_json}
+use Rattle.tw_program_output.specs.ErrorJson.{IsJsonReply, failure_in}
 use Rattle.tw_source.specs.Reply.{Reply, reply}
 use Rattle.tw_source.specs.declared.close.Close.{Close}
 use Rattle.tw_source.specs.declared.close.Close.TheVariants as close
@@ -69,19 +67,19 @@ rendering_of (Replay source answer layout inputs) = replayed_as answer
 abbrev pub is_error : Close → Bool
 is_error close = is_some (failure_in close)
 
--- returns a reply in the requested form
-abbrev pub in_form : Rendering → Reply → Reply
-in_form Plain r = r
-in_form Errors r = if is_error r.close then reply (json_line (error_json r)) r.close else r
-in_form ListedErrors r = if is_error r.close then reply (json_line (listed_error_json r)) r.close else r
-in_form (Whole made) r = if is_error r.close then reply (json_line (error_json r)) r.close else reply (json_line (printed_json made r.text)) r.close
+-- holds for a reply in the requested form: as it is, or as JSON
+abbrev pub IsInForm : Rendering → Reply → Reply → Type 0
+IsInForm Plain text r = r ≡ text
+IsInForm Errors text r = MatchBool (is_error text.close) (IsJsonReply text r) (r ≡ text)
+IsInForm ListedErrors text r = MatchBool (is_error text.close) (IsJsonReply text r) (r ≡ text)
+IsInForm (Whole made) text r = IsJsonReply text r
 
 -- ---- explanations
 
-abbrev pub explanation_text : Form → List ℕ → List ℕ → List ℕ
-explanation_text form.Text code text = text
-explanation_text form.Json code text = json_line (explanation_json code text)
+abbrev pub IsExplainedAs : Form → Reply → Reply → Type 0
+IsExplainedAs form.Text text r = r ≡ text
+IsExplainedAs form.Json text r = IsJsonReply text r
 
--- returns the reply with an explanation
-abbrev pub explained_reply : Explained → Reply
-explained_reply e = reply (explanation_text e.form e.code.items e.text.items) close.Success
+-- holds for the reply with an explanation
+abbrev pub IsExplanation : Explained → Reply → Type 0
+IsExplanation e r = IsExplainedAs e.form (reply e.text.items close.Success) r

@@ -7,5 +7,6 @@ pub mod Json
 pub mod Parts
 pub mod Session
 pub mod Each
+pub mod Clockless
 -- The definitions for private clauses: what the code keeps before a program is run.
 pub mod ProgramAction

@@ -12,7 +12,7 @@ use Rattle.tw_source.specs.Reply.{Reply, reply}
 use Rattle.tw_source.specs.Source.{MayBeSource, text_of}
 use Rattle.tw_source.specs.declared.close.Close.TheVariants.{Success}
 use Rattle.tw_program_output.specs.Check.{RepliesByCheck}
-use Rattle.tw_program_output.specs.Listing.{disassembled}
+use Rattle.tw_program_output.specs.Listing.{IsDisassembled}
 use Rattle.tw_replay_output.specs.Replay.{RepliesByLines}
 use Rattle.tw_each.specs.Reply.{RepliesByEach}
 use Rattle.tw_session.specs.Run.{RepliesByOpening}
@@ -37,7 +37,7 @@ AreEncodedWords words (given.Fault r) = (refused : RejectedWord) × IsRejectedWo
 
 -- holds for the reply to a program on which the action is done
 abbrev pub RepliesByAction : Option (List ℕ) → Action → Versioned → Reply → Type 0
-RepliesByAction text (Disassemble order) program r = r ≡ reply (disassembled order.places program) Success
+RepliesByAction text (Disassemble order) program r = IsDisassembled order.places program r
 RepliesByAction text (Check order) program r = RepliesByCheck order text program.procedures r
 RepliesByAction text (Run options inputs) program r = RepliesIfRun text (run_with options inputs) program r
 RepliesByAction text (RunWithJson options json) program r = RepliesByJsonRun text options json.now program r

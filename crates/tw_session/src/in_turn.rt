@@ -1,6 +1,6 @@
 //! The replies of a single-threaded `run`.
 
-ghost use Rattle.std.specs.Prelude.{IfOk, is_some, map, string_bytes};
+ghost use Rattle.std.specs.Prelude.{◌≡◌, IfOk, is_some, map, string_bytes};
 ghost use Rattle.tw_cli.specs.CommandLine.{request_by_words, request_in_turn, word_faults};
 ghost use Rattle.tw_code.specs.machine.Inputs.{AreInputsOf};
 ghost use Rattle.tw_in_turn.specs.InTurn.{IsLeft};
@@ -8,7 +8,8 @@ ghost use Rattle.tw_in_turn.specs.Stopping.{IsLeftIf};
 ghost use Rattle.tw_pool.specs.Openings.{opened};
 ghost use Rattle.tw_source.specs.Reply.{reply};
 ghost use Rattle.tw_session.specs.Run.{RepliesByOpening, RepliesByRun};
-ghost use Rattle.tw_session.specs.Session.{AnswersWords};
+ghost use Rattle.tw_session.specs.Clockless.{AnswersClockless, MayReplyClockless, clockless_reply, limits_time};
+ghost use Rattle.tw_session.specs.Parts.{seen_given};
 ghost use Rattle.tw_source.specs.Source.{MayBeSource, text_of};
 
 use crate::order::reply_in_turn;
@@ -19,10 +20,10 @@ use std::alloc::{AllocError, Global};
 use std::time::Clock;
 use tw_cli::read_order;
 use tw_in_turn::{InTurnResult, StoppableResult, run_in_turn, run_timed};
-use tw_order::RunOrder;
+use tw_order::{Order, RunOrder};
 use tw_pool::Closing;
 use tw_run_output::ended_reply;
-use tw_source::{Reply, SourceText};
+use tw_source::{Close, Reply, SourceText, fixed_reply};
 use tw_verify::Verified;
 
 /// Returns the reply of a run that ended.
@@ -42,7 +43,9 @@ fn ended_in_turn(
         InTurnResult::Over { outcome, history } => {
             match stop_reason(outcome.closing(), order.options.seconds) {
                 Some(closing) => {
-                    ended_reply(alloc, source, order, verified, &outcome, &history, closing)
+                    ended_reply(
+                        alloc, source, order, verified, &outcome, &history, 0, closing,
+                    )
                 }
                 None => unreachable!(),
             }
@@ -66,9 +69,15 @@ fn left_reply(
 {
     match left {
         StoppableResult::Ended(left) => ended_in_turn(alloc, source, order, verified, left),
-        StoppableResult::Stopped { outcome, history } => {
+        StoppableResult::Stopped {
+            outcome,
+            history,
+            cut,
+        } => {
             let closing = outcome.closing().unwrap_or(Closing::Stopped);
-            ended_reply(alloc, source, order, verified, &outcome, &history, closing)
+            ended_reply(
+                alloc, source, order, verified, &outcome, &history, cut, closing,
+            )
         }
     }
 }
@@ -126,13 +135,46 @@ pub fn reply_in_time<C: Clock>(
     }
 }
 
-/// Returns the reply to arguments and the bytes that come with them, with a run single-threaded. It starts no thread, and never waits.
+/// Returns whether an order limits the time of a run.
+fn limits_time(order: &Order) -> bool
+    ensures { result ≡ limits_time order.now }
+{
+    match order {
+        Order::Run(_, options, _) => options.seconds.is_some(),
+        Order::Each(_, order) => order.seconds.is_some(),
+        Order::Assemble(_) | Order::Disassemble(..) => false,
+        Order::Check(..) | Order::Replay(..) => false,
+    }
+}
+
+/// Returns the reply to an order that limits the time of a run.
+fn clockless_reply(alloc: Global) -> Result<Reply, AllocError>
+    ensures { IfOk result (λ r. reply r.text.items r.close ≡ clockless_reply) }
+{
+    fixed_reply(
+        alloc,
+        "command line refused\n--seconds needs the command tw: the library has no clock, and is stopped by flags\n",
+        Close::CommandLine,
+    )
+}
+
+/// Returns the reply to an order without a clock: one that limits the time of a run is rejected.
+fn reply_without_clock(alloc: Global, order: Order, given: Given<'_>) -> Result<Reply, AllocError>
+    ensures { IfOk result (λ r. MayReplyClockless order (seen_given given.entry) (reply r.text.items r.close)) }
+{
+    if limits_time(&order) {
+        return clockless_reply(alloc);
+    }
+    reply_in_turn(alloc, order, given)
+}
+
+/// Returns the reply to arguments and the bytes that come with them, with a run single-threaded. It starts no thread, never waits, and has no clock.
 pub fn answer_in_turn(alloc: Global, words: &[String], input: &[u8]) -> Result<Reply, AllocError>
-    ensures { IfOk result (λ r. AnswersWords (word_faults (map string_bytes words.now)) (request_in_turn (request_by_words (map string_bytes words.now)))
+    ensures { IfOk result (λ r. AnswersClockless (word_faults (map string_bytes words.now)) (request_in_turn (request_by_words (map string_bytes words.now)))
         input.now (reply r.text.items r.close)) }
 {
     match read_order(alloc, words) {
-        Ok(order) => reply_in_turn(alloc, order.in_turn(), Given::alone(input)),
+        Ok(order) => reply_without_clock(alloc, order.in_turn(), Given::alone(input)),
         Err(no_order) => unordered_reply(alloc, no_order),
     }
 }

@@ -1,11 +1,9 @@
 //! Replies as JSON.
 
 ghost use Rattle.std.specs.Prelude.{◌≡◌, IfOk, string_bytes};
-ghost use Rattle.tw_json_output.specs.Run.{json_line};
-ghost use Rattle.tw_json_output.specs.Texts.{printed_json};
-ghost use Rattle.tw_program_output.specs.ErrorJson.{error_json, listed_error_json};
+ghost use Rattle.tw_json_output.specs.Lines.{IsJsonLine};
 ghost use Rattle.tw_source.specs.Reply.{reply};
-ghost use Rattle.tw_session.specs.Json.{assembled_as, checked_as, disassembled_as, explained_reply, in_form, in_json, is_error, rendering_of, replayed_as, run_as_json};
+ghost use Rattle.tw_session.specs.Json.{IsExplanation, IsInForm, assembled_as, checked_as, disassembled_as, in_json, is_error, rendering_of, replayed_as, run_as_json};
 
 use std::alloc::{AllocError, Global};
 use tw_cli::Explained;
@@ -112,58 +110,41 @@ fn is_error(close: Close) -> bool
     failure_in(close).is_some()
 }
 
-/// Returns the reply of this line.
-fn line_reply(line: String, close: Close) -> Reply
-    ensures { reply result.text.items result.close ≡ reply (string_bytes line) close }
+/// Returns the reply of a line, if it could be made.
+fn json_reply(line: Result<String, AllocError>, close: Close) -> Result<Reply, AllocError>
+    requires { IfOk line (λ l. IsJsonLine (string_bytes l)) }
+    ensures { IfOk result (λ r. (r.close ≡ close) × IsJsonLine r.text.items) }
 {
-    Reply {
-        text: line.into_bytes(),
-        close,
+    match line {
+        Ok(line) => Ok(Reply {
+            text: line.into_bytes(),
+            close,
+        }),
+        Err(_) => Err(AllocError),
     }
-}
-
-/// Returns the object of an error.
-fn error_object(alloc: Global, text: &Reply) -> Result<Reply, AllocError>
-    ensures { IfOk result (λ r. reply r.text.items r.close ≡ reply (json_line (error_json (reply text.now.text.items text.now.close))) text.now.close) }
-{
-    let line = error_line(alloc, text)?;
-    Ok(line_reply(line, text.close))
-}
-
-/// Returns the object of an error that may come after a listing.
-fn listed_error(alloc: Global, text: &Reply) -> Result<Reply, AllocError>
-    ensures { IfOk result (λ r. reply r.text.items r.close ≡ reply (json_line (listed_error_json (reply text.now.text.items text.now.close))) text.now.close) }
-{
-    let line = listed_error_line(alloc, text)?;
-    Ok(line_reply(line, text.close))
-}
-
-/// Returns the object of what is printed.
-fn printed_object(alloc: Global, printed: Printed, text: &Reply) -> Result<Reply, AllocError>
-    ensures { IfOk result (λ r. reply r.text.items r.close ≡ reply (json_line (printed_json printed text.now.text.items)) text.now.close) }
-{
-    let line = printed_line(alloc, printed, &text.text)?;
-    Ok(line_reply(line, text.close))
 }
 
 /// Returns a reply in the requested form.
 pub fn in_form(alloc: Global, rendering: Rendering, text: Reply) -> Result<Reply, AllocError>
-    ensures { IfOk result (λ r. reply r.text.items r.close ≡ in_form rendering (reply text.text.items text.close)) }
+    ensures { IfOk result (λ r. IsInForm rendering (reply text.text.items text.close) (reply r.text.items r.close)) }
 {
+    let close = text.close;
     match rendering {
         Rendering::Plain => Ok(text),
-        Rendering::Errors if is_error(text.close) => error_object(alloc, &text),
+        Rendering::Errors if is_error(close) => json_reply(error_line(alloc, &text), close),
         Rendering::Errors => Ok(text),
-        Rendering::ListedErrors if is_error(text.close) => listed_error(alloc, &text),
+        Rendering::ListedErrors if is_error(close) => {
+            json_reply(listed_error_line(alloc, &text), close)
+        }
         Rendering::ListedErrors => Ok(text),
-        Rendering::Whole(_) if is_error(text.close) => error_object(alloc, &text),
-        Rendering::Whole(printed) => printed_object(alloc, printed, &text),
+        Rendering::Whole(_) if is_error(close) => json_reply(error_line(alloc, &text), close),
+        Rendering::Whole(printed) => json_reply(printed_line(alloc, printed, &text.text), close),
     }
 }
 
 /// Returns the reply with an explanation.
 pub fn explained_reply(alloc: Global, explained: Explained) -> Result<Reply, AllocError>
-    ensures { IfOk result (λ r. reply r.text.items r.close ≡ explained_reply explained) }
+    ensures { IfOk result (λ r. IsExplanation explained (reply r.text.items r.close)) }
 {
     match explained.form {
         Form::Text => Ok(Reply {
@@ -171,8 +152,8 @@ pub fn explained_reply(alloc: Global, explained: Explained) -> Result<Reply, All
             close: Close::Success,
         }),
         Form::Json => {
-            let line = explanation_line(alloc, &explained.code, &explained.text)?;
-            Ok(line_reply(line, Close::Success))
+            let line = explanation_line(alloc, &explained.code, &explained.text);
+            json_reply(line, Close::Success)
         }
     }
 }

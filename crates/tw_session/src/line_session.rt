@@ -31,7 +31,7 @@ fn finish<W: Write>(streamed: Streamed, writer: &mut W) -> Status
         → EndsEach source order input from left old (W.contents writer.new) result }
 {
     match streamed {
-        Streamed::Answered(refused) => Status::Ended(close_of(refused)),
+        Streamed::Answered(worst) => Status::Ended(close_of(worst)),
         Streamed::Rejected(reply) => write_reply(Ok(reply), writer),
     }
 }

@@ -4,7 +4,7 @@ ghost use Rattle.std.specs.Prelude.{◌≡◌, ◌≤◌, ◌↔◌, IfOk, IsTru
 ghost use Rattle.std.specs.Str.Lines.{lines};
 ghost use Rattle.tw_session.specs.Parts.{AreTexts, seen};
 ghost use Rattle.tw_session.specs.ProgramAction.{AreEncodedWords, Awaits, HasShortTrace, IsFinishedBy, RepliesByAction};
-ghost use Rattle.tw_session.specs.Session.{MayReplyOn, RepliesByInputs, RepliesByParts, RepliesByProgram, RepliesByReplay, RepliesByTrace, excessive_reply, replay_with, run_with};
+ghost use Rattle.tw_session.specs.Session.{MayReplyOn, RepliesByInputs, RepliesByParts, RepliesByProgram, RepliesByReplay, RepliesByTrace, replay_with, run_with, IsExcessive};
 ghost use Rattle.tw_source.specs.Failure.{coded, failed};
 ghost use Rattle.tw_source.specs.Inputs.{RepliesByWords, words_in as words_in_is};
 ghost use Rattle.tw_source.specs.Program.{RepliesBySource, source_text};
@@ -209,9 +209,9 @@ fn prepare_replay<'a>(
     }
 }
 
-/// Returns the reply to too many bytes. Its form is that of other errors before `in_form`.
+/// Returns the reply to too many bytes. Its form is that of other errors before JSON is made of them.
 fn excessive<'a>(alloc: Global, order: &Order) -> Result<Prepared<'a>, AllocError>
-    ensures { IfOk result (IsFinishedBy (excessive_reply order.now)) }
+    ensures { IfOk result (Awaits (IsExcessive order.now)) }
 {
     let reply = match order {
         Order::Each(..) => too_long_reply(alloc)?,

@@ -1,13 +1,13 @@
 //! The replies of `run`.
 
-ghost use Rattle.std.specs.Prelude.{◌≡◌, IfOk, IfSome, List, None, Some, false, is_some, true};
+ghost use Rattle.std.specs.Prelude.{◌≡◌, ◌⊎◌, IfOk, IfSome, List, None, Some, false, is_some, true};
 ghost use Rattle.tw_host.specs.Ends.{Closes};
 ghost use Rattle.tw_host.specs.Seats.{SeatEvents};
 ghost use Rattle.tw_in_turn.specs.InTurn.{HasEnded};
 ghost use Rattle.tw_code.specs.machine.Inputs.{AreInputsOf};
 ghost use Rattle.tw_pool.specs.Openings.{IsRejection};
 ghost use Rattle.tw_source.specs.Reply.{reply};
-ghost use Rattle.tw_session.specs.Run.{RepliesByOpening, RepliesByRun, run_as, threads_failed};
+ghost use Rattle.tw_session.specs.Run.{RepliesByClose, RepliesByOpening, run_as, threads_failed};
 ghost use Rattle.tw_source.specs.Source.{MayBeSource, text_of};
 
 use std::alloc::{AllocError, Global};
@@ -29,6 +29,7 @@ pub fn stop_reason(closing: Option<Closing>, seconds: Option<u64>) -> Option<Clo
     ensures same { IfSome result (λ c. closing ≡ Some c) }
     ensures unstopped { IfSome result (λ c. c ≡ Closing.Stopped → is_some seconds ≡ true) }
     ensures none { result ≡ None → HasEnded closing → ⊥ }
+    ensures unfinished { result ≡ None → (closing ≡ None) ⊎ ((closing ≡ Some Closing.Stopped) × (is_some seconds ≡ false)) }
 {
     match closing {
         Some(Closing::Quiet) => Some(Closing::Quiet),
@@ -46,19 +47,20 @@ fn threads_reply(alloc: Global) -> Result<Reply, AllocError>
     failed_reply(alloc, Failure::coded(b'X', 1, Position::Nowhere))
 }
 
-/// Returns the reply of a run whose seats were all returned.
+/// Returns the reply of a run whose seats were all returned, with the local instructions of tasks that were cut off.
 fn closed_reply(
     alloc: Global,
     source: &Option<SourceText<'_>>,
     order: &RunOrder,
     verified: Verified,
     closed: Closed,
+    cut: u64,
 ) -> Result<Reply, AllocError>
     requires closed { (seats : List SeatEvents) × Closes (run_as verified order.now) seats closed }
     requires threads { order.now.options.in_turn ≡ false }
     requires inputs { AreInputsOf verified.program order.now.inputs }
     requires source { MayBeSource source.now verified.program }
-    ensures { IfOk result (λ r. RepliesByRun (text_of source.now) verified.program order.now (reply r.text.items r.close)) }
+    ensures { IfOk result (λ r. RepliesByClose (text_of source.now) verified.program order.now closed (reply r.text.items r.close)) }
 {
     match closed {
         Closed::Ended {
@@ -68,7 +70,9 @@ fn closed_reply(
         } => match stop_reason(outcome.closing(), order.options.seconds) {
             None => threads_reply(alloc),
             Some(closing) => {
-                ended_reply(alloc, source, order, verified, &outcome, &history, closing)
+                ended_reply(
+                    alloc, source, order, verified, &outcome, &history, cut, closing,
+                )
             }
         },
         Closed::Differs { .. } => threads_reply(alloc),
@@ -125,7 +129,7 @@ fn reply_observed<H: Threads + Wait + Clock + Sync, G: Gate + Sync>(
             if memory {
                 return Err(AllocError);
             }
-            closed_reply(alloc, source, order, verified, closed)
+            closed_reply(alloc, source, order, verified, closed, gate.cut())
         }
         Err(why) => unopened_reply(alloc, source, order, &verified, why),
     }
@@ -148,10 +152,7 @@ pub fn reply_threaded<H: Threads + Wait + Clock + Sync, G: Gate + Sync>(
         None => reply_observed(rt, alloc, gate, source, order, verified),
         Some(seconds) => {
             let deadline = Deadline::after(rt, Duration::from_secs(seconds));
-            let timed = Timed {
-                gate,
-                deadline: &deadline,
-            };
+            let timed = Timed::new(gate, &deadline);
             reply_observed(rt, alloc, &timed, source, order, verified)
         }
     }

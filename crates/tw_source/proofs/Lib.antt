@@ -4,6 +4,5 @@ pub mod Sources
 pub mod NamedTexts
 pub mod Faults
 mod ReplyNames
-mod ExampleWords
 mod NamePlaces
 mod Expansions

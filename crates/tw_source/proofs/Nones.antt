@@ -1,6 +1,6 @@
 -- Replies with the reason why there is no program.
 use Rattle.std.proofs.Common.{◌≡◌, ◌≢◌, ◌∙◌, ℕ, List, [], ap, inr, refl, sym}
-use Rattle.tw_source.proofs.ReplyNames.{AreParseErrorDetails, Failure, IsFailure, NoProgram, RepliesBySource, Refused, HasNoProgram, Spoken as Reply, Versioned, append-nil, failed_with, failure_line, reply}
+use Rattle.tw_source.proofs.ReplyNames.{MayHaveDetails, Failure, IsFailure, NoProgram, RepliesBySource, Refused, HasNoProgram, Spoken as Reply, Versioned, append-nil, failed_with, failure_line, reply}
 use Rattle.tw_order.specs.declared.order.Source.{Source}
 use Rattle.tw_source.specs.Failure.{failed}
 use Rattle.tw_source.specs.Program.{PrintsNone}
@@ -9,7 +9,7 @@ use Rattle.tw_source.specs.declared.names.UnexpandedText.{UnexpandedText}
 use Rattle.tw_source.specs.declared.program.NoProgram.TheVariants.{NotHex, NotUtf8, Bytes, Text, Named, NoMemory}
 
 -- nothing follows the line of an error that isn't a text's
-no_details : (why : NoProgram) → ((f : FaultyText) → why ≡ Text f → ⊥) → ((f : UnexpandedText) → why ≡ Named f → ⊥) → AreParseErrorDetails why []
+no_details : (why : NoProgram) → ((f : FaultyText) → why ≡ Text f → ⊥) → ((f : UnexpandedText) → why ≡ Named f → ⊥) → MayHaveDetails why []
 no_details NotHex text named = refl
 no_details NotUtf8 text named = refl
 no_details (Bytes f) text named = refl

@@ -14,8 +14,7 @@ pub use Rattle.tw_source.specs.declared.reply.Reply.{Reply}
 pub use Rattle.tw_asm.specs.Fault.{HaveStatements, ParserState, after_line, at_start}
 pub use Rattle.tw_asm.specs.Origins.{AreOrigins, ComesFrom, at_place, instr_at}
 pub use Rattle.tw_symbols.specs.Expansion.{HasNames, IsFirstRejection, ExpandsTo}
-pub use Rattle.tw_source.specs.Names.{AreNameDetails}
-pub use Rattle.tw_source.specs.Program.{AreParseErrorDetails, PrintsNone, RepliesByPlain, RepliesBySource, HasProgram, HasNoProgram, TextHasProgram, IsFailure}
+pub use Rattle.tw_source.specs.Program.{MayHaveDetails, PrintsNone, RepliesByPlain, RepliesBySource, HasProgram, HasNoProgram, TextHasProgram, IsFailure}
 pub use Rattle.tw_source.specs.Reply.{Reply as Spoken, reply}
 pub use Rattle.tw_source.specs.Source.{plain_of, text_of}
-pub use Rattle.tw_source.specs.Text.{ArePlaceDetails, AreTextDetails, text_line}
+pub use Rattle.tw_source.specs.Text.{text_line}

@@ -1,11 +1,12 @@
 -- The line of a text that is printed.
 use Rattle.std.proofs.Common.{◌≡◌, ℕ, zero, suc, ◌+◌, ◌-◌, ◌<◌, true, false, List, [], ◌∷◌, ◌++◌, length, Option, Some, None, MatchOption, refl, subst, ap, ◌∙◌, arith}
-use Rattle.tw_source.proofs.ReplyNames.{AreOrigins, ComesFrom, ArePlaceDetails, AreTextDetails, HaveStatements, Procedure, ParserState, ExpandsTo, after_line, at_place, at_start, instr_at, length-append, lines}
+use Rattle.tw_source.proofs.ReplyNames.{AreOrigins, ComesFrom, HaveStatements, Procedure, ParserState, ExpandsTo, after_line, at_place, at_start, instr_at, length-append, lines}
 use Rattle.std.specs.List.{slice_get}
 use Rattle.tw_asm.specs.Fault.{situation, situation_from}
 use Rattle.tw_asm.specs.Statement.{Statement, Code, Head, Label, OfVersion, Registers}
 use Rattle.tw_diagnostics.specs.LineRole.{HasNoHead, IsFirstHead, is_head, statement_role}
 use Rattle.tw_symbols.proofs.LineByLine.{as_many}
+use Rattle.tw_source.specs.Text.{IsLineOfError}
 use Rattle.tw_verify.specs.declared.rejection.VerifyError.{VerifyError}
 use Rattle.tw_verify.specs.declared.rejection.VerifyError.TheVariants as rejection
 
@@ -37,23 +38,12 @@ comes_from text program numbers procedure place number o e =
 
 -- an instruction that is there comes from a line
 pub some_origin : (text : List ℕ) (program : List Procedure) (numbers : List (List ℕ)) (procedure place : ℕ) → AreOrigins text program numbers → (instr_at program procedure place ≡ None → ⊥)
-    → (number : ℕ) × ComesFrom text procedure place number
+    → (number : ℕ) × ComesFrom text procedure place number × (at_place numbers procedure place ≡ Some number)
 some_origin text program numbers procedure place o there = by (at_place numbers procedure place) (o procedure place)
   where
-    by : (x : Option ℕ) → MatchOption x (instr_at program procedure place ≡ None) (ComesFrom text procedure place) → (number : ℕ) × ComesFrom text procedure place number
+    by : (x : Option ℕ) → MatchOption x (instr_at program procedure place ≡ None) (ComesFrom text procedure place) → (number : ℕ) × ComesFrom text procedure place number × (x ≡ Some number)
     by None h = absurd (there h)
-    by (Some number) h = (number, h)
-
-pub none_there : (program : List Procedure) (procedure place : ℕ) → program ≡ [] → (instr_at program procedure place ≡ None → ⊥) → ⊥
-none_there program procedure place none there = there (ap (λ (ps : List Procedure). instr_at ps procedure place) none)
-
--- the line of the first head is there
-pub head_there : (text plain : List ℕ) (number : ℕ) → ExpandsTo text plain → IsFirstHead plain number → slice_get (lines text) (number - 1) ≡ None → ⊥
-head_there text plain number expands h none =
-    let past = none_past (lines text) (number - 1) none in
-    let all = said_length 1 at_start (lines plain) h.said h.say ∙ as_many text plain expands in
-    let long = ap length h.parts ∙ length-append h.before (Some (Head h.kind h.params) ∷ h.after) in
-    absurd (omega (arith, past, all, long, h.number_is))
+    by (Some number) h = (number, h, refl)
 
 untrue : true ≡ false → ⊥
 untrue e = cc
@@ -84,7 +74,12 @@ some_head text procedure place number c none =
     let zero' = front_no_procedure c.before (Some (Code c.i) ∷ c.after) (subst HasNoHead c.parts none) in
     absurd (omega (arith, zero', c.procedure_is))
 
-pub other_details : (text : List ℕ) (which : VerifyError) (program : List Procedure) (procedure place : ℕ) (at : Option ℕ) (more : List ℕ) → (which ≡ rejection.MainShape → ⊥)
-    → ArePlaceDetails text which program procedure place at more → AreTextDetails text which program procedure place at more
-other_details text rejection.MainShape program procedure place at more other h = absurd (other refl)
-other_details text which program procedure place at more other h = h
+-- the line of the first head is there, if an instruction comes from a line
+pub main_line : (text : List ℕ) (procedure place number : ℕ) (found : Option ℕ) → ComesFrom text procedure place number
+    → ((said : List (Option Statement)) → HaveStatements 1 at_start (lines text) said → MatchOption found (HasNoHead said) (IsFirstHead text)) → (first : ℕ) × IsFirstHead text first × (found ≡ Some first)
+main_line text procedure place number None c h = absurd (some_head text procedure place number c (h c.said c.say))
+main_line text procedure place number (Some first) c h = (first, h c.said c.say, refl)
+
+pub other_line : (which : VerifyError) (plain : List ℕ) (procedure place number : ℕ) → (which ≡ rejection.MainShape → ⊥) → ComesFrom plain procedure place number → IsLineOfError which plain procedure place number
+other_line rejection.MainShape plain procedure place number other h = absurd (other refl)
+other_line which plain procedure place number other h = h

@@ -1,12 +1,9 @@
--- A text with a fault: the error's word, and what is printed of it.
-use Rattle.std.specs.Prelude.{◌≡◌, ◌++◌, ◌&&◌, ℕ, Bool, true, false, if◌then◌else◌, List, [], codes, is_some, Option, Some, None, String, string_bytes}
+-- A text with a fault, and the error's word.
+use Rattle.std.specs.Prelude.{ℕ, Bool, true, false, if◌then◌else◌, List, Option, Some, None, String, string_bytes}
 use Rattle.std.specs.Str.{bytes_eq}
 use Rattle.std.specs.declared.alloc.Global.{Global}
-use Rattle.tw_asm.specs.declared.fault.FaultNo.{FaultNo}
-use Rattle.tw_asm.specs.declared.fault.FaultNo.TheVariants as fault
-use Rattle.tw_diagnostics.specs.Diagnostics.{IsTextReason, diagnostic_text, error_word, line_at, shown_line}
+use Rattle.tw_diagnostics.specs.Diagnostics.{IsTextReason, error_word, line_at}
 use Rattle.tw_diagnostics.specs.declared.diagnostic.Reason.{Reason}
-use Rattle.tw_source.specs.NameHint.{IsHeadIf}
 use Rattle.tw_source.specs.Source.{plain_or}
 use Rattle.tw_source.specs.declared.faulty_text.FaultyText.{FaultyText}
 
@@ -35,22 +32,3 @@ is_written f = is_written_as f.text.now f.fault.line f.plain
 -- returns the word and the column of the fault; zeros if it is at no word, or if its line isn't written as it is expanded
 abbrev pub fault_word : FaultyText → Reason → ℕ × ℕ
 fault_word f r = if is_written f then error_word r else (0, 0)
-
--- returns the line as it is written, if it is expanded to another one
-abbrev pub written_text : Bool → Option (List ℕ) → List ℕ
-written_text true line = []
-written_text false line = shown_line line ++ codes "expands to: "
-
--- return whether operands are wrong, and whether the head of the procedure that the line calls is printed: if the text has names
-abbrev pub is_operand : FaultNo → Bool
-is_operand fault.Operand = true
-is_operand which = false
-
-abbrev pub is_head_printed : FaultyText → Bool
-is_head_printed f = is_some f.plain && is_operand f.fault.no
-
--- holds for the fault's line as it is written and as it is expanded, why it is rejected, and that head
-abbrev pub AreFaultDetails : FaultyText → Reason → List ℕ → Type 0
-AreFaultDetails f r more =
-    (head : List ℕ) × IsHeadIf (is_head_printed f) f.text.now f.fault.line head
-    × (more ≡ written_text (is_written f) (line_at f.text.now f.fault.line) ++ (diagnostic_text (plain_in f) f.fault.line r ++ head))

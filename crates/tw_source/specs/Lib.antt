@@ -1,14 +1,11 @@
--- Programs and inputs that are read, and their errors. Replies are in Reply, errors in Failure, their words in FaultyText and NamePlace, lines of a text in Text and symbolic assembly in Names.
--- NameHint has what was meant by a name. Program has the program that is read, Inputs the inputs, Examples words that encode such.
+-- Programs and inputs that are read, and their errors. Replies are in Reply, errors in Failure, their words in FaultyText and NamePlace, lines of a text in Text.
+-- Program has the program that is read, Inputs the inputs.
 pub mod Input
 pub mod Reply
 pub mod Failure
 pub mod FaultyText
 pub mod NamePlace
-pub mod NameHint
-pub mod Examples
 pub mod Program
-pub mod Names
 pub mod Text
 pub mod Inputs
 -- The model of what the code keeps of a text, and of its first line.

@@ -1,5 +1,5 @@
 -- The program that is read: hex text of its bytes, or assembly text, with names or without.
-use Rattle.std.specs.Prelude.{◌≡◌, ◌⊎◌, ℕ, List, [], IsUtf8, Option, Some, None, Ok, Err, String, string_bytes}
+use Rattle.std.specs.Prelude.{◌≡◌, ◌⊎◌, ℕ, List, [], IsUtf8, Option, Some, None, Ok, Err, String, string_bytes, ⊤}
 use Rattle.std.specs.Result.{IsErr}
 use Rattle.std.specs.Str.Lines.{lines}
 use Rattle.std.specs.declared.alloc.Global.{Global}
@@ -15,10 +15,9 @@ use Rattle.tw_order.specs.declared.order.Source.TheVariants.{Hex, Assembly}
 use Rattle.tw_symbols.specs.Answers.{name_number, seen_rejection}
 use Rattle.tw_symbols.specs.Expansion.{ExpandsTo, HasNames, IsFirstRejection}
 use Rattle.tw_source.specs.Failure.{coded, failed_with, fault_failure}
-use Rattle.tw_source.specs.FaultyText.{AreFaultDetails, IsReasonIn, fault_word, plain_in}
+use Rattle.tw_source.specs.FaultyText.{IsReasonIn, fault_word, plain_in}
 use Rattle.tw_source.specs.Input.{digits_in}
 use Rattle.tw_source.specs.NamePlace.{IsNamePlace}
-use Rattle.tw_source.specs.Names.{AreNameDetails}
 use Rattle.tw_source.specs.Reply.{Reply, reply}
 use Rattle.tw_source.specs.Text.{RepliesByUtf8}
 use Rattle.tw_source.specs.declared.close.Close.TheVariants.{Success}
@@ -75,15 +74,15 @@ IsFailure (Named f) failure =
     (at : ℕ × ℕ) × IsNamePlace f.text.now f.error.line f.error.word.now at × (failure ≡ coded 78 (name_number f.error.no) (position.Line f.error.line at.0 at.1))
 IsFailure NoMemory failure = ⊥
 
--- holds for what follows its first line: the line of a rejected text, and the reason
-abbrev pub AreParseErrorDetails : NoProgram → List ℕ → Type 0
-AreParseErrorDetails (Text f) more = (r : Reason) × IsReasonIn f r × AreFaultDetails f r more
-AreParseErrorDetails (Named f) more = AreNameDetails f.text.now f.error.no f.error.line f.error.word.now more
-AreParseErrorDetails other more = more ≡ []
+-- holds for what may follow its first line: anything about a rejected text
+abbrev pub MayHaveDetails : NoProgram → List ℕ → Type 0
+MayHaveDetails (Text f) more = ⊤
+MayHaveDetails (Named f) more = ⊤
+MayHaveDetails other more = more ≡ []
 
 -- holds for the reply with the reason why there is no program
 abbrev pub PrintsNone : NoProgram → Reply → Type 0
-PrintsNone why r = (failure : Failure) × (more : List ℕ) × IsFailure why failure × AreParseErrorDetails why more × (r ≡ failed_with failure more)
+PrintsNone why r = (failure : Failure) × (more : List ℕ) × IsFailure why failure × MayHaveDetails why more × (r ≡ failed_with failure more)
 
 -- holds if this is the reply to the program, or has the reason why there is none
 abbrev pub RepliesBySource : Source → List ℕ → (Versioned → Reply → Type 0) → Reply → Type 0

@@ -2,12 +2,9 @@
 use Rattle.std.specs.Prelude.{◌≡◌, ◌⊎◌, ◌++◌, ◌-◌, ℕ, List, [], ◌∷◌, codes, decimal, slice_get, IsUtf8, Option, Some, None}
 use Rattle.std.specs.Str.{IsTrimAscii}
 use Rattle.std.specs.Str.Lines.{lines}
-use Rattle.tw_asm.specs.Origins.{AreOrigins, ComesFrom}
-use Rattle.tw_code.specs.declared.procedure.Procedure.{Procedure}
-use Rattle.tw_symbols.specs.Registers.{IsWithName}
+use Rattle.tw_asm.specs.Origins.{ComesFrom}
 use Rattle.tw_symbols.specs.Symbols.{AreNames, name_at}
 use Rattle.tw_symbols.specs.Expansion.{ExpandsTo}
-use Rattle.tw_diagnostics.specs.Reasons.{PrintsReason, shape_line}
 use Rattle.tw_diagnostics.specs.LineRole.{IsFirstHead}
 use Rattle.tw_lexer.specs.Shown.{shortened}
 use Rattle.tw_verify.specs.declared.rejection.VerifyError.{VerifyError}
@@ -54,28 +51,14 @@ abbrev pub IsPlaceText : Option (List ℕ) → ℕ → ℕ → List ℕ → Type
 IsPlaceText None procedure place more = more ≡ []
 IsPlaceText (Some text) procedure place more = IsPlaceLine text procedure place more
 
--- ---- details of an error
+-- ---- the line of an error
 
--- holds for the line from which the instruction at the rejected place comes, with its number, as it is written, with its procedure's name; then for the reason, in
--- which the register has its name beside it
-abbrev pub ArePlaceDetails : List ℕ → VerifyError → List Procedure → ℕ → ℕ → Option ℕ → List ℕ → Type 0
-ArePlaceDetails text which program procedure place at more =
-    (plain : List ℕ) × (number : ℕ) × (line : List ℕ) × (numbers : List (List ℕ)) × (reason : List ℕ) × (printed : List ℕ) × (names : List (List ℕ))
-    × ExpandsTo text plain × ComesFrom plain procedure place number × IsLineOf text number line
-    × AreOrigins plain program numbers × PrintsReason which numbers program procedure place reason × IsWithName text number reason printed × AreNames text names
-    × (at ≡ Some number) × (more ≡ line_in_text (name_at names procedure) number line ++ printed)
+-- holds for the number of the line from which the instruction at a rejected place comes, or of the line that begins main if its shape is wrong
+abbrev pub IsLineOfError : VerifyError → List ℕ → ℕ → ℕ → ℕ → Type 0
+IsLineOfError rejection.MainShape plain procedure place number = IsFirstHead plain number
+IsLineOfError which plain procedure place number = ComesFrom plain procedure place number
 
--- holds for the line that begins main, and what is wrong with its shape
-abbrev pub AreMainDetails : List ℕ → List Procedure → Option ℕ → List ℕ → Type 0
-AreMainDetails text program at more =
-    (plain : List ℕ) × (number : ℕ) × (line : List ℕ) × (main : Procedure) × ExpandsTo text plain × IsFirstHead plain number × IsLineOf text number line
-    × (slice_get program 0 ≡ Some main) × (at ≡ Some number) × (more ≡ text_line number line ++ shape_line main.kind main.params)
-
-abbrev pub AreTextDetails : List ℕ → VerifyError → List Procedure → ℕ → ℕ → Option ℕ → List ℕ → Type 0
-AreTextDetails text rejection.MainShape program procedure place at more = AreMainDetails text program at more
-AreTextDetails text which program procedure place at more = ArePlaceDetails text which program procedure place at more
-
--- holds for the details of an error, and the number of the line in them; without a text there are none
-abbrev pub AreDetailsOf : Option (List ℕ) → VerifyError → List Procedure → ℕ → ℕ → Option ℕ → List ℕ → Type 0
-AreDetailsOf None which program procedure place at more = (at ≡ None) × (more ≡ [])
-AreDetailsOf (Some text) which program procedure place at more = AreTextDetails text which program procedure place at more
+-- holds for that of an error; without a text there is none
+abbrev pub IsRejectionLine : Option (List ℕ) → VerifyError → ℕ → ℕ → Option ℕ → Type 0
+IsRejectionLine None which procedure place at = at ≡ None
+IsRejectionLine (Some text) which procedure place at = (plain : List ℕ) × (number : ℕ) × ExpandsTo text plain × IsLineOfError which plain procedure place number × (at ≡ Some number)

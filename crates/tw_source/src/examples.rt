@@ -1,17 +1,11 @@
 //! Words that encode inputs of the types that main takes.
 
-ghost use Rattle.std.specs.Prelude.{◌≡◌, ◌++◌, IfOk, OnOk};
-ghost use Rattle.std.specs.List.{flat_map};
-ghost use Rattle.tw_source.specs.Examples.{container_word, example_lines, example_text, example_word, scalar_word};
-
 use std::alloc::{AllocError, Global};
 use tw_lexer::put;
 use tw_types::{DataType, Param, Scalar};
 
 /// Returns a word that encodes an int or a text.
-fn scalar_word(scalar: Scalar) -> &'static str
-    ensures { result.now ≡ scalar_word scalar }
-{
+fn scalar_word(scalar: Scalar) -> &'static str {
     match scalar {
         Scalar::Int => "int:7",
         Scalar::Text => "text:abc",
@@ -19,9 +13,7 @@ fn scalar_word(scalar: Scalar) -> &'static str
 }
 
 /// Returns a word that encodes a container, by whether its subscripts are texts.
-fn container_word(by_text: bool, scalar: Scalar) -> &'static str
-    ensures { result.now ≡ container_word by_text scalar }
-{
+fn container_word(by_text: bool, scalar: Scalar) -> &'static str {
     match (by_text, scalar) {
         (false, Scalar::Int) => "ints:1=7",
         (false, Scalar::Text) => "texts:1=\"abc\"",
@@ -31,9 +23,7 @@ fn container_word(by_text: bool, scalar: Scalar) -> &'static str
 }
 
 /// Returns a word that encodes an input of this type. No word encodes containers of containers.
-pub fn example_word(ty: DataType) -> &'static str
-    ensures { result.now ≡ example_word ty }
-{
+pub fn example_word(ty: DataType) -> &'static str {
     if ty.is_scalar() {
         scalar_word(ty.scalar())
     } else if ty.is_flat() {
@@ -49,9 +39,7 @@ fn put_example(
     param: &Param,
     before: &str,
     after: &str,
-) -> Result<(), AllocError>
-    ensures { OnOk result (out.new.items ≡ out.old.items ++ example_text before.now after.now param.now) }
-{
+) -> Result<(), AllocError> {
     if param.mode.is_write() {
         return Ok(());
     }
@@ -66,9 +54,7 @@ pub fn put_examples(
     params: &[Param],
     before: &str,
     after: &str,
-) -> Result<(), AllocError>
-    ensures { OnOk result (out.new.items ≡ out.old.items ++ flat_map (example_text before.now after.now) params.now) }
-{
+) -> Result<(), AllocError> {
     for param in params {
         put_example(out, param, before, after)?;
     }
@@ -76,9 +62,7 @@ pub fn put_examples(
 }
 
 /// Returns a line for each input that main takes: a word that encodes one.
-pub fn example_lines(alloc: Global, params: &[Param]) -> Result<Vec<u8>, AllocError>
-    ensures { IfOk result (λ text. text.items ≡ example_lines params.now) }
-{
+pub fn example_lines(alloc: Global, params: &[Param]) -> Result<Vec<u8>, AllocError> {
     let mut text = Vec::new(alloc);
     put_examples(&mut text, params, "", "\n")?;
     Ok(text)

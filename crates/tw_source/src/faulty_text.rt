@@ -1,17 +1,16 @@
 //! Assembly texts with a fault: the error's word, and what is printed of it.
 
-ghost use Rattle.std.specs.Prelude.{◌≡◌, ◌++◌, ◌-◌, ℕ, List, IfOk, OnOk, slice_get};
+ghost use Rattle.std.specs.Prelude.{◌≡◌, ◌-◌, IfOk, slice_get};
 ghost use Rattle.std.specs.Str.Lines.{lines};
-ghost use Rattle.tw_diagnostics.specs.Diagnostics.{line_at};
 ghost use Rattle.tw_source.specs.Failure.{fault_failure as fault_failure_is};
-ghost use Rattle.tw_source.specs.FaultyText.{AreFaultDetails, fault_word, is_head_printed, is_operand, is_same_line as is_same_line_is, is_written, plain_in, written_text};
+ghost use Rattle.tw_source.specs.FaultyText.{fault_word, is_same_line as is_same_line_is, is_written, plain_in};
 ghost use Rattle.tw_source.specs.Program.{IsFailure, PrintsNone};
 ghost use Rattle.tw_source.specs.Reply.{reply};
 ghost use Rattle.tw_source.specs.declared.program.NoProgram.TheVariants.{Text};
 
-use crate::failure::{Failure, Position, put_failure_line};
-use crate::name_hint::put_head_if;
-use crate::reply::{Reply, refused_by};
+use crate::failure::{Failure, Position};
+use crate::name_hint::put_head;
+use crate::reply::{Reply, detailed_reply};
 use crate::source::plain_or;
 use std::alloc::{AllocError, Global};
 use tw_asm::{AsmFault, FaultNo};
@@ -41,16 +40,6 @@ fn is_same_line(text: &str, plain: &str, number: usize) -> bool
     }
 }
 
-/// Returns whether operands are wrong.
-fn is_operand(no: FaultNo) -> bool
-    ensures { result ≡ is_operand no }
-{
-    match no {
-        FaultNo::Operand => true,
-        _ => false,
-    }
-}
-
 impl FaultyText<'_> {
     /// Returns the text in which the fault is.
     fn plain(&self) -> &str
@@ -69,11 +58,12 @@ impl FaultyText<'_> {
         }
     }
 
-    /// Returns whether the head of the procedure that the line calls is printed.
-    fn is_head_printed(&self) -> bool
-        ensures { result ≡ is_head_printed self.now }
-    {
-        self.plain.is_some() && is_operand(self.fault.no)
+    /// Returns whether the head of the procedure that the line calls is printed: if the text has names, and operands are wrong.
+    fn is_head_printed(&self) -> bool {
+        match self.fault.no {
+            FaultNo::Operand => self.plain.is_some(),
+            _ => false,
+        }
     }
 
     /// Returns the word of the fault, and its column; zeros if it is at none, or its line isn't written as it is expanded.
@@ -108,35 +98,23 @@ pub(crate) fn text_failure(alloc: Global, faulty: &FaultyText<'_>) -> Result<Fai
     Ok(fault_failure(faulty.fault, faulty.word(&reason)))
 }
 
-/// Adds the line as it is written, if it is expanded to another one.
-fn put_written(out: &mut Vec<u8>, faulty: &FaultyText<'_>) -> Result<(), AllocError>
-    ensures { OnOk result (out.new.items ≡ out.old.items ++ written_text (is_written faulty.now) (line_at faulty.now.text.now faulty.now.fault.line)) }
-{
-    if faulty.is_written() {
-        return Ok(());
-    }
-    put_shown_line(out, faulty.text, faulty.fault.line)?;
-    put(out, "expands to: ")
-}
-
-/// Adds the line of a fault, why it is rejected, and the head of the procedure that it calls by a name.
-fn put_fault_details(
+/// Returns the line of a fault, as it is written and as it is expanded, why it is rejected, and the head of the procedure that it calls by a name.
+fn fault_details(
     alloc: Global,
-    out: &mut Vec<u8>,
     faulty: &FaultyText<'_>,
     reason: &Reason<'_>,
-) -> Result<(), AllocError>
-    ensures { OnOk result ((more : List ℕ) × AreFaultDetails faulty.now reason.now more × (out.new.items ≡ out.old.items ++ more)) }
-{
-    put_written(out, faulty)?;
-    put_text_diagnostic(alloc, out, faulty.plain(), faulty.fault.line, reason)?;
-    put_head_if(
-        alloc,
-        out,
-        faulty.is_head_printed(),
-        faulty.text,
-        faulty.fault.line,
-    )
+) -> Result<Vec<u8>, AllocError> {
+    let mut out = Vec::new(alloc);
+    let line = faulty.fault.line;
+    if !faulty.is_written() {
+        put_shown_line(&mut out, faulty.text, line)?;
+        put(&mut out, "expands to: ")?;
+    }
+    put_text_diagnostic(alloc, &mut out, faulty.plain(), line, reason)?;
+    if faulty.is_head_printed() {
+        put_head(alloc, &mut out, faulty.text, line)?;
+    }
+    Ok(out)
 }
 
 /// Returns the reply to a text with a fault.
@@ -145,8 +123,6 @@ pub(crate) fn faulty_reply(alloc: Global, faulty: &FaultyText<'_>) -> Result<Rep
 {
     let reason = text_reason(alloc, faulty.plain(), faulty.fault)?;
     let failure = fault_failure(faulty.fault, faulty.word(&reason));
-    let mut out = Vec::new(alloc);
-    put_failure_line(alloc, &mut out, failure)?;
-    put_fault_details(alloc, &mut out, faulty, &reason)?;
-    Ok(refused_by(out, failure))
+    let details = fault_details(alloc, faulty, &reason)?;
+    detailed_reply(alloc, failure, &details)
 }

@@ -23,8 +23,9 @@ pub use faulty_text::{FaultyText, fault_failure};
 pub use inputs::{cut_inputs, input_word_reply, refused_words_reply, unreadable_reply, words_in};
 pub use names::{UnexpandedText, plain_reply};
 pub use program::{NoProgram, ReadProgram, parse_error_reply, parse_failure, read_program};
-pub use reply::{Reply, failed_reply, fixed_reply, not_utf8_reply, refused_by};
+pub use reply::{Reply, detailed_reply, failed_reply, fixed_reply, not_utf8_reply, refused_by};
 pub use source::{
-    SourceText, line_in, put_place_line, put_rejection_details, put_text_line, symbols_of,
+    SourceText, line_in, put_place_line, put_text_line, rejection_details, rejection_line,
+    symbols_of,
 };
 pub use text_lines::TextLines;

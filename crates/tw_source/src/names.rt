@@ -1,18 +1,15 @@
 //! Output about symbolic assembly and its expanded text.
 
-ghost use Rattle.std.specs.Prelude.{◌≡◌, ◌++◌, ℕ, List, IfOk, OnOk};
-ghost use Rattle.tw_source.specs.NameHint.{IsNameHint};
-ghost use Rattle.tw_source.specs.Names.{AreNameDetails, expected_words, fixed_diagnostic, form_diagnostic, kind_diagnostic, kind_hint, name_diagnostic, binding_words, separator, unknown_diagnostic, word_diagnostic, word_reason};
+ghost use Rattle.std.specs.Prelude.{IfOk};
 ghost use Rattle.tw_source.specs.Program.{IsFailure, PrintsNone, RepliesByPlain};
 ghost use Rattle.tw_source.specs.declared.program.NoProgram.TheVariants.{Named};
-ghost use Rattle.tw_lexer.specs.Shown.{shortened};
 ghost use Rattle.tw_source.specs.Reply.{reply};
 
 use crate::close::Close;
-use crate::failure::{Failure, Position, put_failure_line};
-use crate::name_hint::{is_argument, put_head_if, put_name_hint};
+use crate::failure::{Failure, Position};
+use crate::name_hint::{is_argument, put_head, put_name_hint};
 use crate::name_place::text_place;
-use crate::reply::{Reply, fixed_reply, not_utf8_reply, refused_by};
+use crate::reply::{Reply, detailed_reply, fixed_reply, not_utf8_reply};
 use std::alloc::{AllocError, Global};
 use tw_diagnostics::put_shown_line;
 use tw_lexer::{put, put_both, put_shortened};
@@ -26,9 +23,7 @@ pub struct UnexpandedText<'a> {
 }
 
 /// Returns what a name means, in words.
-fn binding_words(binding: Binding) -> &'static str
-    ensures { result.now ≡ binding_words binding }
-{
+fn binding_words(binding: Binding) -> &'static str {
     match binding {
         Binding::Constant(_) => "a constant",
         Binding::Register(Bank::Value, _, _) => "a value register",
@@ -38,9 +33,7 @@ fn binding_words(binding: Binding) -> &'static str
 }
 
 /// Returns what is required in a name's place, in words.
-fn expected_words(asked: Expected) -> &'static str
-    ensures { result.now ≡ expected_words asked }
-{
+fn expected_words(asked: Expected) -> &'static str {
     match asked {
         Expected::Value | Expected::ValueArgument => "a value register",
         Expected::Right | Expected::RightArgument => "a right register",
@@ -51,9 +44,7 @@ fn expected_words(asked: Expected) -> &'static str
 }
 
 /// Returns how the mistake is usually mended, if it is a usual one.
-fn kind_hint(binding: Binding, asked: Expected) -> &'static str
-    ensures { result.now ≡ kind_hint binding asked }
-{
+fn kind_hint(binding: Binding, asked: Expected) -> &'static str {
     match (binding, asked) {
         (Binding::Constant(_), Expected::Value | Expected::ValueArgument) => {
             "; INT puts a constant into a register"
@@ -70,18 +61,14 @@ fn kind_hint(binding: Binding, asked: Expected) -> &'static str
 }
 
 /// Adds what a name means, and what is required in its place.
-fn put_kind(out: &mut Vec<u8>, binding: Binding, asked: Expected) -> Result<(), AllocError>
-    ensures { OnOk result (out.new.items ≡ out.old.items ++ kind_diagnostic binding asked) }
-{
+fn put_kind(out: &mut Vec<u8>, binding: Binding, asked: Expected) -> Result<(), AllocError> {
     put_both(out, "it is ", binding_words(binding))?;
     put_both(out, ", ", expected_words(asked))?;
     put_both(out, " is required", kind_hint(binding, asked))
 }
 
 /// Says which form a line lacks, by the word at which it ends to have one.
-fn form_diagnostic(word: &[u8]) -> &'static str
-    ensures { result.now ≡ form_diagnostic word.now }
-{
+fn form_diagnostic(word: &[u8]) -> &'static str {
     if word.ends_with(b":") {
         "needs a type after it, and in a line proc a mode before that: val, closed, ref or write"
     } else if word.contains(&b':') {
@@ -92,9 +79,7 @@ fn form_diagnostic(word: &[u8]) -> &'static str
 }
 
 /// Says that a name has no meaning, where this is required.
-fn unknown_diagnostic(asked: Expected) -> &'static str
-    ensures { result.now ≡ unknown_diagnostic asked }
-{
+fn unknown_diagnostic(asked: Expected) -> &'static str {
     match asked {
         Expected::Procedure => "no procedure has this name",
         _ => "the name means nothing here",
@@ -102,9 +87,7 @@ fn unknown_diagnostic(asked: Expected) -> &'static str
 }
 
 /// Says what is wrong with a word, for errors that have one text.
-fn fixed_diagnostic(no: NameNo) -> &'static str
-    ensures { result.now ≡ fixed_diagnostic no }
-{
+fn fixed_diagnostic(no: NameNo) -> &'static str {
     match no {
         NameNo::NoName => "this can't be a name",
         NameNo::Twice => "an earlier procedure has this name",
@@ -118,9 +101,7 @@ fn fixed_diagnostic(no: NameNo) -> &'static str
 }
 
 /// Adds what is wrong with a word.
-fn put_diagnostic(out: &mut Vec<u8>, word: &[u8], no: NameNo) -> Result<(), AllocError>
-    ensures { OnOk result (out.new.items ≡ out.old.items ++ name_diagnostic word.now no) }
-{
+fn put_diagnostic(out: &mut Vec<u8>, word: &[u8], no: NameNo) -> Result<(), AllocError> {
     match no {
         NameNo::Form => put(out, form_diagnostic(word)),
         NameNo::Kind(binding, asked) => put_kind(out, binding, asked),
@@ -131,16 +112,12 @@ fn put_diagnostic(out: &mut Vec<u8>, word: &[u8], no: NameNo) -> Result<(), Allo
 }
 
 /// Returns what is between a word and what is wrong with it. A word may have a colon at its end.
-fn separator(word: &[u8]) -> &'static str
-    ensures { result.now ≡ separator word.now }
-{
+fn separator(word: &[u8]) -> &'static str {
     if word.ends_with(b":") { " " } else { ": " }
 }
 
 /// Adds a word, and what is wrong with it.
-fn put_word_reason(out: &mut Vec<u8>, word: &[u8], no: NameNo) -> Result<(), AllocError>
-    ensures { OnOk result (out.new.items ≡ out.old.items ++ word_reason word.now no) }
-{
+fn put_word_reason(out: &mut Vec<u8>, word: &[u8], no: NameNo) -> Result<(), AllocError> {
     put_shortened(out, word)?;
     put(out, separator(word))?;
     put_diagnostic(out, word, no)
@@ -153,26 +130,25 @@ fn put_word_diagnostic(
     text: &str,
     word: &[u8],
     no: NameNo,
-) -> Result<(), AllocError>
-    ensures { OnOk result ((hint : List ℕ) × IsNameHint text.now no word.now hint × (out.new.items ≡ out.old.items ++ word_diagnostic word.now no hint)) }
-{
+) -> Result<(), AllocError> {
     put_word_reason(out, word, no)?;
     put_name_hint(alloc, out, text, no, word)?;
     put(out, "\n")
 }
 
-/// Adds the rejected line as it was written, what is wrong with which word of it, and the head of the procedure that is called.
-fn put_name_details(
+/// Returns the rejected line as it was written, what is wrong with which word of it, and the head of the procedure that is called.
+fn name_details(
     alloc: Global,
-    out: &mut Vec<u8>,
     text: &str,
     rejection: NameError<'_>,
-) -> Result<(), AllocError>
-    ensures { OnOk result ((more : List ℕ) × AreNameDetails text.now rejection.entry.no rejection.entry.line rejection.entry.word.now more × (out.new.items ≡ out.old.items ++ more)) }
-{
-    put_shown_line(out, text, rejection.line)?;
-    put_word_diagnostic(alloc, out, text, rejection.word, rejection.no)?;
-    put_head_if(alloc, out, is_argument(rejection.no), text, rejection.line)
+) -> Result<Vec<u8>, AllocError> {
+    let mut out = Vec::new(alloc);
+    put_shown_line(&mut out, text, rejection.line)?;
+    put_word_diagnostic(alloc, &mut out, text, rejection.word, rejection.no)?;
+    if is_argument(rejection.no) {
+        put_head(alloc, &mut out, text, rejection.line)?;
+    }
+    Ok(out)
 }
 
 /// Returns the error of symbolic assembly that can't be expanded, at the name's place.
@@ -197,10 +173,8 @@ pub(crate) fn unexpanded_reply(
     ensures { IfOk result (λ r. PrintsNone (Named unexpanded.now) (reply r.text.items r.close)) }
 {
     let failure = name_failure(alloc, unexpanded)?;
-    let mut out = Vec::new(alloc);
-    put_failure_line(alloc, &mut out, failure)?;
-    put_name_details(alloc, &mut out, unexpanded.text, unexpanded.error)?;
-    Ok(refused_by(out, failure))
+    let details = name_details(alloc, unexpanded.text, unexpanded.error)?;
+    detailed_reply(alloc, failure, &details)
 }
 
 /// Returns the expanded text, or the first name error.

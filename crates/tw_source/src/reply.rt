@@ -1,7 +1,7 @@
 //! Replies of a session.
 
 ghost use Rattle.std.specs.Prelude.{◌≡◌, IfOk};
-ghost use Rattle.tw_source.specs.Failure.{coded, failed};
+ghost use Rattle.tw_source.specs.Failure.{coded, failed, failed_with};
 ghost use Rattle.tw_source.specs.Reply.{reply};
 ghost use Rattle.tw_source.specs.declared.failure.Position.TheVariants as position;
 
@@ -42,6 +42,16 @@ pub fn failed_reply(alloc: Global, failure: Failure) -> Result<Reply, AllocError
 {
     let mut text = Vec::new(alloc);
     put_failure_line(alloc, &mut text, failure)?;
+    Ok(refused_by(text, failure))
+}
+
+/// Returns the reply that has the first line of an error, and these lines after it.
+pub fn detailed_reply(alloc: Global, failure: Failure, details: &[u8]) -> Result<Reply, AllocError>
+    ensures { IfOk result (λ r. reply r.text.items r.close ≡ failed_with failure details.now) }
+{
+    let mut text = Vec::new(alloc);
+    put_failure_line(alloc, &mut text, failure)?;
+    text.extend_from_slice(details)?;
     Ok(refused_by(text, failure))
 }
 

@@ -1,21 +1,17 @@
 //! Lines of a text, by the instructions of its program.
 
-ghost use Rattle.std.specs.Prelude.{◌≡◌, ◌++◌, ◌<◌, ◌-◌, ℕ, List, MatchOption, IfOk, OnOk, None, length, map, slice_get};
+ghost use Rattle.std.specs.Prelude.{◌≡◌, ◌++◌, ◌-◌, ℕ, List, MatchOption, IfOk, OnOk, None, Some, map, slice_get};
 ghost use Rattle.std.specs.Str.Lines.{lines};
 ghost use Rattle.tw_asm.specs.Origins.{AreOrigins, ComesFrom, instr_at};
 ghost use Rattle.tw_code.specs.declared.procedure.Procedure.{Procedure as Section};
 ghost use Rattle.tw_source.specs.Source.{IsSourceAt, MayBeSourceAt, plain_of, plain_or, text_of};
-ghost use Rattle.tw_symbols.specs.Registers.{IsWithName};
 ghost use Rattle.tw_symbols.specs.Expansion.{ExpandsTo};
 ghost use Rattle.tw_symbols.specs.Symbols.{AreSymbols};
-ghost use Rattle.tw_diagnostics.specs.Reasons.{PrintsReason, shape_line};
-ghost use Rattle.tw_diagnostics.specs.LineRole.{IsFirstHead};
-ghost use Rattle.tw_source.specs.Text.{AreDetailsOf, IsLineOf, AreMainDetails, ArePlaceDetails, AreTextDetails, IsPlaceLine, IsPlaceText, in_name, line_in_text, text_line};
+ghost use Rattle.tw_source.specs.Text.{IsLineOf, IsPlaceLine, IsPlaceText, IsRejectionLine, in_name, line_in_text, text_line};
 
 use crate::text_lines::TextLines;
 use std::alloc::{AllocError, Global};
 use tw_asm::LineNumbers;
-use tw_code::Procedure;
 use tw_diagnostics::{head_line, put_main_diagnostic, put_program_diagnostic};
 use tw_lexer::{line_numbered, put, put_numbered, put_shortened};
 use tw_symbols::{Symbols, put_with_name};
@@ -186,101 +182,84 @@ fn put_diagnostic(
     source: &SourceText<'_>,
     number: usize,
     refused: &Refused,
-) -> Result<(), AllocError>
-    ensures { OnOk result ((reason : List ℕ) × (printed : List ℕ) × PrintsReason refused.now.no source.now.lines.procedures refused.now.program.procedures refused.now.procedure refused.now.place reason
-        × IsWithName source.now.text.now number reason printed × (out.new.items ≡ out.old.items ++ printed)) }
-{
+) -> Result<(), AllocError> {
     let mut reason = Vec::new(alloc);
     put_program_diagnostic(alloc, &mut reason, &source.lines, refused)?;
     put_with_name(alloc, out, source.text, number, &reason)
 }
 
-/// Adds the line from which the rejected instruction comes, and why it is rejected. Returns the number of the line.
-fn put_place_details(
-    alloc: Global,
-    out: &mut Vec<u8>,
-    source: &SourceText<'_>,
-    refused: &Refused,
-) -> Result<Option<usize>, AllocError>
-    ensures { IfOk result (λ at. IsSourceAt source.now refused.now.program.procedures refused.now.procedure refused.now.place
-        → (more : List ℕ) × ArePlaceDetails source.now.text.now refused.now.no refused.now.program.procedures refused.now.procedure refused.now.place at more × (out.new.items ≡ out.old.items ++ more)) }
-{
-    let Some((number, line)) = source_line(source, refused.procedure, refused.place) else {
-        return Ok(None);
-    };
-    let names = Symbols::of(alloc, source.text)?;
-    put_line_in(alloc, out, names.procedure(refused.procedure), number, line)?;
-    put_diagnostic(alloc, out, source, number, refused)?;
-    Ok(Some(number))
-}
-
-/// Adds the line that begins main, and what is wrong with its shape. Returns the number of the line.
-fn put_head_details(
-    alloc: Global,
-    out: &mut Vec<u8>,
-    source: &SourceText<'_>,
-    main: &Procedure,
-) -> Result<Option<usize>, AllocError>
-    requires { length main.now.params < 99 }
-    ensures { IfOk result (λ at. (procedure place number : ℕ) → ComesFrom (plain_of source.now) procedure place number → ExpandsTo source.now.text.now (plain_of source.now)
-        → (first : ℕ) × (line : List ℕ) × IsFirstHead (plain_of source.now) first × IsLineOf source.now.text.now first line
-        × (at ≡ Some first) × (out.new.items ≡ out.old.items ++ (text_line first line ++ shape_line main.now.kind main.now.params))) }
-{
-    let Some(number) = head_line(alloc, source.plain())? else {
-        return Ok(None);
-    };
-    let Some(line) = trimmed_line(source.text, number) else {
-        return Ok(None);
-    };
-    put_text_line(alloc, out, number, line)?;
-    put_main_diagnostic(alloc, out, main)?;
-    Ok(Some(number))
-}
-
-/// Adds the details of an error in main's shape.
-fn put_main_details(
-    alloc: Global,
-    out: &mut Vec<u8>,
-    source: &SourceText<'_>,
-    refused: &Refused,
-) -> Result<Option<usize>, AllocError>
-    ensures { IfOk result (λ at. IsSourceAt source.now refused.now.program.procedures refused.now.procedure refused.now.place
-        → (more : List ℕ) × AreMainDetails source.now.text.now refused.now.program.procedures at more × (out.new.items ≡ out.old.items ++ more)) }
-{
+/// Adds what is wrong with main's shape.
+fn put_main_reason(alloc: Global, out: &mut Vec<u8>, refused: &Refused) -> Result<(), AllocError> {
     match refused.program.procedures().first() {
-        Some(main) => put_head_details(alloc, out, source, main),
-        None => Ok(None),
+        Some(main) => put_main_diagnostic(alloc, out, main),
+        None => Ok(()),
     }
 }
 
-/// Adds the details of an error in a program that was read from a text.
-fn put_text_details(
+/// Adds the line with this number, and why the program is rejected there.
+fn put_rejected_line(
     alloc: Global,
     out: &mut Vec<u8>,
     source: &SourceText<'_>,
     refused: &Refused,
+    number: usize,
+) -> Result<(), AllocError> {
+    let Some(line) = trimmed_line(source.text, number) else {
+        return Ok(());
+    };
+    match refused.no {
+        VerifyError::MainShape => {
+            put_text_line(alloc, out, number, line)?;
+            put_main_reason(alloc, out, refused)
+        }
+        _ => {
+            let names = Symbols::of(alloc, source.text)?;
+            put_line_in(alloc, out, names.procedure(refused.procedure), number, line)?;
+            put_diagnostic(alloc, out, source, number, refused)
+        }
+    }
+}
+
+/// Returns the details of an error at the line with this number, to be printed after its first line. Without a text there are none.
+pub fn rejection_details(
+    alloc: Global,
+    source: &Option<SourceText<'_>>,
+    refused: &Refused,
+    number: Option<usize>,
+) -> Result<Vec<u8>, AllocError> {
+    let mut out = Vec::new(alloc);
+    if let (Some(source), Some(number)) = (source, number) {
+        put_rejected_line(alloc, &mut out, source, refused, number)?;
+    }
+    Ok(out)
+}
+
+/// Returns the number of the line at which the program of a text is wrong.
+fn text_rejection_line(
+    alloc: Global,
+    source: &SourceText<'_>,
+    refused: &Refused,
 ) -> Result<Option<usize>, AllocError>
     ensures { IfOk result (λ at. IsSourceAt source.now refused.now.program.procedures refused.now.procedure refused.now.place
-        → (more : List ℕ) × AreTextDetails source.now.text.now refused.now.no refused.now.program.procedures refused.now.procedure refused.now.place at more × (out.new.items ≡ out.old.items ++ more)) }
+        → IsRejectionLine (Some source.now.text.now) refused.now.no refused.now.procedure refused.now.place at) }
 {
     match refused.no {
-        VerifyError::MainShape => put_main_details(alloc, out, source, refused),
-        _ => put_place_details(alloc, out, source, refused),
+        VerifyError::MainShape => head_line(alloc, source.plain()),
+        _ => Ok(source.lines.at(refused.procedure, refused.place)),
     }
 }
 
-/// Adds the details of an error, to be printed after its first line, and returns the number of the line in them. Without a text there are none.
-pub fn put_rejection_details(
+/// Returns the number of the line at which a rejected program is wrong. Without a text there is none.
+pub fn rejection_line(
     alloc: Global,
-    out: &mut Vec<u8>,
     source: &Option<SourceText<'_>>,
     refused: &Refused,
 ) -> Result<Option<usize>, AllocError>
     ensures { IfOk result (λ at. MayBeSourceAt source.now refused.now.program.procedures refused.now.procedure refused.now.place
-        → (more : List ℕ) × AreDetailsOf (text_of source.now) refused.now.no refused.now.program.procedures refused.now.procedure refused.now.place at more × (out.new.items ≡ out.old.items ++ more)) }
+        → IsRejectionLine (text_of source.now) refused.now.no refused.now.procedure refused.now.place at) }
 {
     match source {
-        Some(source) => put_text_details(alloc, out, source, refused),
+        Some(source) => text_rejection_line(alloc, source, refused),
         None => Ok(None),
     }
 }

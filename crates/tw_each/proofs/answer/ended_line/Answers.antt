@@ -8,8 +8,8 @@ use Rattle.tw_each.proofs.answer.ended_line.Goals as goal
 
 pub returns-in-Some : goal.returns-in-Some
 returns-in-Some c =
-    IfOk-weaker _ _ (λ line. IsLeftLine (Ended c.args.left) (string_bytes line))
-    (λ line is. subst (λ (x : InTurnResult). IsLeftLine (Ended x) (string_bytes line)) (sym c.in-Over.is) (c.in-Some.closing, sym c.closing.ensures ∙ c.in-Some.is, is)) c.end_line.ensures
+    IfOk-weaker _ _ (λ answer. IsLeftLine (Ended c.args.left) (string_bytes answer.line) answer.end)
+    (λ answer is. subst (λ (x : InTurnResult). IsLeftLine (Ended x) (string_bytes answer.line) answer.end) (sym c.in-Over.is) (c.in-Some.closing, sym c.closing.ensures ∙ c.in-Some.is, is)) c.ending_line.ensures
 
 pub unreachable-requires : goal.unreachable-requires
 unreachable-requires c =

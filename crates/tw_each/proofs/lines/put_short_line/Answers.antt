@@ -1,8 +1,7 @@
-use Rattle.std.proofs.Common.{◌++◌, ◌∙◌, [], ap, sym}
+use Rattle.std.proofs.Common.{◌∙◌, [], sym}
 use Rattle.std.proofs.lemmas.List.{append-nil}
 use Rattle.std.proofs.lemmas.Result.{IfOk-weaker}
-use Rattle.tw_source.specs.declared.failure.Failure.{Failure}
-use Rattle.tw_each.specs.Answers.{numbered, unread_line, way}
+use Rattle.tw_each.specs.Answers.{way}
 use Rattle.tw_each.proofs.LineAnswers.{blank_line, other_line, text_line}
 use Rattle.tw_each.proofs.lines.put_short_line.Goals as goal
 
@@ -13,10 +12,9 @@ pub returns-in-Ok : goal.returns-in-Ok
 returns-in-Ok g c =
     let blank = sym c.is_blank.ensures ∙ c.if-is_blank.false in
     let text = c.in-Ok.ensures.cases in
-    IfOk-weaker _ _ _ (λ refused h. text_line (way c.args.run.now) c.args.number c.args.line.now _ c.args.out.now.items c.put_answer.new.out.items refused blank text.0 text.1 h) c.put_answer.ensures
+    IfOk-weaker _ _ _ (λ worst h. text_line (way c.args.run.now) c.args.number c.args.line.now _ c.args.out.now.items c.put_answer.new.out.items worst blank text.0 text.1 h) c.put_answer.ensures
 
 pub returns-in-Err : goal.returns-in-Err
 returns-in-Err g c =
     let blank = sym c.is_blank.ensures ∙ c.if-is_blank.false in
-    IfOk-weaker _ _ _ (λ refused h. other_line (way c.args.run.now) c.args.number c.args.line.now c.args.out.now.items c.put_unread.new.out.items refused blank c.in-Err.ensures.cases.0
-    (h.0, h.1 ∙ ap (λ (f : Failure). c.args.out.now.items ++ numbered c.args.number (unread_line f)) c.other_bytes.ensures)) c.put_unread.ensures
+    IfOk-weaker _ _ _ (λ worst h. other_line (way c.args.run.now) c.args.number c.args.line.now c.args.out.now.items c.put_unread.new.out.items worst blank c.in-Err.ensures.cases.0 h) c.put_unread.ensures

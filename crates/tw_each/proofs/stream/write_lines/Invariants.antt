@@ -1,13 +1,15 @@
-use Rattle.std.proofs.Common.{◌≡◌, ◌≤◌, ◌-◌, ◌||◌, Bool, length, map, take}
+use Rattle.std.proofs.Common.{◌≡◌, ◌≤◌, ◌-◌, length, map, take}
 use Rattle.tw_each.specs.Answers.{way}
 use Rattle.tw_each.specs.Stream.{AreWritten}
+use Rattle.tw_each.specs.Worst.{worse}
+use Rattle.tw_each.specs.declared.worst.WorstEnd.{WorstEnd}
 use Rattle.tw_each.proofs.stream.write_lines.Given as goal
 
 -- the answers to this many lines are written
 abbrev pub invariant-loop-done : goal.invariant-loop-done
 invariant-loop-done g l =
     (l.done ≤ length l.lines)
-    × ((bad : Bool) × (l.refused ≡ (l.answered.refused || bad))
+    × ((bad : WorstEnd) × (l.worst ≡ (worse l.answered.worst bad))
     × AreWritten (way l.work.run.now) l.answered.number (map (λ line. line.now) (take l.done l.lines)) (g.W.Write.contents l.fn.writer) (g.W.Write.contents l.writer) bad)
 
 abbrev pub decreases-loop-done : goal.decreases-loop-done

@@ -17,9 +17,9 @@ returns g c =
     let shares = c.in_ok-shares.shares in
     let results = c.in_ok-answers.answers in
     let same : length results.items ≡ length shares.items = omega (arith, c.in_ok-answers.ensures.len, results.ok.0, shares.ok.0) in
-    IfOk-weaker _ _ (λ (a : Answers). AreAnswers w c.args.before (map (λ line. line.now) lines) a.text.items a.refused)
-    (λ a h. shares_answered w c.args.before lines shares.items results.items a.text.items a.refused c.in_ok-shares.ensures.parts same
+    IfOk-weaker _ _ (λ (a : Answers). AreAnswers w c.args.before (map (λ line. line.now) lines) a.text.items a.worst)
+    (λ a h. shares_answered w c.args.before lines shares.items results.items a.text.items a.worst c.in_ok-shares.ensures.parts same
     (λ i s r lt s_is r_is.
     let k = (c.in_ok-answers.ensures.each i r lt).1 in
-    subst (λ (t : Share). IfOk r (λ (b : Answers). AreAnswers w t.before (map (λ l. l.now) t.lines.now) b.text.items b.refused)) (sym (k.job_is s) ∙ s_is)
-    (subst (λ (q : Result Answers _). IfOk q (λ (b : Answers). AreAnswers w k.job.before (map (λ l. l.now) k.job.lines.now) b.text.items b.refused)) r_is k.call.met)) h) c.merged.ensures
+    subst (λ (t : Share). IfOk r (λ (b : Answers). AreAnswers w t.before (map (λ l. l.now) t.lines.now) b.text.items b.worst)) (sym (k.job_is s) ∙ s_is)
+    (subst (λ (q : Result Answers _). IfOk q (λ (b : Answers). AreAnswers w k.job.before (map (λ l. l.now) k.job.lines.now) b.text.items b.worst)) r_is k.call.met)) h) c.merged.ensures

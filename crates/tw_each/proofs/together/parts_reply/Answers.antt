@@ -20,8 +20,8 @@ returns-in_ok-answers-in-Run g c =
     let printed = reply c.answered_reply.result.text.items c.answered_reply.result.close in
     let same : now c.deref.result.now ≡ now c.args.parts.now.lines.items = ap now c.deref.ensures.value in
     let ready = subst (IsReady source order input) c.in-Run.is c.in_ok-text.ensures in
-    let made = subst (λ (ls : List (List ℕ)). AreAnswers run 0 ls answers.text.items answers.refused) same c.in_ok-answers-in-Run.ensures in
-    answered source order input (now c.args.parts.now.lines.items) c.in-Run.text c.in-Run.verified run answers.text.items answers.refused printed ready c.each_run-run.ensures made c.answered_reply.ensures.text
+    let made = subst (λ (ls : List (List ℕ)). AreAnswers run 0 ls answers.text.items answers.worst) same c.in_ok-answers-in-Run.ensures in
+    answered source order input (now c.args.parts.now.lines.items) c.in-Run.text c.in-Run.verified run answers.text.items answers.worst printed ready c.each_run-run.ensures made c.answered_reply.ensures.text
     c.answered_reply.ensures.close
 
 pub returns-in-Rejected : goal.returns-in-Rejected

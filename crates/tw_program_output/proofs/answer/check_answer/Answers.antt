@@ -2,7 +2,6 @@ use Rattle.tw_program_output.proofs.answer.check_answer.Goals as goal
 
 pub returns : goal.returns
 returns c = record {
-  names = c.in_ok-names.ensures;
   listing = c.in_ok-listing.ensures;
   procedures = c.in_ok-procedure_rows.ensures;
   engines = c.needs.ensures.engines;

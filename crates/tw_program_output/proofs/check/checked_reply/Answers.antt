@@ -1,14 +1,8 @@
-use Rattle.std.proofs.Common.{List, inl, refl, subst, sym}
+use Rattle.std.proofs.Common.{List, inl, refl, subst}
 use Rattle.tw_program_output.specs.Admission.{IsAdmittedOr}
 use Rattle.tw_program_output.specs.Check.{IsPrinted}
-use Rattle.tw_program_output.proofs.ReplyNames.{MayBeSource, Procedure, text_of}
+use Rattle.tw_program_output.proofs.ReplyNames.{Procedure, text_of}
 use Rattle.tw_program_output.proofs.check.checked_reply.Goals as goal
-
-pub requested_text-requires : goal.requested_text-requires
-requested_text-requires c =
-    let order = c.args.order in
-    let admitted = subst (IsAdmittedOr order.places (text_of c.args.source.now) c.args.program.procedures order.limit order.caps) c.in-Run.is c.in_ok-verified.ensures in
-    subst (λ (p : List Procedure). MayBeSource c.args.source.now p) (sym admitted.0) c.requires
 
 pub returns-in_ok-requested_text-in-Run : goal.returns-in_ok-requested_text-in-Run
 returns-in_ok-requested_text-in-Run c =
@@ -16,4 +10,4 @@ returns-in_ok-requested_text-in-Run c =
     let text = text_of c.args.source.now in
     let printed = c.in_ok-requested_text-in-Run.field-0.items in
     let admitted = subst (IsAdmittedOr order.places text c.args.program.procedures order.limit order.caps) c.in-Run.is c.in_ok-verified.ensures in
-    inl (admitted.1, (printed, subst (λ (p : List Procedure). IsPrinted order text p printed) admitted.0 c.in_ok-requested_text-in-Run.ensures, refl))
+    inl (admitted.1, (printed, subst (λ (p : List Procedure). IsPrinted order p printed) admitted.0 c.in_ok-requested_text-in-Run.ensures, refl))

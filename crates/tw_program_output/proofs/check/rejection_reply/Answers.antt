@@ -1,4 +1,4 @@
-use Rattle.std.proofs.Common.{◌≡◌, ◌∙◌, ◌++◌, ℕ, List, None, ap, append_assoc}
+use Rattle.std.proofs.Common.{◌≡◌, ◌∙◌, ◌++◌, ℕ, List, ap, append_assoc}
 use Rattle.tw_program_output.specs.Rejection.{rejection}
 use Rattle.tw_source.specs.Failure.{after}
 use Rattle.tw_program_output.proofs.ReplyNames.{Failure, Refused, failure_line, reply, verify_error_code}
@@ -10,19 +10,21 @@ returns c =
     let refused = c.args.refused.now in
     let before = c.in_ok-text.text.items in
     let at = c.in_ok-line.line in
-    let line = failure_line (rejection refused.no refused.procedure refused.place None) in
-    let printed = c.in_ok-line.ensures (placed c.args.source.now refused.program.procedures (verify_error_code refused.no) refused.procedure refused.place c.requires.source c.requires.first) in
-    let first : c.put_failure_line.new.out.items ≡ before ++ line = c.in_ok-put_failure_line.ensures ∙ ap (λ (f : Failure). before ++ failure_line f) c.failure_at.ensures in
-    let text = printed.2 ∙ ap (λ (t : List ℕ). t ++ printed.0) first ∙ append_assoc before line printed.0 in
-    let failure = c.failure_at-2.ensures ∙ ap (λ (n : ℕ). after n (rejection refused.no refused.procedure refused.place at)) (c.len-before.ensures ∙ c.in_ok-text.text.ok.0) in (
+    let more = c.in_ok-details.details.items in
+    let is = rejection refused.no refused.procedure refused.place at in
+    let line = failure_line is in
+    let at_is = c.in_ok-line.ensures (placed c.args.source.now refused.program.procedures (verify_error_code refused.no) refused.procedure refused.place c.requires.source c.requires.first) in
+    let first : c.put_failure_line.new.out.items ≡ before ++ line = c.in_ok-put_failure_line.ensures ∙ ap (λ (f : Failure). before ++ failure_line f) c.failure_at-failure.ensures in
+    let all = c.in_ok-extend_from_slice.ensures.items ∙ ap (λ (t : List ℕ). c.put_failure_line.new.out.items ++ t) c.deref.ensures.value ∙ ap (λ (t : List ℕ). t ++ more) first ∙ append_assoc before line more in
+    let failure = c.failure_at-failure.ensures ∙ ap (λ (n : ℕ). after n is) (c.len-before.ensures ∙ c.in_ok-text.text.ok.0) in (
       refused.no,
       refused.procedure,
       refused.place,
       at,
       before,
-      printed.0,
+      more,
       c.requires.first,
+      at_is,
       c.in_ok-text.ensures,
-      printed.1,
-      c.refused_by.ensures ∙ ap (λ (t : List ℕ). reply t (Refused c.failure_at-2.result)) text ∙ ap (λ (f : Failure). reply (before ++ (line ++ printed.0)) (Refused f)) failure,
+      c.refused_by.ensures ∙ ap (λ (t : List ℕ). reply t (Refused c.failure_at-failure.result)) all ∙ ap (λ (f : Failure). reply (before ++ (line ++ more)) (Refused f)) failure,
     )

@@ -1,9 +1,9 @@
 use Rattle.std.proofs.Common.{Global, Vec, ℕ}
 use Rattle.tw_program_output.specs.Check.{IsPrinted}
-use Rattle.tw_program_output.proofs.ReplyNames.{IfOk-weaker, text_of}
+use Rattle.tw_program_output.proofs.ReplyNames.{IfOk-weaker}
 use Rattle.tw_program_output.proofs.check.requested_text.Goals as goal
 
 pub returns : goal.returns
 returns c =
-    IfOk-weaker c.answer_in_form.result _ (λ (t : Vec ℕ Global). IsPrinted c.args.order (text_of c.args.source.now) c.args.verified.now.program t.items)
+    IfOk-weaker c.answer_in_form.result _ (λ (t : Vec ℕ Global). IsPrinted c.args.order c.args.verified.now.program t.items)
     (λ t is. (c.in_ok-answer.answer, c.in_ok-answer.ensures, is)) c.answer_in_form.ensures

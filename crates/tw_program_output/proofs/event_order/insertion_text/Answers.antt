@@ -1,4 +1,4 @@
-use Rattle.tw_program_output.proofs.Circles.{insertion_at}
+use Rattle.tw_program_output.proofs.Insertions.{insertion_at}
 use Rattle.tw_program_output.proofs.event_order.insertion_text.Goals as goal
 
 pub returns : goal.returns

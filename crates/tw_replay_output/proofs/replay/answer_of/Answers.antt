@@ -5,16 +5,16 @@ use Rattle.tw_replay_output.proofs.replay.answer_of.Goals as goal
 
 pub returns-in-Report : goal.returns-in-Report
 returns-in-Report c =
-    IfOk-weaker _ _ _ (λ (r : Reply) h. with_answer c.args.names c.args.source.now Report c.args.first c.args.events.now (reply r.text.items r.close) c.args.answer c.in-Report.is h) c.report_reply.ensures
+    IfOk-weaker _ _ _ (λ (r : Reply) h. with_answer c.args.source.now Report c.args.first c.args.events.now (reply r.text.items r.close) c.args.answer c.in-Report.is h) c.report_reply.ensures
 
 pub returns-in-Numbers : goal.returns-in-Numbers
 returns-in-Numbers c =
-    IfOk-weaker _ _ _ (λ (r : Reply) h. with_answer c.args.names c.args.source.now Numbers c.args.first c.args.events.now (reply r.text.items r.close) c.args.answer c.in-Numbers.is h) c.counted_reply.ensures
+    IfOk-weaker _ _ _ (λ (r : Reply) h. with_answer c.args.source.now Numbers c.args.first c.args.events.now (reply r.text.items r.close) c.args.answer c.in-Numbers.is h) c.counted_reply.ensures
 
 pub returns-in-Json : goal.returns-in-Json
 returns-in-Json c =
-    IfOk-weaker _ _ _ (λ (r : Reply) h. with_answer c.args.names c.args.source.now Json c.args.first c.args.events.now (reply r.text.items r.close) c.args.answer c.in-Json.is (json_from c.args.names c.args.source.now c.args.first c.args.events.now (reply r.text.items r.close) h)) c.json_reply.ensures
+    IfOk-weaker _ _ _ (λ (r : Reply) h. with_answer c.args.source.now Json c.args.first c.args.events.now (reply r.text.items r.close) c.args.answer c.in-Json.is (json_from c.args.source.now c.args.first c.args.events.now (reply r.text.items r.close) h)) c.json_reply.ensures
 
 pub returns-in-Picture : goal.returns-in-Picture
 returns-in-Picture c =
-    IfOk-weaker _ _ _ (λ (r : Reply) h. with_answer c.args.names c.args.source.now (Picture c.in-Picture.shown) c.args.first c.args.events.now (reply r.text.items r.close) c.args.answer c.in-Picture.is (picture_from c.args.names c.args.source.now c.in-Picture.shown c.args.first c.args.events.now (reply r.text.items r.close) h)) c.draw.ensures
+    IfOk-weaker _ _ _ (λ (r : Reply) h. with_answer c.args.source.now (Picture c.in-Picture.shown) c.args.first c.args.events.now (reply r.text.items r.close) c.args.answer c.in-Picture.is (picture_from c.args.source.now c.in-Picture.shown c.args.first c.args.events.now (reply r.text.items r.close) h)) c.draw.ensures

@@ -1,20 +1,8 @@
 use Rattle.std.proofs.Common.{◌≡◌, List, None, ap, subst, sym}
-use Rattle.tw_replay_output.proofs.ReplayNames.{AreKnownBudgets, IfOk-weaker, Input, IsAnswer, IsAnswered, IsDetailed, IsFirst, IsFirstError, IsOpened, PlainView, Reply, Spoken, Versioned, rejection_of, reply, start_of, text_of}
-use Rattle.tw_timeline.specs.History.{IsOpening}
-use Rattle.tw_timeline.proofs.History.{opening_is}
-use Rattle.tw_stats.proofs.Openings.{first_is}
+use Rattle.tw_replay_output.proofs.ReplayNames.{IfOk-weaker, Input, IsAnswer, IsAnswered, IsDetailed, IsFirstError, IsOpened, PlainView, Reply, Spoken, Versioned, rejection_of, reply, start_of, text_of}
 use Rattle.tw_replay_output.proofs.Behinds.{IsUnopened}
 use Rattle.tw_replay_output.proofs.Playing.{opened_answer, opened_is, refused_answer}
 use Rattle.tw_replay_output.proofs.replay.opened_reply.Goals as goal
-
-pub answer_of-requires-clause-opening : goal.answer_of-requires-clause-opening
-answer_of-requires-clause-opening c = subst IsOpening (sym (ap (λ (v : PlainView). v.state) c.in-Ok.ensures.opened)) (opening_is c.args.program.procedures c.as_slice.result.now)
-
-pub answer_of-requires-clause-numbers : goal.answer_of-requires-clause-numbers
-answer_of-requires-clause-numbers c = subst IsFirst (sym (ap (λ (v : PlainView). v.state) c.in-Ok.ensures.opened)) (first_is c.args.program.procedures c.as_slice.result.now)
-
-pub answer_of-requires-clause-known : goal.answer_of-requires-clause-known
-answer_of-requires-clause-known c = λ is. subst (λ (v : PlainView). AreKnownBudgets v.program c.args.budgets.now) (sym c.in-Ok.ensures.opened) (c.requires.known is)
 
 pub returns-in-Ok : goal.returns-in-Ok
 returns-in-Ok c =
@@ -29,8 +17,8 @@ returns-in-Ok c =
     IfOk-weaker _ _ _
     (λ (r : Reply) h.
     let spoken = reply r.text.items r.close in
-    let detailed = subst (λ (v : PlainView). IsDetailed (λ (a : Spoken). IsAnswer c.in_ok-names.names order.answer v events a) text order.answer start events spoken) here (h start begins c.requires.source) in
-    opened_answer text order program events spoken none (c.in_ok-names.names, c.in_ok-names.ensures, detailed)) c.answer_of.ensures
+    let detailed = subst (λ (v : PlainView). IsDetailed (λ (a : Spoken). IsAnswer order.answer v events a) text order.answer start events spoken) here (h start begins c.requires.source) in
+    opened_answer text order program events spoken none detailed) c.answer_of.ensures
 
 pub returns-in-Err : goal.returns-in-Err
 returns-in-Err c =

@@ -1,4 +1,4 @@
-use Rattle.std.proofs.Common.{◌≡◌, ◌∙◌, [], subst}
+use Rattle.std.proofs.Common.{◌≡◌, ◌∙◌, subst}
 use Rattle.tw_replay_output.proofs.ReplayNames.{IfOk-weaker, IsPlayed, Reply, played_from, reply, run}
 use Rattle.tw_order.specs.declared.runs.Answer.TheVariants.{Report}
 use Rattle.tw_replay_output.proofs.Behinds.{from_reached, from_stopped, stopped_is}
@@ -11,7 +11,7 @@ returns-in_ok-answered-in-Ok c =
     let answered = reply c.in_ok-answered-in-Ok.answered.text.items c.in_ok-answered-in-Ok.answered.close in
     let all = subst (IsPlayed first events) c.in-Ok.is c.in_ok-replaying.ensures in
     IfOk-weaker _ _ _
-    (λ (r : Reply) added. from_reached [] c.args.source.now Report first events (reply r.text.items r.close) c.in-Ok.replaying answered tt all (c.in_ok-answered-in-Ok.ensures ∙ all.replies) added) c.with_details.ensures
+    (λ (r : Reply) added. from_reached c.args.source.now Report first events (reply r.text.items r.close) c.in-Ok.replaying answered tt all (c.in_ok-answered-in-Ok.ensures ∙ all.replies) added) c.with_details.ensures
 
 pub returns-in-Err : goal.returns-in-Err
 returns-in-Err c =
@@ -19,4 +19,4 @@ returns-in-Err c =
     let events = c.args.events.now in
     let r = reply c.in-Err.reply.text.items c.in-Err.reply.close in
     let stopped = subst (IsPlayed first events) c.in-Err.is c.in_ok-replaying.ensures in
-    from_stopped [] c.args.source.now Report first events r (r ≡ played_from first events) tt (stopped_is (run first.program first.layout events first.state) (r ≡ played_from first events) stopped) stopped
+    from_stopped c.args.source.now Report first events r (r ≡ played_from first events) tt (stopped_is (run first.program first.layout events first.state) (r ≡ played_from first events) stopped) stopped

@@ -26,9 +26,9 @@ returns-in_ok-put_run_report-in-Numbers c =
     let (printed, is, added) = c.in_ok-put_run_report-in-Numbers.ensures in
     on_ok_weaker c.put_run_numbers.result
     (λ h over.
-    let (names, numbers, more, symbols, counted, are, whole) = h over.state over.reaches in
+    let (numbers, more, are, whole) = h over.state over.reaches in
     ended_after order.options.answer Numbers c.in-Numbers.is text c.args.verified.program order c.args.history.now.events over.state c.args.closing c.args.out.now.items (printed ++ limit) numbers more _ c.put_run_numbers.new.out.items
-    (names, numbers, symbols, counted, ap (λ (t : List ℕ). (t ++ limit) ++ numbers) (over.reports printed is)) are added whole) c.put_run_numbers.ensures
+    (numbers, ap (λ (t : List ℕ). (t ++ limit) ++ numbers) (over.reports printed is)) are added whole) c.put_run_numbers.ensures
 
 pub returns-in_ok-put_run_report-in-Order : goal.returns-in_ok-put_run_report-in-Order
 returns-in_ok-put_run_report-in-Order c =
@@ -46,17 +46,16 @@ pub returns-in-Picture : goal.returns-in-Picture
 returns-in-Picture c =
     let order = c.args.order.now in
     on_ok_weaker c.put_run_picture.result
-    (λ h over.
-    let (names, printed, symbols, drawn, added) = h over.state over.reaches in
+    (λ (printed, xml, bytes, added) over.
     alone order.options.answer (Picture c.in-Picture.shown) c.in-Picture.is (text_of c.args.source.now) c.args.verified.program order c.args.history.now.events over.state c.args.closing c.args.out.now.items printed c.put_run_picture.new.out.items
-    (names, symbols, drawn) refl added) c.put_run_picture.ensures
+    (xml, bytes) refl added) c.put_run_picture.ensures
 
 pub returns-in-Json : goal.returns-in-Json
 returns-in-Json c =
     let order = c.args.order.now in
     on_ok_weaker c.put_json.result
     (λ (line, is, added) over.
-    alone order.options.answer Json c.in-Json.is (text_of c.args.source.now) c.args.verified.program order c.args.history.now.events over.state c.args.closing c.args.out.now.items line c.put_json.new.out.items (over.shows line is) refl added)
+    alone order.options.answer Json c.in-Json.is (text_of c.args.source.now) c.args.verified.program order c.args.history.now.events over.state c.args.closing c.args.out.now.items line c.put_json.new.out.items (c.args.cut, over.shows c.args.cut line is) refl added)
     c.put_json.ensures
 
 pub returns-in-OrderJson : goal.returns-in-OrderJson
@@ -65,4 +64,4 @@ returns-in-OrderJson c =
     on_ok_weaker c.put_order_json.result
     (λ (found, members, first, are, added) over.
     alone order.options.answer OrderJson c.in-OrderJson.is (text_of c.args.source.now) c.args.verified.program order c.args.history.now.events over.state c.args.closing c.args.out.now.items (order_line c.args.closing found members)
-    c.put_order_json.new.out.items (found, first, ap (order_line c.args.closing found) (over.members members are)) refl added) c.put_order_json.ensures
+    c.put_order_json.new.out.items (found, c.args.cut, first, ap (order_line c.args.closing found) (over.members c.args.cut members are)) refl added) c.put_order_json.ensures

@@ -2,8 +2,8 @@ use Rattle.std.proofs.Common.{◌+◌, ◌∙◌, ℕ, ap, arith}
 use Rattle.tw_run_output.proofs.Instructions.{all_counted, one_more}
 use Rattle.tw_run_output.proofs.json.instructions_in.Goals as goal
 
-pub returns : goal.returns
-returns c = all_counted c.args.history.now.events c.loop-index.index c.loop-index.sum (rw (← c.len-index-end.ensures) c.loop-index-test.false) c.loop-index.invariant.sum
+pub returns-clause-is : goal.returns-clause-is
+returns-clause-is c = all_counted c.args.history.now.events c.loop-index.index c.loop-index.sum (rw (← c.len-index-end.ensures) c.loop-index-test.false) c.loop-index.invariant.sum
 
 pub loop-index-preserved : goal.loop-index-preserved
 loop-index-preserved c =

@@ -4,7 +4,7 @@ use Rattle.tw_in_turn.specs.InTurn.{HasEnded, IsLeft}
 use Rattle.tw_in_turn.specs.declared.run.InTurnResult.{InTurnResult}
 use Rattle.tw_pool.specs.Openings.{opened}
 use Rattle.tw_source.specs.Source.{text_of}
-use Rattle.tw_session.proofs.Ran.{in_turn, over, replied}
+use Rattle.tw_session.proofs.Ran.{in_turn, over, replied, replied_run}
 use Rattle.tw_session.proofs.in_turn.ended_in_turn.Goals as goal
 
 pub ended_reply-requires : goal.ended_reply-requires
@@ -27,9 +27,10 @@ returns-in-Some c =
     let is_over = subst (λ (x : InTurnResult). IsLeft order.options.seed (opened verified order.inputs order.options.layout order.options.limit) x) c.in-Over.is c.requires.left in
     let p = is_over.0 in
     let left = is_over.2 in
-    replied c.ended_reply.result (text_of c.args.source.now) verified.program order c.in-Over.outcome c.in-Over.history.events c.in-Some.closing
+    replied_run c.ended_reply.result (text_of c.args.source.now) verified.program order
+    (replied c.ended_reply.result (text_of c.args.source.now) verified.program order c.in-Over.outcome c.in-Over.history.events c.in-Some.closing
     (over verified order p c.in-Over.outcome c.in-Over.history c.in-Some.closing (ap run_of left.of_first) left.within left.shut (in_turn verified order p (inl is_over.1)) (inl (sym c.closing.ensures ∙ c.in-Some.ensures.same, c.in-Some.ensures.unstopped)))
-    c.ended_reply.ensures
+    c.ended_reply.ensures)
 
 pub unreachable-requires : goal.unreachable-requires
 unreachable-requires c =

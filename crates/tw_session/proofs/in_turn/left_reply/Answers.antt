@@ -5,7 +5,7 @@ use Rattle.tw_in_turn.specs.declared.run.StoppableResult.{StoppableResult}
 use Rattle.tw_pool.specs.Openings.{opened}
 use Rattle.tw_pool.specs.declared.answer.Closing.TheVariants.{Stopped}
 use Rattle.tw_source.specs.Source.{text_of}
-use Rattle.tw_session.proofs.Ran.{IsEndOf, in_turn, over, replied, stopped_end}
+use Rattle.tw_session.proofs.Ran.{IsEndOf, in_turn, over, replied, replied_run, stopped_end}
 use Rattle.tw_session.proofs.in_turn.left_reply.Goals as goal
 
 pub ended_in_turn-requires : goal.ended_in_turn-requires
@@ -42,6 +42,7 @@ returns-in-Stopped c =
     let p = stopped.1 in
     let left = stopped.4 in
     let ends : IsEndOf order final.closing c.unwrap_or-closing.result = subst (IsEndOf order final.closing) (sym c.unwrap_or-closing.ensures) (subst (λ o. IsEndOf order final.closing (unwrap_or o Stopped)) (sym c.closing.ensures) (stopped_end order final.closing stopped.2)) in
-    replied c.ended_reply.result (text_of c.args.source.now) verified.program order final c.in-Stopped.history.events c.unwrap_or-closing.result
+    replied_run c.ended_reply.result (text_of c.args.source.now) verified.program order
+    (replied c.ended_reply.result (text_of c.args.source.now) verified.program order final c.in-Stopped.history.events c.unwrap_or-closing.result
     (over verified order p final c.in-Stopped.history c.unwrap_or-closing.result (ap run_of left.of_first) left.within left.shut (in_turn verified order p (inr (stopped.0, stopped.2, stopped.3))) ends)
-    c.ended_reply.ensures
+    c.ended_reply.ensures)

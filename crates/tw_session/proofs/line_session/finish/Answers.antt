@@ -9,7 +9,7 @@ use Rattle.tw_session.proofs.line_session.finish.Goals as goal
 
 pub returns-in-Answered : goal.returns-in-Answered
 returns-in-Answered g c source order input from left old s =
-    inl (c.in-Answered.refused, c.close_of.ensures, subst (λ (x : Streamed). Streams source order input from left old (g.W.Write.contents c.args.writer.now) (Ok x)) c.in-Answered.is s)
+    inl (c.in-Answered.worst, c.close_of.ensures, subst (λ (x : Streamed). Streams source order input from left old (g.W.Write.contents c.args.writer.now) (Ok x)) c.in-Answered.is s)
 
 pub returns-in-Rejected : goal.returns-in-Rejected
 returns-in-Rejected g c source order input from left old s =

@@ -1,6 +1,6 @@
 use Rattle.tw_session.proofs.SessionNames.{MayReplyOn, RepliesByParts, seen}
-use Rattle.tw_session.specs.Session.{excessive_reply}
-use Rattle.tw_session.proofs.Leading.{awaits, finished}
+use Rattle.tw_session.specs.Session.{IsExcessive}
+use Rattle.tw_session.proofs.Leading.{awaits}
 use Rattle.tw_session.proofs.Replies.{beyond, within}
 use Rattle.tw_session.proofs.prepare.prepare.Goals as goal
 
@@ -8,7 +8,7 @@ pub returns-then-parts : goal.returns-then-parts
 returns-then-parts c =
     let p = seen c.args.parts in
     let order = c.args.order in
-    finished c.excessive.result (MayReplyOn order p) (excessive_reply order) (beyond order p c.if-parts.true) c.excessive.ensures
+    awaits c.excessive.result (IsExcessive order) (MayReplyOn order p) (λ r is. beyond order p r c.if-parts.true is) c.excessive.ensures
 
 pub returns : goal.returns
 returns c =

@@ -1,7 +1,14 @@
-use Rattle.std.proofs.Common.{◌≡◌, IfOk, string_bytes, subst}
-use Rattle.serde_json.specs.Data as json
-use Rattle.tw_json_output.specs.Run.{json_line}
+use Rattle.std.proofs.Common.{◌≡◌, ◌++◌, ◌∙◌, ℕ, List, Some, ap, codes, subst}
+use Rattle.serde_json.specs.Read.{read}
+use Rattle.serde_json.specs.View.{view}
 use Rattle.tw_json_output.proofs.object_writer.ObjectWriter.line.Goals as goal
 
 pub returns : goal.returns
-returns c = λ members has. subst (λ (d : json.Data). IfOk c.line_of.result (λ line. string_bytes line ≡ json_line d)) (c.in_ok-value.ensures.is members has) c.line_of.ensures
+returns c =
+    let value = view c.in_ok-value.value in
+    let text = c.in_ok-line.ensures.text c.in_ok-value.ensures in
+    record {
+      value = value;
+      is = c.in_ok-push_str.ensures.bytes ∙ ap (λ (t : List ℕ). t ++ codes "\n") text;
+      reads_back = λ shallow. subst (λ (t : List ℕ). read t ≡ Some value) text (c.in_ok-line.ensures.reads_back shallow);
+    }

@@ -1,0 +1,22 @@
+-- The line of an insertion.
+use Rattle.std.proofs.Common.{◌≡◌, ◌∙◌, ℕ, List, Option, Some, None, ap, sym}
+use Rattle.std.specs.Option.{option_and_then}
+use Rattle.std.specs.Prelude.{slice_get}
+use Rattle.tw_asm.specs.Origins.{instr_at}
+use Rattle.tw_code.specs.declared.instr.Instr.{Instr}
+use Rattle.tw_code.specs.declared.procedure.Procedure.{Procedure}
+use Rattle.tw_copies.specs.Copies.{IsAt}
+use Rattle.tw_copies.specs.declared.check.CopyInsertion.{CopyInsertion}
+use Rattle.tw_source.specs.Source.{MayBeSource, MayBeSourceAt}
+use Rattle.tw_source.specs.declared.source.SourceText.{SourceText}
+
+some_there : (program : List Procedure) (k place : ℕ) (p : Procedure) (i : Instr) → slice_get program k ≡ Some p → slice_get p.code place ≡ Some i → instr_at program k place ≡ None → ⊥
+some_there program k place p i here there none =
+    let found : instr_at program k place ≡ Some i = ap (λ (o : Option Procedure). option_and_then (λ (q : Procedure). slice_get q.code place) o) here ∙ there in
+    let both : Some i ≡ None = sym found ∙ none in
+    cc
+
+pub insertion_at : (source : Option SourceText) (program : List Procedure) (insertion : CopyInsertion) → MayBeSource source program → (i : Instr) → IsAt program insertion.procedure insertion.place i
+    → MayBeSourceAt source program insertion.procedure insertion.place
+insertion_at None program insertion h i is = tt
+insertion_at (Some source) program insertion h i is = (h.1, some_there program insertion.procedure insertion.place is.0 i is.1 is.2, h.3)

@@ -1,4 +1,0 @@
-use Rattle.tw_source.proofs.source.put_rejection_details.Goals as goal
-
-pub returns-in-Some : goal.returns-in-Some
-returns-in-Some c = rw c.in-Some.is c.put_text_details.ensures
