@@ -7,7 +7,7 @@
  * freed before a call returns, or when its handle is freed.
  *
  * How long a call takes. Reading, checking and verifying take time by the input's length, at most some 0.1 seconds a MiB, and can't be stopped: give
- * yuglemit_load_with the greatest length that you can wait for. A run takes as long as its program: at most `--limit` events (10,000 if nothing
+ * yuglemit_load_with the greatest length that you can wait for. A run takes as long as its program: at most `--limit` events (1,000,000 if nothing
  * is said), each of at most as many instructions as the greatest budget, which may be 1,000,000,000. Only the calls that run a loaded program
  * can be stopped from outside: before a turn, or within 65,536 local instructions of a task, whose event isn't made then. So run a stranger's
  * program by yuglemit_run_within, whose caps reject it before it runs, or with --most-instructions and --most-budget in a session.
@@ -16,7 +16,7 @@
  *   - each pointer is no null pointer, and points to as many bytes as its length says, also if that is 0;
  *   - what is written (status, a struct, or `room`, a buffer) overlaps nothing else that is passed;
  *   - nothing of it is changed by another thread during a call;
- *   - there are 64 KiB of stack left (tools/embedded.sh measures the calls over hostile inputs).
+ *   - there are 64 KiB of stack left (./dev embedded measures the calls over hostile inputs).
  *
  * The functions named yuglemit_raw_ are the library's calls below the functions of this header. Call those instead. A binding for another
  * language calls them: with a copy of each handle that is `const` in the function, and with a list of numbers for a struct without its size.
@@ -30,7 +30,7 @@ extern "C" {
 #endif
 
 /* The version: 1,000,000 times major, 1,000 times minor, and patch. The call returns that of the library. */
-#define YUGLEMIT_VERSION_NUMBER 25001
+#define YUGLEMIT_VERSION_NUMBER 26000
 uint32_t yuglemit_version(void);
 
 /* ---- Codes. A call returns 0 or the code of an error. No code is an exit status, a letter or a kind, and memory that runs out is one code. */
@@ -57,7 +57,9 @@ typedef enum yuglemit_code {
     YUGLEMIT_NO_END = 227,         /* the run was stopped, or memory ran out, so it has no JSON line */
     YUGLEMIT_ONE_HANDLE = 228,     /* one handle is passed for two parameters */
     YUGLEMIT_REJECTED = 229,       /* the program isn't accepted; the verdict says why */
-    YUGLEMIT_NO_ORDER = 230        /* the run's options didn't ask for its order */
+    YUGLEMIT_NO_ORDER = 230,       /* the run's options didn't ask for its order */
+    YUGLEMIT_NO_LIST = 231,        /* lists of members don't fit each other, or one is NULL */
+    YUGLEMIT_UNFINISHED = 232      /* the run didn't end by itself, and its options don't ask for partial outputs */
 } yuglemit_code;
 
 /* The rows of yuglemit_code: code, name, words. */
@@ -84,7 +86,9 @@ typedef enum yuglemit_code {
     ROW(NO_END, "the run was stopped or memory ran out, so it has no JSON line") \
     ROW(ONE_HANDLE, "one handle is passed for two parameters") \
     ROW(REJECTED, "the program isn't accepted") \
-    ROW(NO_ORDER, "the run's options didn't ask for its order")
+    ROW(NO_ORDER, "the run's options didn't ask for its order") \
+    ROW(NO_LIST, "lists of members don't fit each other") \
+    ROW(UNFINISHED, "the run didn't end by itself, so its outputs aren't the program's answer")
 
 /* Return what a code says, and its name, as "NO_MEMORY". A code that this header doesn't know is "unknown code" and "UNKNOWN". */
 static inline const char *yuglemit_code_text(uint8_t code) {
@@ -160,9 +164,12 @@ typedef struct yuglemit_verdict {
 typedef struct yuglemit_load_options {
     size_t size;
     uint64_t most_bytes;   /* the greatest length of a source, 16 MiB if it is left out. A longer one is H02, and isn't read */
+    uint64_t version;      /* the newest version of the language, 4 if it is left out. A program of a later one is F02, in each format */
 } yuglemit_load_options;
 
-#define YUGLEMIT_LOAD_OPTIONS {sizeof(yuglemit_load_options), 16777216}
+/* The newest version of the language that this header describes: types and letters of later ones aren't in it. */
+#define YUGLEMIT_LANGUAGE 4
+#define YUGLEMIT_LOAD_OPTIONS {sizeof(yuglemit_load_options), 16777216, YUGLEMIT_LANGUAGE}
 
 /* The most that runs do, whatever the inputs, the layout and the order of events. A bound is a number up to 1,000,000,000,000; or YUGLEMIT_OVER
  * if it is larger; or YUGLEMIT_NO_BOUND if a procedure starts itself, directly or through others. */
@@ -229,10 +236,11 @@ typedef struct yuglemit_options {
     uint64_t servers;      /* 1 to 4 */
     uint64_t workers;      /* 1 to 16 */
     uint64_t seed;         /* decides the order of the turns, as `tw run --in-turn --seed`; 0: the actors take turns */
-    uint64_t order;        /* 1: yuglemit_report_order has the run's order. That takes the time and the memory of a replay, which no flag stops; 0: no */
+    uint64_t order;        /* 0: no; else yuglemit_report_order has the run's order. That takes the time and the memory of a replay, which no flag stops */
+    uint64_t partial;      /* 0: the outputs of a run that doesn't end by itself, quiet, are YUGLEMIT_UNFINISHED; else what is there is read */
 } yuglemit_options;
 
-#define YUGLEMIT_OPTIONS {sizeof(yuglemit_options), 10000, 1, 1, 1, 0, 0}
+#define YUGLEMIT_OPTIONS {sizeof(yuglemit_options), 1000000, 1, 1, 1, 0, 0, 0}
 
 /* The most that a run may do: the options --most-tasks and so on of `tw run`, and two more. UINT64_MAX is no cap. */
 typedef struct yuglemit_caps {
@@ -450,6 +458,53 @@ uint8_t yuglemit_member_int_by_text(yuglemit_container *container, const uint8_t
 uint8_t yuglemit_member_text_by_text(yuglemit_container *container, const uint8_t *subscript, size_t subscript_length,
                                      const uint8_t *text, size_t length);
 
+/* Append a container with all its members in one call. `subscripts` are as many as values; NULL means 0, 1, 2 and so on. Texts are in one buffer, one
+ * after the other, and `ends` has the place at which each ends: 3 and 5 for "one" and "is" in "oneis". NULL is allowed for a list of none.
+ * YUGLEMIT_NO_LIST if a place is before the last one or after the buffer's end, or the last isn't the buffer's end; _NO_INPUTS, _NO_UTF8, _NO_MEMORY. */
+uint8_t yuglemit_raw_input_ints(yuglemit_inputs *inputs, const int64_t *subscripts, size_t subscript_count, const int64_t *values, size_t count);
+static inline uint8_t yuglemit_input_ints(yuglemit_inputs *inputs, const int64_t *subscripts, const int64_t *values, size_t count) {
+    const int64_t none = 0;
+    if (!inputs) return YUGLEMIT_NO_INPUTS;
+    if (count && !values) return YUGLEMIT_NO_LIST;
+    return yuglemit_raw_input_ints(inputs, subscripts ? subscripts : &none, subscripts ? count : 0, values ? values : &none, count);
+}
+uint8_t yuglemit_raw_input_texts(yuglemit_inputs *inputs, const int64_t *subscripts, size_t subscript_count, const uint8_t *texts, size_t length,
+                                 const uint64_t *ends, size_t count);
+static inline uint8_t yuglemit_input_texts(yuglemit_inputs *inputs, const int64_t *subscripts, const uint8_t *texts, size_t length,
+                                           const uint64_t *ends, size_t count) {
+    const int64_t none = 0;
+    const uint8_t empty = 0;
+    const uint64_t no_end = 0;
+    if (!inputs) return YUGLEMIT_NO_INPUTS;
+    if ((length && !texts) || (count && !ends)) return YUGLEMIT_NO_LIST;
+    return yuglemit_raw_input_texts(inputs, subscripts ? subscripts : &none, subscripts ? count : 0, texts ? texts : &empty, length,
+                                    ends ? ends : &no_end, count);
+}
+uint8_t yuglemit_raw_input_ints_by_text(yuglemit_inputs *inputs, const uint8_t *subscripts, size_t subscripts_length, const uint64_t *subscript_ends,
+                                        size_t subscript_count, const int64_t *values, size_t count);
+static inline uint8_t yuglemit_input_ints_by_text(yuglemit_inputs *inputs, const uint8_t *subscripts, size_t subscripts_length,
+                                                  const uint64_t *subscript_ends, const int64_t *values, size_t count) {
+    const int64_t none = 0;
+    const uint8_t empty = 0;
+    const uint64_t no_end = 0;
+    if (!inputs) return YUGLEMIT_NO_INPUTS;
+    if ((subscripts_length && !subscripts) || (count && (!subscript_ends || !values))) return YUGLEMIT_NO_LIST;
+    return yuglemit_raw_input_ints_by_text(inputs, subscripts ? subscripts : &empty, subscripts_length, subscript_ends ? subscript_ends : &no_end, count,
+                                           values ? values : &none, count);
+}
+uint8_t yuglemit_raw_input_texts_by_text(yuglemit_inputs *inputs, const uint8_t *subscripts, size_t subscripts_length, const uint64_t *subscript_ends,
+                                         size_t subscript_count, const uint8_t *texts, size_t length, const uint64_t *ends, size_t count);
+static inline uint8_t yuglemit_input_texts_by_text(yuglemit_inputs *inputs, const uint8_t *subscripts, size_t subscripts_length,
+                                                   const uint64_t *subscript_ends, const uint8_t *texts, size_t length, const uint64_t *ends,
+                                                   size_t count) {
+    const uint8_t empty = 0;
+    const uint64_t no_end = 0;
+    if (!inputs) return YUGLEMIT_NO_INPUTS;
+    if ((subscripts_length && !subscripts) || (length && !texts) || (count && (!subscript_ends || !ends))) return YUGLEMIT_NO_LIST;
+    return yuglemit_raw_input_texts_by_text(inputs, subscripts ? subscripts : &empty, subscripts_length, subscript_ends ? subscript_ends : &no_end, count,
+                                            texts ? texts : &empty, length, ends ? ends : &no_end, count);
+}
+
 /* Moves the members of a container to the inputs, as one input. The container keeps its types, and has no member; if memory runs out, it keeps
  * its members. YUGLEMIT_NO_CONTAINER, _NO_INPUTS, _NO_MEMORY, _ONE_HANDLE. */
 uint8_t yuglemit_raw_input_container(yuglemit_inputs *inputs, yuglemit_container *container);
@@ -509,7 +564,8 @@ static inline uint8_t yuglemit_unfit_input(const yuglemit_program *program, cons
     return yuglemit_raw_unfit_input(&same, &given, index);
 }
 
-/* ---- Reports. Each call below may return YUGLEMIT_NO_REPORT. */
+/* ---- Reports. Each call below may return YUGLEMIT_NO_REPORT. Those on outputs return YUGLEMIT_UNFINISHED if the run didn't end by itself, quiet:
+ * what is there then isn't the program's answer. With options.partial it is read. */
 
 /* Writes how the run ended. _NO_SIZE. */
 uint8_t yuglemit_raw_report_ending(yuglemit_report *report, uint64_t *ending, size_t count);
@@ -534,7 +590,7 @@ static inline uint8_t yuglemit_report_member(const yuglemit_report *report, size
 }
 
 /* Writes the members of an output from a place on, as many as `count`, to an array: one call reads a container, whose item has the number of
- * members. _NO_INDEX if there are fewer; then the array may be written in part. */
+ * members. _NO_INDEX if there is no such output, or it has fewer. `members` isn't NULL, also if the count is 0. */
 uint8_t yuglemit_raw_report_members(yuglemit_report *report, size_t output, size_t first, yuglemit_member *members, size_t count);
 static inline uint8_t yuglemit_report_members(const yuglemit_report *report, size_t output, size_t first, yuglemit_member *members, size_t count) {
     yuglemit_report same = *report;
@@ -623,6 +679,23 @@ static inline uint8_t yuglemit_print_json(const yuglemit_report *report, yuglemi
  * argument ends with a NUL, which the last may lack: "run\0--text\0text:a\nb". So an argument has any other character. Returns the exit status,
  * a yuglemit_status and no code; if that is 5, memory ran out, and the text is as it was. */
 uint8_t yuglemit_session_text(const uint8_t *words, size_t words_length, const uint8_t *input, size_t input_length, yuglemit_text *output);
+
+/* Like yuglemit_load_with. If the program is refused, `words` says why in words: what `tw check --text` prints if the error is in a line of a text, else
+ * what `tw explain` says of the code. If memory runs out for them, they are as they were. _ONE_HANDLE. */
+static inline uint8_t yuglemit_load_told(const uint8_t *source, size_t length, uint8_t format, const yuglemit_load_options *options,
+                                         yuglemit_program *program, yuglemit_verdict *verdict, yuglemit_text *words) {
+    const char check[] = "check\0--text";
+    char explain[] = "explain\0V00";
+    uint8_t code = (uint8_t)YUGLEMIT_ONE_HANDLE;
+    if ((void *)program != (void *)words) code = yuglemit_load_with(source, length, format, options, program, verdict);
+    if (code != YUGLEMIT_REJECTED) return code;
+    if (verdict->line && yuglemit_session_text((const uint8_t *)check, sizeof check - 1, source, length, words) == YUGLEMIT_STATUS_REFUSED) return code;
+    explain[8] = (char)verdict->letter;
+    explain[9] = (char)('0' + verdict->number / 10);
+    explain[10] = (char)('0' + verdict->number % 10);
+    yuglemit_session_text((const uint8_t *)explain, sizeof explain - 1, source, 0, words);
+    return code;
+}
 
 /* Write the length of a text in bytes, and the text to the start of `room`, if it fits; the rest of `room` stays. YUGLEMIT_NO_STRING, _NO_ROOM. */
 uint8_t yuglemit_raw_text_length(yuglemit_text *text, size_t *length);

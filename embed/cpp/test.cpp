@@ -1,6 +1,7 @@
 // SPDX-License-Identifier: Apache-2.0
-// Tests yuglemit.hpp, with the folder of the examples as its word: tools/loaded.sh runs it, under valgrind if it is there. Prints each check that fails, and how many passed.
+// Tests yuglemit.hpp, with the folder of the examples as its word: ./dev loaded runs it, under valgrind if it is there. Prints each check that fails, and how many passed.
 #include "yuglemit.hpp"
+#include <chrono>
 #include <fstream>
 #include <iostream>
 #include <iterator>
@@ -94,6 +95,19 @@ void test_result_stops() {
     CHECK(stop->try_lower() && !other->try_lower() && !other->try_raise() && fails_as(other->try_share(), Kind::use));
 }
 
+// Outputs of a run that didn't end by itself are read only if the caller asks for what is there.
+void test_result_unfinished() {
+    Options options;
+    options.limit = 3;
+    auto cut = Program::try_load(read("two_inputs.twn"))->try_run({Ints{{1, 7}, {5, -3}}, -4}, options);
+    CHECK(cut->end() == End::limit && fails_as(cut->try_outputs(), Kind::unfinished) && fails_as(cut->try_output(0), Kind::unfinished));
+    CHECK(fails_as(cut->try_member(0, 2), Kind::unfinished) && cut->try_outputs().error().raw == YUGLEMIT_UNFINISHED);
+    CHECK(std::string(cut->try_outputs().error().what()).find("ended by its limit after 3 events") != std::string::npos);
+    CHECK(*cut->try_partial() == std::vector<Value>{Ints()} && *cut->try_end() == End::limit);
+    { const auto gone = std::move(*cut); }
+    CHECK(fails_as(cut->try_end(), Kind::use) && fails_as(cut->try_partial(), Kind::use));
+}
+
 void test_result_errors() {
     const auto refused = Program::try_load("proc control write int\nregs int\nINT v0 7\nRET\n");
     CHECK(fails_as(refused, Kind::rejected) && refused.error().code() == "V10" && refused.error().line == 4);
@@ -172,12 +186,14 @@ void test_maps() {
     CHECK(report.meter().data == 2 && report.meter().members == 1 && report.meter().bytes == 3);
 }
 
-// A run that is stuck leaves an output unset and one open.
+// A run that is stuck leaves an output unset and one open, which aren't its answer.
 void test_open_outputs() {
     auto report = Program::load("proc control write int write cont int\nregs\nNEW d2 d3 int\nRULE 1 0 any 3 2 0 1\nRET\n\n"
                                 "proc leaf closed int write int write int write cont int\nregs int\nDROPR d0\nSTORE d1 v0\nSTORE d2 v0\nDROPW d3\nRET\n").run();
     CHECK(report.end() == End::stuck && report.output_count() == 2);
-    CHECK(report.output(0) == Value() && report.output(1) == Value(Ints()));
+    CHECK(report.partial() == std::vector<Value>({Value(), Ints()}));
+    CHECK_THROWS(Error, report.outputs());
+    CHECK_THROWS(Error, report.output(1));
     CHECK(!report.is_closed(0) && !report.is_closed(1));
 }
 
@@ -325,7 +341,7 @@ void test_stops() {
     Options options;
     options.limit = 20;
     CHECK(endless.run({}, options).end() == End::limit && endless.run({}, options).events() == 20);
-    CHECK(Program::load("proc control\nregs\nPUT 0 0 any\nRET\n").run({}).events() == 10000);
+    CHECK(Program::load("proc control\nregs\nPUT 0 0 any\nRET\n").run({}).events() == 1000000);
     Stop stop;
     auto other = stop.share();
     options.limit = 1000000;
@@ -336,7 +352,32 @@ void test_stops() {
     CHECK(endless.run({}, options, stop).events() == 0);
     other.lower();
     options.limit = 20;
-    CHECK(endless.run({}, options, stop).end() == End::limit);
+    auto cut = endless.run({}, options, stop);
+    CHECK(cut.end() == End::limit);
+    { const auto gone = std::move(cut); }
+    CHECK_THROWS(std::logic_error, cut.end());
+    CHECK_THROWS(std::logic_error, cut.events());
+    CHECK_THROWS(std::logic_error, cut.output_count());
+}
+
+// A stop within a task: its instructions are counted, up to one of the looks for the flag.
+void test_cut_off() {
+    auto program = Program::load("proc control\nregs int int\nINT v1 1\nREPEAT 1000\nREPEAT 1000\nREPEAT 300\nADD v0 v0 v1 no\nno:\nEND\nEND\nEND\nRET\n");
+    for (int wait = 10; wait < 20000; wait *= 2) {
+        Stop stop;
+        auto other = stop.share();
+        std::thread thread([&] {
+            std::this_thread::sleep_for(std::chrono::milliseconds(wait));
+            other.raise();
+        });
+        const auto report = program.run({}, {}, stop);
+        thread.join();
+        const auto meter = report.meter();
+        if (report.end() != End::stopped || !meter.instructions) continue;
+        CHECK(meter.tasks == 1 && meter.instructions > 61438 && meter.instructions <= program.bounds().instructions && report.instructions() == meter.instructions);
+        return;
+    }
+    CHECK(false);
 }
 
 void test_throwing() {
@@ -354,6 +395,7 @@ void test_throwing() {
     test_sessions();
     test_errors();
     test_stops();
+    test_cut_off();
 }
 #else
 void test_throwing() {}
@@ -371,6 +413,7 @@ int main(int count, char **word) {
     test_results();
     test_result_outputs();
     test_result_stops();
+    test_result_unfinished();
     test_result_errors();
     test_throwing();
     std::cout << "C++: " << passed << " passed, " << failed << " failed\n";

@@ -5,7 +5,7 @@
 //     auto report = program.run({yuglemit::Ints{{1, 7}, {5, -3}}, -4});
 //     report.end(); report.outputs();
 //
-// All of these calls throw: Error for a program or inputs that are rejected, std::bad_alloc if memory runs out, std::invalid_argument and
+// All of these calls throw: Error for a program or inputs that are rejected, and for outputs of a run that didn't end by itself; std::bad_alloc if memory runs out, std::invalid_argument and
 // std::out_of_range for arguments, std::logic_error for a call on an object that was moved from. For each there is one that doesn't throw, whose name
 // begins with try_. It returns a Result: the value, or an Error whose kind says what failed. With -fno-exceptions there are only these:
 //
@@ -26,6 +26,7 @@
 #include <stdexcept>
 #include <string>
 #include <string_view>
+#include <type_traits>
 #include <utility>
 #include <variant>
 #include <vector>
@@ -51,7 +52,8 @@ public:
         memory,    // std::bad_alloc
         argument,  // std::invalid_argument
         index,     // std::out_of_range
-        use        // std::logic_error
+        use,       // std::logic_error
+        unfinished // Error: the outputs of a run that didn't end by itself, quiet; Report::partial has what is there
     };
 
     explicit Error(const yuglemit_verdict &verdict)
@@ -134,7 +136,6 @@ private:
 
 using ProgramHandle = Handle<yuglemit_program, yuglemit_program_free>;
 using InputsHandle = Handle<yuglemit_inputs, yuglemit_inputs_free>;
-using ContainerHandle = Handle<yuglemit_container, yuglemit_container_free>;
 using StopHandle = Handle<yuglemit_stop, yuglemit_stop_free>;
 using ReportHandle = Handle<yuglemit_report, yuglemit_report_free>;
 using TextHandle = Handle<yuglemit_text, yuglemit_text_free>;
@@ -156,8 +157,10 @@ inline Error error_of(Code code) {
     case YUGLEMIT_ABOVE_CAP: return Error(code - (YUGLEMIT_INPUT_COUNT - 1));
     case YUGLEMIT_NO_MEMORY: return {Kind::memory, raw, words};
     case YUGLEMIT_NO_LAYOUT:
+    case YUGLEMIT_NO_LIST:
     case YUGLEMIT_NO_UTF8: return {Kind::argument, raw, words};
     case YUGLEMIT_NO_INDEX: return {Kind::index, raw, words};
+    case YUGLEMIT_UNFINISHED: return {Kind::unfinished, raw, words};
     default: return {Kind::use, raw, words};
     }
 }
@@ -191,17 +194,30 @@ inline const std::uint8_t *bytes_of(std::string_view text) {
     return reinterpret_cast<const std::uint8_t *>(text.empty() ? "" : text.data());
 }
 
-inline Code add(yuglemit_container *to, std::int64_t by, std::int64_t number) { return yuglemit_member_int(to, by, number); }
-inline Code add(yuglemit_container *to, std::int64_t by, const std::string &text) { return yuglemit_member_text(to, by, bytes_of(text), text.size()); }
-inline Code add(yuglemit_container *to, const std::string &by, std::int64_t number) {
-    return yuglemit_member_int_by_text(to, bytes_of(by), by.size(), number);
+// Integers as the library takes them; and texts, one after the other in one buffer, with the place at which each ends.
+using Numbers = std::vector<std::int64_t>;
+struct Joined {
+    std::string bytes;
+    std::vector<std::uint64_t> ends;
+};
+inline void put(Numbers &all, std::int64_t number) { all.push_back(number); }
+inline void put(Joined &all, const std::string &text) {
+    all.bytes += text;
+    all.ends.push_back(all.bytes.size());
 }
-inline Code add(yuglemit_container *to, const std::string &by, const std::string &text) {
-    return yuglemit_member_text_by_text(to, bytes_of(by), by.size(), bytes_of(text), text.size());
-}
+template <class Scalar> using Column = std::conditional_t<std::is_same_v<Scalar, std::string>, Joined, Numbers>;
 
-inline std::uint8_t letter_of(std::int64_t) { return 'i'; }
-inline std::uint8_t letter_of(const std::string &) { return 't'; }
+inline Code add(yuglemit_inputs *to, const Numbers &by, const Numbers &all) { return yuglemit_input_ints(to, by.data(), all.data(), all.size()); }
+inline Code add(yuglemit_inputs *to, const Numbers &by, const Joined &all) {
+    return yuglemit_input_texts(to, by.data(), bytes_of(all.bytes), all.bytes.size(), all.ends.data(), all.ends.size());
+}
+inline Code add(yuglemit_inputs *to, const Joined &by, const Numbers &all) {
+    return yuglemit_input_ints_by_text(to, bytes_of(by.bytes), by.bytes.size(), by.ends.data(), all.data(), all.size());
+}
+inline Code add(yuglemit_inputs *to, const Joined &by, const Joined &all) {
+    return yuglemit_input_texts_by_text(to, bytes_of(by.bytes), by.bytes.size(), by.ends.data(), bytes_of(all.bytes), all.bytes.size(), all.ends.data(),
+                                        all.ends.size());
+}
 
 // Appends a value to the inputs of a run.
 struct Append {
@@ -211,11 +227,14 @@ struct Append {
     Code operator()(std::int64_t number) const { return yuglemit_input_int(inputs.get(), number); }
     Code operator()(const std::string &text) const { return yuglemit_input_text(inputs.get(), bytes_of(text), text.size()); }
     template <class By, class Scalar> Code operator()(const Container<By, Scalar> &members) const {
-        ContainerHandle container;
-        Code code = yuglemit_container_new(container.get(), letter_of(By{}), letter_of(Scalar{}));
-        for (auto member = members.begin(); !code && member != members.end(); ++member)
-            code = member->second ? add(container.get(), member->first, *member->second) : UNSET;
-        return code ? code : yuglemit_input_container(inputs.get(), container.get());
+        Column<By> by;
+        Column<Scalar> all;
+        for (const auto &[subscript, value] : members) {
+            if (!value) return UNSET;
+            put(by, subscript);
+            put(all, *value);
+        }
+        return add(inputs.get(), by, all);
     }
 };
 
@@ -289,9 +308,13 @@ enum class End { quiet = 0, stuck = 3, limit = 4, stopped = 8 };
 // The report of a run.
 class Report {
 public:
-    End end() const { return static_cast<End>(ending_.status); }
-    std::size_t events() const { return static_cast<std::size_t>(ending_.events); }
-    std::size_t output_count() const { return static_cast<std::size_t>(ending_.outputs); }
+    Result<End> try_end() const {
+        if (!handle_.get()->at) return detail::error_of(YUGLEMIT_NO_REPORT);
+        return static_cast<End>(ending_.status);
+    }
+    End end() const { return static_cast<End>(ending().status); }
+    std::size_t events() const { return static_cast<std::size_t>(ending().events); }
+    std::size_t output_count() const { return static_cast<std::size_t>(ending().outputs); }
 
     // How much the run did, and what its store held at the end, also if it was stopped.
     Result<yuglemit_meter> try_meter() const {
@@ -328,11 +351,18 @@ public:
         return found.closed != 0;
     }
 
+    // The outputs are the program's answer if the run ended by itself, quiet: else these are Kind::unfinished.
     Result<Value> try_output(std::size_t output) const {
+        if (!is_quiet()) return unfinished();
         return detail::written<Value>([&](Value *value) { return read_output(output, *value); });
     }
-
     Result<std::vector<Value>> try_outputs() const {
+        if (!is_quiet()) return unfinished();
+        return try_partial();
+    }
+
+    // Returns the outputs as they are, however the run ended.
+    Result<std::vector<Value>> try_partial() const {
         std::vector<Value> values(ending_.outputs);
         for (std::size_t output = 0; output < values.size(); output++)
             if (const auto code = read_output(output, values[output])) return detail::error_of(code);
@@ -358,6 +388,7 @@ public:
     bool is_closed(std::size_t output) const { return detail::value_of(try_is_closed(output)); }
     Value output(std::size_t output) const { return detail::value_of(try_output(output)); }
     std::vector<Value> outputs() const { return detail::value_of(try_outputs()); }
+    std::vector<Value> partial() const { return detail::value_of(try_partial()); }
     std::optional<Value> member(std::size_t output, std::int64_t subscript) const { return detail::value_of(try_member(output, subscript)); }
     std::optional<Value> member(std::size_t output, std::string_view subscript) const { return detail::value_of(try_member(output, subscript)); }
 #endif
@@ -365,6 +396,21 @@ public:
 private:
     friend class Program;
     Report(detail::ReportHandle handle, const yuglemit_ending &ending) : handle_(std::move(handle)), ending_(ending) {}
+
+    bool is_quiet() const { return ending_.status == YUGLEMIT_STATUS_QUIET; }
+
+    Error unfinished() const {
+        const char *const end = ending_.status == YUGLEMIT_STATUS_STUCK ? "is stuck" : ending_.status == YUGLEMIT_STATUS_LIMIT ? "ended by its limit" : "was stopped";
+        return {Error::Kind::unfinished, YUGLEMIT_UNFINISHED,
+                std::string("the run ") + end + " after " + std::to_string(ending_.events) + " events, so its outputs aren't the program's answer; partial() has them"};
+    }
+
+    const yuglemit_ending &ending() const {
+#ifdef __cpp_exceptions
+        if (!handle_.get()->at) detail::raise(detail::error_of(YUGLEMIT_NO_REPORT));
+#endif
+        return ending_;
+    }
 
     detail::Code read(std::size_t, std::size_t, const yuglemit_item &found, bool, std::int64_t &number) const {
         number = found.number;
@@ -422,6 +468,7 @@ private:
     }
 
     template <class Find> Result<std::optional<Value>> member_at(std::size_t output, Find find) const {
+        if (!is_quiet()) return unfinished();
         std::size_t place = 0;
         yuglemit_member found{};
         auto code = find(&place);
@@ -444,7 +491,7 @@ struct Caps {
 };
 
 struct Options {
-    std::size_t limit = 10000;  // the most events, 1 to 1,000,000
+    std::size_t limit = 1000000;  // the most events, 1 to 1,000,000
     std::uint8_t engines = 1, servers = 1, workers = 1;
     std::uint64_t seed = 0;  // decides the order of the turns; 0: the actors take turns
     Caps caps;  // a program with a bound above one isn't run: an Error O07
@@ -563,7 +610,7 @@ private:
     }
 
     detail::Code run_into(detail::ReportHandle &report, const detail::InputsHandle &inputs, const Options &options, const detail::StopHandle &stop) const {
-        const yuglemit_options raw = {sizeof(yuglemit_options), options.limit, options.engines, options.servers, options.workers, options.seed, options.order};
+        const yuglemit_options raw = {sizeof(yuglemit_options), options.limit, options.engines, options.servers, options.workers, options.seed, options.order, 1};
         const auto cap = [](const std::optional<std::uint64_t> &most) { return most.value_or(UINT64_MAX); };
         const auto &[tasks, instructions, data, bytes, budget, members, rules] = options.caps;
         const yuglemit_caps caps = {sizeof(yuglemit_caps), cap(tasks), cap(instructions), cap(data), cap(bytes), cap(budget), cap(members), cap(rules)};

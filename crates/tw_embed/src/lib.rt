@@ -16,6 +16,7 @@ ghost use Rattle.std.specs.Prelude.{◌≡◌};
 ghost use Rattle.tw_calls.specs.SessionAnswers.{IsAnswerKept, IsAnswered};
 
 mod handles;
+mod lists;
 mod reports;
 mod runs;
 
@@ -27,6 +28,10 @@ pub use handles::{
     yuglemit_raw_program_needs, yuglemit_raw_program_order, yuglemit_raw_program_parameter,
     yuglemit_raw_program_procedure, yuglemit_raw_program_procedures, yuglemit_raw_program_share,
     yuglemit_raw_verify, yuglemit_source_name,
+};
+pub use lists::{
+    yuglemit_raw_input_ints, yuglemit_raw_input_ints_by_text, yuglemit_raw_input_texts,
+    yuglemit_raw_input_texts_by_text,
 };
 pub use reports::{
     yuglemit_raw_print_json, yuglemit_raw_print_report, yuglemit_raw_print_trace,
@@ -44,12 +49,12 @@ use std::alloc::Global;
 use tw_handles::Handle;
 
 /// The version: major, minor and patch, three digits each.
-const VERSION: u32 = 25_001;
+const VERSION: u32 = 26_000;
 
 /// Returns the version of the library, as `YUGLEMIT_VERSION_NUMBER` of the header it is made for.
 #[unsafe(no_mangle)]
 pub extern "C" fn yuglemit_version() -> u32
-    ensures { result ≡ 25001 }
+    ensures { result ≡ 26000 }
 {
     VERSION
 }

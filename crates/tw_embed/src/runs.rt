@@ -58,8 +58,7 @@ pub extern "C" fn yuglemit_raw_run(
 ) -> u8
     ensures program { program.new.held ≡ program.old.held }
     ensures inputs { inputs.new.held ≡ inputs.old.held }
-    ensures stop { stop.new.held ≡ stop.old.held }
-    ensures is { IsRun program.old.held inputs.old.held options.now caps.now stop.old.held report.old.held report.new.held result }
+    ensures is { IsRun program.old.held inputs.old.held options.now caps.now stop.old.held stop.new.held report.old.held report.new.held result }
 {
     tw_handles::run(alloc, program, inputs, options, caps, stop, report)
 }

@@ -1,6 +1,8 @@
 // SPDX-License-Identifier: Apache-2.0
 use std::fmt::{self, Display, Formatter};
 
+use crate::End;
+
 /// Says why a run can't begin.
 #[derive(Clone, Copy, Debug, PartialEq, Eq)]
 #[non_exhaustive]
@@ -48,6 +50,8 @@ pub enum Error {
     NoEnd,
     /// The run's options didn't ask for its order.
     NoOrder,
+    /// The run ended so, and not by itself: its outputs aren't the program's answer. [`Report::partial`](crate::Report::partial) has what is there.
+    Unfinished(End),
     /// An input or a member of one is unset, or a member is of another type than its container.
     NoInput,
     /// An allocation failed.
@@ -107,6 +111,7 @@ impl Display for Error {
             Error::NoIndex => f.write_str("there is none of this index"),
             Error::NoEnd => f.write_str("the run was stopped"),
             Error::NoOrder => f.write_str("the run's options didn't ask for its order"),
+            Error::Unfinished(end) => write!(f, "the run ended as {end:?}, so its outputs aren't the program's answer"),
             Error::NoInput => f.write_str("an input is unset, or a member is of another type than its container"),
             Error::NoMemory => f.write_str("out of memory"),
         }

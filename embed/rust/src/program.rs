@@ -111,7 +111,7 @@ pub struct Options<'a> {
 
 impl Default for Options<'_> {
     fn default() -> Self {
-        Options { limit: 10_000, engines: 1, servers: 1, workers: 1, seed: None, caps: Caps::default(), stop: None, order: false }
+        Options { limit: 1_000_000, engines: 1, servers: 1, workers: 1, seed: None, caps: Caps::default(), stop: None, order: false }
     }
 }
 
@@ -167,6 +167,9 @@ pub struct Procedure {
 /// The greatest length of a source in bytes, if nothing is said: 16 MiB.
 pub const MOST_BYTES: u64 = 16_777_216;
 
+/// The newest version of the language whose types this crate has.
+const LANGUAGE: u64 = 4;
+
 /// A program that is verified. Any number of threads may run it at once.
 pub struct Program {
     owner: Owner<OfProgram>,
@@ -197,9 +200,10 @@ impl Program {
     /// Loads a program of this format and of at most so many bytes. A longer source is refused, H02.
     pub fn load_within(source: impl AsRef<[u8]>, format: Format, most_bytes: u64) -> Result<Program, Error> {
         let (source, owner) = (source.as_ref(), Owner::new());
-        let mut verdict = [0; 9];
+        let (mut verdict, options) = ([0; 9], [most_bytes, LANGUAGE]);
         let (numbers, count) = (verdict.as_mut_ptr(), verdict.len());
-        match unsafe { raw::yuglemit_raw_load_source(source.as_ptr(), source.len(), format.letter(), &most_bytes, 1, owner.at(), numbers, count) } {
+        let (letter, given) = (format.letter(), options.as_ptr());
+        match unsafe { raw::yuglemit_raw_load_source(source.as_ptr(), source.len(), letter, given, options.len(), owner.at(), numbers, count) } {
             raw::code::REJECTED => Err(Error::Refused(Refused::of(&verdict))),
             code => done(code).map(|()| Program { owner, engines: verdict[2] as u8, workers: verdict[3] as u8 }),
         }
@@ -289,7 +293,7 @@ impl Program {
         Ok(if may_show == 0 { EventOrder::Same } else { EventOrder::MayShow { procedure, place } })
     }
 
-    /// Runs the program in this thread, its actors in turn, with at most 10,000 events.
+    /// Runs the program in this thread, its actors in turn, with at most 1,000,000 events.
     pub fn run(&self, inputs: &[Value]) -> Result<Report, Error> {
         self.run_with(inputs, &Options::default())
     }
@@ -299,7 +303,7 @@ impl Program {
         let values = Owner::<OfInputs>::new();
         inputs.iter().try_for_each(|value| value.append(&values))?;
         let Options { limit, engines, servers, workers, seed, caps, stop, order } = *options;
-        let options = [limit as u64, engines.into(), servers.into(), workers.into(), seed.map_or(0, |seed| seed.get()), order.into()];
+        let options = [limit as u64, engines.into(), servers.into(), workers.into(), seed.map_or(0, |seed| seed.get()), order.into(), 1];
         let (none, report) = (Owner::new(), Owner::new());
         let stop = stop.map_or(&none, |stop| &stop.owner);
         let caps = caps.raw();

@@ -49,12 +49,17 @@ unsafe extern "C" {
     pub fn yuglemit_raw_program_parameter(program: *mut Handle, procedure: usize, index: usize, found: *mut u64, count: usize) -> u8;
     pub fn yuglemit_input_int(inputs: *mut Handle, number: i64) -> u8;
     pub fn yuglemit_input_text(inputs: *mut Handle, text: *const u8, length: usize) -> u8;
-    pub fn yuglemit_container_new(container: *mut Handle, by: u8, scalar: u8) -> u8;
-    pub fn yuglemit_member_int(container: *mut Handle, by: i64, number: i64) -> u8;
-    pub fn yuglemit_member_text(container: *mut Handle, by: i64, text: *const u8, length: usize) -> u8;
-    pub fn yuglemit_member_int_by_text(container: *mut Handle, by: *const u8, by_length: usize, number: i64) -> u8;
-    pub fn yuglemit_member_text_by_text(container: *mut Handle, by: *const u8, by_length: usize, text: *const u8, length: usize) -> u8;
-    pub fn yuglemit_raw_input_container(inputs: *mut Handle, container: *mut Handle) -> u8;
+    pub fn yuglemit_raw_input_ints(inputs: *mut Handle, by: *const i64, by_count: usize, all: *const i64, count: usize) -> u8;
+    pub fn yuglemit_raw_input_texts(
+        inputs: *mut Handle, by: *const i64, by_count: usize, all: *const u8, length: usize, ends: *const u64, count: usize,
+    ) -> u8;
+    pub fn yuglemit_raw_input_ints_by_text(
+        inputs: *mut Handle, by: *const u8, by_length: usize, by_ends: *const u64, by_count: usize, all: *const i64, count: usize,
+    ) -> u8;
+    pub fn yuglemit_raw_input_texts_by_text(
+        inputs: *mut Handle, by: *const u8, by_length: usize, by_ends: *const u64, by_count: usize, all: *const u8, length: usize, ends: *const u64,
+        count: usize,
+    ) -> u8;
     pub fn yuglemit_stop_new(stop: *mut Handle) -> u8;
     pub fn yuglemit_raw_stop_share(stop: *mut Handle, other: *mut Handle) -> u8;
     pub fn yuglemit_raw_stop_raise(stop: *mut Handle) -> u8;
@@ -83,7 +88,6 @@ unsafe extern "C" {
     fn yuglemit_raw_text_copy(text: *mut Handle, room: *mut u8, length: usize) -> u8;
     fn yuglemit_program_free(program: Handle);
     fn yuglemit_inputs_free(inputs: Handle);
-    fn yuglemit_container_free(container: Handle);
     fn yuglemit_stop_free(stop: Handle);
     fn yuglemit_report_free(report: Handle);
     fn yuglemit_text_free(text: Handle);
@@ -96,7 +100,6 @@ pub trait Kind {
 
 pub struct OfProgram;
 pub struct OfInputs;
-pub struct OfContainer;
 pub struct OfStop;
 pub struct OfReport;
 pub struct OfText;
@@ -107,10 +110,6 @@ impl Kind for OfProgram {
 
 impl Kind for OfInputs {
     const FREE: unsafe extern "C" fn(Handle) = yuglemit_inputs_free;
-}
-
-impl Kind for OfContainer {
-    const FREE: unsafe extern "C" fn(Handle) = yuglemit_container_free;
 }
 
 impl Kind for OfStop {

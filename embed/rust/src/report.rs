@@ -118,13 +118,28 @@ impl Report {
         Ok(String::from_utf8(kept_text(&made)?).expect("texts are UTF-8"))
     }
 
-    /// Returns all outputs of main.
+    /// Returns all outputs of main, if the run ended by itself: otherwise they aren't the program's answer, and this is [`Error::Unfinished`].
     pub fn outputs(&self) -> Result<Vec<Value>, Error> {
-        (0..self.outputs).map(|output| self.output(output)).collect()
+        self.finished()?;
+        self.partial()
     }
 
-    /// Returns an output of main.
+    /// Returns an output of main, if the run ended by itself.
     pub fn output(&self, output: usize) -> Result<Value, Error> {
+        self.finished()?;
+        self.read(output)
+    }
+
+    /// Returns the outputs as they are, however the run ended.
+    pub fn partial(&self) -> Result<Vec<Value>, Error> {
+        (0..self.outputs).map(|output| self.read(output)).collect()
+    }
+
+    fn finished(&self) -> Result<(), Error> {
+        if self.end == End::Quiet { Ok(()) } else { Err(Error::Unfinished(self.end)) }
+    }
+
+    fn read(&self, output: usize) -> Result<Value, Error> {
         let item = self.item(output)?;
         if matches!(item.kind, b'c' | b'm') {
             return Ok(Value::Container(self.container(output, &item)?));
@@ -139,8 +154,9 @@ impl Report {
     }
 
     /// Returns the member of an output with this subscript, without reading the others: `Value::Unset` if it is unset, none if there is no such
-    /// member.
+    /// member. [`Error::Unfinished`] if the run didn't end by itself.
     pub fn member(&self, output: usize, subscript: impl Into<Scalar>) -> Result<Option<Value>, Error> {
+        self.finished()?;
         let (subscript, mut place) = (subscript.into(), 0);
         let found = match &subscript {
             Scalar::Int(number) => unsafe { raw::yuglemit_raw_report_find_int(&mut self.owner.seen(), output, *number, &mut place) },

@@ -2,7 +2,7 @@
 use std::collections::BTreeMap;
 
 use crate::Error;
-use crate::raw::{self, OfContainer, OfInputs, Owner, done};
+use crate::raw::{self, OfInputs, Owner, done};
 
 /// A number or a text.
 #[derive(Clone, Debug, PartialEq, Eq, PartialOrd, Ord)]
@@ -43,13 +43,6 @@ pub struct Container {
 }
 
 impl Type {
-    fn letter(self) -> u8 {
-        match self {
-            Type::Int => b'i',
-            Type::Text => b't',
-        }
-    }
-
     pub(crate) fn of(letter: u8) -> Type {
         if letter == b't' { Type::Text } else { Type::Int }
     }
@@ -149,26 +142,50 @@ impl Value {
     }
 }
 
-impl Container {
-    fn append(&self, inputs: &Owner<OfInputs>) -> Result<(), Error> {
-        let container = Owner::new();
-        done(unsafe { raw::yuglemit_container_new(container.at(), self.by.letter(), self.of.letter()) })?;
-        for (by, member) in &self.members {
-            self.add(&container, by, member.as_ref().ok_or(Error::NoInput)?)?;
+/// Scalars of one type as the library takes them: integers, or texts one after the other, with the place at which each ends.
+enum Column {
+    Ints(Vec<i64>),
+    Texts(Vec<u8>, Vec<u64>),
+}
+
+impl Column {
+    fn of(scalars: &[&Scalar], kind: Type) -> Result<Column, Error> {
+        match kind {
+            Type::Int => scalars.iter().map(|scalar| if let Scalar::Int(number) = scalar { Ok(*number) } else { Err(Error::NoInput) }).collect::<Result<_, _>>().map(Column::Ints),
+            Type::Text => Column::joined(scalars),
         }
-        done(unsafe { raw::yuglemit_raw_input_container(inputs.at(), container.at()) })
     }
 
-    /// Adds a member; a map has its subscripts in the order that the library asks for.
-    fn add(&self, container: &Owner<OfContainer>, by: &Scalar, member: &Scalar) -> Result<(), Error> {
-        let at = container.at();
-        let code = match (self.by, by, self.of, member) {
-            (Type::Int, Scalar::Int(by), Type::Int, Scalar::Int(number)) => unsafe { raw::yuglemit_member_int(at, *by, *number) },
-            (Type::Int, Scalar::Int(by), Type::Text, Scalar::Text(text)) => unsafe { raw::yuglemit_member_text(at, *by, text.as_ptr(), text.len()) },
-            (Type::Text, Scalar::Text(by), Type::Int, Scalar::Int(number)) => unsafe { raw::yuglemit_member_int_by_text(at, by.as_ptr(), by.len(), *number) },
-            (Type::Text, Scalar::Text(by), Type::Text, Scalar::Text(text)) => unsafe { raw::yuglemit_member_text_by_text(at, by.as_ptr(), by.len(), text.as_ptr(), text.len()) },
-            _ => return Err(Error::NoInput),
-        };
-        done(code)
+    fn joined(scalars: &[&Scalar]) -> Result<Column, Error> {
+        let (mut bytes, mut ends) = (Vec::new(), Vec::new());
+        for scalar in scalars {
+            let Scalar::Text(text) = scalar else { return Err(Error::NoInput) };
+            bytes.extend_from_slice(text.as_bytes());
+            ends.push(bytes.len() as u64);
+        }
+        Ok(Column::Texts(bytes, ends))
+    }
+}
+
+impl Container {
+    /// Appends the members; a map has its subscripts in the order that the library asks for.
+    fn append(&self, inputs: &Owner<OfInputs>) -> Result<(), Error> {
+        let subscripts: Vec<_> = self.members.keys().collect();
+        let members = self.members.values().map(|member| member.as_ref().ok_or(Error::NoInput)).collect::<Result<Vec<_>, _>>()?;
+        let at = inputs.at();
+        done(match (Column::of(&subscripts, self.by)?, Column::of(&members, self.of)?) {
+            (Column::Ints(by), Column::Ints(all)) => unsafe { raw::yuglemit_raw_input_ints(at, by.as_ptr(), by.len(), all.as_ptr(), all.len()) },
+            (Column::Ints(by), Column::Texts(all, ends)) => unsafe {
+                raw::yuglemit_raw_input_texts(at, by.as_ptr(), by.len(), all.as_ptr(), all.len(), ends.as_ptr(), ends.len())
+            },
+            (Column::Texts(by, by_ends), Column::Ints(all)) => unsafe {
+                raw::yuglemit_raw_input_ints_by_text(at, by.as_ptr(), by.len(), by_ends.as_ptr(), by_ends.len(), all.as_ptr(), all.len())
+            },
+            (Column::Texts(by, by_ends), Column::Texts(all, ends)) => unsafe {
+                raw::yuglemit_raw_input_texts_by_text(
+                    at, by.as_ptr(), by.len(), by_ends.as_ptr(), by_ends.len(), all.as_ptr(), all.len(), ends.as_ptr(), ends.len(),
+                )
+            },
+        })
     }
 }

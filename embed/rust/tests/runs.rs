@@ -114,9 +114,10 @@ fn open_outputs() -> Result<(), Error> {
     let program = Program::load(format!("proc control write int write cont int\nregs\nNEW d2 d3 int\nRULE 1 0 any 3 2 0 1\nRET\n\n{leaf}"))?;
     let report = program.run(&[])?;
     let empty = Container { by: Type::Int, of: Type::Int, members: BTreeMap::new() };
-    assert_eq!((report.end(), report.outputs()?), (End::Stuck, vec![Value::Unset, Value::Container(empty)]));
+    assert_eq!((report.end(), report.partial()?), (End::Stuck, vec![Value::Unset, Value::Container(empty)]));
+    assert_eq!((report.outputs(), report.output(0)), (Err(Error::Unfinished(End::Stuck)), Err(Error::Unfinished(End::Stuck))));
+    assert_eq!(report.member(1, 0), Err(Error::Unfinished(End::Stuck)));
     assert_eq!((report.is_closed(0)?, report.is_closed(1)?), (false, false));
-    assert_eq!(report.output(2), Err(Error::NoIndex));
     Ok(())
 }
 
@@ -302,9 +303,9 @@ fn another_thread_stops_a_run() -> Result<(), Error> {
 }
 
 #[test]
-fn a_run_has_ten_thousand_events() -> Result<(), Error> {
+fn a_run_has_a_million_events() -> Result<(), Error> {
     let report = Program::load("proc control\nregs\nPUT 0 0 any\nRET\n")?.run(&[])?;
-    assert_eq!((report.end(), report.events()), (End::Limit, 10_000));
+    assert_eq!((report.end(), report.events()), (End::Limit, 1_000_000));
     Ok(())
 }
 
