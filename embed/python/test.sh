@@ -51,6 +51,8 @@ else
     "$python" -m unittest discover -p 'test_*.py' || failed=1
     if command -v mypy >/dev/null 2>&1; then
         (cd "$here" && mypy --strict --cache-dir "$room/mypy" yuglemit) || failed=1
+    else
+        echo "left out: types, since mypy isn't installed"
     fi
     for flakes in "$python" /usr/bin/python3; do
         if "$flakes" -c 'import pyflakes' 2>/dev/null; then

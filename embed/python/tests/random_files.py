@@ -145,7 +145,11 @@ class Writer:
             return self.assignment()
         counter = f"i{len(self.counters)}"
         start, turns, step = self.chance.randrange(-3, 4), self.chance.randrange(1, 4), self.chance.choice([1, 1, 2, -1])
-        self.line(f"for {counter} in range({start}, {start + turns * step}, {step}):")
+        over = f"range({start}, {start + turns * step}, {step})"
+        if self.chance.random() < 0.4:
+            first = self.chance.choice(["", f"{self.name()}, "])
+            over = f"each(range({first}{self.number(1)}{self.chance.choice(['', ', 2', ', -1']) if first else ''}), {self.chance.randrange(2, 12)})"
+        self.line(f"for {counter} in {over}:")
         self.counters.append(counter)
         self.inner()
         self.counters.pop()
@@ -322,7 +326,7 @@ class Control(Writer):
         member = f"m{len(self.counters)}" if box == "xs" else "text"
         if member in futures:
             return self.task()
-        self.line(f"for {subscript}, {member} in each({box}, {self.chance.choice([5, 40])}):")
+        self.line(f"for {subscript}, {member} in each({box}, {self.chance.choice([3, 5, 40, 40])}):")
         futures.append(member)
         if subscript != "_":
             self.counters.append(subscript)

@@ -7,12 +7,14 @@ from __future__ import annotations
 import ast
 from copy import copy
 from functools import lru_cache
+from traceback import extract_tb
 from types import CodeType
-from typing import Any, Callable, Dict, Iterator, List, Optional, Sequence, Tuple, Union
+from typing import Any, Callable, Dict, Iterable, Iterator, List, Optional, Sequence, Tuple, TypeVar, Union
 
 from random_programs import Number, Overflow, Word, read_int, word
 
 Subscript = Union[int, str]
+Item = TypeVar("Item")
 
 
 class Future:
@@ -47,10 +49,28 @@ class Box:
         return subscript in self.members
 
     def __iter__(self) -> Iterator[Subscript]:
-        return iter([_plain(it) for it in self.order()][:1000])
+        return _at_most(map(_plain, self.order()), 1000)
 
     def order(self) -> List[Subscript]:
         return sorted(self.members, key=lambda it: it.encode() if isinstance(it, str) else it)
+
+
+def _at_most(items: Iterable[Item], most: int) -> Iterator[Item]:
+    """Yields items, and is refused if more are left. Above 1,000 the bound is the next thousand."""
+    for number, it in enumerate(items):
+        if number == (most if most <= 1000 else -(-most // 1000) * 1000):
+            raise Overflow
+        yield it
+
+
+class Range:
+    """A range of ints."""
+
+    def __init__(self, *numbers: int) -> None:
+        self.numbers = range(*map(int, numbers))
+
+    def __iter__(self) -> Iterator[Any]:
+        return _at_most(map(Number, self.numbers), 100_000)
 
 
 def _plain(value: Any) -> Any:
@@ -132,15 +152,17 @@ class Task:
                 self._return(out, name, results[name], value)
             out.store()
             machine.close([*boxes.values(), *machine.made.pop()])
-        except Overflow:
+        except Overflow as why:
             held = [*boxes.values(), *machine.made.pop(), *(it for it in results.values() if isinstance(it, Box))]
-            if function.is_leaf:
+            futures = [*scalars.values(), *(it for it in results.values() if isinstance(it, Future))]
+            if function.is_leaf and futures:
                 otherwise = eval(function.otherwise, machine.names)
-                for value, future in zip(otherwise if isinstance(otherwise, tuple) else (otherwise,), [*scalars.values(), *(it for it in results.values() if isinstance(it, Future))]):
+                for value, future in zip(otherwise if isinstance(otherwise, tuple) else (otherwise,), futures):
                     future.source = _plain(value)
                 machine.close(held)
             elif held or out._scalars:
                 machine.is_stuck = True
+                machine.refused.append([it.lineno or 0 for it in extract_tb(why.__traceback__) if it.filename == "<run>"][-1])
 
     def _return(self, out: Outputs, name: str, result: Any, value: Any) -> None:
         if isinstance(result, Box):
@@ -168,6 +190,7 @@ class Machine:
         self.made: List[List[Box]] = []
         self.aliases: List[Tuple[Box, Box]] = []
         self.is_stuck = False
+        self.refused: List[int] = []
         self.functions = {it.name: copy(it) for it in functions}
         for it in self.functions.values():
             it.machine = self
@@ -225,8 +248,10 @@ class _Maker:
         return make
 
 
-def _each(box: Box, most: int) -> List[Tuple[Subscript, Future]]:
-    return [(_plain(it), box.members[it]) for it in box.order()[:most]]
+def _each(over: Union[Box, Range], most: int) -> Iterator[Any]:
+    if isinstance(over, Range):
+        return _at_most(map(Number, over.numbers), most)
+    return _at_most([(_plain(it), over.members[it]) for it in over.order()], most)
 
 
 def _nth(box: Box, index: int) -> Any:
@@ -241,7 +266,7 @@ def _insert(box: Box, subscript: Subscript, member: Any) -> None:
 
 _NAMES: Dict[str, Any] = {
     "Overflow": Overflow, "N": Number, "W": word, "int": read_int, "str": lambda it: word(str(it)), "abs": lambda it: abs(Number(it)), "min": min, "max": max,
-    "range": lambda *its: map(Number, range(*its)), "byte_length": lambda it: Number(len(it.encode())), "len": lambda it: Number(len(it.members)),
+    "range": Range, "byte_length": lambda it: Number(len(it.encode())), "len": lambda it: Number(len(it.members)),
     "each": _each, "nth": _nth, "insert": _insert, "Int": int, "Text": str,
 }
 

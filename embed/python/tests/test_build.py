@@ -62,7 +62,7 @@ class Examples(unittest.TestCase):
     def answer(self, program: yuglemit.Program, inputs: List[Any], layout: Dict[str, int]) -> Any:
         try:
             report = program.run(*inputs, **layout)  # type: ignore[arg-type]
-            return report.end, report.outputs
+            return report.end, report.partial
         except yuglemit.Refused as why:
             return why.code
         except TypeError:
@@ -141,17 +141,17 @@ class RandomFunctions(unittest.TestCase):
                     out.total = None
                 report = program.run(a, b, xs)
                 end = "stuck" if out.total is None else "quiet"
-                self.assertEqual((report.end, report.outputs), (end, [out.total, out.kept]), f"{seed} {a} {b} {xs}\n{text}")
+                self.assertEqual((report.end, report.partial), (end, [out.total, out.kept]), f"{seed} {a} {b} {xs}\n{text}")
         self.assertGreaterEqual(taken, FUNCTIONS * 29 // 100)
 
 
 class RandomFiles(unittest.TestCase):
-    """300 random files, as wholes, answer as Python does: outputs, and whether the run ends stuck."""
+    """300 random files, as wholes, answer as Python does: outputs, and whether the run ends stuck, and at which line."""
 
-    not_taken = "more than 16 |never reached|64 bits|can't be returned in a loop|nothing in check.* can be refused|set on one way|V17"
+    not_taken = "more than 16 |never reached|64 bits|can't be returned in a loop|nothing in check.* can be refused|set on one way|V17|nothing reads the result of|this loop makes"
 
     def test_files(self) -> None:
-        taken, stuck, number = 0, 0, SEED
+        taken, stuck, told, number = 0, 0, 0, SEED
         while taken < FILES:
             number += 1
             text = random_files.file(number)
@@ -166,10 +166,17 @@ class RandomFiles(unittest.TestCase):
                 inputs = random_files.inputs(chance)
                 report = program.run(*inputs, limit=1_000_000)
                 stuck += report.end == "stuck"
-                self.assertEqual((report.end, report.outputs), reference.Machine(text).run(inputs), f"{number} {inputs}\n{text}")
+                machine = reference.Machine(text)
+                self.assertEqual((report.end, report.partial), machine.run(inputs), f"{number} {inputs}\n{text}")
+                if report.end == "stuck":
+                    notes = report.refused()
+                    lines = {int(it.split(":")[1]) for it in notes}
+                    self.assertTrue(lines <= set(machine.refused), f"{number} {inputs} {notes} {machine.refused}\n{text}")
+                    told += len(notes)
         print(f"{taken} random files, {3 * taken} runs, {stuck} of them stuck, 0 differ", file=sys.stderr)
         self.assertLess(number - SEED, 2 * FILES + 20)
         self.assertTrue(FILES < 100 or FILES // 20 < stuck < FILES, stuck)
+        self.assertTrue(stuck * 9 // 10 <= told <= stuck, (told, stuck))  # some wait for one another without a refused instruction
 
 
 LEAVES = """@leaf(otherwise=0)
@@ -336,7 +343,7 @@ class Control(unittest.TestCase):
                 program = build_text(HEAD + text).program
                 for x, y in ((1, 2), (2, -7), (1, 0)):
                     report = program.run(x, y, {1: 10, 2: 5})
-                    self.assertEqual((report.end, report.outputs), ("quiet", plain(text, x, y, {1: 10, 2: 5})))
+                    self.assertEqual((report.end, report.partial), ("quiet", plain(text, x, y, {1: 10, 2: 5})))
 
     def test_registers_of_expressions_become_variables(self) -> None:
         """The sum needs 12 registers for a moment, and later there are 13 variables."""
@@ -367,9 +374,9 @@ class Control(unittest.TestCase):
         kept = {number: 3 + number for number in range(20)}
         self.assertEqual(program.run(3, 4, {}).outputs, [3 + 16, {**kept, 20: 7 + 12, 21: 7 + 12}])
         report = program.run(3, 2**62, {})
-        self.assertEqual((report.end, report.outputs), ("stuck", [None, kept]))
+        self.assertEqual((report.end, report.partial), ("stuck", [None, kept]))
         report = program.run(0, 2**62, {})
-        self.assertEqual((report.end, report.outputs), ("stuck", [None, {number: number for number in range(20)} | {20: 2**62, 21: 2**62}]))
+        self.assertEqual((report.end, report.partial), ("stuck", [None, {number: number for number in range(20)} | {20: 2**62, 21: 2**62}]))
 
     def test_refused(self) -> None:
         """Past 64 bits, and without a member, the outputs stay unset."""
@@ -378,12 +385,12 @@ class Control(unittest.TestCase):
             for x, a in ((2**62, {1: 10, 2: 5}), (2, {1: 10})):
                 report = program.run(x, 2, a)
                 expected = ("quiet", [7, {}]) if body == BODIES[0] and x == 2 else ("stuck", [None, {}])
-                self.assertEqual((report.end, report.outputs), expected)
+                self.assertEqual((report.end, report.partial), expected)
 
     def test_refused_after_a_result_is_given_away(self) -> None:
         """In a check(..) the else follows; a loop ends in the turn in which 1 * (2**63 - 2 + i) doesn't fit."""
         loop = build_text(HEAD + ORDINARY + "".join(f"    {line}\n" for line in LOOP)).program.run(2**63 - 2, 1, {})
-        self.assertEqual((loop.end, loop.outputs), ("stuck", [None, {0: 0, 1: 1}]))
+        self.assertEqual((loop.end, loop.partial), ("stuck", [None, {0: 0, 1: 1}]))
         check = build_text(HEAD + ORDINARY + "".join(f"    {line}\n" for line in BODIES[-1])).program
         self.assertEqual([check.run(x, 4, {}).outputs[0] for x in (2**62, 2**61, 4)], [4, 4, 25])
 
@@ -430,13 +437,18 @@ ERRORS: List[Tuple[str, int, int, str]] = [
     (MAIN + "    out.y = min(x)\n", 4, 13, "min takes 2 arguments"),
     (MAIN + "    out.y = xs[1] + 1\n", 4, 13, "known only when its task has run"),
     (MAIN + "    while x > 1:\n        pass\n", 4, 5, "while is not of the language"),
-    (MAIN + "    for i in range(x):\n        pass\n", 4, 14, "constants"),
-    (MAIN + "    for i in range(1001):\n        pass\n", 4, 14, "1 to 1000 turns, this one 1001"),
-    (MAIN + "    for i in range(0):\n        pass\n", 4, 14, "1 to 1000 turns, this one 0"),
-    (MAIN + "    for i in range(1, 9, 0):\n        pass\n", 4, 14, "step of 0"),
+    (MAIN + "    for i in range('a'):\n        pass\n", 4, 20, "expected Int, found 'a'"),
+    (MAIN + "    for i in range(1, 2, 3, 4):\n        pass\n", 4, 14, "range takes one to three ints"),
+    (MAIN + "    for i in range(1, 2, x):\n        pass\n", 4, 14, "the step of a range is a constant, and not 0"),
+    (MAIN + "    for i in range(100_001):\n        pass\n", 4, 14, r"makes 1 to 100000 turns, and range\(100_001\) has 100001"),
+    (MAIN + "    for i in each(range(9), 8):\n        pass\n", 4, 19, r"makes 1 to 8 turns, and range\(9\) has 9"),
+    (MAIN + "    for i in range(0):\n        pass\n", 4, 14, r"makes 1 to 100000 turns, and range\(0\) has 0"),
+    (MAIN + "    for i in range(1, 9, 0):\n        pass\n", 4, 14, "the step of a range is a constant, and not 0"),
     (MAIN + "    for i in range(3):\n        i = 1\n", 5, 9, "counts the turns"),
-    (MAIN + "    for i in each(xs):\n        pass\n", 4, 14, "the most members"),
-    (MAIN + "    for i in each(xs, 1001):\n        pass\n", 4, 14, "the most members"),
+    (MAIN + "    for i in each(xs, x):\n        pass\n", 4, 14, "the most turns, a constant from 1 to 100000"),
+    (MAIN + "    for i in each(xs, 100_001):\n        pass\n", 4, 14, "the most turns, a constant from 1 to 100000"),
+    (MAIN + "    for i in each(xs, 1, most=1):\n        pass\n", 4, 14, "the most turns"),
+    (MAIN + "    for i in each(xs, often=1):\n        pass\n", 4, 14, "the most turns"),
     (MAIN + "    for i in x:\n        pass\n", 4, 14, "no container"),
     (MAIN + "    for i in range(2):\n        for j in range(2):\n            for k in range(2):\n                for l in range(2):\n                    for m in range(2):\n                        pass\n", 8, 21, "at most 4 loops"),
     (MAIN + "    break\n", 4, 5, "for loops"),
@@ -469,7 +481,7 @@ ERRORS: List[Tuple[str, int, int, str]] = [
     (MAIN + "    main(x, xs, out.y)\n", 4, 5, "called by the run alone"),
     (MAIN + "".join(f"    v{i} = x\n" for i in range(16)) + "    out.y = 1\n", 19, 5, "more than 16 values"),
     ("@leaf\ndef f(n: Int) -> Int:\n    return n\n" + MAIN + "".join(f"    v{i} = f(x)\n" for i in range(16)) + "    out.y = 1\n", 20, 5, "more than 16 data at once; held here are xs, out.y, v0, v1, v2, v3, v4, v5, v6, v7, v8, v9, v10, v11, v12, and 1 of this line: make"),
-    (MAIN + "    for a in range(1000):\n        for b in range(1000):\n            for c in range(1000):\n                for d in range(1000):\n                    pass\n    out.y = 1\n", 3, 1, "V17"),
+    (MAIN + "    for a in range(1000):\n        for b in range(1000):\n            for c in range(1000):\n                for d in range(1000):\n                    pass\n    out.y = 1\n", 4, 5, r"\(V17\). Its loops make 1000 \(line 4\) times 1000 \(line 5\) times 1000 \(line 6\) times 1000 \(line 7\) turns: read fewer"),
 ]
 
 
@@ -495,7 +507,7 @@ class Refused(unittest.TestCase):
         text = "@control\ndef main(x: Int, y: Out[Int], z: Out[Text]):\n    out.y = x * x\n    out.z = str(x)\n"
         self.assertEqual(self.run_text(text, 3).outputs, [9, "3"])
         report = self.run_text(text, 2**62)
-        self.assertEqual((report.end, report.outputs, report.unfinished), ("stuck", [None, None], [0, 1]))
+        self.assertEqual((report.end, report.partial, report.unfinished), ("stuck", [None, None], [0, 1]))
 
     def test_leaf_gives_otherwise(self) -> None:
         text = "@leaf(otherwise=(-1, 'no'))\ndef f(n: Int) -> tuple[Int, Text]:\n    return n * n, 'yes'\n@control\ndef main(x: Int, y: Out[Int], z: Out[Text]):\n    out.y, out.z = f(x)\n"
@@ -504,14 +516,14 @@ class Refused(unittest.TestCase):
 
     def test_second_member_of_a_subscript_is_refused(self) -> None:
         text = "@control\ndef main(y: Out[Array[Int]]):\n    out.y[1] = 1\n    out.y[1] = 2\n    out.y[2] = 3\n"
-        self.assertEqual(self.run_text(text).outputs, [{1: 1}])
+        self.assertEqual(self.run_text(text).partial, [{1: 1}])
 
     def test_refused_in_a_loop(self) -> None:
         text = "@control\ndef main(y: Out[Array[Int]], n: Out[Int]):\n    n = 0\n    for i in range(5):\n        for j in range(3):\n            out.y[i * j] = i\n    out.n = 1\n"
         with self.assertRaises(BuildError):
             self.run_text(text)
         report = self.run_text(text.replace("    n = 0\n", ""))
-        self.assertEqual((report.end, report.outputs), ("stuck", [{0: 0}, None]))
+        self.assertEqual((report.end, report.partial), ("stuck", [{0: 0}, None]))
 
     def test_least_int(self) -> None:
         text = "@control\ndef main(x: Int, d: Int, q: Out[Int], r: Out[Int]):\n    out.r = x % d\n    if check(found := x // d):\n        out.q = found\n    else:\n        out.q = 5\n"
@@ -585,7 +597,7 @@ class Manual(unittest.TestCase):
             with self.subTest(given):
                 self.assertLess(len([line for line in code.split("\n") if line]), 20)
                 report = build_text(code).program.run(*ast.literal_eval(f"({given},)"))
-                self.assertEqual((report.end, report.outputs), ("quiet", list(ast.literal_eval(f"({wanted},)"))))
+                self.assertEqual((report.end, report.partial), ("quiet", list(ast.literal_eval(f"({wanted},)"))))
 
 
 class Command(unittest.TestCase):
@@ -621,6 +633,35 @@ class Command(unittest.TestCase):
 
     def test_load_takes_a_python_file(self) -> None:
         self.assertEqual(yuglemit.load(TESTS / "programs" / "pipeline.py").run(39).outputs, [42])
+
+    def test_load_shows_no_frames_of_the_compiler(self) -> None:
+        with tempfile.TemporaryDirectory() as folder:
+            path = Path(folder) / "wrong.py"
+            path.write_text(HEAD + MAIN + "    for i in range(1000):\n        for j in range(1000):\n            for k in range(1000):\n                pass\n    out.y = 1\n")
+            code = f"import pathlib, yuglemit\nyuglemit.load(pathlib.Path({str(path)!r}))"
+            done = subprocess.run([sys.executable, "-c", code], capture_output=True, text=True)
+        self.assertNotIn("yuglemit/build", done.stderr)
+        self.assertEqual(done.stderr.count("Traceback"), 1)
+        self.assertRegex(done.stderr.splitlines()[-1], f"^yuglemit.build.BuildError: {path}:4:5: a task of main may take .* \\(V17\\)")
+
+    def test_run(self) -> None:
+        """Inputs are words of tw, or values of Python; a text may be as it is."""
+        with tempfile.TemporaryDirectory() as folder:
+            path = f"{folder}/divided.py"
+            Path(path).write_text(HEAD + "@control\ndef main(size: Int, xs: Array[Int], word: Text, y: Out[Int], z: Out[Text]):\n    out.y = 10 // size\n    out.z = word\n")
+            whole = "out 0 int -4\nout 1 text \"a b\"\nquiet\n"
+            stuck = "out 0 unset\nout 1 unset\nstuck 1\nwaits 1 8 1\ndivided.py:4: out.y = 10 // size: the divisor is 0\n"
+            for words, status, wanted in (
+                (["-3", "[]", "a b"], 0, whole), (["int:-3", "ints:", "text:a b"], 0, whole), (["--", "-3", "{1: 2}", "'a b'"], 0, whole),
+                (["0", "[1, 2]", ""], 3, stuck), (["x", "[]", ""], 2, ""), (["1", "[]"], 2, ""), (["1", "[", ""], 2, ""), (["'a'", "[]", ""], 2, ""), (["1", "[]", "--limit"], 2, ""),
+            ):
+                done = subprocess.run([sys.executable, "-m", "yuglemit", "run", path, *words], capture_output=True, text=True)
+                self.assertEqual((done.returncode, done.stdout), (status, wanted), words)
+                self.assertRegex(done.stderr, "^[^\n]+\n$" if status == 2 else "^$")
+            done = subprocess.run([sys.executable, "-m", "yuglemit", "run", "--limit", "2", path, "1", "[]", ""], capture_output=True, text=True)
+            self.assertEqual((done.returncode, done.stdout), (4, "out 0 unset\nout 1 unset\nlimit\n"))
+            done = subprocess.run([sys.executable, "-m", "yuglemit", "check", path], capture_output=True, text=True)
+            self.assertEqual((done.returncode, done.stdout), (0, build_file(path).program.checked))
 
 
 if __name__ == "__main__":

@@ -119,12 +119,12 @@ def main(numbers: Map[Int, Int], kept: Out[Map[Int, Int]], refused: Out[Sum[Int]
             self.assertEqual(run(program, numbers), [kept, {0: refused} if refused else {}], numbers)
 
     def test_many(self) -> None:
-        """A loop over more than 1,000 values; those past the most are left out."""
+        """A loop over more than 1,000 values. If values are left at the bound, the leaf's `otherwise` follows, unless the loop has ended before."""
         program = """
 @leaf(otherwise=0)
 def total(numbers: Map[Int, Int]) -> Int:
     found = 0
-    for subscript, number in each(numbers, 2500):
+    for subscript, number in each(numbers, 3000):
         if subscript == 2300:
             break
         found = found + number
@@ -134,9 +134,10 @@ def total(numbers: Map[Int, Int]) -> Int:
 def main(numbers: Map[Int, Int], result: Out[Int]):
     out.result = total(numbers)
 """
-        for count in (0, 1, 999, 1000, 1001, 2000, 2299, 2301, 2600):
+        for count in (0, 1, 999, 1000, 1001, 2000, 2299, 2301, 2600, 3100):
             self.assertEqual(run(program, [1] * count), [min(count, 2300)], count)
-        self.assertEqual(run(program.replace("== 2300", "== -1"), [1] * 2600), [2500])
+        for count in (2600, 3000, 3001):
+            self.assertEqual(run(program.replace("== 2300", "== -1"), [1] * count), [count % 3001], count)
 
     def test_control(self) -> None:
         """A control function makes, fills, gives and reads maps, also those in an array."""

@@ -37,7 +37,7 @@ def error_of(text: str, file: str = "file.py") -> BuildError:
 
 def run(text: str, *inputs: Any) -> Tuple[str, List[Any]]:
     report = build_text(HEAD + text).program.run(*inputs)
-    return report.end, report.outputs
+    return report.end, report.partial
 
 
 class TopLevel(unittest.TestCase):
@@ -259,7 +259,7 @@ class Refused(unittest.TestCase):
     def test_leaf_functions_say_what_happens(self) -> None:
         """The error names the cause and the way out, also if containers are all that is written, and if it is in a loop."""
         for kinds, body, column, message in (
-            ("n: Int, r: Out[Array[Int]]", "out.r[n] = 4", 5, r"^the subscript n may be taken, and .*: write `if check\(insert\(out.r, n, 4\)\):`, or .*, @leaf\(otherwise=\(\)\)"),
+            ("n: Int, r: Out[Array[Int]], y: Out[Int]", "out.r[n] = 4\n    out.y = 1", 5, r"^the subscript n may be taken, and .*: write `if check\(insert\(out.r, n, 4\)\):`, or .*, @leaf\(otherwise=..\) with Int"),
             ("n: Int, r: Out[Table[Int]], y: Out[Int]", "out.r[f'{n}'] = n * 2\n    out.y = 1", 21, r"64 bits, and .*: put it into a check\(..\), or say what the result is then, @leaf\(otherwise=..\) with Int"),
             ("n: Int, r: Out[Table[Int]], y: Out[Int]", "out.y = 1\n    out.r[str(n)] = n", 5, r"^the subscript str\(n\) may be taken, .* `if check\(insert\(out.r, str\(n\), n\)\):`, or say"),
             ("n: Int, y: Out[Int]", "out.y = 10 // n", 13, "^the divisor may be 0"),
@@ -269,17 +269,20 @@ class Refused(unittest.TestCase):
             ("t: Text, y: Out[Text]", "out.y = t + t", 13, "^the text may have more than 4096 bytes"),
             ("t: Text, y: Out[Text]", "out.y = f'{t}.'", 5, "^the text may have more than 4096 bytes"),
             ("c: Array[Int], y: Out[Int]", "out.y = nth(c, 0)", 5, r"^nth\(c, 0\) may not be there"),
-            ("n: Int, r: Out[Array[Int]]", "for i in range(3):\n        for j in range(3):\n            out.r[i] = j", 13, "^the subscript i may be taken"),
+            ("n: Int, r: Out[Array[Int]], y: Out[Int]", "out.y = 1\n    for i in range(3):\n        for j in range(3):\n            out.r[i] = j", 13, "^the subscript i may be taken"),
+            ("c: Array[Int], y: Out[Int]", "for s in c:\n        pass\n    out.y = 1", 14, r"^c may have more than 1000 members, the most of this loop, and a leaf function can't end without a result: say what the result is"),
         ):
             with self.subTest(body):
                 text = f"@leaf\ndef f({kinds}):\n    {body}\n"
                 why = error_of(HEAD + text)
                 self.assertRegex(why.message, message)
-                self.assertEqual((why.line, why.column), (HEAD.count("\n") + text[: text.index(body.split("\n")[-1])].count("\n") + 1 if "for" in body else why.line, column))
+                self.assertEqual((why.line, why.column), (HEAD.count("\n") + text[: text.index(body.split("\n")[-1])].count("\n") + 1 if "for i" in body else why.line, column))
 
-    def test_leaf_functions_whose_containers_stay_as_they_are(self) -> None:
-        text = "@leaf(otherwise=())\ndef f(n: Int, r: Out[Array[Int]]):\n    out.r[n] = 1\n    out.r[n] = 2\n    out.r[0] = 3\n" + WRITER + "    f(x, out.r)\n"
-        self.assertEqual(run(text, 7), ("quiet", [{7: 1}]))
+    def test_leaf_functions_that_write_containers_alone(self) -> None:
+        """Their containers stay open, whether they say otherwise=() or nothing."""
+        text = "@leaf(otherwise=())\ndef f(n: Int, r: Out[Array[Int]]):\n    out.r[n] = 1\n    out.r[n - 7] = 2\n    out.r[0] = 3\n" + WRITER + "    f(x, out.r)\n"
+        for its in (text, text.replace("(otherwise=())", "")):
+            self.assertEqual((run(its, 8), run(its, 7)), (("quiet", [{8: 1, 1: 2, 0: 3}]), ("stuck", [{7: 1, 0: 2}])))
         self.assertRegex(error_of(HEAD + text.replace("()", "(1,)", 1)).message, r"otherwise: expected \(\), no constant")
 
 
@@ -416,6 +419,13 @@ class Hostile(unittest.TestCase):
             self.assertEqual(built.program.run().outputs, [1])
             self.assertEqual(built.text.count("\nproc "), 1)
             self.assertRegex(built.text, "^names\n; Compiled from [ -~]* by yuglemit.build.\n")
+
+
+    def test_errors_are_printable(self) -> None:
+        """Leaves what a terminal would obey, or show in another order, out of messages."""
+        for line in ("out.y = 'a\x1b[1A' + x", "out.y = f('\u202eb')", "out.y = '\x9b' % x", "x.b['\x07\x85\u2066']"):
+            why = error_of(HEAD + f"@control\ndef main(x: Int, y: Out[Text]):\n    {line}\n")
+            self.assertTrue(str(why).isprintable(), ascii(str(why)))
 
 
 class Files(unittest.TestCase):

@@ -38,6 +38,10 @@ def main(xs: Array[Int], n: Int, y: Out[Int], r: Out[Array[Int]]) -> None:
         put(member, out.r)
     for subscript in xs:
         put(subscript + 1, out.r)
+    for subscript, member in each(xs):
+        put(member, out.r)
+    for subscript in each(range(n), 2000):
+        put(subscript + 1, out.r)
     a, b = two(n, priority=n)
 """
 WRONG = [
@@ -89,7 +93,12 @@ class AsPython(unittest.TestCase):
         kept = build.Array[int]({2: 5, 1: 4})
         self.assertEqual((build.insert(kept, 3, 6), build.insert(kept, 3, 6), kept[3]), (True, False, 6))
         self.assertEqual((build.check(build.insert(kept, 4, 0)), build.check(build.insert(kept, 4, 1)), build.check(2**63)), (True, False, False))
-        self.assertEqual((list(build.each(kept, 2)), build.nth(kept, 0), build.byte_length("é")), ([(1, 4), (2, 5)], 1, 2))
+        self.assertEqual((list(build.each(kept, 4)), build.nth(kept, 0), build.byte_length("é")), ([(1, 4), (2, 5), (3, 6), (4, 0)], 1, 2))
+        self.assertEqual((list(build.each(range(3))), list(build.each(kept))[1:2]), ([0, 1, 2], [(2, 5)]))
+        taken = build.each(kept, 2)
+        self.assertEqual((next(taken), next(taken)), ((1, 4), (2, 5)))
+        with self.assertRaisesRegex(OverflowError, "more than 2"):
+            next(taken)
 
 
 if __name__ == "__main__":

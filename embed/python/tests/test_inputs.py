@@ -3,13 +3,18 @@
 
 from __future__ import annotations
 
+import ctypes
+import enum
 import importlib
+import time
 import unittest
 from pathlib import Path
 from typing import Any, List, Tuple
+from unittest import mock
 
 import yuglemit
 from common import DOUBLE, example, same, sized
+from yuglemit import _inputs, _native
 
 try:
     numpy: Any = importlib.import_module("numpy")
@@ -132,6 +137,75 @@ class Values(unittest.TestCase):
         for word in ("39", "int:x", "ints:1=7,", "ints:1=7 5=3", "--stats", "tints:a=1"):
             with self.assertRaises(ValueError):
                 yuglemit.read_input(word)
+
+
+class Lists(unittest.TestCase):
+    """Containers and maps as the library's calls take them: numbers as an array, texts in one buffer with the place where each ends."""
+
+    def test_arguments(self) -> None:
+        wanted: List[Tuple[Any, str, Any]] = [
+            ([3, -1], "map int", ("ints", [[], 0, [3, -1], 2])),
+            ((), "map int", ("ints", [[], 0, [], 0])),
+            ({5: 1, -2: 2**63 - 1}, "cont int", ("ints", [[-2, 5], 2, [2**63 - 1, 1], 2])),
+            (["a", "\u00e9b", ""], "map text", ("texts", [[], 0, "a\u00e9b".encode(), 4, [1, 4, 4], 3])),
+            ({"b": 1, "\u00e9": 2, "": 3}, "tcont int", ("ints_by_text", ["b\u00e9".encode(), 3, [0, 1, 3], 3, [3, 1, 2], 3])),
+            ({}, "tmap text", ("texts_by_text", [b"", 0, [], 0, b"", 0, [], 0])),
+            ({"\U0001f600": "x", "\uffff": "yy"}, "tcont text", ("texts_by_text", ["\uffff\U0001f600".encode(), 7, [3, 7], 2, b"yyx", 3, [2, 3], 2])),
+        ]
+        for value, kind, (name, expected) in wanted:
+            with self.subTest(kind), mock.patch.object(_native, "has_lists", lambda: True), mock.patch.object(_native, "short") as short:
+                call = getattr(short(), f"yuglemit_raw_input_{name}")
+                call.return_value = 0
+                checked = _inputs.given(value, kind)
+                assert isinstance(checked.value, _native.Members)
+                _native._add_container(mock.Mock(), kind, checked.value)
+                words = [list(it) if isinstance(it, ctypes.Array) else it for it in call.call_args.args[1:]]
+                self.assertEqual(words, expected)
+
+    def test_by_one_call_or_by_many(self) -> None:
+        """The library's way, and that of libraries that have no such calls, give one answer."""
+        values: List[Tuple[str, Any]] = [("cont int", {5: 1, -2: 7}), ("tcont text", {"b": "x", "a": ""}), ("cont text", {}), ("tcont int", {"": -1})]
+        for kind, value in values:
+            program = yuglemit.load(sized(kind))
+            runs = [program.run(value).outputs]
+            with mock.patch.object(_native, "has_lists", lambda: False):
+                runs.append(program.run(value).outputs)
+            self.assertEqual(runs, [[len(value)]] * 2)
+
+    def test_many_values_are_quick(self) -> None:
+        """100,000 ints are checked and put into arrays in some 10 ms, dicts in some 30."""
+        for many, most in ((list(range(100_000)), 0.03), (dict(enumerate(range(100_000))), 0.09)):
+            took = []
+            for _ in range(5):
+                begun = time.process_time()
+                value = _inputs.given(many, "map int").value
+                assert isinstance(value, _native.Members)
+                _native._list(value.subscripts or (), False), _native._list(value.values, False)
+                took.append(time.process_time() - begun)
+            self.assertLess(min(took), most)
+
+    def test_other_types_of_numbers(self) -> None:
+        """They take their time, and have the same values; what is none is named by its subscript."""
+        number = enum.IntEnum("number", {"SEVEN": 7})
+        program = yuglemit.load(same_map("int"))
+        self.assertEqual(program.run([1, number.SEVEN]).outputs, [{0: 1, 1: 7}])
+        for value, message in (([1, True], "member at 1: expected an int, got bool"), ([1, 2**63], "member at 1: 9223372036854775808 doesn't fit"), ({7: "a"}, "member at 7"), ({"a": 1}, "subscript 'a'")):
+            wrong: Any = value
+            with self.assertRaisesRegex((TypeError, ValueError), message):
+                program.run(wrong)
+        texts = yuglemit.load(same_map("text"))
+        self.assertEqual(texts.run(["a", "\u00e9" * 2048]).outputs, [{0: "a", 1: "\u00e9" * 2048}])
+        for text, message in (("\u00e9" * 2049, "member at 1: the text has 4098 bytes"), ("\ud800", "member at 1: the text is no UTF-8")):
+            with self.assertRaisesRegex(ValueError, message):
+                texts.run(["a", text])
+
+
+def same_map(kind: str) -> str:
+    """A program that gives the first three values of a map back, if their subscripts are 0, 1 and 2."""
+    return (
+        f"version 4\nproc control closed map {kind} write map {kind}\nregs int int {kind}\nINT v1 1\nREPEAT 3\n"
+        "MGET v2 d0 v0 +2\nMINS d1 v0 v2 +1\nADD v0 v0 v1 +0\nEND\nDROPR d0\nDROPW d1\nRET\n"
+    )
 
 
 # Words, with their values as docs/FORMAT.md has them, or None: no input. The values of containers are pairs in the order of the word.

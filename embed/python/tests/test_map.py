@@ -80,7 +80,7 @@ with ThreadPoolExecutor(1) as pool:
     pool.submit(int).result()
     resource.setrlimit(resource.RLIMIT_AS, (used + 200_000_000, -1))
     reports = list(yuglemit.map([double, hungry, double, double], [2, 1, 3, 4], pool, limit=1_000_000))
-print([(it.end, it.outputs, type(it.error).__name__) for it in reports])
+print([(it.end, it.partial, type(it.error).__name__) for it in reports])
 """
 
 
@@ -185,7 +185,7 @@ class Map(unittest.TestCase):
         """Without a length all are those that are read so far."""
         seen: List[Any] = []
         list(yuglemit.map(PROGRAM, iter(INPUTS), ThreadPoolExecutor(1), 100, window=1, progress=lambda done, count: seen.append((done, count))))
-        self.assertEqual(seen, [(100, 200), (200, 300), (300, 300)])
+        self.assertEqual(seen, [(100, 100), (200, 200), (300, 300)])
 
     def test_progress_by_a_bar(self) -> None:
         bar = mock.Mock()
@@ -226,7 +226,7 @@ class Map(unittest.TestCase):
         double, hungry = yuglemit.load(DOUBLE), yuglemit.load(HUNGRY)
         with ProcessPoolExecutor(1, mp_context=FORK, initializer=scarce_worker) as pool:
             reports = list(yuglemit.map([double, hungry, double, double], [2, 1, 3, 4], pool, limit=1_000_000))
-        self.assertEqual([(it.end, it.outputs, type(it.error).__name__) for it in reports], wanted)
+        self.assertEqual([(it.end, it.partial, type(it.error).__name__) for it in reports], wanted)
 
     def test_shutdown_ends_the_iteration(self) -> None:
         """Futures that are cancelled while they wait are an error, after the reports before; nothing hangs."""
@@ -258,19 +258,21 @@ class Map(unittest.TestCase):
             next(yuglemit.map(PROGRAM, INPUTS, pool))
 
     def test_endless_inputs(self) -> None:
-        """No more is read than fits into the window, and one chunk more for each whose reports are yielded."""
+        """Nothing is read before a report is asked for, then no more than fits into the window, and one chunk more for each whose reports are yielded.
+        The first report comes after one chunk, or else is waited for."""
         double = yuglemit.load(DOUBLE)
         for options in ({}, {"executor": ThreadPoolExecutor(2)}):
             numbers = Counted()
             reports = yuglemit.map(double, numbers, chunk=5, window=3, **options)  # type: ignore[arg-type]
-            self.assertEqual(numbers.read, 15)
+            self.assertEqual(numbers.read, 0)
             self.assertEqual([next(reports).outputs for _ in range(7)], [[2 * it] for it in range(7)])
-            self.assertEqual(numbers.read, 25)
+            self.assertLessEqual(numbers.read, 20)
             reports.close()  # type: ignore[attr-defined]
         with ThreadPoolExecutor(3) as pool:
             numbers = Counted()
             reports = yuglemit.map(double, numbers, pool, chunk=1)
-            self.assertEqual(numbers.read, 12)
+            self.assertEqual([next(reports).outputs for _ in range(2)], [[0], [2]])
+            self.assertLessEqual(numbers.read, 14)
             reports.close()  # type: ignore[attr-defined]
         with self.assertRaisesRegex(ValueError, "window"):
             yuglemit.map(double, [], window=0)

@@ -22,7 +22,8 @@ from typing import Any, List
 from unittest import mock
 
 import yuglemit
-from common import DOUBLE, ENDLESS, EXAMPLES, example
+from common import DOUBLE, ENDLESS, EXAMPLES, example, slower
+from yuglemit._library import has_lists
 
 LONG = """names
 proc control main(texts: write cont text)
@@ -222,8 +223,8 @@ class Programs(unittest.TestCase):
             self.assertEqual((refused.exception.code, refused.exception.text), ("O07", f"refused O07\n{kind}: bound {most}, at most {most - 1}\n"))
         self.assertEqual(program.run(39, most_tasks=3, limit=3).end, "limit")
         with self.assertRaises(yuglemit.Refused) as refused:
-            yuglemit.load("proc control\nregs\nPUT 0 0 any\nRET\n").run(most_tasks=9_999)
-        self.assertEqual(refused.exception.text, "refused O07\ntasks: bound 10000, at most 9999\n")
+            yuglemit.load("proc control\nregs\nPUT 0 0 any\nRET\n").run(most_tasks=999_999)
+        self.assertEqual(refused.exception.text, "refused O07\ntasks: bound 1000000, at most 999999\n")
         report = program.run(39, **exact)
         self.assertEqual((report.again().outputs, report.text), ([42], "out 0 int 42\nquiet\n"))
         self.assertEqual(len(report.timeline()) > 1000, True)
@@ -308,7 +309,7 @@ class Reports(unittest.TestCase):
 
     def test_stuck(self) -> None:
         report = yuglemit.load(example("stuck_on_itself.twn")).run()
-        self.assertEqual((report.end, report.outputs, report.circle), ("stuck", [], [(1, 1, 1)]))
+        self.assertEqual((report.end, report.partial, report.circle), ("stuck", [], [(1, 1, 1)]))
         self.assertEqual(report.text, "stuck 1\nwaits 1 1 1\n")
         self.assertEqual(report.rules(), "stuck 1\nwaits 1 1 1\nrule 1 runs procedure 1 (store), made at line 6: RULE store 0 any datum datum_out\n")
         self.assertEqual(json.loads(report.json)["circle"], [{"rule": 1, "datum": 1, "writer": 1}])
@@ -316,7 +317,7 @@ class Reports(unittest.TestCase):
     def test_unset_and_open_outputs(self) -> None:
         text = "proc control write int write cont int\nregs\nNEW d2 d3 int\nRULE 1 0 any 3 2 0 1\nRET\n\nproc leaf closed int write int write int write cont int\nregs int\nDROPR d0\nSTORE d1 v0\nSTORE d2 v0\nDROPW d3\nRET\n"
         report = yuglemit.load(text).run()
-        self.assertEqual((report.end, report.outputs, report.unfinished), ("stuck", [None, {}], [0, 1]))
+        self.assertEqual((report.end, report.partial, report.unfinished), ("stuck", [None, {}], [0, 1]))
 
     def test_seeds(self) -> None:
         """A seed gives its order again; the tasks of this program compete for one subscript, so two seeds give two results."""
@@ -354,7 +355,7 @@ class Reports(unittest.TestCase):
         program = yuglemit.load(EXAMPLES / "pipeline.twn")
         lines = program.run(39).trace.splitlines()
         report = program.replay("\n".join([*lines[:3], "end\n"]), 39)
-        self.assertEqual((report.end, report.outputs, report.unfinished), ("running", [None], [0]))
+        self.assertEqual((report.end, report.partial, report.unfinished), ("running", [None], [0]))
         self.assertEqual(program.replay("\n".join([*lines, ""]), 39).end, "quiet")
 
     def test_a_report_is_printed_without_another_run(self) -> None:
@@ -488,11 +489,21 @@ class Stops(unittest.TestCase):
             report = program.run(limit=1_000_000, stop=stop)
             if report.events:
                 break
-        self.assertEqual((report.end, report.outputs, report.error), ("stopped", [], None))
+        self.assertEqual((report.end, report.partial, report.error), ("stopped", [], None))
         self.assertTrue(0 < report.events < 1_000_000)
         again = program.run(limit=report.events)
         self.assertEqual((again.end, again.events, again.trace), ("limit", report.events, report.trace))
-        self.assertEqual(report.instructions, again.instructions)
+        self.assertGreaterEqual(report.instructions, again.instructions)  # that of the task that was cut off, too
+
+    def test_a_task_that_is_cut_off_is_on_the_meter(self) -> None:
+        """It counts what it executed, and stays below the bound."""
+        if not has_lists():
+            self.skipTest("an older library counts whole tasks alone")
+        program = slower()
+        report = program.run(timeout=0.3)
+        assert program.bounds.instructions is not None
+        self.assertEqual((report.end, report.tasks <= 2), ("stopped", True))
+        self.assertTrue(61_438 < report.instructions < program.bounds.instructions, report.instructions)
 
     def test_a_signal_handler_stops_a_run(self) -> None:
         program, stop = yuglemit.load(ENDLESS), yuglemit.Stop()
@@ -510,7 +521,7 @@ class Stops(unittest.TestCase):
         stop.set()
         for _ in range(2):
             report = program.run(4, stop=stop)
-            self.assertEqual((report.end, report.events, report.outputs, report.unfinished), ("stopped", 0, [None], [0]))
+            self.assertEqual((report.end, report.events, report.partial, report.unfinished), ("stopped", 0, [None], [0]))
         self.assertEqual((report.text, report.trace, report.line), ("out 0 unset\nrunning\n", "events\nend\n", None))
         with self.assertRaisesRegex(ValueError, "before its first event"):
             report.again()
@@ -524,7 +535,7 @@ class Stops(unittest.TestCase):
         report = program.run(limit=1_000_000, timeout=0.3)
         self.assertGreaterEqual(time.perf_counter() - begun, 0.3)
         self.assertLess(time.perf_counter() - begun, 20)
-        self.assertEqual((report.end, report.outputs), ("stopped", []))
+        self.assertEqual((report.end, report.partial), ("stopped", []))
         self.assertEqual(program.run(limit=20, timeout=100).end, "limit")
         self.assertEqual(program.run(limit=1_000_000, timeout=0).end, "stopped")
         again = report.again(timeout=100)

@@ -34,7 +34,9 @@ with ProcessPoolExecutor() as pool:
 for one in yuglemit.map([program, program], iter([1, 2])):
     print(one.tasks + one.instructions)
 for one in yuglemit.map(program, range(4), progress=lambda done, count: print(done / count)):
-    print(one.again(timeout=3).trace)
+    print(one.again(timeout=3).trace, one.timeline(timeout=3, stop=yuglemit.Stop()))
+for one in yuglemit.map(program, [1], deadline=60, on_broken="error", limit=None):
+    print(one.partial[0], one.same_in_every_order(timeout=1.5))
 
 
 async def serve() -> List[yuglemit.Output]:
@@ -46,6 +48,8 @@ try:
     program.run(7)
 except yuglemit.Refused as why:
     print((why.line or 0) + 1, why.code)
+except yuglemit.Unfinished as late:
+    print(late.report.end, late.report.unfinished[0] + 1)
 '''
 
 # Calls that mypy has to find, with a word of what it says.
@@ -59,6 +63,8 @@ WRONG = [
     ("yuglemit.map(program, [1], nope=1)", "nope"),
     ("yuglemit.map(program, [1.5])", "float"),
     ("yuglemit.map(program, [1], chunk='a')", "str"),
+    ("yuglemit.map(program, [1], deadline='a')", "str"),
+    ("program.run(1).timeline(timeout='a')", "str"),
     ("yuglemit.load(7)", "int"),
     ("yuglemit.load_bytes('a')", "str"),
     ("yuglemit.explain(7)", "int"),

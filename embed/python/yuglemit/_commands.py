@@ -3,7 +3,7 @@
 
 from __future__ import annotations
 
-from typing import Sequence, Tuple, Union
+from typing import Optional, Sequence, Tuple, Union
 
 from . import _native
 from ._errors import Refused, Trap
@@ -13,9 +13,9 @@ from ._listing import Needs
 BytesLike = Union[bytes, bytearray, memoryview]
 
 
-def ask(words: Sequence[str], data: bytes, long: bool = False) -> str:
+def ask(words: Sequence[str], data: bytes, long: bool = False, flag: Optional[_native.Flag] = None) -> str:
     """Returns what a command writes, or raises what it rejects."""
-    status, answer = _native.session(words, data, long)
+    status, answer = _native.session(words, data, long, flag)
     text = answer.decode()
     if status == 5:
         raise MemoryError("yuglemit: out of memory")
@@ -67,7 +67,7 @@ def explain(code: str) -> str:
 
 def session(words: Sequence[str], data: bytes = b"") -> Tuple[int, bytes]:
     """Returns the exit status of the command `tw` with these words and this input, and what it writes. The words are a command line: put no
-    stranger's text there; `Program.run` takes values."""
+    stranger's text there; `Program.run` takes values. Nothing stops a session, so `--seconds` is rejected; `run` takes a `timeout`."""
     if isinstance(words, str) or not all(isinstance(word, str) for word in words):
         raise TypeError(f"words: expected a list of str, got {shown(words)}")
     if not isinstance(data, (bytes, bytearray, memoryview)):

@@ -4,9 +4,12 @@
 from __future__ import annotations
 
 import re
-from typing import Dict, Optional
+from typing import TYPE_CHECKING, Dict, Optional
 
 from ._shown import Shown
+
+if TYPE_CHECKING:
+    from ._report import Report
 
 # The lines that only the library writes. Each begins an answer, or follows a check's listing. The first such line counts, since later
 # lines may quote the program. A listing has none: each of its lines is a statement or begins with `;`.
@@ -90,3 +93,25 @@ class Refused(Exception, metaclass=Shown):
 
 class Trap(Refused):
     """Says that an event of a replayed trace traps, which no event of an accepted program does."""
+
+
+class Unfinished(Exception, metaclass=Shown):
+    """Says that there is no answer: a run didn't end by itself, or what reads it was stopped. `report` is its report, and the message says what to
+    pass. `report.partial` has what there is of its outputs.
+
+    >>> import yuglemit
+    >>> endless = yuglemit.load("proc control write int\\nregs\\nPUT 0 0 any 0\\nRET\\n")
+    >>> try:
+    ...     endless.run(limit=10).outputs
+    ... except yuglemit.Unfinished as why:
+    ...     print(why, why.report.partial, sep="\\n")
+    the run ended with "limit" after 10 events, its limit is 10: pass a larger limit, up to 1000000. `partial` has what there is of its outputs
+    [None]
+    """
+
+    def __init__(self, report: "Report", text: str) -> None:
+        super().__init__(report, text)
+        self.report = report
+
+    def __str__(self) -> str:
+        return str(self.args[1])

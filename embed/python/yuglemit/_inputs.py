@@ -5,9 +5,11 @@ from __future__ import annotations
 
 import operator
 import re
-from typing import Any, Dict, List, Mapping, Optional, Sequence, SupportsIndex, Tuple, Union
+from array import array
+from itertools import islice
+from typing import Any, Callable, Dict, List, Mapping, Optional, Sequence, SupportsIndex, Union
 
-from ._native import Given, Scalar
+from ._native import Given, Members, Scalar
 
 Value = Union[int, str, Mapping[int, int], Mapping[int, str], Mapping[str, int], Mapping[str, str]]
 
@@ -133,26 +135,49 @@ def _type_of(value: object, where: str) -> str:
     raise _wrong(where, "an int, a str, or a dict of one of these by int or str", value)
 
 
-def _members(value: Mapping[object, object], kind: str, where: str) -> List[Tuple[Scalar, Scalar]]:
-    """Returns the members of a container or the values of a map by rising subscripts, texts by their bytes."""
+def _column(values: List[Any], kind: str, where: Callable[[int], str]) -> Sequence[Scalar]:
+    """Checks scalars, those of Python's own types at once: numbers are an array then. `where` says what is at a place."""
+    types = set(map(type, values))
+    if kind != "text":
+        if types <= {int}:
+            try:
+                return array("q", values)
+            except OverflowError:
+                pass
+        return array("q", [_int(it, where(place)) for place, it in enumerate(values)])
+    if types <= {str} and all(map(str.isascii, values)) and max(map(len, values), default=0) <= _MOST_BYTES:
+        return values
+    return [_text(it, where(place)) for place, it in enumerate(values)]
+
+
+def _members(value: Union[Mapping[object, object], Sequence[object]], kind: str, where: str) -> Members:
+    """Returns the members of a container or the values of a map, of a dict by rising subscripts. Texts rise by their bytes, as strs do."""
     outer, inner = kind.split()
-    keyed = "text" if _is_by_text(outer) else "int"
     what, most = ("values", _MOST_VALUES) if "map" in outer else ("members", _MOST_MEMBERS)
     if len(value) > most:
         raise ValueError(f"{where}: {len(value)} {what}, and at most {most} are taken")
-    pairs = []
-    for key, member in value.items():
-        subscript = _scalar(key, keyed, f"{where}, subscript {shown(key, with_type=False)}")
-        pairs.append((subscript, _scalar(member, inner, f"{where}, member at {shown(key, with_type=False)}")))
-    pairs.sort(key=lambda pair: pair[0].encode() if isinstance(pair[0], str) else pair[0])
-    return pairs
+    if not isinstance(value, Mapping):
+        return Members(None, _column(list(value), inner, lambda place: f"{where}, member at {place}"))
+    keys = list(value)
+    subscripts = _column(keys, "text" if _is_by_text(outer) else "int", lambda place: f"{where}, subscript {shown(keys[place], with_type=False)}")
+    members = _column(list(value.values()), inner, lambda place: f"{where}, member at {shown(keys[place], with_type=False)}")
+    if all(map(operator.lt, subscripts, islice(subscripts, 1, None))):
+        return Members(subscripts, members)
+    order = sorted(range(len(keys)), key=subscripts.__getitem__)
+    return Members(_picked(subscripts, order), _picked(members, order))
+
+
+def _picked(column: Sequence[Scalar], places: List[int]) -> Sequence[Scalar]:
+    """Returns the scalars at these places."""
+    found: List[Any] = list(map(column.__getitem__, places))
+    return array("q", found) if isinstance(column, array) else found
 
 
 def given(value: object, kind: Optional[str] = None, where: str = "input") -> Given:
     """Checks a value, which has to be of the type `kind` if there is one.
 
     >>> given({2: 7, 1: -3})
-    Given(kind='cont int', value=[(1, -3), (2, 7)])
+    Given(kind='cont int', value=Members(subscripts=array('q', [1, 2]), values=array('q', [-3, 7])))
     >>> given({1: 1.9})
     Traceback (most recent call last):
     ...
@@ -161,9 +186,7 @@ def given(value: object, kind: Optional[str] = None, where: str = "input") -> Gi
     kind = kind or _type_of(value, where)
     if kind in ("int", "text"):
         return Given(kind, _scalar(value, kind, where))
-    if isinstance(value, (list, tuple)) and kind.startswith("map "):
-        value = dict(enumerate(value))
-    if not isinstance(value, Mapping):
+    if not isinstance(value, Mapping) and not (isinstance(value, (list, tuple)) and kind.startswith("map ")):
         raise _wrong(where, _asked(kind), value)
     return Given(kind, _members(value, kind, where))
 
@@ -181,8 +204,8 @@ def word_of(checked: Given) -> str:
     ('int:39', 'text:--help', 'ints:1=-3,2=7', 'ttexts:')
     """
     kind, value = checked
-    if isinstance(value, list):
-        return _prefix(kind) + ",".join(f"{_spelled(subscript)}={_spelled(member)}" for subscript, member in value)
+    if isinstance(value, Members):
+        return _prefix(kind) + ",".join(f"{_spelled(subscript)}={_spelled(member)}" for subscript, member in value.pairs())
     return f"{kind}:{value}"
 
 

@@ -111,6 +111,16 @@ _SHORT_CALLS: Dict[str, Sequence[Any]] = {
     "raw_text_copy": (_AT, *_ROOM),
 }
 
+# Calls of newer libraries: lists of numbers, and of texts in one buffer, with their ends.
+_NUMBERS_IN = (ctypes.c_void_p, _SIZE)
+_TEXTS_IN = (*_BYTES, ctypes.c_void_p, _SIZE)
+_LIST_CALLS: Dict[str, Sequence[Any]] = {
+    "raw_input_ints": (_AT, *_NUMBERS_IN, *_NUMBERS_IN),
+    "raw_input_texts": (_AT, *_NUMBERS_IN, *_TEXTS_IN),
+    "raw_input_ints_by_text": (_AT, *_TEXTS_IN, *_NUMBERS_IN),
+    "raw_input_texts_by_text": (_AT, *_TEXTS_IN, *_TEXTS_IN),
+}
+
 
 def _typed(library: ctypes.CDLL, name: str, returned: Any, types: Sequence[Any]) -> None:
     try:
@@ -156,4 +166,13 @@ def short() -> ctypes.CDLL:
         _typed(opened, name, ctypes.c_uint8, types)
     for kind in _KINDS:
         _typed(opened, f"{kind}_free", None, (Handle,))
+    if hasattr(opened, "yuglemit_raw_input_ints"):
+        for name, types in _LIST_CALLS.items():
+            _typed(opened, name, ctypes.c_uint8, types)
     return opened
+
+
+@lru_cache(maxsize=1)
+def has_lists() -> bool:
+    """Returns whether the library takes a container by one call."""
+    return hasattr(short(), "yuglemit_raw_input_ints")

@@ -11,12 +11,12 @@ from ._native import NO_BOUND, OVER, Head
 from ._shown import Shown
 
 # The most seconds that an instruction and an event take, by the work of the program. No register holds a text, or one does, or texts are read as
-# numbers, too. tools/prices.py measures the dearest ones; examples/many/bound.sh has the same prices.
+# numbers, too. ./dev prices measures the dearest ones; examples/many/bound.sh has the same prices.
 PRICES = {"ints": (1 / 50_000_000, 1 / 100_000), "texts": (1 / 2_000_000, 1 / 10_000), "numbers": (1 / 50_000, 1 / 10_000)}
 # Likewise what they usually take on one core of a common machine.
 _USUAL = {"ints": (2.5e-9, 3.3e-7), "texts": (2.5e-8, 1e-6), "numbers": (2.5e-8, 1e-6)}
 _BEGIN = 1e-4
-DEFAULT_LIMIT = 10_000
+MOST_EVENTS = 1_000_000  # of a run
 
 _MODES = ("val", "closed", "ref", "write")
 
@@ -76,20 +76,20 @@ class Bounds(metaclass=Shown):
     is_endless: bool = False
     work: str = "ints"
 
-    def events_within(self, limit: int = DEFAULT_LIMIT) -> int:
+    def events_within(self, limit: int = MOST_EVENTS) -> int:
         """Returns how many events a run with this limit has at most."""
         return limit if self.events is None else min(limit, self.events)
 
-    def instructions_within(self, limit: int = DEFAULT_LIMIT) -> int:
+    def instructions_within(self, limit: int = MOST_EVENTS) -> int:
         """Returns how many instructions a run with this limit does at most: no event does more than the greatest budget."""
         within = limit * self.greatest
         return within if self.instructions is None else min(within, self.instructions)
 
-    def usual_seconds(self, limit: int = DEFAULT_LIMIT) -> float:
+    def usual_seconds(self, limit: int = MOST_EVENTS) -> float:
         """Estimates what a run of as many events takes on one core of a common machine."""
         return _BEGIN + self._priced(_USUAL[self.work], limit)
 
-    def seconds(self, limit: int = DEFAULT_LIMIT) -> float:
+    def seconds(self, limit: int = MOST_EVENTS) -> float:
         """Returns the seconds of processor time that a run takes at most, if all its instructions and events are the dearest of its kind."""
         return _BEGIN + self._priced(PRICES[self.work], limit)
 

@@ -90,12 +90,20 @@ def _is_hex(path: Path, data: bytes) -> bool:
     return path.suffix.lower() in (".hex", ".history") or first == b"545742"
 
 
+def _load_python(path: Path) -> Program:
+    """Compiles a file. An error of the compiler has no frames of it."""
+    from .build import BuildError, build_file
+
+    try:
+        return build_file(path).program
+    except BuildError as why:
+        raise why.with_traceback(None) from None
+
+
 def _load_file(path: Path) -> Program:
     ending = path.suffix.lower()
     if ending == ".py":
-        from .build import build_file
-
-        return build_file(path).program
+        return _load_python(path)
     data = path.read_bytes()
     if ending not in (".tw", ".twn"):
         if data[:3] == b"TWB":

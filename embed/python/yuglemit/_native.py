@@ -9,10 +9,12 @@ needs to get it again.
 from __future__ import annotations
 
 import ctypes
+import itertools
 import threading
-from typing import Any, Callable, Dict, Iterable, List, NamedTuple, Optional, Sequence, Tuple, TypeVar, Union
+from array import array
+from typing import Any, Callable, Dict, Iterable, Iterator, List, NamedTuple, Optional, Sequence, Tuple, TypeVar, Union
 
-from ._library import Handle, Item, Member, library, numbers, short
+from ._library import Handle, Item, Member, has_lists, library, numbers, short
 from ._shown import Shown
 
 Answer = Tuple[int, bytes]
@@ -45,15 +47,26 @@ class Head(NamedTuple):
     budget: int
 
 
+class Members(NamedTuple):
+    """The members of a container or the values of a map: their subscripts, which rise, or None for 0, 1, 2 and so on. Numbers are arrays of 64 bits."""
+
+    subscripts: Optional[Sequence[Scalar]]
+    values: Sequence[Scalar]
+
+    def pairs(self) -> Iterator[Tuple[Scalar, Scalar]]:
+        """Yields each with its subscript."""
+        return zip(itertools.count() if self.subscripts is None else self.subscripts, self.values)
+
+
 class Given(NamedTuple):
-    """A value that is checked: its type, as "cont int", and its bytes, number, or members by rising subscripts."""
+    """A value that is checked: its type, as "cont int", and its text, number or members."""
 
     kind: str
-    value: Union[int, str, List[Tuple[Scalar, Scalar]]]
+    value: Union[int, str, Members]
 
 
 class Layout(NamedTuple):
-    """How many engines, servers and workers a run has, its most events, its seed or 0, and its caps; None is no cap."""
+    """How many engines, servers and workers a run has; its most events, or 0: as many as the program's bound; its seed or 0; its caps, None is none."""
 
     engines: int
     servers: int
@@ -229,29 +242,38 @@ def _read_text(text: _Owner) -> bytes:
     return ctypes.string_at(room, length.value)
 
 
+class Stopped(Exception):
+    """Says that a flag was raised before an answer was there."""
+
+
 class Flag:
     """Stops one run, from another thread or from a signal handler."""
 
     def __init__(self) -> None:
+        self.is_raised = False
         self.of_run = _owner("stop")
         _done(short().yuglemit_stop_new(self.of_run.at))
 
     def set(self) -> None:
         """Ends the run before its next turn, or within a task."""
+        self.is_raised = True
         _done(short().yuglemit_raw_stop_raise(self.of_run.seen()))
+
+
+_MOST_SOURCE, _LANGUAGE = 16_777_216, 4  # bytes of a source, and the highest version of the language
 
 
 def load(source: bytes, format_: str) -> Tuple[Verdict, Optional[Loaded]]:
     """Verifies a program, and keeps it if it is accepted. The format is "b" for bytes, "h" for hex text, "t" for assembly text. A long one gives
     way to Ctrl-C, and continues in its thread."""
-    root, verdict, usual = _owner("program"), numbers(*[0] * 9), numbers()
+    root, verdict, usual = _owner("program"), numbers(*[0] * 9), numbers(*([_MOST_SOURCE, _LANGUAGE] if has_lists() else []))
 
     def call() -> int:
         code = library().yuglemit_raw_load_source(source, len(source), ord(format_), usual, len(usual), root.at, verdict, len(verdict))
         return int(code)
 
     is_aside = is_long_source(source) and threading.current_thread() is threading.main_thread()
-    code = _aside(call) if is_aside else call()
+    code = aside(call) if is_aside else call()
     if code != _REJECTED:
         _done(code)
     return _verdict_of(verdict), Loaded(root) if code == 0 else None
@@ -275,14 +297,31 @@ LONG_SECONDS = 0.03  # a run that may take longer is made so that Ctrl-C can sto
 BRIEF_SECONDS = 0.001  # one that takes less keeps the GIL
 
 
-def _add_container(inputs: _Owner, kind: str, members: List[Tuple[Scalar, Scalar]]) -> None:
+def _add_container(inputs: _Owner, kind: str, members: Members) -> None:
+    """Appends a container or a map to inputs: by one call, or by one for each member if the library has only that."""
     outer, inner = kind.split()
-    container, by = _owner("container"), "t" if outer in ("tcont", "tmap") else "i"
-    _done(short().yuglemit_container_new(container.at, ord(by), ord("t" if inner == "text" else "i")))
-    add = getattr(short(), f"yuglemit_member_{inner}" + ("_by_text" if by == "t" else ""))
-    for subscript, member in members:
+    scalar, by = "text" if inner == "text" else "int", "_by_text" if outer in ("tcont", "tmap") else ""
+    if has_lists():
+        lists = (*_list(members.subscripts or (), bool(by)), *_list(members.values, scalar == "text"))
+        _done(getattr(short(), f"yuglemit_raw_input_{scalar}s{by}")(inputs.at, *lists))
+        return
+    container = _owner("container")
+    _done(short().yuglemit_container_new(container.at, ord("t" if by else "i"), ord(scalar[0])))
+    add = getattr(short(), f"yuglemit_member_{scalar}{by}")
+    for subscript, member in members.pairs():
         _done(add(container.at, *_words(subscript), *_words(member)))
     _done(short().yuglemit_raw_input_container(inputs.at, container.at))
+
+
+def _list(scalars: Sequence[Any], is_text: bool) -> Tuple[Any, ...]:
+    """Returns numbers as the arguments of a call, an array and its length; before those of texts come all their bytes, and the array says where each ends."""
+    texts: Tuple[Any, ...] = ()
+    if is_text:
+        parts = [it.encode() for it in scalars]
+        texts = (b"".join(parts), sum(map(len, parts)))
+        scalars = array("Q", itertools.accumulate(map(len, parts)))
+    found = ctypes.c_int64 * len(scalars)
+    return (*texts, found.from_buffer(scalars) if scalars else found(), len(scalars))  # type: ignore[arg-type]  # an array
 
 
 def _words(value: Scalar) -> Tuple[Any, ...]:
@@ -296,7 +335,7 @@ def _words(value: Scalar) -> Tuple[Any, ...]:
 def _inputs_of(given: Sequence[Given]) -> _Owner:
     inputs, calls = _owner("inputs"), short()
     for kind, value in given:
-        if isinstance(value, list):
+        if isinstance(value, Members):
             _add_container(inputs, kind, value)
         elif isinstance(value, int):
             _done(calls.yuglemit_input_int(inputs.at, value))
@@ -337,7 +376,7 @@ def run(program: Loaded, given: Sequence[Given], layout: Layout, stop: Optional[
     calls = short() if seconds < BRIEF_SECONDS else library()
     if seconds > LONG_SECONDS and threading.current_thread() is threading.main_thread():
         flag = stop if stop is not None else Flag()
-        return _ran(_aside(lambda: _call_run(calls, program, inputs, layout, flag, order), flag.set))
+        return _ran(aside(lambda: _call_run(calls, program, inputs, layout, flag, order), flag.set))
     return _ran(_call_run(calls, program, inputs, layout, stop, order))
 
 
@@ -425,9 +464,9 @@ def _ignore() -> None:
     """Does nothing: a session can't be stopped."""
 
 
-def _aside(call: Callable[[], Result], interrupt: Callable[[], None] = _ignore) -> Result:
-    """Makes a call in a thread of its own, and waits for it. Ctrl-C ends the wait, and `interrupt` is called; whatever the call still does is
-    done in its thread."""
+def aside(call: Callable[[], Result], interrupt: Callable[[], None] = _ignore, flag: Optional[Flag] = None) -> Result:
+    """Makes a call in a thread of its own, and waits for it. Ctrl-C ends the wait, and so does the flag, by `Stopped`: then `interrupt` is called, and
+    whatever the call still does is done in its thread."""
     results: list[Result] = []
     errors: list[BaseException] = []
     done = threading.Lock()
@@ -444,7 +483,8 @@ def _aside(call: Callable[[], Result], interrupt: Callable[[], None] = _ignore) 
     try:
         threading.Thread(target=work, daemon=True, name="yuglemit").start()
         while not done.acquire(timeout=0.05):  # Python looks for signals between two
-            pass
+            if flag is not None and flag.is_raised:
+                raise Stopped
     except BaseException:
         interrupt()
         done.acquire(timeout=_INTERRUPTED_SECONDS)
@@ -454,17 +494,17 @@ def _aside(call: Callable[[], Result], interrupt: Callable[[], None] = _ignore) 
     return results[0]
 
 
-def session(words: Sequence[str], data: bytes = b"", long: bool = False) -> Answer:
+def session(words: Sequence[str], data: bytes = b"", long: bool = False, flag: Optional[Flag] = None) -> Answer:
     """Returns the exit status of the command `tw` with these words and this input, and what it writes.
 
-    A call that may be long gives way to Ctrl-C, which only the main thread gets.
+    A call that may be long gives way to Ctrl-C, which only the main thread gets, and one with a flag to that.
     """
     has_nul, has_line_feed = (any(sign in word for word in words) for sign in "\0\n")
     if has_nul and has_line_feed:
         raise ValueError("no command line has both a NUL and a line feed in its words")
     call = _session_by_lines if has_nul else _session
-    if long and threading.current_thread() is threading.main_thread():
-        return _aside(lambda: call(words, data))
+    if flag is not None or long and threading.current_thread() is threading.main_thread():
+        return aside(lambda: call(words, data), flag=flag)
     return call(words, data)
 
 

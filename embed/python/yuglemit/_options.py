@@ -8,10 +8,9 @@ from typing import NamedTuple, Optional
 
 from . import _native
 from ._inputs import shown
-from ._listing import DEFAULT_LIMIT
+from ._listing import MOST_EVENTS
 from ._stop import Stop
 
-MOST_EVENTS = 1_000_000
 MOST_SEED = 2**64 - 1
 
 
@@ -46,18 +45,18 @@ def _stop_of(stop: object) -> Optional[Stop]:
     raise TypeError(f"stop: expected a yuglemit.Stop, got {shown(stop)}")
 
 
-def _timeout_of(seconds: object) -> Optional[float]:
+def seconds_of(name: str, seconds: object) -> Optional[float]:
     """Checks a number of seconds; None if it is none, or longer than a thread can wait."""
     if seconds is None:
         return None
     if isinstance(seconds, (bool, str, bytes)) or not hasattr(seconds, "__float__"):
-        raise TypeError(f"timeout: expected a number of seconds, got {shown(seconds)}")
+        raise TypeError(f"{name}: expected a number of seconds, got {shown(seconds)}")
     try:
         value = float(seconds)  # type: ignore[arg-type]
     except OverflowError:
         value = float("inf")
     if not value >= 0:
-        raise ValueError(f"timeout: expected at least 0, got {shown(seconds, with_type=False)}")
+        raise ValueError(f"{name}: expected at least 0, got {shown(seconds, with_type=False)}")
     return value if value < threading.TIMEOUT_MAX else None
 
 
@@ -65,7 +64,7 @@ def layout_of(
     engines: int = 1,
     servers: int = 1,
     workers: int = 1,
-    limit: int = DEFAULT_LIMIT,
+    limit: Optional[int] = None,
     most_tasks: Optional[int] = None,
     most_instructions: Optional[int] = None,
     most_data: Optional[int] = None,
@@ -87,11 +86,11 @@ def layout_of(
         _cap("most_rules", most_rules),
     )
     chosen = 0 if seed is None else within("seed", seed, MOST_SEED)
-    return _native.Layout(*counts, within("limit", limit, MOST_EVENTS), chosen, *caps)
+    return _native.Layout(*counts, 0 if limit is None else within("limit", limit, MOST_EVENTS), chosen, *caps)
 
 
 def options_of(
     layout: _native.Layout, trace: bool = False, text: bool = False, line: bool = False, stop: object = None, timeout: object = None
 ) -> RunOptions:
     """Returns the options of a run, or raises the error that says which is wrong."""
-    return RunOptions(layout, bool(trace), bool(text), bool(line), _stop_of(stop), _timeout_of(timeout))
+    return RunOptions(layout, bool(trace), bool(text), bool(line), _stop_of(stop), seconds_of("timeout", timeout))

@@ -4,8 +4,6 @@
 from __future__ import annotations
 
 import hashlib
-import threading
-from contextlib import contextmanager
 from functools import cached_property, partial
 from typing import Iterator, Optional, Sequence, Tuple
 
@@ -13,11 +11,11 @@ from . import _native
 from ._commands import ask, assemble, texted
 from ._errors import Refused
 from ._inputs import Input, given, shown, word_of
-from ._listing import DEFAULT_LIMIT, Bounds, Needs, Parameter, Procedure, bounds_of, procedures_of, work_of
-from ._options import MOST_EVENTS, RunOptions, layout_of, options_of, within
+from ._listing import MOST_EVENTS, Bounds, Needs, Parameter, Procedure, bounds_of, procedures_of, work_of
+from ._options import RunOptions, layout_of, options_of, within
 from ._report import LAST_EVENT, Made, Report, actors, range_of, report_of, report_of_text
 from ._shown import Shown
-from ._stop import Stop, attach
+from ._stop import Stop, ended_by
 
 Bytes = bytes  # in a class that has a property of this name
 _BOUNDS = ("tasks", "instructions", "data", "members", "rules", "bytes", "events")
@@ -96,7 +94,7 @@ class Program(metaclass=Shown):
         except Refused:  # it is too long to be listed
             return "numbers"
 
-    def bounds_within(self, limit: int = DEFAULT_LIMIT) -> Bounds:
+    def bounds_within(self, limit: int = MOST_EVENTS) -> Bounds:
         """Returns the bounds of its runs with at most so many events, with which `run` compares its caps."""
         return bounds_of(self._kept.bounds(within("limit", limit, MOST_EVENTS)), self.procedures, self._work)
 
@@ -106,7 +104,7 @@ class Program(metaclass=Shown):
         differ, or the check doesn't see that they don't: `tw check --order` names an instruction."""
         return not self._kept.may_show_order()
 
-    def is_long(self, limit: int = DEFAULT_LIMIT) -> bool:
+    def is_long(self, limit: int = MOST_EVENTS) -> bool:
         """Returns whether a run with this limit may take so long that one waits for it."""
         return self.bounds.usual_seconds(limit) > _native.LONG_SECONDS
 
@@ -144,7 +142,7 @@ class Program(metaclass=Shown):
         engines: int = 1,
         servers: int = 1,
         workers: int = 1,
-        limit: int = DEFAULT_LIMIT,
+        limit: Optional[int] = None,
         seed: Optional[int] = None,
         most_tasks: Optional[int] = None,
         most_instructions: Optional[int] = None,
@@ -161,12 +159,14 @@ class Program(metaclass=Shown):
     ) -> Report:
         """Runs the program on these inputs, one for each of `parameters`: an int, a str, or a dict of these by int or str.
 
-        The run makes at most `limit` events. If a bound of such runs, or the greatest budget, is above its cap (`most_tasks` and so on), nothing is
-        run, and Refused has the code O07. Its actors take turns in the caller's thread, so the same run has the same events each time;
-        `seed`, from 1 to 2**64 - 1, decides another order of the turns. Other threads continue meanwhile. `trace`, `text` and `line` say what the report keeps when it is pickled.
+        The run makes at most `limit` events: without one, 1,000,000, the most of any run, or the program's bound if that is smaller. If a bound of such
+        runs, or the greatest budget, is above its cap (`most_tasks` and so on), nothing is run, and Refused has the code O07. Its actors take turns
+        in the caller's thread, so `workers=4` are no faster, and the same run has the same events each time; `seed`, from 1 to 2**64 - 1,
+        decides another order of the turns. Other threads continue meanwhile. `trace`, `text` and `line` say what the report keeps when it is pickled.
 
         `stop` ends the run when another thread sets it, and so does `timeout` after so many seconds; then `end` is "stopped". Ctrl-C stops a
-        run too. A task that works at that time is cut off within 65,536 of its instructions, and its event isn't made.
+        run too. A task that works at that time is cut off within 65,536 of its instructions, and its event isn't made. `outputs` of a run
+        that didn't end by itself raises `Unfinished`.
 
         >>> import yuglemit
         >>> program = yuglemit.load('''
@@ -191,7 +191,7 @@ class Program(metaclass=Shown):
         engines: int = 1,
         servers: int = 1,
         workers: int = 1,
-        limit: int = DEFAULT_LIMIT,
+        limit: Optional[int] = None,
         seed: Optional[int] = None,
         most_tasks: Optional[int] = None,
         most_instructions: Optional[int] = None,
@@ -220,15 +220,11 @@ class Program(metaclass=Shown):
 
     def _run(self, inputs: Tuple[object, ...], options: RunOptions, flag: Optional[_native.Flag] = None) -> Report:
         """Makes a run, which `flag` ends, too."""
-        checked, layout = self._given(inputs), options.layout
-        made, seconds = Made(self, inputs, layout), self.bounds.usual_seconds(layout.limit)
+        checked, made = self._given(inputs), self._made(inputs, options.layout)
+        layout, seconds = made.layout, self.bounds.usual_seconds(made.layout.limit)
         timeout = options.timeout if options.timeout is not None and self._may_take(options.timeout, layout.limit) else None
-        if flag is None and (options.stop is not None or timeout is not None):
-            flag = _native.Flag()
-        if flag is not None and options.stop is not None:
-            attach(options.stop, flag)
         try:
-            with _ended_after(timeout, flag):
+            with ended_by(options.stop, timeout, flag) as flag:
                 ran = _native.run(self._kept, checked, layout, flag, seconds if timeout is None else max(seconds, _native.BRIEF_SECONDS))
         except _native.RunError as why:
             raise self._error(why, layout) from None
@@ -237,12 +233,19 @@ class Program(metaclass=Shown):
             raise MemoryError("yuglemit: out of memory")
         return report_of(ran, made, options)
 
-    def _is_same(self, made: Made) -> Optional[bool]:
-        """Makes a run again, and returns whether each order of events has its outputs."""
+    def _made(self, inputs: Tuple[object, ...], layout: _native.Layout) -> Made:
+        """Returns the causes of a run. Without a limit it has that of the bound, with which it ends by itself, or the most."""
+        return Made(self, inputs, layout if layout.limit else layout._replace(limit=self.bounds.events_within()))
+
+    def _is_same(self, made: Made, flag: Optional[_native.Flag]) -> Optional[bool]:
+        """Makes a run again, and returns whether each order of events has its outputs. The flag stops the run, and the wait for its replay."""
         seconds = max(self.bounds.usual_seconds(made.layout.limit), _native.BRIEF_SECONDS)
-        ran = _native.run(self._kept, self._given(made.inputs), made.layout, None, seconds, order=True)
+        call = partial(_native.run, self._kept, self._given(made.inputs), made.layout, flag, seconds, order=True)
+        ran = call() if flag is None else _native.aside(call, flag.set, flag)
         if ran.end == "memory":
             raise MemoryError("yuglemit: out of memory")
+        if flag is not None and flag.is_raised:
+            raise _native.Stopped
         return ran.kept.same_in_every_order()
 
     def _may_take(self, seconds: float, limit: int) -> bool:
@@ -266,10 +269,10 @@ class Program(metaclass=Shown):
             if most is not None and most < _native.NO_CAP and (number > most or number in words):
                 yield f"{kind}: {words.get(number, f'bound {number}')}, at most {most}\n"
 
-    def _answer(self, made: Made, *options: str, as_text: bool = False) -> str:
-        """Makes a run again, of the program's text or of its bytes, and returns what `tw run` writes with these options."""
+    def _answer(self, made: Made, flag: Optional[_native.Flag], *options: str, as_text: bool = False) -> str:
+        """Makes a run again, of the program's text or of its bytes, and returns what `tw run` writes with these options. The flag ends the wait."""
         words = ["run", *(self._format if as_text else ()), *made.words(), *options, *self.words(made.inputs)]
-        return ask(words, self._data if as_text else self._hex, self.is_long(made.layout.limit))
+        return ask(words, self._data if as_text else self._hex, self.is_long(made.layout.limit), flag)
 
     def replay(self, trace: str, *inputs: Input, engines: int = 1, servers: int = 1, workers: int = 1) -> Report:
         """Makes the events of a trace, from a run of any machine, and returns the report of the state to which they lead."""
@@ -295,18 +298,3 @@ def program_of(kept: _native.Loaded, needs: Needs, source: Optional[str], code: 
     program = Program()
     program._kept, program.needs, program.source, program._code = kept, needs, source, code
     return program
-
-
-@contextmanager
-def _ended_after(seconds: Optional[float], flag: Optional[_native.Flag]) -> Iterator[None]:
-    """Raises a flag after so many seconds, unless the work within is done before."""
-    if seconds is None or flag is None:
-        yield
-        return
-    timer = threading.Timer(seconds, flag.set)
-    timer.daemon = True
-    timer.start()
-    try:
-        yield
-    finally:
-        timer.cancel()

@@ -5,15 +5,19 @@ from __future__ import annotations
 
 import json
 import re
+import reprlib
 from dataclasses import dataclass, field, replace
-from typing import TYPE_CHECKING, Dict, List, NamedTuple, Optional, Tuple
+from typing import TYPE_CHECKING, Any, Callable, Dict, List, NamedTuple, Optional, Tuple, TypeVar
 
-from ._errors import Refused
+from ._errors import Refused, Unfinished
 from ._inputs import read_scalar
-from ._native import Kept, Layout, Meter, Output, Ran
+from ._listing import MOST_EVENTS
+from ._native import Flag, Kept, Layout, Meter, Output, Ran, Stopped
 from ._options import RunOptions, options_of, within
+from ._refusals import refusals
 from ._shown import Shown
-from ._stop import Stop
+from ._stop import Stop, ended_by
+from ._version import __version__
 
 if TYPE_CHECKING:
     from ._program import Program
@@ -23,6 +27,7 @@ _SET = re.compile(rf"out \d+ (?:int|text) {_SCALAR}$", re.S)
 _MANY = re.compile(r"out \d+ t?(?:cont|map) ")
 _MEMBER = re.compile(rf"  at {_SCALAR} (?:(?:int|text) {_SCALAR})?", re.S)
 _ENDS = ("quiet", "stuck", "limit", "running", "stopped")
+Result = TypeVar("Result")
 
 
 class _Wait(NamedTuple):
@@ -98,11 +103,6 @@ class Made:
         seed = ("--in-turn", "--seed", str(self.layout.seed)) if self.layout.seed else ()
         return (*actors(self.layout), "--limit", str(self.layout.limit), *seed, *_caps(self.layout))
 
-    def until(self, end: str, events: int) -> "Made":
-        """Returns the causes of a run with this end: one that was stopped is made again by a limit of as many events."""
-        return self if end != "stopped" else replace(self, layout=self.layout._replace(limit=events))
-
-
 LAST_EVENT = (1 << 32) - 1
 
 
@@ -111,20 +111,22 @@ def range_of(first: object, last: object) -> Tuple[str, ...]:
     return ("--from", str(within("first", first, LAST_EVENT)), "--to", str(within("last", last, LAST_EVENT)))
 
 
-@dataclass(frozen=True)
+@dataclass(frozen=True, repr=False)
 class Report(metaclass=Shown):
     """The report of a run.
 
     `end` is "quiet", "stuck" (rules wait for one another), "limit" (as many events as allowed) or "stopped" (by a `Stop` or a timeout). A report
-    of `map` may have no run: then `end` is "refused" or "memory", and `error` says why. `outputs` has an int, a str or a dict for each output
-    of main, None for one that is unset; `unfinished` the numbers of those that are unset or still open.
+    of `map` may have no run: then `end` is "refused", "memory" or "lost" (its worker ended), and `error` says why. `outputs` is the answer of a
+    run that is quiet, and raises `Unfinished` for all others. `partial` is what there is, an int, a str or a dict for each output of main, None
+    for one that is unset; `unfinished` has the numbers of those that are unset or still open.
 
     The library keeps the run for the report of `Program.run`, so `text`, `trace` and `line` only print. A report of `map`, or one that was pickled, has
-    those that were asked for, by `text=True` and so on. No property makes a run again; `again`, `rules` and `timeline` do.
+    those that were asked for, by `text=True` and so on. No property makes a run again; `again`, `rules`, `refused`, `timeline` and `same_in_every_order`
+    do, in up to four times its time. Their `timeout` and `stop` end the wait by `Unfinished`.
     """
 
     end: str
-    outputs: List[Output] = field(default_factory=list)
+    partial: List[Output] = field(default_factory=list)
     unfinished: List[int] = field(default_factory=list)
     error: Optional[Exception] = None
     _made: Optional[Made] = field(default=None, repr=False, compare=False)
@@ -132,10 +134,53 @@ class Report(metaclass=Shown):
     _printed: Dict[str, Optional[str]] = field(default_factory=dict, repr=False, compare=False)
     _kept: Optional[Kept] = field(default=None, repr=False, compare=False)
 
+    def __repr__(self) -> str:
+        """Shows the first members of the first outputs alone."""
+        outputs = f"{'outputs' if self.end == 'quiet' else 'partial'}={_CUT.repr(self.partial)}"
+        rest = (f"{name}={_CUT.repr(getattr(self, name))}" for name in ("unfinished", "error") if getattr(self, name))
+        return f"Report({', '.join((f'end={self.end!r}', outputs, *rest))})"
+
     def __getstate__(self) -> Dict[str, object]:
+        """Returns the fields, with a number for their form, by which another version rejects it. Named tuples are plain ones there."""
         if self.end == "stuck":
             self._print("report")  # for `circle`
-        return {**self.__dict__, "_kept": None}
+        made, meter = self._made, self._meter
+        plain = {"_made": made and (made.program, made.inputs, tuple(made.layout)), "_meter": meter and tuple(meter), "_kept": None}
+        return {**self.__dict__, **plain, "form": _FORM, "version": __version__}
+
+    def __setstate__(self, state: Dict[str, Any]) -> None:
+        version = state.pop("version", "of an earlier version")
+        if state.pop("form", None) != _FORM:
+            raise ValueError(f"the report was pickled by yuglemit {version}, and this is {__version__}: run the program again")
+        made, meter = state["_made"], state["_meter"]
+        state["_made"] = made and Made(made[0], made[1], Layout(*made[2]))
+        state["_meter"] = meter and Meter(*meter)
+        self.__dict__.update(state)
+
+    @property
+    def outputs(self) -> List[Output]:
+        """The outputs of main, of a run that ended by itself; of any other it raises `Unfinished`."""
+        if self.end != "quiet":
+            raise Unfinished(self, f'the run ended with "{self.end}"{self._advice()}') from self.error
+        return self.partial
+
+    def _advice(self) -> str:
+        """Says after how many events a run ended, and what to pass instead."""
+        if self.error is not None:
+            return f": {self.error}"
+        most = self._made.layout.limit if self._made is not None else 0
+        advice = "no run has more events" if self.end == "limit" and most == MOST_EVENTS else _ADVICE[self.end]
+        events = f" after {self.events} events, its limit is {most}" if most else ""
+        return f"{events}: {'; '.join(self._noted()) or advice}. `partial` has what there is of its outputs"
+
+    def _noted(self) -> List[str]:
+        """Returns the lines of `refused` for a message, if the run had so little that it can be made again for that."""
+        if self.end != "stuck" or self._made is None or self.events > 10 * _DRAWN or self.instructions > 1000 * _DRAWN:
+            return []
+        try:
+            return self.refused()
+        except ValueError:  # no command line has such inputs
+            return []
 
     def _print(self, what: str) -> Optional[str]:
         """Returns the "report", the "trace" or the "json" line, and keeps it."""
@@ -197,39 +242,59 @@ class Report(metaclass=Shown):
         made = self._cause()
         return made.program._run(made.inputs, options_of(made.layout, stop=stop, timeout=timeout))
 
-    def rules(self) -> str:
+    def rules(self, *, stop: Optional[Stop] = None, timeout: Optional[float] = None) -> str:
         """Returns the report of a run that is stuck with a line for each rule of the circle, which has the line of the program's text. It makes
         the run again."""
-        made = self._cause()
-        return made.program._answer(made, as_text=True)
+        return self._made_again("rules", lambda made, flag: made.program._answer(made, flag, as_text=True), stop, timeout)
 
-    def timeline(self, first: int = 1, last: int = LAST_EVENT) -> str:
+    def refused(self, *, stop: Optional[Stop] = None, timeout: Optional[float] = None) -> List[str]:
+        """Returns the line whose instruction was refused, as "squares.py:12: x // y: the divisor is 0", of a run that is stuck. The builder writes it
+        into the program's text; another program has none. It makes the run again."""
+        source = self._cause().program.source if self.end == "stuck" else None
+        return refusals(source, self.rules(stop=stop, timeout=timeout)) if source else []
+
+    def timeline(self, first: int = 1, last: int = LAST_EVENT, *, stop: Optional[Stop] = None, timeout: Optional[float] = None) -> str:
         """Draws the events of the run, from one number to another, as an SVG timeline. It makes the run again."""
-        made = self._cause()
-        return made.program._answer(made, "--picture", *range_of(first, last))
+        words = ("--picture", *range_of(first, last))
+        return self._made_again("timeline", lambda made, flag: made.program._answer(made, flag, *words), stop, timeout)
 
-    def same_in_every_order(self) -> Optional[bool]:
+    def same_in_every_order(self, *, stop: Optional[Stop] = None, timeout: Optional[float] = None) -> Optional[bool]:
         """Returns whether each order of events, in any layout, ends like this run with its outputs, for its inputs. False if tasks competed for a
         subscript: another order may have other outputs. None if the limit ended the run and none had competed. It makes the run again."""
+        return self._made_again("same_in_every_order", lambda made, flag: made.program._is_same(made, flag), stop, timeout)
+
+    def _made_again(
+        self, name: str, call: Callable[["Made", Optional[Flag]], Result], stop: Optional[Stop], timeout: Optional[float]
+    ) -> Result:
+        """Makes a call that makes the run again, until a stop or a timeout."""
         made = self._cause()
-        return made.program._is_same(made)
+        options = options_of(made.layout, stop=stop, timeout=timeout)
+        try:
+            with ended_by(options.stop, options.timeout) as flag:
+                return call(made, flag)
+        except Stopped:
+            raise Unfinished(self, f"{name}() was stopped, since it makes a run of {self.events} events again: pass a longer timeout") from None
 
     def _repr_svg_(self) -> Optional[str]:
         """Draws the timeline for a notebook, if the run is brief."""
         made = self._made
-        return None if made is None or made.layout.limit == 0 or made.program.is_long(made.layout.limit) else self.timeline()
+        is_brief = made is not None and 0 < self.events <= _DRAWN and not made.program.is_long(self.events)
+        return self.timeline() if is_brief else None
 
     def _cause(self) -> Made:
         if self._made is None:
             raise ValueError(_NO_RUN)
-        if self._made.layout.limit == 0:
+        if self.end != "stopped":
+            return self._made
+        if self.events == 0:
             raise ValueError("the run was stopped before its first event")
-        return self._made
+        return replace(self._made, layout=self._made.layout._replace(limit=self.events))
 
     @property
     def json(self) -> str:
-        """The report as JSON. A container or a map is an object whose names are its subscripts, a number as its decimal digits."""
-        fields: Dict[str, object] = {"end": self.end, "outputs": self.outputs, "unfinished": self.unfinished}
+        """The report as JSON, with the outputs as they are at the `end`. A container or a map is an object whose names are its subscripts, a number
+        as its decimal digits."""
+        fields: Dict[str, object] = {"end": self.end, "outputs": self.partial, "unfinished": self.unfinished}
         if self.end == "stuck":
             fields["circle"] = [wait._asdict() for wait in self.circle]
         if self.error is not None:
@@ -238,24 +303,33 @@ class Report(metaclass=Shown):
         return json.dumps(fields, ensure_ascii=False)
 
 
+_DRAWN = 10_000  # the most events that a notebook draws
+_FORM = 1  # of a pickled report: another number for other fields
+_CUT = reprlib.Repr()
+_CUT.maxother = 100
+_ADVICE = {
+    "limit": f"pass a larger limit, up to {MOST_EVENTS}",
+    "stopped": "pass a longer timeout, and a `Stop` that isn't set",
+    "stuck": "its rules wait for one another, or a task left an output open, which no option changes; `circle` and rules() say more",
+    "running": "give replay() the whole trace of a run",
+}
 _NO_RUN = "there was no run, since it is of a rejected input or of a replay"
 _ASKED = {"report": "text", "trace": "trace", "json": "line"}
 
 
 def report_of(ran: Ran, made: Made, options: RunOptions) -> Report:
     """Makes the report of a run, and prints what its options say."""
-    cause = made.until(ran.end, ran.meter.events)
-    report = Report(ran.end, ran.outputs, ran.unfinished, None, cause, ran.meter, {}, ran.kept)
+    report = Report(ran.end, ran.outputs, ran.unfinished, None, made, ran.meter, {}, ran.kept)
     for what, asked in (("trace", options.trace), ("report", options.text), ("json", options.line)):
         if asked:
             report._print(what)
     return report
 
 
-def failed_report(why: Exception) -> Report:
+def failed_report(why: Exception, end: str = "refused") -> Report:
     """Makes the report of a run that couldn't be made. Its error keeps no traceback, and so nothing of the run."""
     why.__context__ = None
-    return Report("memory" if isinstance(why, MemoryError) else "refused", error=why.with_traceback(None))
+    return Report("memory" if isinstance(why, MemoryError) else end, error=why.with_traceback(None))
 
 
 def sent(report: Report) -> Report:
@@ -267,7 +341,7 @@ def sent(report: Report) -> Report:
 
 def received(report: Report, made: Made) -> Report:
     """Returns a report with the causes of its run."""
-    return report if report.error is not None else replace(report, _made=made.until(report.end, report.events))
+    return report if report.error is not None else replace(report, _made=made)
 
 
 def report_of_text(text: str) -> Report:

@@ -4,7 +4,8 @@
 from __future__ import annotations
 
 import threading
-from typing import NoReturn
+from contextlib import contextmanager
+from typing import Iterator, NoReturn, Optional
 from weakref import WeakSet
 
 from . import _native
@@ -14,7 +15,7 @@ from ._shown import Shown
 class Stop(metaclass=Shown):
     """Stops runs. Give it to `Program.run` as `stop`; `set` ends all its runs soon, from any thread or signal handler.
 
-    A run that was stopped has the end "stopped", and the events and outputs so far. A `Stop` that is set stays so until `clear`; runs that
+    A run that was stopped has the end "stopped", and the events so far. A `Stop` that is set stays so until `clear`; runs that
     begin meanwhile have no event.
 
     >>> import yuglemit
@@ -62,3 +63,24 @@ class Stop(metaclass=Shown):
 def attach(stop: Stop, flag: _native.Flag) -> None:
     """Lets a stop end the run that has this flag."""
     stop._attach(flag)
+
+
+@contextmanager
+def ended_by(stop: Optional[Stop], seconds: Optional[float], flag: Optional[_native.Flag] = None) -> Iterator[Optional[_native.Flag]]:
+    """Yields a flag that a stop raises, and so many seconds do unless the work within is done before; None if nothing does."""
+    if flag is None and (stop is not None or seconds is not None):
+        flag = _native.Flag()
+    if flag is None or (stop is None and seconds is None):
+        yield flag
+        return
+    if stop is not None:
+        attach(stop, flag)
+    timer = threading.Timer(seconds, flag.set) if seconds is not None else None
+    if timer is not None:
+        timer.daemon = True
+        timer.start()
+    try:
+        yield flag
+    finally:
+        if timer is not None:
+            timer.cancel()

@@ -1,7 +1,7 @@
 from yuglemit.build import Array, Int, Out, control, leaf, out
 
 
-@leaf(otherwise=())
+@leaf
 def square(number: Int, into: Out[Array[Int]]) -> None:
     out.into[number] = number * number
 

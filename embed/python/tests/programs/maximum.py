@@ -3,7 +3,7 @@ from yuglemit.build import Int, Map, Out, control, each, leaf, out
 LEAST = -(2**63)
 
 
-@leaf
+@leaf(otherwise=0)
 def greatest(numbers: Map[Int, Int]) -> Int:
     result = LEAST
     for _, number in each(numbers, 1000):

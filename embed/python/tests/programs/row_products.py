@@ -1,13 +1,16 @@
-from yuglemit.build import Int, Map, Out, control, leaf, out
+from yuglemit.build import Int, Map, Out, check, control, leaf, out
 
 
-@leaf(otherwise=())
+@leaf
 def multiply(matrix: Map[Int, Int], vector: Map[Int, Int], product: Out[Map[Int, Int]], row: Int, columns: Int, at: Int) -> None:
     total = 0
     for column in range(1000):
         if column == columns:
             break
-        total = total + matrix[at + column] * vector[column]
+        if check(more := total + matrix[at + column] * vector[column]):
+            total = more
+        else:
+            return
     out.product[row] = total
 
 

@@ -1,7 +1,7 @@
 from yuglemit.build import Int, Out, Sum, control, leaf, out
 
 
-@leaf(otherwise=())
+@leaf
 def square(into: Out[Sum[Int]], number: Int) -> None:
     out.into[0] += number * number
 

@@ -10,7 +10,7 @@ def count(word: Text, tally: Out[Table[Int]]) -> None:
             break
 
 
-@leaf(otherwise=())
+@leaf
 def tell(word: Text, tally: Table[Int], counts: Out[Table[Int]]) -> None:
     known = 0
     for number in range(1, MOST + 1):

@@ -119,9 +119,14 @@ def check(*values: object) -> bool:
     return all(it is not False and (not isinstance(it, int) or -(2**63) <= it < 2**63) for it in values)
 
 
-def each(container: Dict[Subscript, Any], most: int = 1000) -> Iterator[Any]:
-    """Gives to a `for` the subscripts, or with two names the subscripts and the members or values, at most so many."""
-    return iter(sorted(container.items())[:most])
+def each(over: Union[Dict[Subscript, Any], range], most: Optional[int] = None) -> Iterator[Any]:
+    """Gives to a `for` the subscripts, or with two names the subscripts and the members or values; or the numbers of a range. If more are left after
+    `most`, the loop is refused there. Above 1,000 it is the next thousand; without it, 1,000 for an Array or a Table, and else 100,000."""
+    bound = most if most is not None else 1000 if isinstance(over, (Array, Table)) else 100_000
+    for number, it in enumerate(over if isinstance(over, range) else sorted(over.items())):
+        if number == (bound if bound <= 1000 else -(-bound // 1000) * 1000):
+            raise OverflowError(f"each: there are more than {number}, the most of this loop")
+        yield it
 
 
 def insert(container: Dict[Subscript, Member], subscript: Subscript, member: Member) -> bool:
@@ -140,6 +145,8 @@ def byte_length(text: str) -> int:
     """How many bytes of UTF-8 a text has."""
     return len(text.encode())
 
+
+BuildError.__module__ = __name__
 
 __all__ = [
     "Array",

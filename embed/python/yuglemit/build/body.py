@@ -5,13 +5,13 @@ from __future__ import annotations
 
 import ast
 from dataclasses import dataclass, field
-from typing import Dict, FrozenSet, Iterable, List, NoReturn, Optional, Set, Tuple, Union
+from typing import Callable, Dict, FrozenSet, Iterable, List, NoReturn, Optional, Set, Tuple, Union
 
 from .code import Code, Place
 from .kinds import Kinds
-from .registers import Names, Rights, Values, name_in_text
+from .registers import Names, Rights, Values, has_name, name_in_text
 from .source import Function, Source
-from .types import SCALARS, DataType
+from .types import DataType
 from .uses import Uses
 
 
@@ -52,35 +52,71 @@ class Cause:
     advice: str = "put it into a check(..)"
 
 
+@dataclass(frozen=True)
+class Pad:
+    """Where an instruction continues that is refused for a cause: a label, and the state there."""
+
+    label: str
+    state: State
+    cause: Cause
+
+
 @dataclass
 class Failing:
-    """Where refused instructions continue: a way for each set of rights that was held, all of which lead to `home`."""
+    """Where refused instructions continue: a way for each set of rights that was held, and of each cause if `by_cause`. All lead to `home`."""
 
     home: State
-    pads: Dict[FrozenSet[Tuple[str, Right]], Tuple[str, State]] = field(default_factory=dict)
+    by_cause: bool
+    pads: Dict[Tuple[FrozenSet[Tuple[str, Right]], Optional[Tuple[int, str]]], Pad] = field(default_factory=dict)
     first: Optional[Cause] = None
+
+    @property
+    def by_causes(self) -> List[List[Pad]]:
+        """The ways, those of one cause together."""
+        found: Dict[Optional[Tuple[int, str]], List[Pad]] = {}
+        for (_, cause), pad in self.pads.items():
+            found.setdefault(cause, []).append(pad)
+        return list(found.values())
 
 
 @dataclass
 class Loop:
-    """A loop that is being compiled: the label of its END, that of the next turn, the flag that ends it, and how many loops of the machine it is."""
+    """A loop that is being compiled: the label of the next turn, the labels of its ENDs, the innermost last, and the flag that ends it."""
 
     home: State
     next: str
-    end: str
+    ends: List[str]
     flag: str
-    depth: int = 1
     is_ended: bool = False
+    is_broken: bool = False
     return_sets: List[Set[str]] = field(default_factory=list)
     outputs: Dict[str, ast.AST] = field(default_factory=dict)
-    failed: Optional[Cause] = None
+    failed: List[Cause] = field(default_factory=list)
+
+    @property
+    def end(self) -> str:
+        """The label of its innermost END."""
+        return self.ends[-1]
 
 
 BREAK, RETURN, FAILED = 1, 2, 3
-_CONTAINERS = [("cont",), ("tcont",)]
-_AROUND = [(), *_CONTAINERS, *((*a, *b) for a in _CONTAINERS for b in _CONTAINERS), *((*a, *b, *c) for a in _CONTAINERS for b in _CONTAINERS for c in _CONTAINERS)]
-_INNERMOST = [*(it.words for it in SCALARS.values()), *((by, inner) for by in ("map", "tmap") for inner in ("int", "text", "sum"))]
-HELPERS = frozenset("_".join((what, *around, *inner)) for what in ("copy", "never") for around in _AROUND for inner in _INNERMOST)
+HELPERS = ("copy", "never", "guard")
+
+
+@dataclass(frozen=True)
+class Manner:
+    """How a function is compiled: loops in one another over all values of maps, or over fewer; and refused instructions apart, or together."""
+
+    is_wide: bool = True
+    by_cause: bool = True
+
+
+class Again(Exception):
+    """Says that a function must be compiled in another manner."""
+
+    def __init__(self, manner: Manner) -> None:
+        super().__init__(manner)
+        self.manner = manner
 
 
 @dataclass(frozen=True)
@@ -93,7 +129,8 @@ class Variant:
 
 @dataclass
 class Unit:
-    """Data that all procedures of a program share: names, functions still to be compiled, and other parts of the text."""
+    """Data that all procedures of a program share: names, functions still to be compiled, and other parts of the text. `refusable` has the leaf
+    functions that write containers and in which an instruction may be refused, `notes` what `guards` say of these instructions."""
 
     source: Source
     names: Dict[Variant, str] = field(default_factory=dict)
@@ -101,9 +138,13 @@ class Unit:
     helpers: Dict[str, List[str]] = field(default_factory=dict)
     version: int = 1
     procedures: FrozenSet[str] = frozenset()
+    refusable: FrozenSet[str] = frozenset()
+    notes: List[str] = field(default_factory=list)
+    guards: Dict[str, Tuple[DataType, ...]] = field(default_factory=dict)
     _kinds: Dict[str, Kinds] = field(default_factory=dict)
     _uses: Dict[str, Uses] = field(default_factory=dict)
-    _taken: Set[str] = field(default_factory=lambda: set(HELPERS))
+    _helped: Dict[Tuple[str, Tuple[DataType, ...]], str] = field(default_factory=dict)
+    _taken: Set[str] = field(default_factory=set)
 
     @classmethod
     def of(cls, source: Source) -> "Unit":
@@ -112,7 +153,7 @@ class Unit:
 
     def apart(self) -> "Unit":
         """Returns another unit of the same file, whose procedures aren't this one's."""
-        return Unit(self.source, procedures=self.procedures)
+        return Unit(self.source, procedures=self.procedures, refusable=self.refusable)
 
     def need(self, version: int) -> None:
         """Notes that the program needs a version of the language."""
@@ -131,6 +172,27 @@ class Unit:
             self.queue.append(variant)
         return self.names[variant]
 
+    def helper(self, what: str, types: Tuple[DataType, ...], lines: Callable[[str], List[str]]) -> str:
+        """Returns the name of a procedure that is no function's, for data of these types. Its lines are made once."""
+        if (what, types) not in self._helped:
+            number = len(self.helpers) + 1
+            while f"{what}_{number}" in self._taken:
+                number += 1
+            name = self._helped[what, types] = f"{what}_{number}"
+            self._taken.add(name)
+            self.helpers[name] = lines(name)
+        return self._helped[what, types]
+
+    def is_guarded(self, function: Function) -> bool:
+        """Says whether a leaf function notes a refused instruction for the guard of its containers: it has no other result that could say so."""
+        return function.name in self.refusable and not any(it.type.is_scalar for it in function.outputs)
+
+    def number_of(self, note: str) -> int:
+        """Returns the number of what guards say of a refused instruction, from 1."""
+        if note not in self.notes:
+            self.notes.append(note)
+        return self.notes.index(note) + 1
+
     def kinds_of(self, function: Function) -> Kinds:
         """Returns the kinds of a function's variables, which all its variants share."""
         if function.name not in self._kinds:
@@ -147,9 +209,10 @@ class Unit:
 class Body:
     """A procedure that is being compiled."""
 
-    def __init__(self, unit: Unit, variant: Variant) -> None:
+    def __init__(self, unit: Unit, variant: Variant, manner: Manner) -> None:
         self.unit, self.source, self.function = unit, unit.source, variant.function
-        self.variant = variant
+        self.variant, self.manner = variant, manner
+        self.by_cause = manner.by_cause and (variant.function.kind == "control" or unit.is_guarded(variant.function))
         self.kinds, self.uses = unit.kinds_of(variant.function), unit.uses_of(variant.function)
         self.code = Code()
         names = Names(unit.procedures)
@@ -160,6 +223,7 @@ class Body:
         self.node: ast.AST = variant.function.node
         self.places: Dict[str, str] = {}
         self.aliases: Dict[str, str] = {}
+        self.groups: Optional[List[Tuple[str, ...]]] = None
         self._labels: Dict[str, int] = {}
         self._temporaries = 0
 
@@ -235,35 +299,35 @@ class Body:
     def refused(self, cause: Union[str, Cause], advice: str = Cause.advice) -> str:
         """Returns the label to which an instruction skips if it is refused here, for this reason."""
         failing = self.failing[-1]
-        rights = frozenset(self.now.rights.items())
-        if failing.first is None:
-            failing.first = cause if isinstance(cause, Cause) else Cause(cause, self.code.place, advice)
-        if rights not in failing.pads:
-            failing.pads[rights] = (self.new_label("refused"), State(rights=dict(self.now.rights)))
-        return failing.pads[rights][0]
+        found = cause if isinstance(cause, Cause) else Cause(cause, self.code.place, advice)
+        failing.first = failing.first or found
+        key = (frozenset(self.now.rights.items()), (found.place[0], found.reason) if failing.by_cause else None)
+        if key not in failing.pads:
+            failing.pads[key] = Pad(self.new_label("refused"), State(rights=dict(self.now.rights)), found)
+        return failing.pads[key].label
 
-    def begin_failing(self) -> Failing:
+    def begin_failing(self, by_cause: bool) -> Failing:
         """Begins a part in which refused instructions go on elsewhere."""
-        self.failing.append(Failing(self.now.copy()))
+        self.failing.append(Failing(self.now.copy(), by_cause))
         return self.failing[-1]
 
     def shrink_home(self, failing: Failing) -> State:
         """Takes what a way has given away from the rights held at home, which is returned: nothing uses these rights any more."""
-        for _, state in failing.pads.values():
-            failing.home.rights = {key: it for key, it in failing.home.rights.items() if key in state.rights}
+        for pad in failing.pads.values():
+            failing.home.rights = {key: it for key, it in failing.home.rights.items() if key in pad.state.rights}
         return failing.home
 
-    def put_pads(self, failing: Failing, goal: str) -> None:
+    def put_pads(self, pads: Iterable[Pad], home: State, goal: str) -> None:
         """Writes the ways on which refused instructions come home, each to the label `goal`."""
         kept = self.state
-        for label, state in failing.pads.values():
-            self.state = state.copy()
-            self.code.label(label)
-            self.come_home(failing.home)
+        for pad in pads:
+            self.state = pad.state.copy()
+            self.code.label(pad.label)
+            self.come_home(home)
             self.code.put("JMP", goal)
         self.state = kept
 
 
 def named(key: str) -> str:
     """Returns the name of a right's key in errors."""
-    return key.rstrip(">") if not key.startswith("#") else "the result of a task"
+    return key.rstrip(">") if has_name(key) else "the result of a task"

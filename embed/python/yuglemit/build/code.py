@@ -7,16 +7,17 @@ import ast
 from dataclasses import dataclass, field
 from typing import Dict, List, Optional, Tuple
 
-_SKIPS = frozenset("JMP JEQ JLT ADD SUB MUL DIV REM CAT READI INS LOOK SUBAT TINS TLOOK TSUBAT MINS MGET".split())
+SKIPS = frozenset("JMP JEQ JLT ADD SUB MUL DIV REM CAT READI INS LOOK SUBAT TINS TLOOK TSUBAT MINS MGET".split())
 Place = Tuple[int, int]  # line, from 1, and offset in bytes, from 0, as ast has them
 
 
 @dataclass(frozen=True)
 class Line:
-    """A line of the text, and the place from which it comes."""
+    """A line of the text, the place from which it comes, and what a comment after it says."""
 
     text: str
     place: Place
+    note: str = ""
 
     @property
     def is_label(self) -> bool:
@@ -28,6 +29,11 @@ class Line:
         """Whether it is a comment."""
         return self.text.startswith(";")
 
+    @property
+    def written(self) -> str:
+        """The line with its note."""
+        return f"{self.text} ; {self.note}" if self.note else self.text
+
 
 @dataclass
 class Code:
@@ -37,9 +43,9 @@ class Code:
     place: Place = (1, 0)
     _comment: Optional[str] = None
 
-    def put(self, *words: object) -> None:
+    def put(self, *words: object, note: str = "") -> None:
         """Adds an instruction."""
-        self.lines.append(Line(" ".join(str(it) for it in words), self.place))
+        self.lines.append(Line(" ".join(str(it) for it in words), self.place, note))
 
     def label(self, name: str) -> None:
         """Adds a label."""
@@ -77,12 +83,12 @@ def _threaded(lines: List[Line]) -> List[Line]:
             goals[line.text[:-1]] = goals.get(after.text[4:], after.text[4:])  # jumps lead down, so that label is known
         elif not line.is_label and not line.is_comment:
             after = line
-    return [it if it.is_label or it.is_comment else Line(_renamed(it.text, goals), it.place) for it in lines]
+    return [it if it.is_label or it.is_comment else Line(_renamed(it.text, goals), it.place, it.note) for it in lines]
 
 
 def _renamed(text: str, goals: Dict[str, str]) -> str:
     before, blank, last = text.rpartition(" ")
-    return f"{before}{blank}{goals[last]}" if last in goals and text.split(" ")[0] in _SKIPS else text
+    return f"{before}{blank}{goals[last]}" if last in goals and text.split(" ")[0] in SKIPS else text
 
 
 def _without_idle(lines: List[Line]) -> List[Line]:

@@ -5,19 +5,21 @@ from __future__ import annotations
 
 import ast
 import os
-from dataclasses import dataclass
+from dataclasses import dataclass, replace
 from functools import cached_property
 from pathlib import Path
-from typing import TYPE_CHECKING, List, Tuple, Union
+from typing import TYPE_CHECKING, FrozenSet, List, Tuple, Union
 
-from .body import Body, Cause, Right, Unit, Variant
+from .body import Again, Body, Manner, Right, Unit, Variant
+from .budgets import MOST_BUDGET, budget_of
 from .code import Line, Place, tidy
 from .errors import BuildError
 from .reading import MOST_BYTES, decoded, lines_of
-from .source import Function, Parameter, Source
-from .statements import block, ends, fails
+from .refusals import RECORD, guard_lines, put_refusals, watch
+from .source import MOST_ARGUMENTS, Function, Parameter, Source
+from .statements import block, ends
 from .toplevel import read_source
-from .types import DataType
+from .types import SUMS, DataType
 
 if TYPE_CHECKING:
     from .._program import Program
@@ -44,10 +46,11 @@ class Built:
         try:
             return load(self.text)
         except Refused as why:
-            place = self.places[why.line - 1] if why.line and why.line <= len(self.places) else (1, 0)
-            node = ast.Pass(lineno=place[0], col_offset=place[1])
-            details = why.text.strip().split("\n")
-            self.source.fail(node, f"the program is {details[0]} ({details[-1]})")
+            refused = why
+        line = refused.line or 0
+        place = self.places[line - 1] if 0 < line <= len(self.places) else (1, 0)
+        details = refused.text.strip().split("\n")
+        self.source.fail(ast.Pass(lineno=place[0], col_offset=place[1]), f"the program is {details[0]} ({details[-1]})")
 
 
 def _prologue(body: Body) -> Tuple[List[str], int]:
@@ -60,7 +63,7 @@ def _prologue(body: Body) -> Tuple[List[str], int]:
             body.now.assigned.add(parameter.name)
             values += 1
         else:
-            register = body.rights.parameter(f"{parameter.name}_in" if parameter.type.is_scalar and not parameter.is_out else parameter.name)
+            register = body.rights.parameter(parameter.name)
             key = f"out.{parameter.name}" if parameter.is_out else parameter.name
             _hold(body, key, register, mode, parameter.type)
         listed.append(f"{register}: {mode} {parameter.type.spelling}")
@@ -68,7 +71,18 @@ def _prologue(body: Body) -> Tuple[List[str], int]:
         register = body.rights.parameter(name)
         _hold(body, f"out.{name}", register, "write", kind)
         listed.append(f"{register}: write {kind.spelling}")
+    if body.unit.is_guarded(body.function):
+        _check_arguments(body, len(listed))
+        register = body.rights.parameter("record")
+        _hold(body, RECORD, register, "write", SUMS)
+        listed.append(f"{register}: write {SUMS.spelling}")
     return listed, values
+
+
+def _check_arguments(body: Body, count: int) -> None:
+    if count == MOST_ARGUMENTS:
+        message = f"{body.function.name} has {count} parameters and results, and an instruction in it may be refused"
+        body.fail(f"{message}: give it one less, for what says so, or write check(..)", body.function.node)
 
 
 def _hold(body: Body, key: str, register: str, mode: str, kind: DataType) -> None:
@@ -84,7 +98,8 @@ def _read_scalars(body: Body) -> None:
     for parameter, mode in zip(body.function.parameters, body.variant.modes):
         if mode == "closed" and parameter.type.is_scalar:
             if parameter.name in used:
-                body.code.put("GET", body.variable(parameter.name), body.now.rights[parameter.name].register)
+                register = body.values.variable(parameter.name, parameter.type, body.fail, f"{parameter.name}_value")
+                body.code.put("GET", register, body.now.rights[parameter.name].register)
             body.now.assigned.add(parameter.name)
             body.drop(parameter.name)
 
@@ -103,42 +118,64 @@ def _find_aliases(body: Body) -> None:
         body.fail("one container is the result: return the same one on each way", body.function.node)
 
 
-def _put_failures(body: Body) -> None:
-    failing = body.failing.pop()
-    if failing.first is not None and body.function.kind == "leaf" and body.function.outputs and body.function.otherwise is None:
-        _fail_without_otherwise(body, failing.first)
-    for label, state in failing.pads.values():
-        body.state = state.copy()
-        body.code.label(label)
-        fails(body)
-
-
-def _fail_without_otherwise(body: Body, cause: Cause) -> None:
-    scalars = [str(it.type) for it in body.function.outputs if it.type.is_scalar]
-    ending = f"say what the result is then, @leaf(otherwise=..) with {', '.join(scalars)}" if scalars else "let its containers then stay as they are, @leaf(otherwise=())"
-    body.fail(f"{cause.reason}, and a leaf function can't end without a result: {cause.advice}, or {ending}", ast.Pass(lineno=cause.place[0], col_offset=cause.place[1]))
-
-
 def _compile(unit: Unit, variant: Variant) -> List[Line]:
-    body = Body(unit, variant)
-    listed, values = _prologue(body)
-    _find_aliases(body)
-    _read_scalars(body)
-    body.begin_failing()
-    block(body, variant.function.node.body)
-    if body.state is not None:
-        body.node = variant.function.node.body[-1]
-        ends(body)
-    _put_failures(body)
+    """Compiles a function in the first manner in which the verifier accepts it."""
+    manner = Manner()
+    while True:
+        try:
+            return _compiled(unit, variant, manner)
+        except Again as why:
+            manner = why.manner
+
+
+def _compiled(unit: Unit, variant: Variant, manner: Manner) -> List[Line]:
+    body = Body(unit, variant, manner)
+    listed, values = _put_body(body)
+    put_refusals(body)
     lines = tidy(body.code.lines)
-    count = sum(not it.is_label and not it.is_comment for it in lines)
-    if count > MOST_INSTRUCTIONS:
-        body.fail(f"{variant.function.name} has {count} instructions, and at most {MOST_INSTRUCTIONS} are allowed", variant.function.node)
+    _check_size(body, lines)
+    _check_budget(body, lines)
     place = (variant.function.node.lineno, variant.function.node.col_offset)
     head = [f"proc {variant.function.kind} {unit.names[variant]}({', '.join(listed)})"]
     head.append(("regs " + ", ".join(f"{name}: {kind.spelling}" for name, kind in body.values.listed[values:])).strip())
     head.extend(f"let {name} = d{number}" for name, number in body.rights.names)
     return [*(Line(it, place) for it in head), *lines]
+
+
+def _put_body(body: Body) -> Tuple[List[str], int]:
+    """Compiles a function without the ways of its refused instructions; returns how the head lists its parameters, and how many are values."""
+    listed, values = _prologue(body)
+    _find_aliases(body)
+    _read_scalars(body)
+    watch(body)
+    body.begin_failing(body.by_cause)
+    block(body, body.function.node.body)
+    if body.state is not None:
+        body.node = body.function.node.body[-1]
+        ends(body)
+    return listed, values
+
+
+def _check_size(body: Body, lines: List[Line]) -> None:
+    count = sum(not it.is_label and not it.is_comment for it in lines)
+    if count > MOST_INSTRUCTIONS and body.by_cause:
+        raise Again(replace(body.manner, by_cause=False))
+    if count > MOST_INSTRUCTIONS:
+        body.fail(f"{body.function.name} has {count} instructions, and at most {MOST_INSTRUCTIONS} are allowed", body.function.node)
+
+
+def _check_budget(body: Body, lines: List[Line]) -> None:
+    """Raises the error of loops that take more instructions than the verifier accepts, which would be V17."""
+    steps, nest = budget_of(lines)
+    if steps <= MOST_BUDGET:
+        return
+    if body.manner.is_wide:
+        raise Again(replace(body.manner, is_wide=False))
+    (line, column), _ = nest.loops[0]
+    turns = " times ".join(f"{count} (line {place[0]})" for place, count in nest.loops)
+    advice = "read fewer by each(.., most), take smaller ranges, or make tasks of inner loops"
+    message = f"a task of {body.function.name} may take {steps} instructions, and at most {MOST_BUDGET} are allowed (V17). Its loops make {turns} turns: {advice}"
+    body.fail(message, ast.Pass(lineno=line, col_offset=column))
 
 
 def _check_main(source: Source, main: Function) -> Variant:
@@ -160,7 +197,14 @@ def _program(unit: Unit, main: Function) -> List[List[Line]]:
             unit.source.fail(main.node, f"the program has more than {MOST_PROCEDURES} procedures")
         if sum(map(len, procedures)) > MOST_LINES:
             unit.source.fail(main.node, f"the program has more than {MOST_LINES} lines of assembly")
+    for name, types in unit.guards.items():
+        unit.helpers[name] = guard_lines(unit, name, types)
     return [*procedures, *([Line(it, (1, 0)) for it in lines] for lines in unit.helpers.values())]
+
+
+def _alone(function: Function) -> Variant:
+    modes = ("write" if it.is_out else "val" if it.type.is_scalar else "closed" for it in function.parameters)
+    return Variant(function, tuple(modes))
 
 
 def _check_others(unit: Unit) -> None:
@@ -168,15 +212,25 @@ def _check_others(unit: Unit) -> None:
     reached = {it.function.name for it in unit.names}
     for function in unit.source.functions.values():
         if function.name not in reached:
-            alone = unit.apart()
-            modes = ("write" if it.is_out else "val" if it.type.is_scalar else "closed" for it in function.parameters)
-            variant = Variant(function, tuple(modes))
-            alone.name_of(variant)
-            _compile(alone, variant)
+            apart = unit.apart()
+            apart.name_of(_alone(function))
+            _compile(apart, _alone(function))
+
+
+def _refusable(unit: Unit) -> FrozenSet[str]:
+    """Returns the leaf functions that write containers, and in which an instruction may be refused."""
+    found = []
+    for function in unit.source.functions.values():
+        if function.kind == "leaf" and not all(it.type.is_scalar for it in function.outputs):
+            body = Body(unit.apart(), _alone(function), Manner(is_wide=False))
+            _put_body(body)
+            found += [function.name] if body.failing[-1].first is not None else []
+    return frozenset(found)
 
 
 def _build(source: Source) -> Built:
     unit, main = Unit.of(source), source.functions.get("main")
+    unit.refusable = _refusable(unit)
     procedures = _program(unit, main) if main is not None else []
     _check_others(unit)
     if main is None:
@@ -186,7 +240,7 @@ def _build(source: Source) -> Built:
     lines = [Line(it, (1, 0)) for it in first]
     for procedure in procedures:
         lines.extend([Line("", (1, 0)), *procedure])
-    return Built("\n".join(it.text for it in lines) + "\n", source.file, tuple(it.place for it in lines), source)
+    return Built("\n".join(it.written for it in lines) + "\n", source.file, tuple(it.place for it in lines), source)
 
 
 def build_text(text: str, file: str = "<text>") -> Built:

@@ -136,7 +136,7 @@ class Kinds:
                 yield f"out.{name}", kind_found, it
 
     def _looped(self, node: ast.For) -> Iterator[Tuple[str, Kind, ast.AST]]:
-        if called(node.iter) == "range":
+        if called(iterated(node)) == "range":
             if isinstance(node.target, ast.Name):
                 yield node.target.id, value(INT), node.target
             return

@@ -1,17 +1,19 @@
 # SPDX-License-Identifier: Apache-2.0
-"""Loops: over range(constants), and over the members of a container or the values of a map. The machine's loops make all their turns; a flag skips the rest."""
+"""Loops: over a range, and over the members of a container or the values of a map. The machine's loops make all their turns; a flag skips the rest.
+A loop for which turns are left at its bound is refused there."""
 
 from __future__ import annotations
 
 import ast
-from dataclasses import dataclass
+from dataclasses import dataclass, replace
+from math import prod
 from typing import Callable, List, Optional, Sequence, Tuple
 
-from .body import BREAK, FAILED, RETURN, Body, Failing, Loop
+from .body import BREAK, FAILED, RETURN, Again, Body, Cause, Failing, Loop
 from .code import Line
-from .kinds import called, iterated
+from .kinds import called
 from .types import INT
-from .values import closed_container, kind_of
+from .values import closed_container, kind_of, value
 
 MOST_TURNS = 1000
 MOST_VALUES = 100_000
@@ -22,33 +24,42 @@ Ends = Callable[[Body], None]
 
 @dataclass
 class _Shape:
-    """The counter of a loop: its iterations, and the register that each raises by a step."""
+    """A loop's iterations, and the register that each raises by a step; with a limit, an iteration does nothing once the counter has reached it. `cut`
+    says what is then left, and `held` which registers are the loop's own."""
 
     turns: int
     counter: Optional[str]
     step: int
-    targets: Tuple[str, ...]
+    limit: str = ""
+    cut: str = ""
     held: Tuple[str, ...] = ()
+    targets: Tuple[str, ...] = ()
+
+    @property
+    def before_limit(self) -> Tuple[Optional[str], str]:
+        """The operands of the JLT that says whether the counter hasn't reached the limit."""
+        return (self.counter, self.limit) if self.step > 0 else (self.limit, self.counter or "")
+
+    @property
+    def repeats(self) -> Tuple[int, ...]:
+        """The iterations of the machine's loops that make so many turns, or more: one in another if one isn't enough."""
+        return (self.turns,) if self.turns <= MOST_TURNS else (-(-self.turns // MOST_TURNS), MOST_TURNS)
 
 
 def loop(body: Body, node: ast.For, block: Block, ends: Ends) -> None:
     """Compiles a `for`."""
     if node.orelse:
         body.fail("a for has no else", node.orelse[0])
-    over = None if called(node.iter) == "range" else _container(body, node)
-    shape = _counted(body, node) if over is None else _begun(body, over)
-    repeats = _repeats(shape.turns)
-    if sum(it.depth for it in body.loops) + len(repeats) > MOST_DEPTH:
-        body.fail(f"at most {MOST_DEPTH} loops in one another; one over more than {MOST_TURNS} values counts as two")
+    over, most = _bounded(body, node)
+    shape = _counted(body, node, over, most) if called(over) == "range" else _members(body, node, over, most)
+    _check_depth(body, shape)
     flag = body.temporary(INT) if _may_end(node) else ""
-    turns = Loop(body.now.copy(), body.new_label("next"), body.new_label("end"), flag, len(repeats))
+    turns = Loop(body.now.copy(), body.new_label("next"), [body.new_label("end") for _ in shape.repeats], flag)
     before, places = len(body.code.lines), set(body.places)
-    for count in repeats:
-        body.code.put("REPEAT", count)
-    top = len(body.code.lines)
+    tops = _put_repeats(body, turns, shape)
     body.loops.append(turns)
-    failing = body.begin_failing()
-    if over is not None:
+    failing = body.begin_failing(body.by_cause)
+    if called(over) != "range":
         _member(body, node, over, shape, turns)
     body.now.assigned.update(shape.targets)
     block(body, node.body)
@@ -58,83 +69,147 @@ def loop(body: Body, node: ast.For, block: Block, ends: Ends) -> None:
         body.code.put("JMP", turns.next)
     body.failing.pop()
     body.loops.pop()
-    body.code.lines[top:] = _with_pads(body, turns, failing, shape, body.code.lines[top:])
-    _add_flag(body, turns, before, top)
-    _after(body, turns, shape, ends)
+    body.code.lines[tops[-1] :] = _with_pads(body, turns, failing, shape, body.code.lines[tops[-1] :])
+    _add_flag(body, turns, before, tops)
+    _after(body, node, turns, shape, ends)
     body.forget([it for it in body.places if it not in places])
 
 
-def _repeats(turns: int) -> Tuple[int, ...]:
-    """Returns the iterations of the machine's loops that make so many turns, or more: one in another if one isn't enough."""
-    return (turns,) if turns <= MOST_TURNS else (-(-turns // MOST_TURNS), MOST_TURNS)
+def _bounded(body: Body, node: ast.For) -> Tuple[ast.expr, Optional[int]]:
+    """Returns what a loop is over, and the most turns that each(..) says."""
+    if called(node.iter) != "each" or not isinstance(node.iter, ast.Call):
+        return node.iter, None
+    arguments = [*node.iter.args, *(it.value for it in node.iter.keywords if it.arg == "most")]
+    most = body.source.constants.of(arguments[1]) if len(arguments) == 2 else None
+    is_right = most is None and len(arguments) == 1 or isinstance(most, int) and 1 <= most <= MOST_VALUES
+    if not is_right or len(arguments) != len(node.iter.args) + len(node.iter.keywords):
+        body.fail(f"each takes a container, a map or a range, and the most turns, a constant from 1 to {MOST_VALUES}", node.iter)
+    return arguments[0], most if isinstance(most, int) else None
+
+
+def _greatest(body: Body, node: ast.For) -> int:
+    """Returns how many values a loop takes that doesn't say it: fewer for loops in one another, if the verifier doesn't accept more."""
+    nested = bool(body.loops) or any(isinstance(it, ast.For) for its in node.body for it in ast.walk(its))
+    return MOST_TURNS if nested and not body.manner.is_wide else MOST_VALUES
+
+
+def _check_depth(body: Body, shape: _Shape) -> None:
+    if sum(len(it.ends) for it in body.loops) + len(shape.repeats) > MOST_DEPTH:
+        if body.manner.is_wide:
+            raise Again(replace(body.manner, is_wide=False))
+        body.fail(f"at most {MOST_DEPTH} loops in one another; one over more than {MOST_TURNS} values counts as two")
+
+
+def _put_repeats(body: Body, turns: Loop, shape: _Shape) -> List[int]:
+    """Begins the machine's loops, whose iterations do nothing once the limit is reached; returns where their first lines are."""
+    tops = []
+    for count, end in zip(shape.repeats, turns.ends):
+        body.code.put("REPEAT", count)
+        tops.append(len(body.code.lines))
+        if shape.limit:
+            there = body.new_label("there")
+            body.code.put("JLT", *shape.before_limit, there)
+            body.code.put("JMP", end)
+            body.code.label(there)
+    return tops
 
 
 def _with_pads(body: Body, turns: Loop, failing: Failing, shape: _Shape, lines: List[Line]) -> List[Line]:
-    """Returns the lines of a turn with the ways of refused instructions, the step to the next turn, and END."""
+    """Returns the lines of a turn with the ways of refused instructions, the step to the next turn, and each END."""
     kept = body.code.lines
     body.code.lines = list(lines)
-    if failing.pads:
-        turns.failed, turns.is_ended = failing.first, True
+    for number, pads in enumerate(failing.by_causes, FAILED):
+        turns.failed.append(pads[0].cause)
+        turns.is_ended = True
         failed = body.new_label("failed")
-        body.put_pads(failing, failed)
+        body.put_pads(pads, failing.home, failed)
         body.code.label(failed)
-        body.code.put("INT", turns.flag, FAILED)
+        body.code.put("INT", turns.flag, number)
         body.code.put("JMP", turns.end)
     if any(turns.next in it.text.split() for it in body.code.lines):
         body.code.label(turns.next)
-        if shape.counter is not None:
-            step = body.temporary(INT)
-            body.code.put("INT", step, shape.step)
-            body.code.put("ADD", shape.counter, shape.counter, step, "+0")
-            body.values.release(step)
-    body.code.label(turns.end)
-    for _ in range(turns.depth):
+        _put_step(body, turns, shape)
+    for end in reversed(turns.ends):
+        body.code.label(end)
         body.code.put("END")
     made, body.code.lines = body.code.lines, kept
     return made
 
 
+def _put_step(body: Body, turns: Loop, shape: _Shape) -> None:
+    """Raises the counter. If that leaves 64 bits, the limit is reached."""
+    if shape.counter is None:
+        return
+    step = body.temporary(INT)
+    body.code.put("INT", step, shape.step)
+    if shape.limit and abs(shape.step) > 1:
+        full = body.new_label("full")
+        body.code.put("ADD", shape.counter, shape.counter, step, full)
+        body.code.put("JMP", turns.end)
+        body.code.label(full)
+        body.code.put("COPY", shape.counter, shape.limit)
+    else:
+        body.code.put("ADD", shape.counter, shape.counter, step, "+0")
+    body.values.release(step)
+
+
 def _may_end(node: ast.For) -> bool:
     """Says whether an iteration may end the loop, by its text: then it has a flag, whose register nothing else may use from its begin on."""
-    kinds = (ast.Break, ast.Return, ast.BinOp, ast.UnaryOp, ast.AugAssign, ast.Call, ast.Subscript, ast.JoinedStr)
+    kinds = (ast.Break, ast.Return, ast.BinOp, ast.UnaryOp, ast.AugAssign, ast.Call, ast.Subscript, ast.JoinedStr, ast.For)
     return any(isinstance(it, kinds) for statement in node.body for it in ast.walk(statement))
 
 
-def _add_flag(body: Body, turns: Loop, before: int, top: int) -> None:
+def _constants(body: Body, node: ast.expr) -> Optional[List[int]]:
+    """Returns the numbers of a range that are all constants."""
+    found = [body.source.constants.of(it) for it in node.args] if called(node) == "range" and isinstance(node, ast.Call) else [None]
+    numbers = [it for it in found if isinstance(it, int)]
+    return numbers if len(numbers) == len(found) else None
+
+
+def _add_flag(body: Body, turns: Loop, before: int, tops: List[int]) -> None:
     """Adds what sets the flag before the loop, and skips the turns after it is set."""
     if not turns.is_ended:
         return
     zero, place = body.temporary(INT), body.code.lines[before].place
-    body.code.lines[top:top] = [Line(f"INT {zero} 0", place), Line(f"JLT {zero} {turns.flag} {turns.end}", place)]
+    for top, end in reversed(list(zip(tops, turns.ends))):
+        body.code.lines[top:top] = [Line(f"INT {zero} 0", place), Line(f"JLT {zero} {turns.flag} {end}", place)]
     body.code.lines[before:before] = [Line(f"INT {turns.flag} 0", place)]
     body.values.release(zero)
 
 
-def _after(body: Body, turns: Loop, shape: _Shape, ends: Ends) -> None:
+def _after(body: Body, node: ast.For, turns: Loop, shape: _Shape, ends: Ends) -> None:
     """Continues after the loop, as its flag says."""
     body.state = turns.home.copy()
     body.state.assigned.difference_update(shape.targets)
     body.state.outputs.update(turns.outputs)
     if turns.return_sets:
         _returns(body, turns, ends)
-    if turns.failed is not None:
-        failed = body.temporary(INT)
-        body.code.put("INT", failed, FAILED)
-        body.code.put("JEQ", turns.flag, failed, body.refused(turns.failed))
-        body.values.release(failed)
-    if turns.flag:
-        body.values.release(turns.flag)
-    for it in shape.held:
-        body.values.release(it)
+    for number, cause in enumerate(turns.failed, FAILED):
+        _if_flag(body, turns, number, body.refused(cause))
+    if shape.cut:
+        done = body.new_label("all")
+        if turns.is_broken:
+            _if_flag(body, turns, BREAK, done)
+        place = (node.iter.lineno, node.iter.col_offset)
+        body.code.put("JLT", *shape.before_limit, body.refused(Cause(shape.cut, place, "")))
+        body.code.label(done)
+    for it in (*shape.held, turns.flag):
+        if it:
+            body.values.release(it)
+
+
+def _if_flag(body: Body, turns: Loop, flag: int, goal: str) -> None:
+    """Jumps to a label if the loop ended with this flag."""
+    its = body.temporary(INT)
+    body.code.put("INT", its, flag)
+    body.code.put("JEQ", turns.flag, its, goal)
+    body.values.release(its)
 
 
 def _returns(body: Body, turns: Loop, ends: Ends) -> None:
     returns, on = body.new_label("return"), body.new_label("on")
-    flag = body.temporary(INT)
-    body.code.put("INT", flag, RETURN)
-    body.code.put("JEQ", turns.flag, flag, returns)
+    _if_flag(body, turns, RETURN, returns)
     body.code.put("JMP", on)
-    body.values.release(flag)
     body.code.label(returns)
     kept = body.now.copy()
     body.now.assigned |= set.intersection(*turns.return_sets)
@@ -153,6 +228,7 @@ def turn_ends(body: Body, flag: int) -> None:
         body.fail("this is for loops")
     turns = body.loops[-1]
     if flag == BREAK:
+        turns.is_broken = True
         turns.outputs.update(body.now.outputs)
     if not flag:
         _check_outputs(body, turns)
@@ -174,27 +250,50 @@ def _check_outputs(body: Body, turns: Loop) -> None:
 # --- range
 
 
-def _counted(body: Body, node: ast.For) -> _Shape:
-    assert isinstance(node.iter, ast.Call)
-    numbers = [body.source.constants.of(it) for it in node.iter.args]
-    if not 1 <= len(numbers) <= 3 or node.iter.keywords or not all(isinstance(it, int) for it in numbers):
-        body.fail("range takes one to three constants; `if i == most: break` ends a loop before", node.iter)
-    known = [it for it in numbers if isinstance(it, int)]
-    if len(known) == 3 and known[2] == 0:
-        body.fail("a step of 0 comes to no end", node.iter)
-    counted = range(*known)
-    if not 1 <= len(counted) <= MOST_TURNS:
-        body.fail(f"a loop makes 1 to {MOST_TURNS} turns, this one {len(counted)}: put one loop in another for more", node.iter)
-    if not all(-(2**63) <= it < 2**63 for it in (counted.start, counted.start + counted.step * len(counted))):
-        body.fail("the numbers of the range don't fit in 64 bits", node.iter)
+def _counted(body: Body, node: ast.For, over: ast.expr, most: Optional[int]) -> _Shape:
+    assert isinstance(over, ast.Call)
+    if not 1 <= len(over.args) <= 3 or over.keywords:
+        body.fail("range takes one to three ints", over)
+    step = body.source.constants.of(over.args[2]) if len(over.args) == 3 else 1
+    if not isinstance(step, int) or step == 0 or abs(step) >= 2**63:
+        body.fail("the step of a range is a constant, and not 0", over)
     if not isinstance(node.target, ast.Name):
         body.fail("expected one name", node.target)
     _check_kept(body, node, node.target.id)
-    if node.target.id == "_":
-        return _Shape(len(counted), None, 1, ())
-    counter = body.variable(node.target.id)
+    numbers = _constants(body, over)
+    if numbers is not None:
+        return _constant_range(body, node.target.id, over, range(*numbers), most or MOST_VALUES)
+    targets = (node.target.id,) if node.target.id != "_" else ()
+    limit = body.temporary(INT)
+    value(body, over.args[1] if len(over.args) > 1 else over.args[0], INT, limit)
+    counter = body.variable(targets[0]) if targets else body.temporary(INT)
+    if len(over.args) > 1:
+        value(body, over.args[0], INT, counter)
+    else:
+        body.code.put("INT", counter, 0)
+    shape = _Shape(most or _greatest(body, node), counter, step, limit, "", (limit,) if targets else (limit, counter), targets)
+    shape.cut = f"{body.source.shown(over)} may have more than {prod(shape.repeats)} numbers, the most of this loop"
+    return shape
+
+
+def _constant_range(body: Body, name: str, node: ast.expr, counted: range, most: int) -> _Shape:
+    """Returns the shape of a loop whose turns are known. It has a limit if the machine's loops make more."""
+    turns = len(counted) if counted else 0
+    if not 1 <= turns <= most:
+        body.fail(f"this loop makes 1 to {most} turns, and {body.source.shown(node)} has {turns}: put one loop in another for more", node)
+    end = counted.start + counted.step * turns
+    if not all(-(2**63) <= it < 2**63 for it in (counted.start, end)):
+        body.fail("the numbers of the range don't fit in 64 bits", node)
+    if name == "_" and turns <= MOST_TURNS:
+        return _Shape(turns, None, 1)
+    counter = body.variable(name) if name != "_" else body.temporary(INT)
     body.code.put("INT", counter, counted.start)
-    return _Shape(len(counted), counter, counted.step, (node.target.id,))
+    shape = _Shape(turns, counter, counted.step, targets=(name,) if name != "_" else (), held=() if name != "_" else (counter,))
+    if turns > MOST_TURNS:
+        shape.limit = body.temporary(INT)
+        shape.held = (*shape.held, shape.limit)
+        body.code.put("INT", shape.limit, end)
+    return shape
 
 
 def _check_kept(body: Body, node: ast.For, name: str) -> None:
@@ -213,72 +312,45 @@ def _check_kept(body: Body, node: ast.For, name: str) -> None:
 # --- members of a container
 
 
-@dataclass
-class _Over:
-    register: str
-    most: int
-    size: str
-    index: str
-    names: Tuple[str, str]
-
-
-def _container(body: Body, node: ast.For) -> _Over:
-    over, most = node.iter, MOST_TURNS
-    if called(node.iter) == "each" and isinstance(node.iter, ast.Call):
-        arguments = [*node.iter.args, *(it.value for it in node.iter.keywords if it.arg == "most")]
-        found = body.source.constants.of(arguments[1]) if len(arguments) == 2 else None
-        kind = body.kinds.kind_of(arguments[0]) if arguments else None
-        greatest = MOST_VALUES if kind and kind.type.is_map else MOST_TURNS
-        if not isinstance(found, int) or not 1 <= found <= greatest:
-            body.fail(f"each takes a container or a map, and the most members or values, a constant from 1 to {greatest}", node.iter)
-        over, most = arguments[0], found
+def _members(body: Body, node: ast.For, over: ast.expr, most: Optional[int]) -> _Shape:
     register = closed_container(body, over)
-    return _Over(register, most, body.temporary(INT), body.temporary(INT), _names(body, node))
+    is_map = kind_of(body, over).type.is_map
+    size, index = body.temporary(INT), body.temporary(INT)
+    shape = _Shape(most or (_greatest(body, node) if is_map else MOST_TURNS), index, 1, size, "", (size, index))
+    shape.cut = f"{body.source.shown(over)} may have more than {prod(shape.repeats)} {'values' if is_map else 'members'}, the most of this loop"
+    shape.targets = _names(body, node)
+    body.code.put("SIZE", size, register)
+    body.code.put("INT", index, 0)
+    return shape
 
 
-def _names(body: Body, node: ast.For) -> Tuple[str, str]:
+def _names(body: Body, node: ast.For) -> Tuple[str, ...]:
     targets = node.target.elts if isinstance(node.target, ast.Tuple) else [node.target]
     names = [it.id for it in targets if isinstance(it, ast.Name)]
     if len(names) != len(targets) or len(names) > 2:
         body.fail("expected a name for the subscript, or two for the subscript and the member", node.target)
     for name in names:
         _check_kept(body, node, name)
-    return names[0], names[1] if len(names) == 2 else "_"
-
-
-def _begun(body: Body, over: _Over) -> _Shape:
-    body.code.put("SIZE", over.size, over.register)
-    if over.most > MOST_TURNS:
-        few = body.new_label("few")
-        body.code.put("INT", over.index, over.most)
-        body.code.put("JLT", over.size, over.index, few)
-        body.code.put("COPY", over.size, over.index)
-        body.code.label(few)
-    body.code.put("INT", over.index, 0)
-    return _Shape(over.most, over.index, 1, (), (over.size, over.index))
-
-
-def _member(body: Body, node: ast.For, over: _Over, shape: _Shape, turns: Loop) -> None:
-    """Writes the beginning of a turn: nothing is left to do after the last member; else its subscript, and the member."""
-    kind = kind_of(body, iterated(node)).type
-    by_text = kind.subscript != INT
-    subscript, member = over.names
-    if subscript == "_" and member == "_":
+    if set(names) == {"_"}:
         body.fail("the loop uses neither subscript nor member: range counts turns", node.target)
-    there = body.new_label("there")
-    body.code.put("JLT", over.index, over.size, there)
-    body.code.put("JMP", turns.next)
-    body.code.label(there)
-    register = body.variable(subscript) if subscript != "_" else body.temporary(kind.subscript)
-    body.code.put("TSUBAT" if by_text else "SUBAT", register, over.register, over.index, turns.next)
+    return tuple(names)
+
+
+def _member(body: Body, node: ast.For, over: ast.expr, shape: _Shape, turns: Loop) -> None:
+    """Writes the beginning of a turn: its subscript, and the member."""
+    kind, register = kind_of(body, over).type, closed_container(body, over)
+    by_text = kind.subscript != INT
+    subscript, member = (*shape.targets, "_")[:2]
+    at = body.variable(subscript) if subscript != "_" else body.temporary(kind.subscript)
+    body.code.put("TSUBAT" if by_text else "SUBAT", at, register, shape.counter, turns.next)
     body.unit.need(kind.version)
     if member != "_" and kind.is_map:
-        body.code.put("MGET", body.variable(member), over.register, register, turns.next)
+        body.code.put("MGET", body.variable(member), register, at, turns.next)
     elif member != "_":
         if body.function.kind == "leaf":
             body.fail("a leaf function can't wait for members: give them to it as arguments", node.target)
         held = body.hold(member, member, "ref", kind.member)
-        body.code.put("TLOOK" if by_text else "LOOK", held.register, over.register, register, turns.next)
-    shape.targets = tuple(it for it in over.names if it != "_")
+        body.code.put("TLOOK" if by_text else "LOOK", held.register, register, at, turns.next)
+    shape.targets = tuple(it for it in shape.targets if it != "_")
     if subscript == "_":
-        body.values.release(register)
+        body.values.release(at)

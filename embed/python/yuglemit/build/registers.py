@@ -52,10 +52,10 @@ class Values:
     variables: Dict[str, str] = field(default_factory=dict)
     free: List[Tuple[str, DataType]] = field(default_factory=list)
 
-    def variable(self, key: str, kind: DataType, fail: Fail) -> str:
-        """Returns the register of a variable; at first it gets one."""
+    def variable(self, key: str, kind: DataType, fail: Fail, wanted: str = "") -> str:
+        """Returns the register of a variable; at first it gets one, under the name that is asked for, or its own."""
         if key not in self.variables:
-            self.variables[key] = self.temporary(kind, fail) if len(self.listed) == MOST else self._add(key, kind, fail)
+            self.variables[key] = self.temporary(kind, fail) if len(self.listed) == MOST else self._add(wanted or key, kind, fail)
         return self.variables[key]
 
     def temporary(self, kind: DataType, fail: Fail) -> str:
@@ -78,6 +78,11 @@ class Values:
         name = self.names.new(wanted.replace("out.", "out_"))
         self.listed.append((name, kind))
         return name
+
+
+def has_name(key: str) -> bool:
+    """Says whether the key of a right is that of a variable or an output; # begins one without a name, and ! ends that of a record."""
+    return not key.startswith("#") and not key.endswith("!")
 
 
 @dataclass
@@ -106,8 +111,8 @@ class Rights:
         used = {self.numbers[it] for it in held.values()}
         number = next((it for it in range(MOST) if it not in used), MOST)
         if number == MOST:
-            named = dict.fromkeys(it.rstrip(">") for it in held if not it.startswith("#"))
-            others = sum(it.startswith("#") for it in held)
+            named = dict.fromkeys(it.rstrip(">") for it in held if has_name(it))
+            others = sum(not has_name(it) for it in held)
             fail(f"more than {MOST} data at once; held here are {', '.join(named)}, and {others} of this line: make two tasks of it, or fewer variables")
         if (wanted, number) not in self._named:
             name = self._named[wanted, number] = self.taken.new(wanted)

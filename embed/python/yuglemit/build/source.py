@@ -51,6 +51,11 @@ class Function:
         return tuple(f"result_{number}" for number in range(1, len(self.results) + 1))
 
 
+def printable(text: str) -> str:
+    """Returns a text in which blanks are in place of what isn't printable, such as line ends, ESC and marks that reverse the text."""
+    return "".join(it if it.isprintable() else " " for it in text)
+
+
 @dataclass
 class Source:
     """The contents of a file; `reached` is the node that is being compiled."""
@@ -74,7 +79,7 @@ class Source:
         first, last = getattr(node, "lineno", 1), getattr(node, "end_lineno", 1)
         line = self.lines[first - 1].encode()
         end = getattr(node, "end_col_offset", None) if last == first else None
-        text = line[getattr(node, "col_offset", 0) : end].decode(errors="replace").strip()
+        text = printable(line[getattr(node, "col_offset", 0) : end].decode(errors="replace").strip())
         return text[:MOST_SHOWN] + ".." if len(text) > MOST_SHOWN or last > first else text
 
 

@@ -7,16 +7,17 @@ import ast
 from dataclasses import dataclass
 from typing import Callable, Dict, List, Optional, Sequence, Type
 
+from .advice import advice_on, advice_on_statement
 from .body import BREAK, RETURN, Body, State
 from .conditions import branch
-from .constants import Constant
 from .kinds import called, name_of
 from .loops import loop, turn_ends
 from .reading import is_elif
-from .source import container_type
-from .tasks import add_to_sum, call_task, copied_to, left_unset, look, move, new_datum, read_right, stored, write_key
+from .refusals import let_go, watch
+from .source import container_type, printable
+from .tasks import add_to_sum, call_task, copied_to, look, move, read_right, stored, write_key
 from .types import INT, DataType
-from .values import kind_of, put_constant, value
+from .values import kind_of, value
 
 
 MOST_LINES = 32_768
@@ -40,7 +41,7 @@ def _begin(body: Body, statement: ast.stmt) -> None:
     body.node = body.source.reached = statement
     body.code.at(statement)
     line = body.source.lines[statement.lineno - 1][:400].strip()
-    body.code.comment("".join(it if it.isprintable() else " " for it in line[:120]))
+    body.code.comment(printable(line[:120]))
 
 
 def _statement(body: Body, node: ast.stmt) -> None:
@@ -48,8 +49,8 @@ def _statement(body: Body, node: ast.stmt) -> None:
         if isinstance(node, kind):
             compile_one(body, node)
             return
-    word = body.source.shown(node).split(maxsplit=1)[0]
-    body.fail(f"{word} is not of the language: assignments, if, for, return, break, continue and calls are")
+    word = body.source.shown(node).split(maxsplit=1)[0].rstrip(":.")
+    body.fail(f"{word} is not of the language: {advice_on_statement(node) or 'assignments, if, for, return, break, continue and calls are'}")
 
 
 def _assign(body: Body, node: ast.Assign) -> None:
@@ -175,6 +176,7 @@ def _make_container(body: Body, key: str, kind: DataType) -> None:
     body.code.put("NEW", write.register, read.register, kind.spelling)
     body.unit.need(kind.version)
     body.now.assigned.add(key)
+    watch(body)
 
 
 def set_future(body: Body, key: str, node: ast.expr) -> None:
@@ -280,7 +282,8 @@ def _expression(body: Body, node: ast.Expr) -> None:
     elif called(node.value) == "insert":
         _insert_call(body, node.value)
     else:
-        body.fail(f"{body.source.shown(node.value)} does nothing here", node.value)
+        advice = advice_on(node.value)
+        body.fail(f"{body.source.shown(node.value)} does nothing here{': ' + advice if advice else ''}", node.value)
 
 
 def _insert_call(body: Body, node: ast.expr) -> None:
@@ -365,7 +368,7 @@ def _check(body: Body, node: ast.expr, yes: str, no: str) -> State:
     assert isinstance(node, ast.Call)
     if not node.args or node.keywords:
         body.fail("check takes expressions: what may be refused", node)
-    failing = body.begin_failing()
+    failing = body.begin_failing(by_cause=False)
     for it in node.args:
         _attempt(body, it)
     body.failing.pop()
@@ -373,7 +376,7 @@ def _check(body: Body, node: ast.expr, yes: str, no: str) -> State:
         body.fail(f"nothing in {body.source.shown(node)} can be refused", node)
     body.code.put("JMP", yes)
     otherwise = body.shrink_home(failing)
-    body.put_pads(failing, no)
+    body.put_pads(failing.pads.values(), otherwise, no)
     return otherwise
 
 
@@ -438,44 +441,7 @@ def ends(body: Body, given: Optional[Dict[str, str]] = None) -> None:
         body.code.put("STORE", body.spend(key).register, given.get(key) or body.variable(key))
     for register in given.values():
         body.values.release(register)
-    _let_go(body)
-
-
-def fails(body: Body) -> None:
-    """Writes the end of a task in which an instruction is refused outside of check(..). What a control function could still write is held for ever;
-    a leaf function stores what `otherwise` says."""
-    scalars = [f"out.{it.name}" for it in body.function.outputs if it.type.is_scalar]
-    body.places.clear()
-    if body.function.kind == "control":
-        for key in [it for it in body.now.rights if not _is_kept(body, it)]:
-            body.drop(key)
-        for key in list(body.now.rights):
-            left_unset(body, key)
-    elif scalars:
-        otherwise = body.function.otherwise
-        assert otherwise is not None
-        for key, constant in zip(scalars, otherwise):
-            _store_constant(body, key, constant)
-    _let_go(body)
-
-
-def _is_kept(body: Body, key: str) -> bool:
-    """Says whether a right is to write an output or a container; one without a name is a copy of such a right."""
-    return body.now.rights[key].mode == "write" and not key.startswith("#")
-
-
-def _store_constant(body: Body, key: str, constant: Constant) -> None:
-    kind = body.now.rights[key].type
-    spare = next((name for name, its in body.values.listed if its == kind), None)  # the task ends: no value is needed any more
-    register = put_constant(body, constant, body.function.node, spare)
-    body.code.put("STORE", body.spend(key).register, register)
-
-
-def _let_go(body: Body) -> None:
-    for key in list(body.now.rights):
-        body.drop(key)
-    body.code.put("RET")
-    body.state = None
+    let_go(body)
 
 
 def _break(body: Body, node: ast.Break) -> None:
@@ -507,4 +473,4 @@ _STATEMENTS: Dict[Type[ast.stmt], _Compile] = {
     ast.Continue: _continue,  # type: ignore[dict-item]
     ast.Pass: _pass,  # type: ignore[dict-item]
 }
-__all__ = ["block", "ends", "fails", "new_datum"]
+__all__ = ["block", "ends"]

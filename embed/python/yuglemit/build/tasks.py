@@ -10,8 +10,9 @@ from typing import List, Optional, Sequence, Tuple
 from .body import Body, Variant
 from .constants import fits
 from .kinds import called, name_of
+from .refusals import begin_record, record_of, written_by
 from .source import Function, Parameter
-from .types import INT, TEXT, DataType
+from .types import INT, DataType
 from .uses import is_set_by
 from .values import closed_container, kind_of, value
 
@@ -43,6 +44,10 @@ def call_task(body: Body, node: ast.Call, results: Sequence[Optional[str]]) -> N
     _gather(body, function, node, gathered)
     priority, target = _options(body, function, node, gathered)
     discarded, moved = _results(body, function, results, gathered)
+    if body.unit.is_guarded(function):
+        _give_record(body, function, node, gathered)
+    elif function.name in body.unit.refusable and function.results and not any(results) and not any(it.type.is_scalar for it in function.parameters if it.is_out):
+        body.fail(f"nothing reads the result of {function.name}, which says whether an instruction was refused: give it a name, and give that to a task or an output", node)
     name = body.unit.name_of(Variant(function, tuple(gathered.modes)))
     instruction = ("RULE" if gathered.waits else "PUT") + ("V" if priority in gathered.values else "")
     body.unit.need(2 if instruction.endswith("V") else 1)
@@ -200,6 +205,19 @@ def _give_write(body: Body, parameter: Parameter, argument: ast.expr, gathered: 
     _add(gathered, right.register, "write")
 
 
+def _give_record(body: Body, function: Function, node: ast.Call, gathered: _Call) -> None:
+    """Gives a leaf function the right to note a refused instruction: in the record of its containers, or in one of this call, if it makes containers."""
+    keys = written_by(body, function, node)
+    if function.results:
+        keys = (*keys, *gathered.spent[-len(function.results) :])
+        record = begin_record(body, body.new_key(), keys)
+    else:
+        kept, record = body.now.rights[record_of(keys)], body.new_key()
+        body.code.put("DUPW", body.hold(record, "record_given", "write", kept.type).register, kept.register)
+    gathered.spent.append(record)
+    gathered.operands.append(body.now.rights[record].register)
+
+
 def _options(body: Body, function: Function, node: ast.Call, gathered: _Call) -> Tuple[str, str]:
     priority, target = "0", "any"
     for it in node.keywords:
@@ -278,38 +296,11 @@ def copied_to(body: Body, key: str, output: str) -> None:
     """Writes the rule that copies a scalar, once it is known, to an output; the right to read it is given away."""
     right, goal = body.now.rights[key], body.now.rights[output]
     kind = goal.type
-    name = f"copy_{kind.spelling}"
-    register = "number" if kind == INT else "words"
-    body.unit.helpers[name] = [
-        f"proc leaf {name}(given: closed {kind.spelling}, to: write {kind.spelling})",
-        f"regs {register}: {kind.spelling}",
-        f"GET {register} given",
-        "DROPR given",
-        f"STORE to {register}",
-        "RET",
-    ]
-    body.code.put("RULE", name, 0, "any", right.register, goal.register)
+
+    def lines(name: str) -> List[str]:
+        head = f"proc leaf {name}(given: closed {kind.spelling}, to: write {kind.spelling})"
+        return [head, f"regs known: {kind.spelling}", "GET known given", "DROPR given", "STORE to known", "RET"]
+
+    body.code.put("RULE", body.unit.helper("copy", (kind,), lines), 0, "any", right.register, goal.register)
     body.spend(key)
     body.spend(output)
-
-
-def left_unset(body: Body, output: str) -> None:
-    """Writes the rule that holds the right to write an output or a container for ever, so that it stays unset or open: the run then ends stuck."""
-    kind = body.now.rights[output].type
-    name = f"never_{kind.spelling}".replace(" ", "_")
-    body.unit.need(kind.version)
-    body.unit.helpers[name] = [
-        "; Waits for what it would store itself, so its task never comes, and `unset` stays as it is.",
-        f"proc leaf {name}(waits: closed int, own: write int, unset: write {kind.spelling})",
-        "regs number: int" + (", words: text" if kind == TEXT else ""),
-        "DROPR waits",
-        "STORE own number",
-        f"STORE unset {'number' if kind == INT else 'words'}" if kind.is_scalar else "DROPW unset",
-        "RET",
-    ]
-    key = body.new_key()
-    write = new_datum(body, key, INT, "never")
-    rights = body.now.rights
-    body.code.put("RULE", name, 0, "any", rights[key].register, rights[write].register, rights[output].register)
-    for it in (key, write, output):
-        body.spend(it)

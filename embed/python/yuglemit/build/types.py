@@ -63,6 +63,7 @@ class DataType:
 
 INT = DataType(("int",))
 TEXT = DataType(("text",))
+SUMS = DataType(("map", "sum"))
 
 CONTAINERS = {"Array": "cont", "Table": "tcont"}
 MAPS = ("Map", "Sum")

@@ -6,6 +6,7 @@ from __future__ import annotations
 import ast
 from typing import List, Optional
 
+from .advice import advice_on
 from .body import Body
 from .constants import Constant, fits
 from .kinds import called
@@ -53,6 +54,9 @@ def kind_of(body: Body, node: ast.expr) -> Kind:
         return kind
     functions = {it.func for it in ast.walk(node) if isinstance(it, ast.Call)}
     for it in ast.walk(node):
+        advice = advice_on(it)
+        if advice and isinstance(it, ast.expr) and body.kinds.kind_of(it) is None and (called(it) or "") not in body.source.functions:
+            body.fail(f"{body.source.shown(it)} is not of the language: {advice}", it)
         if isinstance(it, ast.Name) and body.kinds.kind_of(it) is None and it not in functions:
             body.fail(f"{it.id} isn't known here: it is no variable, parameter, constant or function", it)
     name = called(node)
@@ -292,7 +296,8 @@ def _called(body: Body, node: ast.Call, into: Optional[str]) -> str:
     if name not in counts:
         body.fail(f"{body.source.shown(node)} is not of the language here", node)
     if len(node.args) != counts[name]:
-        body.fail(f"{name} takes {counts[name]} argument{'s' if counts[name] > 1 else ''}", node)
+        advice = advice_on(node)
+        body.fail(f"{name} takes {counts[name]} argument{'s' if counts[name] > 1 else ''}{': ' + advice if advice else ''}", node)
     if name == "str":
         return _as_text(body, node.args[0], into)
     if name == "int":

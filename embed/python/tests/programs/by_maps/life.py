@@ -1,7 +1,7 @@
 from yuglemit.build import Int, Map, Out, Sum, control, each, leaf, out
 
 
-@leaf(otherwise=())
+@leaf
 def spread(alive: Map[Int, Int], near: Out[Sum[Int]]) -> None:
     for cell in each(alive, 64):
         for place in range(9):
@@ -9,7 +9,7 @@ def spread(alive: Map[Int, Int], near: Out[Sum[Int]]) -> None:
                 out.near[(cell // 8 + place // 3 - 1) % 8 * 8 + (cell + place % 3 - 1) % 8] += 1
 
 
-@leaf(otherwise=())
+@leaf
 def live(alive: Map[Int, Int], near: Sum[Int], after: Out[Map[Int, Int]]) -> None:
     for cell, count in each(near, 64):
         if count == 3 or (count == 2 and cell in alive):

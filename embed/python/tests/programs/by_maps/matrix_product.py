@@ -3,7 +3,7 @@ from yuglemit.build import Int, Map, Out, control, leaf, out
 SIZE = 4
 
 
-@leaf(otherwise=())
+@leaf
 def multiply(a: Map[Int, Int], b: Map[Int, Int], row: Int, product: Out[Map[Int, Int]]) -> None:
     for column in range(SIZE):
         total = 0

@@ -1,7 +1,7 @@
 from yuglemit.build import Int, Out, Sum, control, leaf, out
 
 
-@leaf(otherwise=())
+@leaf
 def throw(seed: Int, inside: Out[Sum[Int]]) -> None:
     state = seed
     found = 0

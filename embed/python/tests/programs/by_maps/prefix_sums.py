@@ -1,7 +1,7 @@
 from yuglemit.build import Int, Map, Out, control, each, leaf, out
 
 
-@leaf(otherwise=())
+@leaf
 def add_up(numbers: Map[Int, Int], sums: Out[Map[Int, Int]]) -> None:
     total = 0
     for place, number in each(numbers, 1000):

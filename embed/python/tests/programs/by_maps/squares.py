@@ -1,7 +1,7 @@
 from yuglemit.build import Int, Map, Out, Sum, control, each, leaf, out
 
 
-@leaf(otherwise=())
+@leaf
 def square(number: Int, place: Int, squares: Out[Map[Int, Int]], total: Out[Sum[Int]]) -> None:
     out.squares[place] = number * number
     out.total[0] += number * number

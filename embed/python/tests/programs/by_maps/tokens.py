@@ -5,7 +5,7 @@ ZERO = 48
 NINE = 57
 
 
-@leaf(otherwise=())
+@leaf
 def read(codes: Map[Int, Int], numbers: Out[Map[Int, Int]], signs: Out[Map[Int, Int]]) -> None:
     count = 0
     number = -1

@@ -1,7 +1,7 @@
 from yuglemit.build import Int, Map, Out, Sum, control, leaf, out
 
 
-@leaf(otherwise=())
+@leaf
 def add(numbers: Map[Int, Int], start: Int, total: Out[Sum[Int]]) -> None:
     part = 0
     for place in range(8):
