@@ -14,9 +14,12 @@ import {hintFor} from "./hints.js";
 import {arrowKeys, print} from "./keys.js";
 import {Learning} from "./learning.js";
 import {Library} from "./library.js";
-import {Orders} from "./orders.js";
+import {Manual} from "./manual.js";
+import {Opening} from "./opening.js";
+import {ordered, Orders} from "./orders.js";
 import {load} from "./own.js";
 import {decode} from "./program.js";
+import {Programs} from "./programs.js";
 import {readPlaces, readRejection, readTrace, readVerdict} from "./replies.js";
 import {Results} from "./results.js";
 import {linked} from "./share.js";
@@ -25,7 +28,7 @@ import {Stepper} from "./stepper.js";
 import {Timeline} from "./timeline.js";
 import {Tour} from "./tour.js";
 import {readInput} from "./values.js";
-import {accepted, coded, counted, endOf, explain, grouped, outputsOf, refusedAt} from "./verdict.js";
+import {accepted, coded, counted, endOf, explain, grouped, outputsOf, refusedAt, stopped} from "./verdict.js";
 
 /** @typedef {import("./contents.js").Page} Page */
 /** @typedef {import("./contents.js").Group} Group */
@@ -45,22 +48,24 @@ const following = new Following(FOLLOWER);
 const fields = new Fields($("inputs"), () => { asTyped(false); });
 const stepper = new Stepper(editor, () => { if (!stepper.timer) contents.save(); });
 const timeline = new Timeline($("lane-names"), $("lanes"), $("mark"), event => { stepper.stop(); stepper.go(event); });
-const contents = new Contents(editor, fields, GROUPS, () => stepper.at);
+const contents = new Contents(editor, fields, GROUPS, () => ({event: stepper.at, seed: orders.shown}));
 const results = new Results();
 const learning = new Learning(editor, contents, text => during(openText(text)));
 const completion = new Completion(editor, () => checked?.source ?? null);
-const files = new Files(library, editor, fields, contents, results);
-const orders = new Orders(library, () => runnable(), (setting, trace) => show(setting, trace, 0, false), busy => { ordering = busy; stoppable(busy); });
+const files = new Files(library, editor, contents, results, () => stepper.run);
+const orders = new Orders(library, () => runnable(), seed => run(0, false, seed), line => lead(line), progress);
+const programs = new Programs(contents, say, (page, remembered) => open(page, remembered));
+const opening = new Opening(library, say, (program, trace, layout, name) => opened(program, trace, layout, name));
 const breaking = new Breaking(library, contents, editor, {check: () => check(), leave: () => stepper.leave(), undo: () => restore(() => contents.undo())});
-const tour = new Tour();
+const tour = new Tour(), manual = new Manual();
 
 /** @type {Checked | null} */
 let checked = null;
-let asked = 0, typing = 0, ordering = false;
+let asked = 0, typing = 0, shows = 0, read = "";
 
 /** Shows a message below the head of the page.
  * @param {string} words */
-const say = words => { $("said").textContent = words; };
+function say(words) { $("said").textContent = words; }
 
 /** Marks the page as busy until some work is done; tests wait for it.
  * @param {Promise<any>} work */
@@ -73,7 +78,7 @@ async function during(work) {
 
 /** Enables Stop while something can be stopped.
  * @param {boolean} busy */
-function stoppable(busy) { /** @type {HTMLButtonElement} */ ($("stop")).disabled = !busy && !ordering && !following.worker; }
+function stoppable(busy) { /** @type {HTMLButtonElement} */ ($("stop")).disabled = !busy && !following.worker; }
 
 /** Restores contents, and shows their event.
  * @param {() => Page | null} take */
@@ -82,7 +87,28 @@ async function restore(take) {
     if (!what) return;
     breaking.forget();
     say("Your program is back as it was.");
-    await during(check().then(() => run(what.event, false)));
+    await during(shown(what, false));
+}
+
+/** Checks and runs what was put on the page. If it can't be run, no other program's run stays there.
+ * @param {Page} page @param {boolean} playing */
+async function shown(page, playing) {
+    const before = shows;
+    await check();
+    await run(page.event, playing, page.seed);
+    contents.save();
+    if (shows !== before) return;
+    for (const id of ["controls", "running", "data", "state"]) $(id).hidden = true;
+    stepper.run = null;
+}
+
+/** Puts the cursor on a line, and brings it into sight.
+ * @param {number} line */
+function lead(line) {
+    const at = editor.lines.slice(0, line).reduce((sum, it) => sum + it.length + 1, 0);
+    editor.field.focus();
+    editor.field.setSelectionRange(at, at + (editor.lines[line] ?? "").length);
+    editor.reveal(line);
 }
 
 // As one types.
@@ -132,7 +158,7 @@ async function showVerdict({verdict, source, program}) {
     editor.mark({fault: rejection && rejection.line >= 0 ? {line: rejection.line, from: rejection.from, to: rejection.to, message: `${rejection.number}: ${rejection.reason || "see below"}`} : null, heads});
     $("text").setAttribute("aria-invalid", String(!!rejection));
     $("verdict").className = verdict.accepted ? "good" : "bad";
-    $("verdict").replaceChildren(...verdict.accepted ? [accepted(verdict, source, most)] : rejection ? [refusedAt(rejection), ...coded(hint && ` ${hint}`)] : [verdict.text]);
+    $("verdict").replaceChildren(...verdict.accepted ? [accepted(verdict, source, most, {limit: fields.layout[3], rules: (program ?? []).some(({code}) => code.some(({name}) => name.startsWith("RULE")))})] : rejection ? [stopped(refusedAt(rejection)), ...coded(hint && ` ${hint}`)] : [verdict.text]);
     $("stale").textContent = `This run is of the program or the inputs before your change. ${verdict.accepted ? "Press Run." : "Repair the program, then press Run."}`;
     await explain(library, $("why"), rejection);
     learning.showPython();
@@ -178,24 +204,28 @@ function refuse() {
 }
 
 let runs = 0;
-/** Runs the program, and shows one of the events.
- * @param {number} event @param {boolean} playing */
-async function run(event, playing) {
+/** Runs the program, shows one of the events, and returns the report; null if it was stopped.
+ * @param {number} event @param {boolean} playing @param {number} seed of the order of events; 0 for the one in turn
+ * @returns {Promise<string | null>} */
+async function run(event, playing, seed = 0) {
     const it = await runnable();
-    if (!it) return;
+    if (!it) return null;
     const mine = ++runs;
     following.stop();
-    orders.forget();
+    $("trace-read").hidden = true;
+    orders.began(seed);
+    progress(0, 0);
     results.show("", "", "running ..");
-    const reply = await library.session(["run", "--text", "--trace", "--limit", String(it.limit), ...it.words], it.text);
-    if (mine !== runs) return;
-    if (!reply || reply.failed) { results.show("", "bad", reply?.failed ?? "stopped"); return; }
+    const reply = await library.session(["run", "--text", "--trace", "--limit", String(it.limit), ...ordered(seed), ...it.words], it.text);
+    if (mine !== runs) return null;
+    if (!reply || reply.failed) { results.show("", "bad", reply?.failed ?? "stopped"); return null; }
     const {trace, report} = readTrace(reply.text), rejection = readRejection(report, it.checked.source);
-    results.take({report, trace, words: it.words, text: it.text});
+    results.take({report, trace, words: it.words, text: it.text, limit: it.limit, seed});
     results.show(report, reply.status ? "bad" : "good", `${endOf(reply.status, rejection)} ${counted(linesIn(trace), "event")}, ${reply.ms.toFixed(1)} ms.`, outputsOf(report, it.outputs));
     await explain(library, $("answer-why"), rejection);
-    if (rejection) { stepper.leave(); return; }
-    await show(it.setting, trace, event, playing);
+    if (rejection) stepper.leave();
+    else await show(it.setting, trace, event, playing);
+    return report;
 }
 
 /** Returns the number of lines of a trace.
@@ -211,9 +241,10 @@ function linesIn(trace) {
 async function show(setting, trace, event, playing) {
     const all = linesIn(trace);
     let shown = false;
+    shows++;
     const work = following.follow(setting, trace, (made, part) => {
         if (shown) stepper.grown(part);
-        else { $("controls").hidden = $("running").hidden = $("data").hidden = false; stepper.take(made, setting.places ?? new Map(), part ? 0 : event); }
+        else { for (const id of ["controls", "running", "data", "state"]) $(id).hidden = false; stepper.take(made, setting.places ?? new Map(), part ? 0 : event); }
         if (part && !shown && event) stepper.go(Math.min(event, made.length));
         shown = true;
         progress(made.length, part && made.length < all ? all : 0);
@@ -240,14 +271,36 @@ function progress(event, all, whole = true) {
 // The beginning.
 
 /** Puts an example, or a program of the reader's own, on the page, and runs it.
- * @param {Page | null} page */
-async function open(page) {
+ * @param {Page | null} page @param {boolean} remembered whether Undo has what was there */
+async function open(page, remembered = false) {
     if (!page) return;
-    contents.remember();
+    if (!remembered) contents.remember();
     breaking.forget();
     contents.put(page, true);
     say("");
-    await during(check().then(() => run(page.event, page.event === 0)));
+    await during(shown(page, page.event === 0));
+}
+
+/** Puts a file's program on the page, as an own one, and follows its trace if it has one.
+ * @param {string} program @param {string} trace @param {number[]} layout @param {string} name */
+async function opened(program, trace, layout, name) {
+    await open({...contents.fresh(program), layout});
+    contents.keepAs(name);
+    read = trace;
+    $("trace-read").hidden = !trace;
+    if (trace && !fields.words().length) await during(followRead());
+}
+
+/** Follows the trace that was read from a file, once the library has replayed it. */
+async function followRead() {
+    const it = await runnable();
+    if (!it) return;
+    const reply = await library.session(["replay", "--text", ...it.words], `${it.text}\nevents\n${read}end\n`), report = reply?.text ?? "";
+    const wrong = !reply || reply.failed || [1, 2, 6].includes(reply.status) && !/^running$/m.test(report);
+    results.show(report, wrong ? "bad" : "good", wrong ? "The trace isn't one of this program, with these inputs and actors." : `The trace of the file: ${counted(linesIn(read), "event")}.`, outputsOf(report, it.outputs));
+    if (wrong) { stepper.leave(); return; }
+    results.take({report, trace: read, words: it.words, text: it.text, limit: it.limit, seed: 0});
+    await show(it.setting, read, 0, false);
 }
 
 /** Puts a text on the page, such as an instruction's example, and runs it.
@@ -267,7 +320,7 @@ function bind() {
     });
     for (const kind of ["keyup", "click", "focus"]) $("text").addEventListener(kind, () => showHeld());
     for (const id of ["run", "again"]) $(id).addEventListener("click", () => during(run(0, true)));
-    $("stop").addEventListener("click", () => { library.stop(); following.stop(); orders.stopped = true; });
+    $("stop").addEventListener("click", () => { library.stop(); following.stop(); });
     $("undo").addEventListener("click", () => restore(() => contents.undo()));
     $("redo").addEventListener("click", () => restore(() => contents.redo()));
     $("share").addEventListener("click", () => files.share());
@@ -276,9 +329,10 @@ function bind() {
     $("stats").addEventListener("click", () => during(files.numbers()));
     for (const button of document.querySelectorAll("[data-give]")) button.addEventListener("click", () => during(files.give(button.getAttribute("data-give") ?? "")));
     breaking.buttons(work => during(work));
-    $("another").addEventListener("click", () => during(orders.another()));
+    $("follow-trace").addEventListener("click", () => during(followRead()));
+    orders.busy = work => during(work);
     document.addEventListener("keydown", event => { if (event.key === "Enter" && (event.ctrlKey || event.metaKey)) { event.preventDefault(); during(run(0, true)); } });
-    addEventListener("hashchange", () => { if (/^#p=/.test(location.hash)) location.reload(); });
+    addEventListener("hashchange", () => { if (/^#p=/.test(location.hash)) location.reload(); else manual.open(location.hash); });
     stepper.timeline = timeline;
     editor.online = line => stepper.online(line);
     completion.bind();
@@ -298,13 +352,16 @@ async function first() {
 
 /** Shows the first program. */
 async function begin() {
+    const address = location.hash;
     bind();
     await load();
+    say("");
     const page = await first();
     if (!page) return;
     contents.put(page, false);
-    await check();
-    await run(page.event, page.event === 0 && !page.own);
+    await shown(page, page.event === 0 && !page.own);
+    for (const it of document.querySelectorAll("[inert]")) it.removeAttribute("inert");
+    manual.open(address);
     document.body.dataset.state = "ready";
     document.body.dataset.readyAfter = String(Math.round(performance.now()));
 }

@@ -47,7 +47,7 @@ export class Breaking {
             const reply = await this.library.session(["check", "--text"], text), source = scan(text), rejection = reply && readVerdict(reply.text, source).rejection;
             if (!rejection || !mistake.meets.test(rejection.number)) continue;
             if (planted?.text !== editor.text) contents.remember();
-            contents.put({...whole, text, example: "", own: 0}, true);
+            contents.put({...whole, text, example: "", own: 0, name: "", kept: false}, true);
             this.planted = {whole, text};
             this.acts.leave();
             await this.acts.check();

@@ -7,7 +7,7 @@
 #   page/build.sh MODULE.bc   uses this module of the library
 #   page/build.sh --released  uses the release's WebAssembly module: only scripts, style and examples are new. It needs python3 alone
 #
-# The module is the library's own, as rattle passed it to its clang (tools/library.py keeps it). It is retargeted from x86-64 to wasm64, whose pointers,
+# The module is the library's own, as rattle passed it to its clang (tools/release/library.py keeps it). It is retargeted from x86-64 to wasm64, whose pointers,
 # sizes and alignments are the same (retarget.py). A heap (heap.c), 128-bit arithmetic (wide.c) and rattle's three functions over malloc
 # (glue.ll) are added. Then its memory is made 32 bits wide, which browsers have had for longer (narrow.py). No proof covers these, nor that the module
 # means there what it means as a program.

@@ -29,6 +29,10 @@ function linesIn(text) {
     return count;
 }
 
+/** Returns how many columns a line takes, with its tabs.
+ * @param {string} line */
+const widthOf = line => [...line].reduce((wide, sign) => sign === "\t" ? wide + 4 - wide % 4 : wide + 1, 0);
+
 export class Editor {
     /** @param {HTMLTextAreaElement} field @param {HTMLElement} paint @param {HTMLElement} gutter */
     constructor(field, paint, gutter) {
@@ -162,7 +166,7 @@ export class Editor {
         }
         if (wrong && wrong.to > at) made.append(h("span.fault", {}, " "));
         const note = wrong?.message ?? heads.get(number) ?? (held?.line === number ? held.text : "");
-        if (wrong) made.append(h("span.note.bad", {style: `--column: ${Math.max(wrong.to, uncommented(line).trimEnd().length) + 2}`}, note));
+        if (wrong) made.append(h("span.note.bad", {style: `--column: ${widthOf(line.slice(0, Math.max(wrong.to, uncommented(line).trimEnd().length))) + 2}`}, note));
         else if (note) made.append(h("span.note", {}, note));
         return made;
     }

@@ -1,18 +1,24 @@
 // @ts-check
 // SPDX-License-Identifier: Apache-2.0
 // Downloads, the link to share, and the statistics of a run.
-import {$, download} from "./dom.js";
+import {chromeTrace} from "./chrome.js";
+import {$, download, h} from "./dom.js";
+import {ordered} from "./orders.js";
 import {SHOWN} from "./results.js";
 
+/** Returns a word of a command as a shell reads it.
+ * @param {string} word */
+const quoted = word => /^[\w:=,.-]+$/.test(word) ? word : `'${word.replace(/'/g, "'\\''")}'`;
+
 export class Files {
-    /** @param {import("./library.js").Library} library @param {import("./editor.js").Editor} editor @param {import("./fields.js").Fields} fields
-     * @param {import("./contents.js").Contents} contents @param {import("./results.js").Results} results */
-    constructor(library, editor, fields, contents, results) {
+    /** @param {import("./library.js").Library} library @param {import("./editor.js").Editor} editor
+     * @param {import("./contents.js").Contents} contents @param {import("./results.js").Results} results @param {() => import("./run.js").Run | null} run the run that is shown */
+    constructor(library, editor, contents, results, run) {
         this.library = library;
         this.editor = editor;
-        this.fields = fields;
         this.contents = contents;
         this.results = results;
+        this.run = run;
     }
 
     /** The program followed by the events of its last run. */
@@ -25,8 +31,9 @@ export class Files {
         switch (what) {
             case "text": return [/^\s*names\b/m.test(editor.text) ? "twn" : "tw", editor.text, "text/plain"];
             case "bytes": return ["hex", await ask(["asm", "--names"], editor.text), "text/plain"];
-            case "trace": return ["history", this.history, "text/plain"];
+            case "trace": return ["history", `${await ask(["asm", "--names"], results.last.text)}${this.history.slice(results.last.text.length + 1)}`, "text/plain"];
             case "timeline": return ["svg", await ask(["picture", "--text", ...results.last.words], this.history), "image/svg+xml"];
+            case "chrome": { const run = this.run(); return ["json", run ? chromeTrace(run, this.fileName) : "", "application/json"]; }
             default: return ["txt", results.last.report, "text/plain"];
         }
     }
@@ -35,7 +42,23 @@ export class Files {
      * @param {string} what */
     async give(what) {
         const [ending, text, type] = await this.file(what);
-        if (text) download(`${this.contents.example.split(" ")[0] || "program"}.${ending}`, text, type);
+        const name = `${this.fileName}.${ending}`, command = this.command(what, name);
+        if (text) download(name, text, type);
+        $("command").hidden = !command;
+        $("command").replaceChildren("On a command line: ", h("code", {}, command));
+    }
+
+    /** The name of files: the example's or the program's, without its extension. */
+    get fileName() {
+        const {example, name} = this.contents;
+        return example.split(" ")[0] || name.trim().replace(/[^\p{L}\p{N}]+/gu, "_").replace(/^_+|_+$/g, "").toLowerCase() || "program";
+    }
+
+    /** Returns the line of command that makes the run on the page from a file; empty if there is none.
+     * @param {string} what @param {string} name */
+    command(what, name) {
+        const {words, limit, seed} = this.results.last, verb = /** @type {Record<string, string[]>} */ ({text: ["run", "--in-turn", ...ordered(seed).slice(1), "--limit", String(limit)], bytes: ["run", "--in-turn", ...ordered(seed).slice(1), "--limit", String(limit)], trace: ["replay"]})[what];
+        return verb ? ["tw", ...verb, name, ...words].map(quoted).join(" ") : "";
     }
 
     /** Shows the link to the current contents, and copies it. A page from disk has no link that others can open. */
@@ -49,12 +72,12 @@ export class Files {
         field.select();
         const copied = await navigator.clipboard?.writeText(field.value).then(() => true, () => false) ?? document.execCommand("copy");
         if (disk) say(`This page is a file on your computer, so nobody else can open its address. Send the text${copied ? "; or append what is copied" : "; or append this"} to the address of a page that others can open.`);
-        else say(copied ? "The link is copied. It has the program, its inputs and the event." : "Copy the link: it has the program, its inputs and the event.");
+        else say(copied ? "The link is copied. It has the program, its inputs, the order and the event." : "Copy the link: it has the program, its inputs, the order and the event.");
     }
 
     /** Shows the statistics of a run. */
     async numbers() {
-        const {library, fields, editor} = this, reply = await library.session(["run", "--text", "--stats", "--limit", String(fields.layout[3]), ...fields.options, ...fields.words()], editor.text);
+        const {text, words, limit, seed} = this.results.last, reply = await this.library.session(["run", "--text", "--stats", "--limit", String(limit), ...ordered(seed), ...words], text);
         $("numbers").hidden = false;
         $("numbers").textContent = reply?.text.slice(0, SHOWN) ?? "stopped";
     }

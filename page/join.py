@@ -104,7 +104,7 @@ def script_of(root: str, wasm: bytes) -> str:
     folder = f"{root}/page"
     script = "".join(wrapped(folder, name) for name in order(folder, "app", []))
     for mark, value in (
-        ("@GRAMMAR@*/ {}", {group.lower(): words for group, words in KEYWORDS.findall(read(f"{root}/tools/tw.vim"))}),
+        ("@GRAMMAR@*/ {}", {group.lower(): words for group, words in KEYWORDS.findall(read(f"{root}/script/install/tw.vim"))}),
         ("@EXAMPLES@*/ []", examples_of(root)),
         ("@REFERENCE@*/ []", reference(Path(root))),
         ("@GLOSSARY@*/ {}", json.loads(read(f"{folder}/glossary.json"))),

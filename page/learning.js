@@ -1,6 +1,6 @@
 // @ts-check
 // SPDX-License-Identifier: Apache-2.0
-// Explains the language on the page: help at the cursor's word, a panel of all instructions with examples, a glossary, the manual, and examples in Python.
+// Explains the language on the page: help at the cursor's word, a panel of all instructions with examples, a glossary, and examples in Python.
 import {$, h} from "./dom.js";
 import {coded} from "./verdict.js";
 import {wordsOf} from "./source.js";
@@ -15,32 +15,31 @@ const GLOSSARY = /** @type {Record<string, string>} */ (/*@GLOSSARY@*/ {});
 /** The words of the glossary that are shown at first. */
 const TEN = ["task", "datum", "right", "closed", "rule", "control", "leaf", "engine", "worker", "budget", "stuck", "refused"];
 
+/** Words that don't count in a search. */
+const LITTLE = new Set(["a", "an", "and", "from", "in", "into", "of", "on", "the", "to", "with"]);
+
 export class Learning {
-    /** @param {import("./editor.js").Editor} editor @param {import("./contents.js").Contents} contents @param {(page: Page) => void} open */
-    constructor(editor, contents, open) {
+    /** @param {import("./editor.js").Editor} editor @param {import("./contents.js").Contents} contents @param {(page: Page) => void} put */
+    constructor(editor, contents, put) {
         this.editor = editor;
         this.contents = contents;
-        this.open = open;
+        this.put = put;
         this.instructions = new Map(REFERENCE.map(it => [it.name, it]));
         this.fill();
-        document.addEventListener("click", event => this.link(event));
         $("search").addEventListener("input", () => this.search());
-        $("manual-close").addEventListener("click", () => /** @type {HTMLDialogElement} */ ($("manual")).close());
     }
 
     /** Fills the panels. */
     fill() {
         $("instructions").replaceChildren(...REFERENCE.map(it => this.card(it)));
         $("glossary").replaceChildren(...TEN.flatMap(word => [h("dt", {}, word), h("dd", {}, ...coded(GLOSSARY[word] ?? ""))]));
-        const titles = /** @type {HTMLTemplateElement[]} */ ([...document.querySelectorAll("template[data-title]")]);
-        for (const box of document.querySelectorAll(".manual-links")) box.append(...titles.map(it => h("a", {href: `#${it.id}-`}, it.dataset.title ?? "")));
     }
 
     /** Returns an instruction's card, to be unfolded.
      * @param {Instruction} it */
     card(it) {
         const rows = [["Operands", it.operands.join("; ")], ["Does", it.does], ["Requires", it.requires], ["Is refused", it.refused], ["Leaves", it.leaves]].filter(([, words]) => words);
-        return h("details", {id: `instruction-${it.name}`, "data-words": `${it.name} ${it.plain}`.toLowerCase()}, h("summary", {}, h("code", {}, it.name), " ", ...coded(it.plain)),
+        return h("details", {id: `instruction-${it.name}`, "data-words": `${it.name} ${it.plain}`.toLowerCase(), "data-more": ` ${it.form} ${it.does}`.toLowerCase()}, h("summary", {}, h("code", {}, it.name), " ", ...coded(it.plain)),
             h("p", {}, h("code", {}, it.form)), h("dl", {}, ...rows.flatMap(([name, words]) => [h("dt", {}, name), h("dd", {}, ...coded(words))])),
             h("pre", {}, it.text), h("button", {onclick: () => this.try(it)}, "Try it"), " ", h("a", {href: "#manual-MACHINE-instructions"}, "In the manual"));
     }
@@ -48,20 +47,18 @@ export class Learning {
     /** Puts an instruction's example on the page.
      * @param {Instruction} it */
     try({text, inputs}) {
-        this.open({text, inputs, layout: [1, 1, 1, 10000], event: 0, example: "", own: 0});
+        this.put({text, inputs, layout: [1, 1, 1, 10000], event: 0, seed: 0, example: "", own: 0, name: "", kept: false});
         $("program").scrollIntoView();
     }
 
-    /** Shows the instructions that match what is searched. */
+    /** Shows the instructions that match what is searched: by name or in a sentence, or else all its words in any order. */
     search() {
-        const wanted = /** @type {HTMLInputElement} */ ($("search")).value.trim().toLowerCase();
-        let found = 0;
-        for (const card of $("instructions").children) {
-            const matches = (card.getAttribute("data-words") ?? "").includes(wanted);
-            /** @type {HTMLElement} */ (card).hidden = !matches;
-            if (matches) found++;
-        }
-        $("found").textContent = wanted ? `${found} of ${REFERENCE.length}` : "";
+        const wanted = /** @type {HTMLInputElement} */ ($("search")).value.trim().toLowerCase(), cards = /** @type {HTMLElement[]} */ ([...$("instructions").children]);
+        const stems = wanted.split(/\s+/).filter(it => !LITTLE.has(it)).map(it => it.length > 4 ? it.replace(/(ing|es|s|ed)$/, "") : it);
+        const has = (/** @type {HTMLElement} */ card, /** @type {string} */ word) => `${card.dataset.words}${card.dataset.more}`.includes(word);
+        const exact = cards.filter(card => (card.dataset.words ?? "").includes(wanted)), found = new Set(exact.length ? exact : cards.filter(card => stems.every(it => has(card, it))));
+        for (const card of cards) card.hidden = !found.has(card);
+        $("found").textContent = wanted ? `${found.size} of ${REFERENCE.length}` : "";
     }
 
     /** Returns what a word of the program means; null if it is none of the language's.
@@ -88,20 +85,6 @@ export class Learning {
         panel.open = card.open = true;
         card.scrollIntoView({block: "center"});
         /** @type {HTMLElement} */ (card.querySelector("summary")).focus({preventScroll: true});
-    }
-
-    /** Opens the manual where a link leads.
-     * @param {Event} event */
-    link(event) {
-        const link = /** @type {HTMLElement} */ (event.target).closest?.("a[href^='#manual-']"), [, part, place] = /^#manual-([A-Z]+)-(.*)$/.exec(link?.getAttribute("href") ?? "") ?? [];
-        const template = /** @type {HTMLTemplateElement | null} */ (part ? document.getElementById(`manual-${part}`) : null), dialog = /** @type {HTMLDialogElement} */ ($("manual"));
-        if (!template) return;
-        event.preventDefault();
-        $("manual-title").textContent = template.dataset.title ?? "";
-        $("manual-text").replaceChildren(template.content.cloneNode(true));
-        if (!dialog.open) dialog.showModal();
-        const target = place ? document.getElementById(`manual-${part}-${place}`) : null;
-        if (target) target.scrollIntoView(); else $("manual-text").scrollTop = 0;
     }
 
     /** Shows the example's source in Python, if it has one. */

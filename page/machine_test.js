@@ -5,7 +5,6 @@ import fs from "node:fs";
 import {dearestWalk, mostEvents} from "./bounds.js";
 import {followInParts} from "./follower.js";
 import {open, report, step} from "./machine.js";
-import {orderOf} from "./order.js";
 import {decode} from "./program.js";
 import {readPlaces, readTrace, readVerdict} from "./replies.js";
 import {Run} from "./run.js";
@@ -141,23 +140,25 @@ async function lessons() {
 
 // Checks that runs in other orders are runs of the library's machine, that they end, and that the outputs are those in turn: no example depends on the order.
 async function orders() {
+    let several = 0, single = 0;
     for (const it of groups.flatMap(group => group.examples).filter(it => !it.ends.startsWith("refused"))) {
         const path = [`${examplesFolder}/${it.name}.twn`, `${examplesFolder}/${it.name}.tw`, `${folder}/${it.name}.twn`].find(path => fs.existsSync(path)), text = fs.readFileSync(path, "utf8");
-        const traces = new Set(), words = it.inputs ?? [], [engines, servers, workers] = [2, 2, 3], options = ["--engines", "2", "--servers", "2", "--workers", "3"];
+        const traces = new Set(), words = it.inputs ?? [], servers = 2, options = ["--engines", "2", "--servers", "2", "--workers", "3"];
         const program = decode(session(["asm", "--names"], text).text), inTurn = plain(session(["run", "--text", ...options, ...words], text).text);
         for (let seed = 1; seed <= 5; seed++) {
-            const {trace, ended} = await orderOf({program, inputs: words.map(readInput), engines, servers, workers}, seed, 5000);
-            const replayed = plain(session(["replay", "--text", ...options, ...words], `${text}\nevents\n${trace}end\n`).text);
-            say(ended && replayed === inTurn, it.name, "order", seed, ended, replayed, inTurn);
+            const {trace, report: said} = readTrace(session(["run", "--text", "--trace", "--in-turn", "--seed", String(seed), ...options, ...words], text).text);
+            const state = open(program, words.map(readInput), servers);
+            for (const event of trace.split("\n").slice(0, -1)) step(state, program, event);
+            say(plain(said) === inTurn && report(state) === inTurn, it.name, "order", seed, said, report(state), inTurn);
             traces.add(trace);
         }
-        say(traces.size > 1 || inTurn.length > 0 && traces.values().next().value.split("\n").length < 14, it.name, "has one order only");
+        if (traces.size > 1) several++; else single++;
     }
+    say(several > 10, "few examples have several orders", several, single);
     const race = session(["replay", "--text", "--workers", "2"], `${RACE}\nevents\n`).text, outputs = new Set();
     say(race.includes("running"), "the race", race);
-    for (let seed = 1; seed <= 20; seed++) {
-        const {trace} = await orderOf({program: decode(session(["asm"], RACE).text), inputs: [], engines: 1, servers: 1, workers: 2}, seed, 1000);
-        outputs.add(session(["replay", "--text", "--workers", "2"], `${RACE}\nevents\n${trace}end\n`).text);
+    for (let seed = 1; seed <= 120; seed++) {
+        outputs.add(session(["run", "--text", "--workers", "2", "--in-turn", "--seed", String(seed)], RACE).text);
     }
     say(outputs.size === 2, "a race for a subscript has", outputs.size, "outcomes");
 }

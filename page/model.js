@@ -49,34 +49,60 @@ export const dataName = (run, id) => run.label(id) ? `${run.label(id)} (datum ${
  * @param {Run} run @param {number} line */
 const statement = (run, line) => uncommented(run.setting.source.text[line] ?? "").trim();
 
+/** The values of an instruction on data, as far as they are known: its subscript, what it takes or gives, and what is at the subscript then.
+ * @typedef {{key?: Scalar, value?: Scalar, now?: Scalar}} Told */
+/** @param {Scalar | undefined} value @param {string} before @param {string} without what is said if the value isn't known */
+const said = (value, before = "", without = "") => value === undefined ? without : `${before}${shown(value)}`;
+
 /** A description of each instruction on data.
- * @type {Record<string, (data: string[], event: Event) => string>} */
+ * @type {Record<string, (data: string[], event: Event, told: Told) => string>} */
 const DID = {
     NEW: ([it]) => `makes ${it}, with a right to write it and one to read it`,
-    STORE: ([it]) => `stores a value in ${it}, which closes it`,
-    GET: ([it]) => `reads ${it}`,
-    INS: ([into, member], {refused}) => refused ? `finds the subscript taken in ${into}, and skips` : `puts ${member} into ${into}`,
-    LOOK: ([from, member], {refused}) => refused ? `finds no such subscript in ${from}, and skips` : `finds ${member} in ${from}, and gets a right to read it`,
-    MINS: ([into], {refused}) => refused ? `finds the subscript taken in ${into}, and skips` : `puts a value into ${into}`,
-    MADD: ([into]) => `adds to a value of ${into}`,
-    MGET: ([from], {refused}) => refused ? `finds no such subscript in ${from}, and skips` : `reads a value of ${from}`,
-    SIZE: ([it]) => `counts the members or values of ${it}`,
-    SUBAT: ([it], {refused}) => refused ? `finds no further subscript in ${it}, and skips` : `reads a subscript of ${it}`,
+    STORE: ([it], _, {value}) => `stores ${said(value, "", "a value")} in ${it}, which closes it`,
+    GET: ([it], _, {value}) => `reads ${it}${said(value, " = ")}`,
+    INS: ([into, member], {refused}, {key}) => refused ? `finds the subscript${said(key, " ")} taken in ${into}, and skips` : `puts ${member} into ${into}${said(key, " at ")}`,
+    LOOK: ([from, member], {refused}, {key}) => refused ? `finds no such subscript in ${from}${said(key, ": ")}, and skips` : `finds ${member} in ${from}${said(key, " at ")}, and gets a right to read it`,
+    MINS: ([into], {refused}, {key, value}) => refused ? `finds the subscript${said(key, " ")} taken in ${into}, and skips` : `puts ${said(value, "", "a value")} into ${into}${said(key, " at ")}`,
+    MADD: ([into], _, {key, value, now}) => value === undefined ? `adds to a value of ${into}` : `adds ${shown(value)} to ${into}${said(key, " at ")}${said(now, ", now ")}`,
+    MGET: ([from], {refused}, {key, value}) => refused ? `finds no such subscript in ${from}${said(key, ": ")}, and skips` : `reads ${said(key, "", "a value of ")}${key === undefined ? "" : " of "}${from}${said(value, " = ")}`,
+    SIZE: ([it], _, {value}) => `counts the members or values of ${it}${said(value, ": ")}`,
+    SUBAT: ([it], {refused}, {value}) => refused ? `finds no further subscript in ${it}, and skips` : `reads a subscript of ${it}${said(value, ": ")}`,
     DUPR: ([it]) => `copies its right to read ${it}`,
     DUPW: ([it]) => `copies its right to write ${it}`,
     DROPR: ([it]) => `gives up its right to read ${it}`,
     DROPW: ([it]) => `gives up a right to write ${it}`,
 };
+/** Which operand of an instruction on data is the register of its subscript, of the value that it takes, and of the one that it gives.
+ * @type {Record<string, number>} */
+const KEYS = {INS: 1, MINS: 1, MADD: 1, LOOK: 2, MGET: 2};
+/** @type {Record<string, number>} */
+const TAKES = {STORE: 1, MINS: 2, MADD: 2};
+/** @type {Record<string, number>} */
+const GIVES = {GET: 0, MGET: 0, SIZE: 0, SUBAT: 0};
 
-/** Returns what an event does, in a sentence.
- * @param {Run} run @param {Event} event */
-export function sentence(run, event) {
-    const said = describe(run, event);
-    return said[0].toUpperCase() + said.slice(1);
+/** Returns the name of an instruction on data; of those with texts as subscripts, that of the others.
+ * @param {string} name */
+const plainName = name => name.replace(/^T(INS|LOOK|SUBAT)$/, "$1");
+
+/** Returns the values of an event.
+ * @param {Run} run @param {Event} event @param {Scalar[]} before the value registers before it @param {State} state the state after it @returns {Told} */
+export function toldOf(run, event, before, state) {
+    if (event.kind !== "call") return {};
+    const {name: full, operands} = run.setting.program[event.procedure].code[event.places[0]], name = plainName(full);
+    const after = state.frames.get(event.actor)?.values ?? [], key = name in KEYS ? before[operands[KEYS[name]]] : undefined;
+    const value = name in TAKES ? before[operands[TAKES[name]]] : name in GIVES && !event.refused ? after[operands[GIVES[name]]] : undefined;
+    return {key, value, now: key === undefined ? undefined : state.data.get(event.data[0])?.entries?.get(key)};
 }
 
-/** @param {Run} run @param {Event} event */
-function describe(run, event) {
+/** Returns what an event does, in a sentence.
+ * @param {Run} run @param {Event} event @param {Told} [told] its values */
+export function sentence(run, event, told = {}) {
+    const words = describe(run, event, told);
+    return words[0].toUpperCase() + words.slice(1);
+}
+
+/** @param {Run} run @param {Event} event @param {Told} told */
+function describe(run, event, told) {
     const {source, program} = run.setting, who = actorName(event.actor), data = event.data.map(id => dataName(run, id)), called = callName(source, event.procedure);
     switch (event.kind) {
         case "take": return `${who} takes task ${event.task}: ${called}`;
@@ -89,8 +115,12 @@ function describe(run, event) {
     const {name, operands} = program[event.procedure].code[event.places[0]];
     if (event.makes === "rule") return `${who} makes rule ${event.made}: ${callName(source, operands[0])} begins when what it waits for is closed`;
     if (event.makes === "task") return `${who} puts task ${event.made}: ${callName(source, operands[0])}`;
-    return `${who} ${DID[name.replace(/^T(INS|LOOK|SUBAT)$/, "$1")]?.(data, event) ?? name}`;
+    return `${who} ${DID[plainName(name)]?.(data, event, told) ?? name}`;
 }
+
+/** Returns how often a step executed each local instruction, in words; empty for one alone.
+ * @param {Map<string, number> | null} counts */
+export const tallied = counts => counts ? [...counts].sort(([, one], [, other]) => other - one).map(([name, count]) => `${count} ${name}`).join(", ") : "";
 
 /** Returns a datum's content in words.
  * @param {Datum} datum */
@@ -116,7 +146,7 @@ function runningOf(run, actor, frame, places) {
     const named = (/** @type {string} */ register) => nameAt(names, procedure, line, register), held = new Map(places.get(line) ?? []);
     const values = frame.values.map((value, k) => ({key: `${actor} v${k}`, cells: [named(`v${k}`), program[procedure].regs[k], shown(value)]}));
     const rights = frame.rights.flatMap((id, k) => id ? [{key: `${actor} d${k}`, datum: id, cells: [named(`d${k}`), held.get(`d${k}`) ?? "right", dataName(run, id)]}] : []);
-    const loops = frame.loops.length ? `; ${frame.loops.map(({left}) => left).join(", ")} turn${frame.loops.length > 1 || frame.loops[0].left > 1 ? "s" : ""} left` : "";
+    const loops = frame.loops.length ? `; ${frame.loops.map(({left}) => left).join(" and ")} turn${frame.loops.length > 1 || frame.loops[0].left > 1 ? "s" : ""} left` : "";
     return {actor, title: `task ${frame.task}: ${callName(source, procedure)}`, line, next: statement(run, line), values, rights, spent: `${frame.spent} instruction${frame.spent === 1 ? "" : "s"} done${loops}`};
 }
 

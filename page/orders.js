@@ -1,61 +1,105 @@
 // @ts-check
 // SPDX-License-Identifier: Apache-2.0
-// Another order: runs the program in an order of events that follows from a seed, and compares the outputs with those in turn.
-import {$} from "./dom.js";
-import {orderOf} from "./order.js";
-import {counted} from "./verdict.js";
+// Other orders of events, each by a seed of the library's: shows one, looks for one with other outputs, and asks whether there can be one.
+import {$, h} from "./dom.js";
+import {readOrder} from "./replies.js";
+import {counted, grouped} from "./verdict.js";
 
 /** What can be run.
- * @typedef {{text: string, words: string[], limit: number, outputs: string[], setting: import("./run.js").Setting}} Runnable */
+ * @typedef {{text: string, words: string[], limit: number, outputs: string[], checked: import("./app.js").Checked, setting: import("./run.js").Setting}} Runnable */
 
-/** The most events of such a run; the page makes them itself. */
-const MOST = 100000;
+/** The orders among which another result is looked for. */
+const TRIED = 1000;
+
+/** Returns the words that ask for an order.
+ * @param {number} seed 0 for the order in turn */
+export const ordered = seed => seed ? ["--in-turn", "--seed", String(seed)] : [];
 
 export class Orders {
-    /** @param {import("./library.js").Library} library @param {() => Promise<Runnable | null>} runnable @param {(setting: import("./run.js").Setting, trace: string) => Promise<void>} show
-     * @param {(busy: boolean) => void} busy called when such a run begins and ends; it ends if `stopped` is set */
-    constructor(library, runnable, show, busy) {
+    /** @param {import("./library.js").Library} library @param {() => Promise<Runnable | null>} runnable
+     * @param {(seed: number) => Promise<string | null>} run runs an order, shows it and returns its report
+     * @param {(line: number) => void} lead leads to a line @param {(done: number, all: number) => void} progress */
+    constructor(library, runnable, run, lead, progress) {
         this.library = library;
         this.runnable = runnable;
-        this.show = show;
-        this.busy = busy;
-        this.seed = 0;
+        this.run = run;
+        this.lead = lead;
+        this.progress = progress;
+        /** The seed of the run that is shown. */
+        this.shown = 0;
+        /** The seed that was tried last. */
+        this.tried = 0;
         this.same = 0;
-        this.stopped = false;
+        $("another").addEventListener("click", () => this.busy(this.another()));
+        $("other-result").addEventListener("click", () => this.busy(this.search()));
+        $("only-result").addEventListener("click", () => this.busy(this.only()));
     }
 
-    /** Begins to count anew, with another program or other inputs. */
-    forget() {
-        this.seed = this.same = 0;
-        $("order").textContent = "";
+    /** Marks the page as busy; app.js replaces it.
+     * @param {Promise<void>} work */
+    busy(work) { return work; }
+
+    /** Notes which run is shown. One in turn begins to count anew.
+     * @param {number} seed */
+    began(seed) {
+        this.shown = seed;
+        if (!seed) this.tried = this.same = 0;
+        $("order").textContent = seed ? `Order ${grouped(seed)}.` : "";
     }
 
-    /** Runs the next order, shows it, and says whether the outputs are the same. */
+    /** Returns the outputs of an order without showing it; null if it was stopped.
+     * @param {Runnable} it @param {number} seed */
+    async outputs({text, words, limit}, seed) {
+        const reply = await this.library.session(["run", "--text", "--limit", String(limit), ...ordered(seed), ...words], text);
+        return reply && !reply.failed ? outputsIn(reply.text) : null;
+    }
+
+    /** Runs the next order, shows it, and says whether the outputs are those in turn. */
     async another() {
         const it = await this.runnable();
         if (!it) return;
-        const seed = ++this.seed, most = Math.min(it.limit, MOST);
-        this.stopped = false;
-        $("order").textContent = "running in another order ..";
-        this.busy(true);
-        const {trace, ended} = await orderOf(it.setting, seed, most, () => this.stopped);
-        this.busy(false);
-        const inTurn = await this.library.session(["run", "--text", "--limit", String(it.limit), ...it.words], it.text);
-        const replayed = await this.library.session(["replay", "--text", ...it.words], `${it.text}\nevents\n${trace}end\n`);
-        if (!inTurn || !replayed) { $("order").textContent = "stopped"; return; }
-        const same = outputsIn(inTurn.text) === outputsIn(replayed.text);
-        if (ended && same) this.same++;
-        await this.show(it.setting, trace);
-        $("order").textContent = this.said(seed, trace, ended, same);
+        const seed = this.tried = Math.max(this.tried, this.shown) + 1, inTurn = await this.outputs(it, 0), report = inTurn === null ? null : await this.run(seed);
+        if (report === null) { $("order").textContent = "stopped"; return; }
+        const same = inTurn === outputsIn(report);
+        if (same) this.same++;
+        this.say(seed, same);
     }
 
     /** Says what came of an order.
-     * @param {number} seed @param {string} trace @param {boolean} ended @param {boolean} same */
-    said(seed, trace, ended, same) {
-        const events = counted(trace.split("\n").length - 1, "event");
-        if (!ended) return `Order ${seed}: ended after ${events}, before its end.`;
+     * @param {number} seed @param {boolean} same */
+    say(seed, same) {
         const what = same ? "the outputs are the same" : "the outputs differ: two tasks wanted one subscript, and the first got it. See the insertions that were refused";
-        return `Order ${seed}: ${events}, ${what}.${seed > 1 ? ` Of ${seed} orders ${this.same} had the outputs of the run in turn.` : ""}`;
+        $("order").textContent = `Order ${grouped(seed)}: ${what}.${this.tried > 1 && seed === this.tried ? ` Of ${grouped(seed)} orders ${grouped(this.same)} had the outputs of the run in turn.` : ""}`;
+    }
+
+    /** Shows the first order whose outputs aren't those in turn, of some. */
+    async search() {
+        const it = await this.runnable(), inTurn = it && await this.outputs(it, 0);
+        if (!it) return;
+        for (let seed = 1; seed <= TRIED; seed++) {
+            this.progress(seed, TRIED);
+            $("order").textContent = `Order ${grouped(seed)} of ${grouped(TRIED)} is tried ..`;
+            const outputs = inTurn === null ? null : await this.outputs(it, seed);
+            if (outputs === null) { this.progress(0, 0); $("order").textContent = "stopped"; return; }
+            if (outputs !== inTurn) { await this.run(seed); this.say(seed, false); return; }
+        }
+        this.progress(0, 0);
+        $("order").textContent = `${counted(TRIED, "order")} had the outputs of the run in turn.`;
+    }
+
+    /** Says whether outputs can depend on the order of events, and leads to the line that may make them. */
+    async only() {
+        const it = await this.runnable(), reply = it && await this.library.session(["run", "--text", "--order", "--limit", String(it.limit), ...it.words], it.text);
+        if (!it) return;
+        const order = reply && readOrder(reply.text, it.checked.source);
+        $("order").replaceChildren(...order ? this.answer(order, it.checked.source) : ["stopped"]);
+    }
+
+    /** @param {import("./replies.js").EventOrder} order @param {import("./source.js").Source} source */
+    answer({same, line}, source) {
+        if (same) return ["This is the only result: no order of events has other outputs."];
+        const leads = h("button.link", {id: "contested", onclick: () => this.lead(line)}, `line ${line + 1}`);
+        return ["There may be other results: tasks may want one subscript in ", leads, `, ${(source.text[line] ?? "").trim()}.`];
     }
 }
 

@@ -1,22 +1,25 @@
 // @ts-check
 // SPDX-License-Identifier: Apache-2.0
-// The reader's own programs. A program is one's own once it is edited: an example, or a link of somebody else's, isn't. They are saved in the browser's
-// storage, which takes them at once, also when the page is closed, and in its database: a page in another process of a busy browser may be shown an older
-// storage. Of two copies of a program the later one counts.
+// The reader's own programs, which are never dropped, and changed examples that weren't kept, which are for a month. The browser's database has all of
+// them. Its storage has the last ones, since it takes them at once, also when the page is closed: a page in another process of a busy browser may be shown
+// an older storage. Of two copies of a program the later one counts. A deleted one leaves a mark, so that no other page brings it back.
 import {whole} from "./share.js";
 
 /** @typedef {import("./share.js").Kept} Kept */
-/** A program of the reader's own: its contents, a number that stays while it is edited, and when it was edited last.
- * @typedef {Kept & {id: number, when: number}} Own */
+/** A program: its contents, a number that stays while it is edited, when it was edited last, the name that the reader gave it, whether it is kept
+ * as an own program, and whether it is deleted.
+ * @typedef {Kept & {id: number, when: number, name: string, kept: boolean, gone: boolean}} Own */
 
-const KEY = "yuglemit own", MOST = 12, PATIENCE = 2000;
+const KEY = "yuglemit own", STORED = 12, PATIENCE = 2000, MONTH = 30 * 86400000;
 /** The programs out of the database, and those that this page has saved.
  * @type {Map<number, Own>} */
 const known = new Map();
+/** The numbers of those that the database has. */
+const based = new Set();
 
-/** Reads programs that were saved; what isn't one is left out.
+/** Reads programs that were saved; what isn't one is left out. Those of earlier versions are own ones.
  * @param {any} all @returns {Own[]} */
-const read = all => Array.isArray(all) ? all.flatMap(it => { const kept = whole(it); return kept ? [{...kept, id: Number(it.id), when: Number(it.when)}] : []; }) : [];
+const read = all => Array.isArray(all) ? all.flatMap(it => { const kept = whole(it); return kept ? [{...kept, id: Number(it.id), when: Number(it.when), name: String(it.name ?? ""), kept: it.kept !== false, gone: it.gone === true}] : []; }) : [];
 
 /** Returns the programs of the storage.
  * @returns {Own[]} */
@@ -28,23 +31,34 @@ function stored() {
     }
 }
 
-/** Returns the own programs, the last edited first.
+/** Returns all records, the last edited first.
  * @returns {Own[]} */
-export function owns() {
+function records() {
     const all = new Map(known);
     for (const it of stored()) if ((all.get(it.id)?.when ?? 0) <= it.when) all.set(it.id, it);
-    return [...all.values()].sort((one, other) => other.when - one.when).slice(0, MOST);
+    return [...all.values()].sort((one, other) => other.when - one.when);
 }
 
-/** Saves an own program, in place of its earlier text. Returns whether the storage has it; the oldest programs give way.
- * @param {Own} own */
-export function keepOwn(own) {
-    const others = owns().filter(it => it.id !== own.id).slice(0, MOST - 1);
+/** Returns the programs that aren't deleted, the last edited first. */
+export const owns = () => records().filter(it => !it.gone);
+
+/** Saves a program, in place of its earlier text. Returns whether the database or the storage has it.
+ * @param {Own} own @returns {Promise<boolean>} */
+export async function keepOwn(own) {
     known.set(own.id, own);
-    inBase("readwrite", store => { store.put(own); });
-    for (let count = others.length; count >= 0; count = count ? count >> 1 : -1) {
+    based.delete(own.id);
+    const written = store(own), kept = await inBase("readwrite", base => { base.put(own); });
+    if (kept) based.add(own.id);
+    return written || kept;
+}
+
+/** Writes a program into the storage, where those that the database has give way. Returns whether there was space.
+ * @param {Own} own */
+function store(own) {
+    const others = records().filter(it => it.id !== own.id), must = others.filter(it => !based.has(it.id)), may = others.filter(it => based.has(it.id)).slice(0, STORED);
+    for (let count = may.length; count >= 0; count = count ? count >> 1 : -1) {
         try {
-            localStorage.setItem(KEY, JSON.stringify([own, ...others.slice(0, count)]));
+            localStorage.setItem(KEY, JSON.stringify([own, ...must, ...may.slice(0, count)]));
             return true;
         } catch {
             // There isn't space for so many.
@@ -53,41 +67,48 @@ export function keepOwn(own) {
     return false;
 }
 
-/** Does something with the database's store; without a database nothing happens.
- * @param {IDBTransactionMode} mode @param {(store: IDBObjectStore) => void} act */
-function inBase(mode, act) {
+/** Does something with the database's store. Returns whether it was done.
+ * @param {IDBTransactionMode} mode @param {(store: IDBObjectStore) => void} act @returns {Promise<boolean>} */
+const inBase = (mode, act) => new Promise(done => {
     try {
         const asked = indexedDB.open(KEY, 1);
         asked.onupgradeneeded = () => { asked.result.createObjectStore("programs", {keyPath: "id"}); };
+        asked.onerror = () => done(false);
         asked.onsuccess = () => {
             const moved = asked.result.transaction("programs", mode);
-            act(moved.objectStore("programs"));
-            moved.oncomplete = moved.onabort = () => asked.result.close();
+            moved.oncomplete = moved.onabort = ({type}) => { asked.result.close(); done(type === "complete"); };
+            try { act(moved.objectStore("programs")); } catch { moved.abort(); }
         };
     } catch {
-        // The database is blocked.
+        done(false); // The database is blocked.
     }
-}
+});
 
-/** Reads the database, and drops its oldest programs. It doesn't wait for long.
+/** Reads the database, and takes out what is no longer wanted there. It doesn't wait for long.
  * @returns {Promise<void>} */
 export const load = () => new Promise(done => {
     setTimeout(done, PATIENCE);
-    inBase("readwrite", store => {
-        const asked = store.getAll();
+    inBase("readwrite", base => {
+        const asked = base.getAll();
         asked.onsuccess = () => {
-            const all = read(asked.result).sort((one, other) => other.when - one.when);
-            for (const it of all.slice(MOST)) store.delete(it.id);
-            for (const it of all.slice(0, MOST)) known.set(it.id, it);
-            done();
+            for (const it of read(asked.result)) {
+                if ((it.gone || !it.kept) && Date.now() - it.when > MONTH) { base.delete(it.id); continue; }
+                known.set(it.id, it);
+                based.add(it.id);
+            }
         };
-    });
-    if (typeof indexedDB !== "object") done();
+    }).then(() => done());
 });
 
-/** Returns what an own program is called in a list: its first remark, or its first line, and when it was edited.
+/** Returns what a program is called in a list: its name, its first remark or its first line, and when it was edited.
  * @param {Own} own */
-export function ownTitle({text, when}) {
-    const lines = text.split("\n", 50).map(it => it.trim()), first = lines.find(it => it.startsWith(";"))?.replace(/^;+\s*/, "") || lines.find(it => it && it !== "names") || "empty";
-    return `${first.slice(0, 40)} (${new Date(when).toLocaleString([], {day: "numeric", month: "short", hour: "2-digit", minute: "2-digit"})})`;
+export function ownTitle({text, when, name}) {
+    return `${name || firstOf(text)} (${new Date(when).toLocaleString([], {day: "numeric", month: "short", hour: "2-digit", minute: "2-digit"})})`;
+}
+
+/** Returns a text's first remark, or else its first line.
+ * @param {string} text */
+export function firstOf(text) {
+    const lines = text.split("\n", 50).map(it => it.trim());
+    return (lines.find(it => it.startsWith(";"))?.replace(/^;+\s*/, "") || lines.find(it => it && it !== "names") || "empty").slice(0, 40);
 }

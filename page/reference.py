@@ -1,5 +1,5 @@
 # SPDX-License-Identifier: Apache-2.0
-"""Makes the page's reference of the instructions, out of the code's own table (tools/instructions.py, crates/tw_code/src/opcode.rt), the tables of
+"""Makes the page's reference of the instructions, out of the code's own table (./dev instructions, crates/tw_code/src/opcode.rt), the tables of
 docs/MACHINE.md and the examples of lessons.txt. It fails if one of these lacks an instruction, so the page can't be older than they are."""
 
 from __future__ import annotations
@@ -26,8 +26,8 @@ class Row(NamedTuple):
 
 def words_of(root: Path) -> dict[str, list[str]]:
     """Returns the instructions by their names in assembly, each with the forms of its operands, as opcode.rt has them."""
-    sys.path.insert(0, str(root / "tools"))
-    instructions = importlib.import_module("instructions")
+    sys.path.insert(0, str(root))
+    instructions = importlib.import_module("tools.sources.instructions")
     text = (root / instructions.OPCODES).read_text(encoding="utf-8")
     named = dict(re.findall(r'Opcode::(\w+) => "(\w+)"', text))
     forms = {name: re.findall(r"\w+", some) for names, some in re.findall(r"((?:Opcode::\w+(?: \| )?)+) => &\[(.*?)\],", text) for name in re.findall(r"::(\w+)", names)}
@@ -63,19 +63,8 @@ def rows_of(section: str) -> dict[str, Row]:
                 found[name] = Row(f"{name} {own[1] if own and own[1] else operands}".strip(), rest["Does"], rest.get("Requires", rest.get("The verifier requires", "")), rest.get("Refused, and skips", ""), rest.get("and leaves", ""))
     for name, known in found.items():
         does = found[re.sub("^T", "", name)].does if known.does == "likewise" else known.does
-        found[name] = known._replace(does=does, refused=known.refused or refusal(section, name))
+        found[name] = known._replace(does=does)
     return found
-
-
-def refusal(section: str, name: str) -> str:
-    """Returns when an instruction on data is refused, as the text above their table says it."""
-    said = re.search(r"((?:\w+, )+\w+ and \w+) are refused, and skip, if their call is; (\w+ and \w+) if\s+(.*?);\s+(\w+) if\s+(.*?),\s+and (\w+) if (.*?); no\s+other ever is", section, re.S)
-    if not said:
-        raise ValueError("docs/MACHINE.md says in another form which instructions are refused")
-    calls, subscripts, why, puts, taken, reads, missing = (" ".join(it.split()) for it in said.groups())
-    causes = {puts: taken, reads: missing, **dict.fromkeys(subscripts.split(" and "), why)}
-    causes.update({it: "the subscript is taken" if it.endswith("INS") else "there is no such subscript" for it in re.findall(r"[A-Z]+", calls)})
-    return f"if {causes[name]}" if name in causes else "never"
 
 
 def started(section: str) -> dict[str, Row]:
@@ -83,14 +72,14 @@ def started(section: str) -> dict[str, Row]:
     found: dict[str, Row] = {}
     said = re.search(r"\*\*RULE and PUT\*\* (name a task: .*?\))", section, re.S)
     makes = re.search(r"PUT makes the task at once, RULE a rule for\s+it\. .*?emptied\.", section, re.S)
-    requires = {cells(line)[0]: cells(line)[2] for line in re.findall(r"^\| (?:RULE|PUT) \|.*$", section, re.M)}
+    needs = "; ".join(f"{what} ({codes})" for head, *rows in tables(section) if head[-1] == "Else" for what, codes in rows)
     ends = re.search(r"\*\*RET\*\* (ends the task): (.*?)\.$", section, re.M)
-    if not (said and makes and requires and ends):
+    if not (said and makes and needs and ends):
         raise ValueError("docs/MACHINE.md says RULE, PUT or RET in another form")
     for name in ("RULE", "PUT", "RULEV", "PUTV"):
         kind, more = name.rstrip("V"), " The priority is read from an int register." if name.endswith("V") else ""
         does = ("makes a rule: the task begins when its closed data are" if kind == "RULE" else "makes a task at once") + f". {' '.join(makes[0].split())}{more}"
-        found[name] = Row(f"{name} procedure priority target arguments", does, requires[kind].replace("also ", "like RULE, and ", 1), "never", "the named right registers empty")
+        found[name] = Row(f"{name} procedure priority target arguments", does, needs, "never", "the named right registers empty")
     found["RET"] = Row("RET", ends[1], ends[2], "never", "")
     return found
 

@@ -20,9 +20,9 @@ export function readVerdict(text, source) {
     return {accepted, budgets, engines: +(needs?.[1] ?? 0), workers: +(needs?.[2] ?? 0), order: readOrder(text, source), rejection: accepted ? null : readRejection(text, source), text};
 }
 
-/** Reads the last line of `check --order`; null if there is none.
+/** Reads the line of `check --order` or `run --order`; null if there is none.
  * @param {string} text @param {Source} source @returns {EventOrder | null} */
-function readOrder(text, source) {
+export function readOrder(text, source) {
     const found = /^order (?:same|may show in procedure (\d+) at place (\d+))$/m.exec(text);
     return found && {same: found[1] === undefined, line: source.places[+found[1]]?.[+found[2]] ?? -1};
 }

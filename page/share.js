@@ -2,8 +2,9 @@
 // SPDX-License-Identifier: Apache-2.0
 // Saves the page's contents in the address.
 
-/** The page's contents: text, inputs, layout (engines, servers, workers, limit), event, and the example's name if the text is unchanged.
- * @typedef {{text: string, inputs: string[], layout: number[], event: number, example: string}} Kept */
+/** The page's contents: text, inputs, layout (engines, servers, workers, limit), event, the example's name if the text is unchanged, and the seed of the
+ * order of the run that is shown; 0 for the one in turn.
+ * @typedef {{text: string, inputs: string[], layout: number[], event: number, example: string, seed: number}} Kept */
 
 const LONGEST_LINK = 30000, LONGEST_TEXT = 1 << 20;
 
@@ -48,7 +49,7 @@ export function whole(it) {
     const good = it && typeof it.text === "string" && Array.isArray(it.inputs) && Array.isArray(it.layout) && it.layout.length === 4;
     if (!good) return null;
     const layout = [4, 4, 16, 1000000].map((most, k) => within(it.layout[k], 1, most));
-    return {text: it.text, inputs: it.inputs.slice(0, 16).map(String), layout, event: within(it.event, 0, 1000000), example: String(it.example ?? "")};
+    return {text: it.text, inputs: it.inputs.slice(0, 16).map(String), layout, event: within(it.event, 0, 1000000), example: String(it.example ?? ""), seed: within(it.seed ?? 0, 0, 1000000000)};
 }
 
 /** Decodes contents; null if they are broken.

@@ -11,7 +11,7 @@
 /** The words of the editors' grammar, by their group.
  * @typedef {Record<string, string>} Grammar */
 
-/** The words that tools/tw.vim colours, by group; the build puts them here. */
+/** The words that script/install/tw.vim colours, by group; the build puts them here. */
 export const GRAMMAR = /** @type {Grammar} */ (/*@GRAMMAR@*/ {});
 
 const MODES = ["val", "closed", "ref", "write"];

@@ -2,7 +2,8 @@
 // SPDX-License-Identifier: Apache-2.0
 // Steps through a run: plays it, moves forward and back, and shows each event in the program, the state and the timeline.
 import {$, h} from "./dom.js";
-import {actorName, computed, dataName, sentence, viewOf} from "./model.js";
+import {tally} from "./machine.js";
+import {actorName, computed, dataName, sentence, tallied, toldOf, viewOf} from "./model.js";
 import {diagramOf} from "./diagram.js";
 import {grouped} from "./verdict.js";
 import {show} from "./view.js";
@@ -14,6 +15,8 @@ import {show} from "./view.js";
 
 /** Data that can be picked in the list of what to step through, and milliseconds between two looks at a run that grows. */
 const PICKED = 300, SELDOM = 700;
+/** The most local instructions of a step that are counted by their names. */
+const COUNTED = 300000;
 
 export class Stepper {
     /** @param {Editor} editor @param {() => void} moved called when another event is shown */
@@ -137,11 +140,13 @@ export class Stepper {
         $("on").focus();
     }
 
-    /** Returns the view of the state before an event, and what an actor's value registers are there.
+    /** Returns the view of the state before an event, what its actor's value registers are there, and which local instructions it then executes.
      * @param {Run} run @param {number} event */
     before(run, event) {
         const known = this.viewed?.run === run && this.viewed.event === event - 1 ? this.viewed.view : null, state = run.at(event - 1);
-        return {view: known ?? viewOf(run, state, event - 1, this.places), values: [...state.frames.get(run.track.actorOf(event))?.values ?? []]};
+        const frame = state.frames.get(run.track.actorOf(event)), {kind, count, procedure} = run.track.fact(event);
+        const counts = frame && kind === "local" && count > 1 && count <= COUNTED ? tally(run.setting.program[procedure], frame, count) : null;
+        return {view: known ?? viewOf(run, state, event - 1, this.places), values: [...frame?.values ?? []], counts};
     }
 
     /** Shows an event, and the state after it.
@@ -154,15 +159,27 @@ export class Stepper {
         const before = event ? this.before(run, event) : null, state = run.at(event), happened = event ? run.event(event) : null;
         const now = viewOf(run, state, event, this.places);
         this.viewed = {run, event, view: now};
-        const sum = happened && before ? computed(run, happened, before.values, state.frames.get(happened.actor)?.values ?? []) : "";
         $("at").textContent = this.position;
-        $("what").textContent = happened ? `${sentence(run, happened)}${sum && `: ${sum}`}` : "Nothing has happened yet: main waits for an engine.";
+        $("what").replaceChildren(...happened && before ? this.told(run, happened, before, state) : ["Nothing has happened yet: main waits for an engine."]);
         this.slider.setAttribute("aria-valuetext", `${$("at").textContent}: ${$("what").textContent}`);
         show(now, before?.view ?? now, diagramOf(run, state), {pickDatum: id => this.pick(`d${id}`), pickLine: line => this.online(line)});
         this.light(happened, now.running);
         this.timeline?.point(event);
         this.buttons();
         this.moved();
+    }
+
+    /** Returns an event's sentence with its values, in which each datum can be picked.
+     * @param {Run} run @param {Event} event @param {{values: import("./values.js").Scalar[], counts: Map<string, number> | null}} before @param {import("./machine.js").State} state */
+    told(run, event, {values, counts}, state) {
+        const sum = computed(run, event, values, state.frames.get(event.actor)?.values ?? []) || tallied(counts), words = `${sentence(run, event, toldOf(run, event, values, state))}${sum && `: ${sum}`}`;
+        /** @type {(string | HTMLElement)[]} */
+        let parts = [words];
+        for (const id of new Set(event.data)) {
+            const name = dataName(run, id);
+            parts = parts.flatMap(part => typeof part === "string" ? part.split(name).flatMap((it, k) => k ? [h("button.link", {title: `step through the events of datum ${id}`, onclick: () => this.pick(`d${id}`)}, name), it] : [it]) : [part]);
+        }
+        return parts;
     }
 
     /** Lights the event's lines, and marks where actors go on.

@@ -96,7 +96,7 @@ async function firstSight(reader, page) {
     say((await reader.js('document.activeElement === document.body')), "something has the focus");
     const {length} = zlib.gzipSync(fs.readFileSync(index), {level: 9});
     console.log(`ready after ${after} ms, ${length} bytes compressed`);
-    say(length < 700000, "the page is too large", length);
+    say(length < 750000, "the page is too large", length);
 }
 
 // Each example runs at the first click, with what the page has for it, and as tw runs it.
@@ -143,7 +143,7 @@ async function steps(reader) {
         if (/makes middle/.test(shown)) say(/middle.*int.*not yet written.*open.*1 \/ 1/s.test(await reader.seen("[aria-label='data that are alive'] tr.changed")), "no new datum", await reader.seen("#data"));
         say((await reader.js('document.querySelectorAll("#lanes .now").length')) === 1, "the timeline doesn't follow", k);
     }
-    for (const part of ["takes task 1: main", "makes rule 2", "not yet, so the rule waits", "turns rule 2 into task 2", "stores a value in middle (datum 3), which closes it", "notifies rule 1 that middle (datum 3) is closed", "ends task 3"]) say(seen.some(it => it.includes(part)), "no event", part, seen);
+    for (const part of ["takes task 1: main", "makes rule 2", "not yet, so the rule waits", "turns rule 2 into task 2", "stores 6 in middle (datum 3), which closes it", "notifies rule 1 that middle (datum 3) is closed", "ends task 3"]) say(seen.some(it => it.includes(part)), "no event", part, seen);
     await reader.click("#back");
     say((await reader.seen("#at")) === `event ${all - 1} of ${all}`, "no step back");
     await reader.click("#first");
@@ -156,7 +156,7 @@ async function steps(reader) {
     await reader.js('(() => { const it = document.getElementById("text"), at = it.value.indexOf("STORE to"); it.focus(); it.setSelectionRange(at, at); })()');
     await reader.choose("by", "line");
     await reader.click("#on");
-    say((await reader.seen("#what")).includes("stores a value"), "no event of a line", await reader.seen("#what"));
+    say(/stores \d+ in /.test(await reader.seen("#what")), "no event of a line", await reader.seen("#what"));
     await reader.click("#gutter [data-line='16']");
     say((await reader.seen("#what")).includes("ends task"), "a line's number goes nowhere", await reader.seen("#what"));
     say(/^\d+: /.test(await reader.js('document.querySelector("#lanes .mark title").textContent')), "a mark has no text");
@@ -284,17 +284,38 @@ async function tour(reader) {
 async function downloads(reader) {
     const room = fs.mkdtempSync(path.join(os.tmpdir(), "downloads-"));
     await reader.page.ask("Browser.setDownloadBehavior", {behavior: "allow", downloadPath: room});
-    await reader.go(`${address}?example=pipeline`);
+    await reader.go(`${address}?example=pipeline`); await reader.key("Shift");
     const words = await fieldWords(reader), text = await reader.value("text"), run = ["run", "--text", "--in-turn"];
     const trace = native([...run, "--trace", ...words], text).text.match(/^events\n[^]*?^end\n/m)[0];
-    const wanted = {twn: text, hex: native(["asm", "--names"], text).text, txt: native([...run, ...words], text).text, history: `${text}\n${trace}`};
+    const wanted = {twn: text, hex: native(["asm", "--names"], text).text, txt: native([...run, ...words], text).text, history: `${native(["asm", "--names"], text).text}${trace}`};
     for (const what of ["text", "bytes", "report", "trace", "timeline"]) await reader.click(`[data-give=${what}]`);
-    wanted.svg = native(["picture", "--text", ...words], wanted.history).text;
+    wanted.svg = native(["picture", "--text", ...words], `${text}\n${trace}`).text;
     for (let k = 0; k < 100 && fs.readdirSync(room).filter(it => /^pipeline\.(twn|hex|txt|history|svg)$/.test(it)).length < 5; k++) await new Promise(go => setTimeout(go, 50));
     for (const [ending, is] of Object.entries(wanted)) say(fs.existsSync(`${room}/pipeline.${ending}`) && fs.readFileSync(`${room}/pipeline.${ending}`, "utf8") === is, "another file", ending, fs.readdirSync(room));
+    say(native(["replay", `${room}/pipeline.history`, ...words.filter(it => !it.startsWith("--limit"))], "").text === wanted.txt, "the trace isn't replayed from its file");
+    await reader.click("[data-give=trace]");
+    const lines = [await reader.seen("#command code")];
+    await reader.click("[data-give=chrome]");
+    await reader.page.until("true", 1); for (let k = 0; k < 100 && !fs.existsSync(`${room}/pipeline.json`); k++) await new Promise(go => setTimeout(go, 50));
+    chromeShape(JSON.parse(fs.readFileSync(`${room}/pipeline.json`, "utf8")).traceEvents, trace.split("\n").length - 3);
     await reader.click("#stats");
     say((await reader.seen("#numbers")) === native([...run, "--stats", ...words], text).text.trim(), "other numbers");
+    await reader.click("#another");
+    fs.rmSync(`${room}/pipeline.history`); fs.rmSync(`${room}/pipeline.txt`); fs.rmSync(`${room}/pipeline.hex`);
+    for (const what of ["report", "trace", "bytes"]) { await reader.click(`[data-give=${what}]`); lines.push(await reader.seen("#command code")); }
+    for (let k = 0; k < 100 && fs.readdirSync(room).filter(it => /^pipeline\.(txt|history|hex)$/.test(it)).length < 3; k++) await new Promise(go => setTimeout(go, 50));
+    say(fs.readFileSync(`${room}/pipeline.history`, "utf8").includes(native([...run, "--trace", "--seed", "1", ...words], text).text.match(/^events\n[^]*?^end\n/m)[0]), "not the order's trace");
+    for (const line of [lines[2], lines[3]]) say(spawnSync("sh", ["-c", line.replace(/^tw/, path.resolve(tw))], {cwd: room}).stdout.toString() === fs.readFileSync(`${room}/pipeline.txt`, "utf8"), "the command prints otherwise", line);
     fs.rmSync(room, {recursive: true, force: true});
+}
+
+// A trace for Chrome has a slice for each task, an instant for each event, and each arrow's two ends.
+function chromeShape(all, events) {
+    const of = ph => all.filter(it => it.ph === ph);
+    say(of("i").length === events && of("i").every((it, k) => it.ts === k + 1 && it.tid > 0), "other instants", of("i").length, events);
+    say(of("X").length > 1 && of("X").every(it => it.dur > 0 && it.ts > 0 && it.name), "other slices");
+    say(of("s").length > 0 && String(of("s").map(it => it.id)) === String(of("f").map(it => it.id)), "arrows without an end");
+    say(of("M").filter(it => it.name === "thread_name").length === new Set(all.filter(it => it.tid).map(it => it.tid)).size, "rows without a name");
 }
 
 // Long checks can be stopped; long texts are shown.
@@ -329,7 +350,7 @@ async function everywhere(reader) {
     for (const it of touched) say(it.name?.value, "no name", it.role.value, JSON.stringify(it.properties));
     await reader.js("document.activeElement.blur(), scrollTo(0, 0)");
     const reached = new Set();
-    for (let k = 0; k < 90; k++) { await reader.page.ask("Input.dispatchKeyEvent", {type: "keyDown", key: "Tab", code: "Tab", windowsVirtualKeyCode: 9}); reached.add(await reader.js("document.activeElement.id")); }
+    for (let k = 0; k < 120; k++) { await reader.page.ask("Input.dispatchKeyEvent", {type: "keyDown", key: "Tab", code: "Tab", windowsVirtualKeyCode: 9}); reached.add(await reader.js("document.activeElement.id")); }
     for (const id of ["pick", "tour", "share", "text", "input-0", "engines", "run", "play", "on", "step", "by", "speed", "lanes", "stats"]) say(reached.has(id), "not reached by Tab", id);
     for (const scheme of ["light", "dark"]) {
         await reader.scheme(scheme);
@@ -401,6 +422,11 @@ async function millions(reader) {
     await reader.click("#run"); await reader.key("Shift");
     const step = button => reader.js(`(() => { const from = performance.now(); document.getElementById("${button}").click(); document.body.offsetHeight; return performance.now() - from; })()`);
     await reader.event(50000);
+    const width = () => reader.js('+document.querySelector("#lanes svg").getAttribute("width")');
+    await reader.click("#zoom-all");
+    say(await width() <= await reader.js('document.getElementById("lanes").clientWidth'), "not the whole run", await width());
+    for (let k = 0; k < 14; k++) await reader.js('document.getElementById("lanes").focus(); document.getElementById("lanes").dispatchEvent(new KeyboardEvent("keydown", {key: "+"}))');
+    say(await width() >= 20 * 100000 && await reader.js('(() => { const box = document.getElementById("lanes").getBoundingClientRect(), now = document.querySelector("#lanes .now").getBoundingClientRect(); return now.left >= box.left && now.right <= box.right; })()'), "no zoom", await width());
     for (const button of ["on", "back"]) { const times = []; for (let k = 0; k < 5; k++) times.push(await step(button)); say(Math.min(...times) < 100 * PATIENCE, button, "takes", times); }
     await reader.write("limit", "10000");
 }
@@ -426,7 +452,8 @@ async function own(reader) {
     await reader.click("#redo");
     say((await reader.value("text")) === first.replace("answer", "result"), "no Redo");
     const listed = await reader.js('[...document.querySelectorAll("#pick option")].map(it => [it.value, it.textContent]).filter(([value]) => value.startsWith("own"))');
-    say(listed.length === 2, "not two own programs", listed);
+    say(listed.length === 2, "not two changed examples", listed);
+    say(await reader.js('document.querySelectorAll("#pick optgroup[label=\'Your own programs\']").length') === 0, "a change makes an own program");
     await reader.choose("pick", listed.find(([, title]) => title.startsWith("Mine"))[0]);
     say((await reader.value("text")) === mine, "the list loses one");
     await reader.js('(() => { const it = document.getElementById("text"); it.focus(); it.setSelectionRange(0, 0); document.execCommand("insertText", false, "; last\\n"); })()');
@@ -440,10 +467,113 @@ async function own(reader) {
     say((await texts()).includes("; from another page") && (await texts()).includes("; from this page"), "lost by another page", await texts());
 }
 
+// Own programs have names, and none is dropped: there are more than the storage takes, one is deleted and brought back, and a full browser says so.
+async function programs(reader) {
+    await reader.forget(); await reader.key("Shift");
+    const mine = () => reader.js('[...document.querySelectorAll("#pick optgroup[label=\'Your own programs\'] option")].map(it => it.textContent.replace(/ \\([^(]*\\)$/, ""))'), first = await reader.value("text");
+    await reader.write("text", first.replace("answer", "result"));
+    await reader.click("#name-it");
+    await reader.write("name", "Kept one"); await reader.key("Enter");
+    say(String(await mine()) === "Kept one", "not kept", await mine());
+    for (let k = 2; k <= 16; k++) {
+        await reader.click("#new");
+        await reader.write("text", (await reader.value("text")).replace("A new program.", `Number ${k}`));
+    }
+    await reader.key("Shift"); await new Promise(go => setTimeout(go, 500));
+    await reader.go(address); await reader.key("Shift");
+    say((await mine()).length === 16 && (await mine()).includes("Kept one") && (await mine()).includes("Number 2"), "a program is dropped", await mine());
+    await reader.click("#name-it"); await reader.write("name", "Last"); await reader.key("Enter");
+    say((await reader.seen("#name-it")) === "Rename" && (await mine()).includes("Last"), "not renamed", await mine());
+    const text = await reader.value("text");
+    await reader.click("#delete");
+    say((await mine()).length === 15 && (await reader.value("text")) === first && (await reader.seen("#said")) === "Last is deleted. Undo brings it back.", "not deleted", await mine(), await reader.seen("#said"));
+    await reader.click("#undo"); await reader.key("Shift"); await new Promise(go => setTimeout(go, 500));
+    say((await reader.value("text")) === text && (await reader.value("pick")).startsWith("own "), "no undo of Delete", await reader.value("text"));
+    await reader.go(address); await reader.key("Shift");
+    say((await mine()).length === 16 && (await mine()).includes("Last"), "the undo isn't kept", await mine());
+    await reader.js('Storage.prototype.setItem = () => { throw new DOMException("", "QuotaExceededError"); }; IDBObjectStore.prototype.put = Storage.prototype.setItem; 0');
+    await reader.write("text", `; more\n${text}`);
+    say(await reader.page.until('/storage is full/.test(document.getElementById("said").textContent)', 5000), "a full browser says nothing", await reader.seen("#said"));
+}
+
+// Files are opened: a text, hex text, bytes, and the trace of a run in 24 threads, which is followed.
+async function opening(reader) {
+    const room = fs.mkdtempSync(path.join(os.tmpdir(), "opening-")), race = "proc control write cont int\nregs int int\nINT v1 1\nDUPW d1 d0\nPUT 1 0 any 1 0\nPUT 1 0 any 0 1\nRET\nproc leaf write cont int val int\nregs int int\nNEW d1 d2 int\nSTORE d1 v0\nINS d0 v1 d2 a\nJMP b\na:\nDROPR d2\nb:\nDROPW d0\nRET\n";
+    const hex = native(["asm"], race).text, actors = ["--engines", "4", "--servers", "4", "--workers", "16"], ran = native(["run", "--text", "--trace", ...actors], race).text, trace = ran.match(/^events\n[^]*?^end\n/m)[0], wanted = native(["disasm"], hex).text;
+    const take = async (name, content) => {
+        fs.writeFileSync(`${room}/${name}`, content);
+        const {root} = await reader.page.ask("DOM.getDocument"), {nodeId} = await reader.page.ask("DOM.querySelector", {nodeId: root.nodeId, selector: "#file"});
+        await reader.page.ask("DOM.setFileInputFiles", {files: [`${room}/${name}`], nodeId});
+        await new Promise(go => setTimeout(go, 800)); await reader.ready(); await reader.key("Shift");
+        return reader.value("text");
+    };
+    await reader.forget(); await reader.key("Shift");
+    say((await take("a.tw", race)) === race && (await reader.js('document.getElementById("pick").selectedOptions[0].textContent')).startsWith("a ("), "a text isn't opened", await reader.value("text"));
+    say((await take("b.hex", hex)) === wanted, "hex text isn't opened", await reader.value("text"), await reader.seen("#said"));
+    say((await take("c.bin", Buffer.from(hex.replace(/\s/g, ""), "hex"))) === wanted, "bytes aren't opened", await reader.value("text"));
+    say((await take("d.history", hex + trace)) === wanted && (await reader.seen("#ended")) === `The trace of the file: ${trace.split("\n").length - 3} events.`, "a trace isn't followed", await reader.seen("#ended"));
+    say((await reader.seen("#at")).endsWith(`of ${trace.split("\n").length - 3}`) && ran.endsWith(`${await reader.seen("#out")}\n`), "another run", await reader.seen("#at"), await reader.seen("#out"));
+    const before = await reader.value("text");
+    say((await take("e.hex", "00 01")) === before && (await reader.seen("#said")).startsWith("e.hex isn't a program: refused"), "another file is opened", await reader.seen("#said"));
+    fs.rmSync(room, {recursive: true, force: true});
+}
+
+// Small things that misled: two loops' turns, a tab before a fault, a hint's full stop, an old message, a manual's address.
+async function small(reader) {
+    await reader.go(`${address}?example=row_products`); await reader.key("Shift"); await reader.event(20);
+    say(!/\d, \d+ turns left/.test(await reader.seen("#state")) && /\d and \d+ turns left/.test(await reader.seen("#state")), "turns that read as one number", (await reader.seen("#state")).slice(0, 400));
+    await reader.forget(); await reader.key("Shift");
+    const text = await reader.value("text");
+    await reader.write("text", text.replace("STORE to value  ", "\tSTORE\tto\tvalu  "));
+    const [end, note] = await reader.js('(() => { const fault = document.querySelector("#paint .fault"); return [fault.getBoundingClientRect().right, fault.parentElement.querySelector(".note.bad").getBoundingClientRect().left]; })()');
+    say(note >= end, "the message covers the text", end, note);
+    say(/Refused by N04 in line \d+: [^]*\. Did you mean/.test(await reader.seen("#verdict")), "no full stop before a hint", await reader.seen("#verdict"));
+    await reader.go(`${address}#manual-BUILD-`);
+    say((await reader.seen("#manual-title")) === "Programs in Python", "a link to the manual opens none", await reader.seen("#manual-title"));
+    await reader.js('document.querySelector("#manual-contents li:last-child a").click()');
+    say(!await reader.js('document.getElementById("manual-back").disabled'), "no way back");
+    await reader.write("manual-search", "single-assignment");
+    say((await reader.seen("#manual-found")).startsWith("The machine"), "the manual isn't searched", await reader.seen("#manual-text"));
+    await reader.js('document.querySelector("#manual-found a").click()');
+    say((await reader.seen("#manual-title")) === "The machine", "a place that was found doesn't open");
+    await reader.click("#manual-back"); await reader.click("#manual-back");
+    say((await reader.seen("#manual-title")) === "Programs in Python", "Back leads elsewhere", await reader.seen("#manual-title"));
+    await reader.click("#manual-close");
+    await reader.js('document.getElementById("reference").open = true');
+    await reader.write("search", "add to a map");
+    say((await reader.js('[...document.querySelectorAll("#instructions > details:not([hidden])")].map(it => it.id)')).includes("instruction-MADD"), "a search by words finds nothing", await reader.seen("#found"));
+    say(await reader.js('fetch === fetch && !document.querySelector("[inert]")'), "the page can't be used");
+    await reader.go(`${address}?example=words`); await reader.key("Shift");
+    const said = await reader.js('(() => { const it = document.getElementById("step"), all = []; for (let k = 1; k <= Math.min(150, +it.max); k++) { it.value = k; it.dispatchEvent(new Event("input")); all.push(document.getElementById("what").textContent); } return all; })()');
+    for (const part of [/ = /, /stores .* in .*, which closes it/, /computes: \d+ instructions: \d+ [A-Z]+/]) say(said.some(it => part.test(it)), "no values in the sentences", part, said.slice(0, 30));
+    await reader.event(said.findIndex(it => /stores .* in /.test(it)) + 1);
+    await reader.click("#what button.link");
+    say(/^d\d/.test(await reader.value("by")), "a datum of the sentence can't be picked", await reader.value("by"));
+    await reader.size(390, 844);
+    await reader.forget(); await reader.key("Shift"); await reader.event(6);
+    for (const part of ["state", "data", "writing"]) {
+        await reader.js(`document.getElementById("${part}").scrollIntoView({block: "start"})`);
+        say(await reader.js('(() => { const {top, bottom} = document.getElementById("on").getBoundingClientRect(); return top >= 0 && bottom <= innerHeight; })()'), "the steps are out of sight at", part);
+    }
+    await reader.size(1280, 800); await reader.js("scrollTo(0, 0)");
+    say(await reader.js('document.getElementById("data").getBoundingClientRect().top < 700'), "data are below", await reader.js('document.getElementById("data").getBoundingClientRect().top'));
+    await reader.size(2560, 1300); await reader.js("scrollTo(0, 0)");
+    say(await reader.js('new Set(["writing", "running", "data"].map(id => document.getElementById(id).getBoundingClientRect().left)).size === 3 && document.getElementById("data").getBoundingClientRect().right > 2200'), "no three columns");
+    await reader.size(1300);
+}
+
 // Results that are no longer those of the program are dimmed; the verdict promises what is proved.
 async function old_results(reader) {
     await reader.forget(); await reader.key("Shift");
-    say((await reader.seen("#verdict")).startsWith("Accepted: no task of it can fail. A run may still get stuck, or reach its limit."), "another promise", await reader.seen("#verdict"));
+    say((await reader.seen("#verdict")).startsWith("Accepted: no task of it can fail. A run may still get stuck. Budgets"), "another promise", await reader.seen("#verdict"));
+    await reader.write("limit", "10");
+    say((await reader.seen("#verdict")).startsWith("Accepted: no task of it can fail. A run may still get stuck, or reach its limit."), "nothing about the limit", await reader.seen("#verdict"));
+    await reader.write("limit", "10000");
+    await reader.choose("pick", "store_seven"); await reader.key("Shift");
+    say((await reader.seen("#verdict")).startsWith("Accepted: no task of it can fail. Budgets"), "store_seven can't get stuck", await reader.seen("#verdict"));
+    await reader.choose("pick", "store_twice");
+    say((await reader.seen("#state")) === "" && (await reader.seen("#controls")) === "" && !(await reader.seen("#ended")).includes("events"), "another program's run stays", await reader.seen("#ended"));
+    await reader.choose("pick", "first"); await reader.key("Shift");
     say((await reader.seen("#verdict")).endsWith("All its runs that end have the same outputs, in every order of events."), "nothing about the order", await reader.seen("#verdict"));
     say((await reader.seen("#results")) === "answer = 12" && (await reader.seen("#ended")).startsWith("Done: nothing is left to do."), "no outputs in words", await reader.seen("#results"));
     await reader.click("#stats");
@@ -468,7 +598,7 @@ async function learning(reader) {
     say(/Refused, and skips, if it doesn't fit 64 bits/.test(await at("ADD value")), "no refusal of ADD", await at("ADD value"));
     await reader.click("#more");
     say((await reader.seen("#instruction-ADD pre")).includes("ADD one one two refused") && (await reader.seen("#instruction-ADD")).includes("all int"), "no card of ADD", await reader.seen("#instruction-ADD"));
-    const names = await reader.js('[...document.querySelectorAll("#instructions > details")].map(it => it.id.slice(12))'), grammar = fs.readFileSync(path.join(examples, "../tools/tw.vim"), "utf8").match(/twInstruction (.*)/)[1].split(" ");
+    const names = await reader.js('[...document.querySelectorAll("#instructions > details")].map(it => it.id.slice(12))'), grammar = fs.readFileSync(path.join(examples, "../script/install/tw.vim"), "utf8").match(/twInstruction (.*)/)[1].split(" ");
     say(String([...names].sort()) === String([...grammar].sort()), "other instructions", names);
     await reader.write("search", "remainder");
     say((await reader.js('[...document.querySelectorAll("#instructions > details:not([hidden])")].map(it => it.id)')).join() === "instruction-REM", "the search finds otherwise");
@@ -522,18 +652,32 @@ async function completion(reader) {
 async function another(reader) {
     await reader.go(`${address}?example=mapreduce`); await reader.key("Shift");
     const before = await reader.seen("#out"), said = [];
-    for (let k = 1; k <= 3; k++) { await reader.click("#another"); said.push(await reader.seen("#order")); say(new RegExp(`^Order ${k}: [\\d,]+ events, the outputs are the same\\.`).test(said[k - 1]), "another order", said); }
+    for (let k = 1; k <= 3; k++) { await reader.click("#another"); said.push(await reader.seen("#order")); say(said[k - 1].startsWith(`Order ${k}: the outputs are the same.`), "another order", said); }
+    await reader.event(7);
+    const link = await reader.saved(it => it.seed === 3 && it.event === 7), there = await reader.seen("#what");
+    await reader.go(link); await reader.key("Shift");
+    say((await reader.seen("#order")) === "Order 3." && (await reader.seen("#what")) === there, "a link loses the order", await reader.seen("#order"), there);
     await reader.event(+(await reader.js('document.getElementById("step").max')));
     say((await reader.seen("#data")).includes("all is done") && (await reader.seen("#out")) === before, "the order doesn't end", await reader.seen("#data"));
     const race = "proc control write cont int\nregs int int\nINT v1 1\nDUPW d1 d0\nPUT 1 0 any 1 0\nPUT 1 0 any 0 1\nRET\nproc leaf write cont int val int\nregs int int\nNEW d1 d2 int\nSTORE d1 v0\nINS d0 v1 d2 a\nJMP b\na:\nDROPR d2\nb:\nDROPW d0\nRET\n";
     await reader.write("text", race);
     await reader.write("workers", "2");
     await reader.click("#run"); await reader.key("Shift");
-    let differs = 0;
-    for (let k = 0; k < 12; k++) { await reader.click("#another"); if ((await reader.seen("#order")).includes("the outputs differ")) differs++; }
-    say(differs > 0 && differs < 12, "a race has one outcome", differs);
+    await reader.click("#other-result");
+    const [, seed] = /^Order (\d+): the outputs differ/.exec(await reader.seen("#order")) ?? [];
+    say(seed && native(["run", "--text", "--in-turn", "--seed", seed, "--workers", "2"], race).text.trim() === (await reader.seen("#out")) && (await reader.seen("#out")) !== native(["run", "--text", "--in-turn", "--workers", "2"], race).text.trim(), "no other result", await reader.seen("#order"), await reader.seen("#out"));
     await reader.event(+(await reader.js('document.getElementById("step").max')));
     say(/Insertions that were refused\s+event \d+: Worker \d finds the subscript taken/.test(await reader.seen("#data")), "no refused insertion", await reader.seen("#data"));
+    await reader.click("#only-result");
+    say((await reader.seen("#order")).includes("There may be other results"), "no answer", await reader.seen("#order"));
+    await reader.click("#contested");
+    say((await reader.js('(() => { const it = document.getElementById("text"); return it.value.slice(it.selectionStart, it.selectionEnd); })()')) === "INS d0 v1 d2 a", "it leads elsewhere");
+    await reader.go(`${address}?example=barrier`); await reader.key("Shift");
+    await reader.click("#only-result");
+    say((await reader.seen("#order")).startsWith("This is the only result"), "no only result", await reader.seen("#order"));
+    await reader.click("#other-result");
+    await reader.page.until('/^1,000 orders/.test(document.getElementById("order").textContent)', 60000 * PATIENCE);
+    say((await reader.seen("#order")).startsWith("1,000 orders had the outputs"), "not all orders", await reader.seen("#order"));
 }
 
 // Links that lie or are broken do no harm.
@@ -732,7 +876,7 @@ async function screens(reader) {
 const page = await open(address), reader = new Reader(page);
 say(await page.until('document.body?.dataset.state === "ready"', 60000), "the page isn't ready");
 const only = process.env.ONLY?.split(",");
-for (const part of [firstSight, steps, typing, kept, mistakes, tour, downloads, quick, millions, own, old_results, learning, completion, another, links, policy, inputs, diagram, looks, timeline, everywhere, allExamples, long, old, narrowed, screens].filter(it => !only || only.includes(it.name))) {
+for (const part of [firstSight, steps, typing, kept, mistakes, tour, downloads, quick, millions, own, programs, opening, small, old_results, learning, completion, another, links, policy, inputs, diagram, looks, timeline, everywhere, allExamples, long, old, narrowed, screens].filter(it => !only || only.includes(it.name))) {
     const from = Date.now(), failures = failed;
     await part(reader, page).catch(error => say(false, part.name, error.stack));
     console.log(`${part.name}: ${failed === failures ? "well" : "FAILED"}, ${((Date.now() - from) / 1000).toFixed(1)} s`);

@@ -8,7 +8,7 @@ import {callName} from "./source.js";
 
 /** @typedef {import("./run.js").Run} Run */
 
-const LANE = 44, HEAD = 22, WIDEST = 22, LARGEST = 1600000, STRIP = 6, DRAWN = 400;
+const LANE = 44, HEAD = 22, WIDEST = 22, LARGEST = 1600000, ZOOMED = 16000000, STRIP = 6, DRAWN = 400;
 /** The shape of a marker of half size r, by the event's kind: kinds differ by more than their colour.
  * @type {Record<string, (r: number) => string>} */
 export const SHAPES = {
@@ -38,6 +38,8 @@ export class Timeline {
         this.lanes = new Map();
         this.now = 0;
         this.wide = WIDEST;
+        /** The width of a column that the reader chose; 0 if none. */
+        this.chosen = 0;
         this.drawn = "";
         this.bind();
     }
@@ -46,6 +48,8 @@ export class Timeline {
         const {box, strip} = this;
         box.addEventListener("scroll", () => this.draw());
         box.addEventListener("keydown", event => this.key(event));
+        box.addEventListener("wheel", event => { if (event.ctrlKey) { event.preventDefault(); this.zoom(Math.exp(-event.deltaY / 200), event.clientX - box.getBoundingClientRect().left); } }, {passive: false});
+        for (const [id, by] of Object.entries({"zoom-in": 2, "zoom-out": 0.5, "zoom-all": 0})) $(id).addEventListener("click", () => this.zoom(by));
         new ResizeObserver(() => { this.draw(); this.overview(); }).observe(box);
         for (const kind of ["pointerdown", "pointermove"]) strip.addEventListener(kind, event => this.fromStrip(/** @type {PointerEvent} */ (event)));
         $("legend").replaceChildren(...Object.entries(SHAPES).flatMap(([kind, shape]) => [s("svg.key", {viewBox: "-7 -7 14 14"}, s(`path.${kind}`, {d: shape(6)})), CALLED[/** @type {keyof typeof CALLED} */ (kind)], " "]), "· In order, not in time.");
@@ -55,7 +59,7 @@ export class Timeline {
      * @param {Run} run */
     show(run) {
         this.run = run;
-        this.wide = Math.min(WIDEST, LARGEST / Math.max(1, run.length));
+        this.chosen = 0;
         this.lanes = new Map(run.actors.map((actor, k) => [actor, k]));
         this.names.replaceChildren(h("div", {style: `height:${HEAD}px`}), ...run.actors.map(actor => h("div.lane-name", {style: `height:${LANE}px`}, actorName(actor))));
         this.box.scrollLeft = this.outer.scrollTop = 0;
@@ -64,14 +68,27 @@ export class Timeline {
 
     /** Shows more events of the run. */
     grown() {
-        this.wide = Math.min(WIDEST, LARGEST / Math.max(1, this.run?.length ?? 1));
+        this.wide = this.chosen || Math.min(WIDEST, LARGEST / Math.max(1, this.run?.length ?? 1));
         this.drawn = "";
         this.draw();
         this.overview();
     }
 
+    /** Makes the columns wider or narrower, between the whole run in sight and the widest ones.
+     * @param {number} by 0 for the whole run @param {number} at what stays where it is: a place of the box, or else the event */
+    zoom(by, at = this.x(this.now) - this.box.scrollLeft) {
+        const {box, run} = this, length = Math.max(1, run?.length ?? 1), least = Math.min(WIDEST, (box.clientWidth - 20) / length);
+        const here = at < 0 || at > box.clientWidth ? box.clientWidth / 2 : at, event = (box.scrollLeft + here) / this.wide;
+        this.chosen = Math.max(least, Math.min(WIDEST, ZOOMED / length, this.wide * by));
+        this.grown();
+        box.scrollLeft = event * this.wide - here;
+        this.draw();
+    }
+
     /** @param {KeyboardEvent} event */
     key(event) {
+        const by = /** @type {Record<string, number>} */ ({"+": 2, "=": 2, "-": 0.5, "0": 0})[event.key];
+        if (by !== undefined && !event.ctrlKey && !event.metaKey) { event.preventDefault(); this.zoom(by); return; }
         const way = /** @type {Record<string, number>} */ ({ArrowLeft: -1, ArrowRight: 1})[event.key];
         if (!way || !this.run) return;
         event.preventDefault();
@@ -121,7 +138,7 @@ export class Timeline {
 
     /** @param {number} first @param {number} last */
     ticks(first, last) {
-        const every = [1, 2, 5, 10, 20, 50, 100, 200, 500, 1000, 2000, 5000].find(it => it * this.wide >= 60) ?? 10000, all = [];
+        const least = Math.max(1, 60 / this.wide), power = 10 ** Math.floor(Math.log10(least)), every = [1, 2, 5, 10].map(it => it * power).find(it => it >= least) ?? 10 * power, all = [];
         for (let k = Math.ceil(first / every) * every; k <= last; k += every) all.push(s("text.tick", {x: this.x(k), y: 14}, String(k)));
         return all;
     }

@@ -12,7 +12,7 @@ const STEPS = [
     {at: "#editor", title: "A program", words: "It has procedures. A task runs one of them, once, from its head to RET. `main` runs first. Tasks share data, and each datum is written once. Words after a ; are comments."},
     {at: "#verdict", title: "Checked as you type", words: "The checker reads the program at each pause. It follows who may read and write what. No task of a program that it accepts ever fails, and each ends within its budget. Rules may still wait for one another for ever."},
     {at: "#controls", title: "Event by event", words: "A run is a list of events. Play them, or step forward and back. The line of the event is lit in the program, and the margin there shows where each actor continues."},
-    {at: "#state", title: "The state after the event", words: "Here are the running tasks with their registers, and what waits for what. What the event changed is marked. Below the program are the data, with arrows from those who have rights on them."},
+    {at: "#state", title: "The state after the event", words: "Here are the running tasks with their registers, and what waits for what. What the event changed is marked. Above are the data, with arrows from those who have rights on them."},
     {at: "#breaking", title: "Try to break it", words: "Each button plants a mistake, and the checker says which rule refuses it. Undo brings your program back."},
     {at: "#learn", title: "Learn the language", words: "All words and instructions, each with an example to try; and the manual. Help is at the cursor too, and words are completed as you type. Then write your own program, and share it by a link."},
 ];

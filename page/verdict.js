@@ -18,13 +18,19 @@ export const grouped = number => BigInt(number).toLocaleString("en");
 export const counted = (count, noun) => `${grouped(count)} ${noun}${count === 1 ? "" : "s"}`;
 
 /** Returns the sentence of a program that is accepted.
- * @param {Verdict} verdict @param {import("./source.js").Source} source @param {bigint | null} most its events */
-export function accepted({budgets, engines, workers, order}, source, most) {
+ * @param {Verdict} verdict @param {import("./source.js").Source} source @param {bigint | null} most its events
+ * @param {{limit: number, rules: boolean}} run the limit of its events, and whether it has a RULE */
+export function accepted({budgets, engines, workers, order}, source, most, {limit, rules}) {
     const budget = budgets.slice(0, 3).map(it => `${callName(source, it.procedure)} ${grouped(it.budget)}`).join(", "), more = budgets.length > 3 ? " and others" : "";
     const needs = [engines > 1 && `${engines} engines`, workers > 1 && `${workers} workers`].filter(it => it).join(" and ");
     const events = most === null ? "Its tasks start one another in a circle, so the limit ends a run." : `A run has at most ${grouped(most)} events.`;
-    return `Accepted: no task of it can fail. A run may still get stuck, or reach its limit. Budgets: ${budget}${more}. ${events}${needs ? ` It needs ${needs}.` : ""}${order ? ` ${orderOf(order)}` : ""}`;
+    const ends = [rules && "get stuck", (most === null || most > BigInt(limit)) && "reach its limit"].filter(it => it).join(", or ");
+    return `Accepted: no task of it can fail.${ends && ` A run may still ${ends}.`} Budgets: ${budget}${more}. ${events}${needs ? ` It needs ${needs}.` : ""}${order ? ` ${orderOf(order)}` : ""}`;
 }
+
+/** Returns a sentence with its full stop.
+ * @param {string} words */
+export const stopped = words => /[.?!:]$/.test(words) ? words : `${words}.`;
 
 /** Returns the sentence about the order of events.
  * @param {import("./replies.js").EventOrder} order */

@@ -1,0 +1,83 @@
+// @ts-check
+// SPDX-License-Identifier: Apache-2.0
+// The manual in a dialog: its parts with their contents, a search in all of them, and a way back.
+import {$, h} from "./dom.js";
+
+/** The most places that a search lists. */
+const FOUND = 60;
+
+export class Manual {
+    constructor() {
+        this.dialog = /** @type {HTMLDialogElement} */ ($("manual"));
+        this.field = /** @type {HTMLInputElement} */ ($("manual-search"));
+        this.parts = /** @type {HTMLTemplateElement[]} */ ([...document.querySelectorAll("template[data-title]")]);
+        /** The addresses that were open, the last one last.
+         * @type {string[]} */
+        this.trail = [];
+        for (const box of document.querySelectorAll(".manual-links")) box.append(...this.parts.map(it => h("a", {href: `#${it.id}-`}, it.dataset.title ?? "")));
+        document.addEventListener("click", event => this.link(event));
+        this.field.addEventListener("input", () => this.search());
+        $("manual-back").addEventListener("click", () => { this.trail.pop(); this.show(this.trail[this.trail.length - 1] ?? ""); });
+        $("manual-close").addEventListener("click", () => this.dialog.close());
+    }
+
+    /** Opens the manual where a link leads.
+     * @param {Event} event */
+    link(event) {
+        const link = /** @type {HTMLElement} */ (event.target).closest?.("a[href^='#manual-']");
+        if (link && this.open(link.getAttribute("href") ?? "")) event.preventDefault();
+    }
+
+    /** Opens an address; returns whether it is one of the manual's.
+     * @param {string} address */
+    open(address) {
+        if (!this.dialog.open) this.trail = [];
+        const known = this.show(address);
+        if (known) this.trail.push(address);
+        /** @type {HTMLButtonElement} */ ($("manual-back")).disabled = this.trail.length < 2;
+        return known;
+    }
+
+    /** Shows a part from a place on.
+     * @param {string} address */
+    show(address) {
+        const [, part, place] = /^#manual-([A-Z]+)-(.*)$/.exec(address) ?? [], template = this.parts.find(it => it.id === `manual-${part}`);
+        if (!template) return false;
+        this.field.value = "";
+        $("manual-title").textContent = template.dataset.title ?? "";
+        $("manual-text").replaceChildren(template.content.cloneNode(true));
+        const heads = /** @type {HTMLElement[]} */ ([...$("manual-text").querySelectorAll("[id]:is(h2, h3, h4)")]);
+        $("manual-text").prepend(h("details", {id: "manual-contents"}, h("summary", {}, "Contents"), h("ul", {}, ...heads.map(it => h("li", {}, h("a", {href: `#${it.id}`}, it.textContent ?? ""))))));
+        if (!this.dialog.open) this.dialog.showModal();
+        /** @type {HTMLButtonElement} */ ($("manual-back")).disabled = this.trail.length < 2;
+        const target = place ? document.getElementById(`manual-${part}-${place}`) : null;
+        if (target) target.scrollIntoView(); else $("manual-text").scrollTop = 0;
+        return true;
+    }
+
+    /** Lists the places of all parts that have all words of the search. */
+    search() {
+        const words = this.field.value.toLowerCase().split(/\s+/).filter(it => it);
+        if (!words.length) { this.show(this.trail[this.trail.length - 1] ?? ""); return; }
+        const found = this.parts.flatMap(part => placesIn(part).filter(({text}) => words.every(it => text.toLowerCase().includes(it))).map(it => ({...it, title: part.dataset.title ?? ""})));
+        $("manual-text").replaceChildren(h("p", {role: "status"}, `${found.length} places`), h("ul", {id: "manual-found"}, ...found.slice(0, FOUND).map(({address, title, head, text}) => h("li", {}, h("a", {href: address}, head ? `${title}: ${head}` : title), ` ${around(text, words[0])}`))));
+    }
+}
+
+/** Returns the places of a part, each with its head and its text.
+ * @param {HTMLTemplateElement} part */
+function placesIn(part) {
+    const all = [{address: `#${part.id}-`, head: "", text: ""}];
+    for (const it of part.content.children) {
+        if (it.id && /^H\d$/.test(it.tagName)) all.push({address: `#${it.id}`, head: it.textContent ?? "", text: it.textContent ?? ""});
+        else all[all.length - 1].text += ` ${it.textContent}`;
+    }
+    return all;
+}
+
+/** Returns a text's words around a word.
+ * @param {string} text @param {string} word */
+function around(text, word) {
+    const plain = text.replace(/\s+/g, " "), at = plain.toLowerCase().indexOf(word);
+    return `.. ${plain.slice(Math.max(0, at - 40), at + 80)} ..`;
+}

@@ -1,0 +1,70 @@
+// @ts-check
+// SPDX-License-Identifier: Apache-2.0
+// Opens a file: a program as text, hex text or bytes, and a trace after it, also one of a run in threads.
+import {$} from "./dom.js";
+
+/** A file's program and the lines of its trace; empty if it has none.
+ * @typedef {{program: string, trace: string}} Parts */
+
+/** A size beyond which the page asks first, since it reads all of a text at each pause in typing. */
+const LARGE = 1 << 20;
+/** The most actors of a layout, by their letter. */
+const MOST = {e: 4, s: 4, w: 16};
+
+/** Parts a file into its program and its trace.
+ * @param {string} text @returns {Parts} */
+export function parted(text) {
+    const at = /^events\s*$/m.exec(text);
+    if (!at) return {program: text, trace: ""};
+    const rest = text.slice(at.index + at[0].length).replace(/^\s*\n/, ""), end = /^end\s*$/m.exec(rest);
+    return {program: text.slice(0, at.index), trace: (end ? rest.slice(0, end.index) : rest).replace(/\r/g, "").trim().replace(/(.)$/, "$1\n")};
+}
+
+/** Returns how many actors of a kind a trace has.
+ * @param {string} trace @param {"e" | "s" | "w"} letter */
+export function actorsIn(trace, letter) {
+    let most = 0;
+    for (const [, number] of trace.matchAll(new RegExp(`^\\w+ ${letter}(\\d+)`, "gm"))) most = Math.max(most, +number);
+    return Math.min(MOST[letter], most + 1);
+}
+
+/** Returns bytes as hex text.
+ * @param {Uint8Array} bytes */
+const hexOf = bytes => Array.from(bytes, it => it.toString(16).padStart(2, "0")).join("");
+
+/** Returns a file's text; bytes of a program become hex text.
+ * @param {Uint8Array} bytes */
+export function textOf(bytes) {
+    try {
+        const text = new TextDecoder("utf-8", {fatal: true}).decode(bytes);
+        return text.includes("\0") ? hexOf(bytes) : text.replace(/\r\n/g, "\n");
+    } catch {
+        return hexOf(bytes);
+    }
+}
+
+export class Opening {
+    /** @param {import("./library.js").Library} library @param {(words: string) => void} say
+     * @param {(program: string, trace: string, layout: number[], name: string) => Promise<void>} put */
+    constructor(library, say, put) {
+        this.library = library;
+        this.say = say;
+        this.put = put;
+        const field = /** @type {HTMLInputElement} */ ($("file"));
+        $("open").addEventListener("click", () => field.click());
+        field.addEventListener("change", () => { if (field.files?.[0]) this.take(field.files[0]); field.value = ""; });
+        addEventListener("dragover", event => { if (event.dataTransfer?.types.includes("Files")) event.preventDefault(); });
+        addEventListener("drop", event => { const file = event.dataTransfer?.files[0]; if (file) { event.preventDefault(); this.take(file); } });
+    }
+
+    /** Opens a file. A large one is asked about.
+     * @param {File} file */
+    async take(file) {
+        if (file.size > LARGE && !confirm(`${file.name} has ${Math.round(file.size / LARGE)} MB, and the page may be slow. Open it?`)) return;
+        const {program, trace} = parted(textOf(new Uint8Array(await file.arrayBuffer()))), isHex = /^[\s0-9a-fA-F]+$/.test(program);
+        const reply = isHex ? await this.library.session(["disasm"], program) : null;
+        if (reply && reply.status !== 0) { this.say(`${file.name} isn't a program: ${reply.text.split("\n")[0]}`); return; }
+        const layout = trace ? [actorsIn(trace, "e"), actorsIn(trace, "s"), actorsIn(trace, "w"), Math.max(10000, Math.min(1000000, trace.split("\n").length))] : [1, 1, 1, 10000];
+        await this.put(reply?.text ?? program, trace, layout, file.name.replace(/\.\w+$/, ""));
+    }
+}
