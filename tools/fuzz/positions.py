@@ -1,0 +1,46 @@
+# SPDX-License-Identifier: Apache-2.0
+"""Reads where a text has an error off the lines that are printed: for tools/library/loaded.py, ./dev json_runs and tools/fuzz/kinds/texts.py."""
+
+from __future__ import annotations
+
+import re
+
+# The signs that separate names in a line, and those that may also follow one.
+PARTING = r" \t\r(),"
+ENDING = PARTING + ":;"
+# The end of a word that is cut.
+CUT = " .."
+# The reason of which the name has its own colon.
+OF_A_COLON = "needs a type after it"
+
+
+def name_pattern(reason: str) -> str:
+    """Returns an expression for the name of which a line says something."""
+    name, _, said = reason.partition(": ")
+    if said.startswith(OF_A_COLON):
+        name += ":"
+    if name.endswith(CUT):
+        return re.escape(name.removesuffix(CUT)) + f"[^{ENDING}]*"
+    return re.escape(name)
+
+
+def of_name(line: str, reason: str) -> tuple[int, int]:
+    """Returns word and column of the name of which the last line says something; zeros unless the code of the text's line has it once."""
+    code = line if '"' in line else line.split(";")[0]
+    name = name_pattern(reason)
+    places = [found.start() for found in re.finditer(rf"(?<![^{PARTING}]){name}(?![^{ENDING}])", code)]
+    if len(places) != 1 or re.search(f"[{PARTING}]", reason.partition(": ")[0].removesuffix(CUT)):
+        return 0, 0
+    return len(line[: places[0] + 1].split()), places[0] + 1
+
+
+def of_error(lines: list[str], line: str) -> tuple[int, int]:
+    """Returns word and column of an error with these lines in a line of a text; zeros if it is at no word, or if the line expands to another."""
+    if len(lines) == 4 and lines[3].startswith("at line "):  # the head of the procedure that the line calls
+        lines = lines[:3]
+    if len(lines) != 3 or lines[0][:9] not in ("refused A", "refused N"):
+        return 0, 0
+    if lines[0].startswith("refused N"):
+        return of_name(line, lines[2])
+    word = re.match(r"word (\d+), column (\d+): ", lines[2])
+    return (int(word[1]), int(word[2])) if word else (0, 0)

@@ -1,0 +1,614 @@
+/* SPDX-License-Identifier: Apache-2.0 */
+/* Makes large and hostile calls over handles: `callers PROGRAM [SIZE]`, where PROGRAM holds the bytes of examples/read_number.twn and SIZE is how
+ * many bytes the large sources have, 16 MiB if it isn't given. Refuses each request for memory in turn too. Links with
+ * `-Wl,--wrap=malloc,--wrap=realloc,--wrap=free`, so that it counts what the library asks for and frees. Prints each check that fails, and their
+ * number; ends with status 1 if one did. ./dev callers compiles and runs it. */
+#include "../../embed/yuglemit.h"
+#include <stdio.h>
+#include <stdlib.h>
+#include <string.h>
+
+enum { MANY = 900000, LIMIT = 10000, MOST_REQUESTS = 100000, ROOM = 8 };
+
+static uint8_t program_bytes[1 << 16];
+static size_t program_length, large_length = 16 << 20;
+static int checks, failures;
+
+static void check(int holds, const char *what) {
+    checks++;
+    if (holds) return;
+    failures++;
+    printf("FAILS %s\n", what);
+}
+
+/* ---- Memory that is counted, and refused */
+
+void *__real_malloc(size_t size);
+void *__real_realloc(void *old, size_t size);
+void __real_free(void *old);
+
+static long held;                 /* blocks that aren't freed yet */
+static unsigned long requests, refused; /* the number of requests so far, and that of the one that is refused; 0: none */
+
+static int is_refused(void) { return ++requests == refused; }
+
+void *__wrap_malloc(size_t size) {
+    void *block = is_refused() ? NULL : __real_malloc(size);
+    held += block != NULL;
+    return block;
+}
+
+void *__wrap_realloc(void *old, size_t size) {
+    void *block = is_refused() ? NULL : __real_realloc(old, size);
+    held += !old && block;
+    return block;
+}
+
+void __wrap_free(void *old) {
+    held -= old != NULL;
+    __real_free(old);
+}
+
+/* ---- All handles of a run */
+
+typedef struct handles {
+    yuglemit_program program, other;
+    yuglemit_inputs inputs;
+    yuglemit_container container;
+    yuglemit_stop stop;
+    yuglemit_report report;
+    yuglemit_text text;
+} handles;
+
+static void free_all(handles *all) {
+    yuglemit_program_free(all->program);
+    yuglemit_program_free(all->other);
+    yuglemit_inputs_free(all->inputs);
+    yuglemit_container_free(all->container);
+    yuglemit_stop_free(all->stop);
+    yuglemit_report_free(all->report);
+    yuglemit_text_free(all->text);
+    memset(all, 0, sizeof *all);
+}
+
+static uint8_t run(handles *all) {
+    yuglemit_options options = YUGLEMIT_OPTIONS;
+    options.limit = LIMIT;
+    options.order = 1;
+    yuglemit_caps caps = YUGLEMIT_CAPS;
+    caps.tasks = UINT64_MAX - 1;
+    return yuglemit_run_within(&all->program, &all->inputs, &options, &caps, &all->stop, &all->report);
+}
+
+static uint8_t load(handles *all, const uint8_t *source, size_t length, uint8_t format) {
+    yuglemit_verdict verdict = YUGLEMIT_VERDICT;
+    return yuglemit_load_source(source, length, format, &all->program, &verdict);
+}
+
+static void make_each(handles *all);
+
+/* ---- Each request for memory is refused in turn */
+
+static int is_memory(uint8_t code) { return code == 0 || code == YUGLEMIT_NO_MEMORY; }
+
+/* Makes a session. Returns whether the handle holds its text, or memory ran out and the handle is as it was. */
+static int is_kept(const uint8_t *words, size_t words_length, const uint8_t *input, size_t input_length, yuglemit_text *output) {
+    void *was = output->at;
+    uint8_t status = yuglemit_session_text(words, words_length, input, input_length, output);
+    return status == 5 ? output->at == was : output->at && output->at != was;
+}
+
+/* Makes every kind of handle, as far as memory allows. Returns whether each call was done or said that memory ran out. */
+static int make_all(handles *all) {
+    static const uint8_t digits[] = "41", words[] = "run\0--text", source[] = "names\nproc control main(w: write int)\nregs n: int\nINT n 7\nSTORE w n\nRET\n";
+    handles other = {{NULL}, {NULL}, {NULL}, {NULL}, {NULL}, {NULL}, {NULL}};
+    yuglemit_ending ending = YUGLEMIT_ENDING;
+    yuglemit_bounds bounds = YUGLEMIT_BOUNDS;
+    yuglemit_order order = YUGLEMIT_ORDER;
+    yuglemit_meter meter = YUGLEMIT_METER;
+    int holds = is_memory(load(all, program_bytes, program_length, YUGLEMIT_ANY_FORMAT)) && is_memory(load(&other, source, sizeof source - 1, YUGLEMIT_TEXT));
+    holds = holds && is_kept(words, sizeof words, source, sizeof source - 1, &other.text);
+    holds = holds && is_memory(yuglemit_source_name(source, sizeof source - 1, 0, &all->text)) && is_memory(yuglemit_stop_new(&all->stop));
+    holds = holds && is_memory(yuglemit_container_new(&all->container, 't', 't'));
+    if (all->container.at) holds = holds && is_memory(yuglemit_member_text_by_text(&all->container, digits, 2, digits, 2)) && is_memory(yuglemit_input_container(&other.inputs, &all->container));
+    static const uint64_t ends[] = {1, 2};
+    static const int64_t numbers[] = {4, 1};
+    void *was = other.inputs.at;
+    holds = holds && is_memory(yuglemit_input_texts(&other.inputs, numbers, digits, 2, ends, 2)) && is_memory(yuglemit_input_ints(&other.inputs, NULL, numbers, 2));
+    holds = holds && is_memory(yuglemit_input_ints_by_text(&other.inputs, digits, 2, ends, numbers, 2));
+    holds = holds && is_memory(yuglemit_input_texts_by_text(&other.inputs, digits, 2, ends, digits, 2, ends, 2)) && (!was || other.inputs.at == was);
+    if (all->program.at) holds = holds && is_memory(yuglemit_program_share(&all->program, &all->other)) && is_memory(yuglemit_program_bounds(&all->program, 0, &bounds));
+    if (all->program.at) holds = holds && is_memory(yuglemit_program_order(&all->program, &order));
+    if (all->program.at && is_memory(yuglemit_input_text(&all->inputs, digits, 2)) && all->inputs.at) {
+        uint8_t code = run(all);
+        holds = holds && (is_memory(code) || code == YUGLEMIT_INPUT_COUNT) && (code == 0) == (all->report.at != NULL);
+    }
+    if (all->report.at) {
+        holds = holds && yuglemit_report_ending(&all->report, &ending) == 0 && is_memory(yuglemit_print_report(&all->report, &all->text));
+        holds = holds && yuglemit_report_meter(&all->report, &meter) == 0 && meter.events == ending.events;
+        holds = holds && yuglemit_report_order(&all->report, &order) == 0;
+        holds = holds && is_memory(yuglemit_print_trace(&all->report, &all->text));
+        uint8_t code = yuglemit_print_json(&all->report, &all->text);
+        holds = holds && (is_memory(code) || (code == YUGLEMIT_NO_END && ending.status == 5));
+    }
+    free_all(&other);
+    return holds;
+}
+
+static void check_refused(void) {
+    handles all = {{NULL}, {NULL}, {NULL}, {NULL}, {NULL}, {NULL}, {NULL}};
+    long before = held;
+    for (unsigned long number = 1; number <= MOST_REQUESTS; number++) {
+        requests = 0, refused = number;
+        int holds = make_all(&all);
+        unsigned long made = requests;
+        refused = 0;
+        free_all(&all);
+        if (!holds || held != before) printf("request %lu of %lu\n", number, made);
+        check(holds, "a refused request is out of memory");
+        check(held == before, "nothing is left after a refused request");
+        if (made < number) return;
+    }
+    check(0, "the requests end");
+}
+
+/* Refuses each request of a move of a container's members to the inputs. They stay in the container, and the next call moves them. */
+static void check_kept_members(void) {
+    static const uint8_t source[] = "names\nproc control main(all: closed cont int, out: write int)\nregs n: int\nSIZE n all\nDROPR all\nSTORE out n\nRET\n";
+    for (unsigned long number = 1; number <= MOST_REQUESTS; number++) {
+        handles all = {{NULL}, {NULL}, {NULL}, {NULL}, {NULL}, {NULL}, {NULL}};
+        yuglemit_item item;
+        check(load(&all, source, sizeof source - 1, YUGLEMIT_TEXT) == 0 && yuglemit_container_new(&all.container, 'i', 'i') == 0, "a container");
+        check(yuglemit_member_int(&all.container, 3, 7) == 0 && yuglemit_member_int(&all.container, 4, 7) == 0, "two members");
+        requests = 0, refused = number;
+        uint8_t code = yuglemit_input_container(&all.inputs, &all.container);
+        unsigned long made = requests;
+        refused = 0;
+        check(code == (made < number ? 0 : YUGLEMIT_NO_MEMORY), "they are moved, or memory ran out");
+        check(code == 0 || yuglemit_input_container(&all.inputs, &all.container) == 0, "they are moved then");
+        check(run(&all) == 0 && yuglemit_report_output(&all.report, 0, &item) == 0 && item.number == 2, "an input of two members");
+        free_all(&all);
+        if (made < number) return;
+    }
+    check(0, "the requests of a move end");
+}
+
+/* ---- Members in lists */
+
+/* Runs a program, which reads one member of its input, and frees the inputs. Returns whether its output is this number or this text. */
+static int reads(const char *source, yuglemit_inputs *inputs, int64_t number, const char *text) {
+    handles all = {{NULL}, {NULL}, {NULL}, {NULL}, {NULL}, {NULL}, {NULL}};
+    yuglemit_item item;
+    uint8_t room[ROOM] = {0};
+    all.inputs = *inputs;
+    inputs->at = NULL;
+    int is_right = load(&all, (const uint8_t *)source, strlen(source), YUGLEMIT_TEXT) == 0 && run(&all) == 0 && yuglemit_report_output(&all.report, 0, &item) == 0;
+    if (is_right && item.kind == YUGLEMIT_KIND_TEXT) is_right = yuglemit_report_text(&all.report, 0, room, ROOM - 1) == 0;
+    is_right = is_right && item.number == number && strcmp((char *)room, text) == 0;
+    free_all(&all);
+    return is_right;
+}
+
+#define READS(map, of, key, subscript) "version 4\nproc control closed " map " " of " write " of "\nregs " key " " of "\n" subscript "\nMGET v1 d0 v0 +0\nDROPR d0\nSTORE d1 v1\nRET\n"
+
+/* "he", "is" and "" by 5, 7 and 9, or by "a", "b" and "be". */
+static const uint8_t texts[] = "heis", names[] = "abbe";
+static const uint64_t text_ends[] = {2, 4, 4}, name_ends[] = {1, 2, 4};
+static const int64_t numbers[] = {5, 7, 9};
+
+static void check_lists(void) {
+    const char *by_int = READS("map", "int", "int", "INT v0 1"), *by_seven = READS("map", "int", "int", "INT v0 7");
+    yuglemit_inputs inputs = {NULL};
+    check(yuglemit_input_ints(&inputs, NULL, numbers, 3) == 0 && reads(by_int, &inputs, 7, ""), "numbered from 0");
+    check(yuglemit_input_ints(&inputs, numbers, numbers, 3) == 0 && reads(by_seven, &inputs, 7, ""), "by their subscripts");
+    check(yuglemit_input_texts(&inputs, NULL, texts, 4, text_ends, 3) == 0 && reads(READS("map", "text", "int", "INT v0 0"), &inputs, 0, "he"), "texts from 0");
+    check(yuglemit_input_texts(&inputs, numbers, texts, 4, text_ends, 3) == 0 && reads(READS("map", "text", "int", "INT v0 9"), &inputs, 0, ""), "an empty text");
+    check(yuglemit_input_ints_by_text(&inputs, names, 4, name_ends, numbers, 3) == 0 && reads(READS("tmap", "int", "text", "TEXT v0 \"be\""), &inputs, 9, ""), "by text");
+    check(yuglemit_input_texts_by_text(&inputs, names, 4, name_ends, texts, 4, text_ends, 3) == 0 && reads(READS("tmap", "text", "text", "TEXT v0 \"b\""), &inputs, 0, "is"), "texts by text");
+    check(yuglemit_input_ints(&inputs, NULL, NULL, 0) == 0 && yuglemit_input_texts(&inputs, NULL, NULL, 0, NULL, 0) == 0, "no members");
+    check(yuglemit_input_ints_by_text(&inputs, NULL, 0, NULL, NULL, 0) == 0 && yuglemit_input_texts_by_text(&inputs, NULL, 0, NULL, NULL, 0, NULL, 0) == 0 && inputs.at, "by no text");
+    yuglemit_inputs_free(inputs);
+}
+
+/* Lists that don't fit: nothing is appended. */
+static void check_wrong_lists(void) {
+    static const uint64_t falling[] = {2, 1, 4}, past[] = {2, 5, 4}, most[] = {2, UINT64_MAX, 4}, within[] = {1, 2, 3}, cut[] = {1, 3};
+    static const uint64_t *const wrong[] = {falling, past, most, within, NULL};
+    yuglemit_inputs inputs = {NULL};
+    for (int k = 0; k < 5; k++) {
+        check(yuglemit_input_texts(&inputs, NULL, texts, 4, wrong[k], 3) == YUGLEMIT_NO_LIST, "ends of texts");
+        check(yuglemit_input_ints_by_text(&inputs, names, 4, wrong[k], numbers, 3) == YUGLEMIT_NO_LIST, "ends of subscripts");
+        check(yuglemit_input_texts_by_text(&inputs, names, 4, name_ends, texts, 4, wrong[k], 3) == YUGLEMIT_NO_LIST, "ends beside right ones");
+        check(yuglemit_input_texts_by_text(&inputs, names, 4, wrong[k], texts, 4, text_ends, 3) == YUGLEMIT_NO_LIST, "right ends beside them");
+    }
+    check(yuglemit_input_ints(&inputs, numbers, NULL, 3) == YUGLEMIT_NO_LIST && yuglemit_input_texts(&inputs, NULL, NULL, 4, text_ends, 3) == YUGLEMIT_NO_LIST, "no list");
+    check(yuglemit_input_ints_by_text(&inputs, NULL, 4, name_ends, numbers, 3) == YUGLEMIT_NO_LIST && yuglemit_input_ints_by_text(&inputs, names, 4, name_ends, NULL, 3) == YUGLEMIT_NO_LIST, "no list of them");
+    check(yuglemit_input_texts(&inputs, NULL, texts, 4, text_ends, 1) == YUGLEMIT_NO_LIST && yuglemit_input_texts(&inputs, NULL, texts, 4, NULL, 0) == YUGLEMIT_NO_LIST, "too few texts");
+    check(yuglemit_raw_input_ints(&inputs, numbers, 2, numbers, 3) == YUGLEMIT_NO_LIST && yuglemit_raw_input_ints(&inputs, numbers, 3, numbers, 2) == YUGLEMIT_NO_LIST, "counts");
+    check(yuglemit_raw_input_texts(&inputs, numbers, 2, texts, 4, text_ends, 3) == YUGLEMIT_NO_LIST && yuglemit_raw_input_ints_by_text(&inputs, names, 4, name_ends, 3, numbers, 2) == YUGLEMIT_NO_LIST, "of texts");
+    check(yuglemit_raw_input_texts_by_text(&inputs, names, 4, name_ends, 3, texts, 4, text_ends, 2) == YUGLEMIT_NO_LIST, "of both");
+    check(yuglemit_input_texts(&inputs, NULL, (const uint8_t *)"\xc3\xa9s", 3, cut, 2) == YUGLEMIT_NO_UTF8, "an end within a character");
+    check(yuglemit_input_ints(NULL, NULL, numbers, 3) == YUGLEMIT_NO_INPUTS && yuglemit_input_texts(NULL, NULL, texts, 4, text_ends, 3) == YUGLEMIT_NO_INPUTS, "no handle");
+    check(yuglemit_input_ints_by_text(NULL, names, 4, name_ends, numbers, 3) == YUGLEMIT_NO_INPUTS && yuglemit_input_texts_by_text(NULL, names, 4, name_ends, texts, 4, text_ends, 3) == YUGLEMIT_NO_INPUTS, "of texts");
+    check(!inputs.at, "nothing is appended");
+}
+
+/* ---- Runs that don't end by themselves, and versions of the language */
+
+/* Returns the code of a call on the outputs of a report, which are two: an integer and a container of texts by texts. */
+static uint8_t read_output(int row, yuglemit_report *report) {
+    yuglemit_item item;
+    yuglemit_member member;
+    uint8_t room[ROOM] = {0};
+    size_t place;
+    switch (row) {
+    case 0: return yuglemit_report_output(report, 0, &item);
+    case 1: return yuglemit_report_member(report, 1, 0, &member);
+    case 2: return yuglemit_report_members(report, 1, 0, &member, 0);
+    case 3: return yuglemit_report_find_int(report, 1, 0, &place);
+    case 4: return yuglemit_report_find_text(report, 1, room, 0, &place);
+    case 5: return yuglemit_report_text(report, 0, room, ROOM);
+    case 6: return yuglemit_report_member_text(report, 1, 0, room, ROOM);
+    default: return yuglemit_report_subscript_text(report, 1, 0, room, ROOM);
+    }
+}
+
+/* After one event both outputs are there, unset and without a member. */
+static void check_unfinished(void) {
+    static const char source[] = "version 2\nproc control write int write tcont text\nregs int\nPUT 0 0 any 0 1\nRET\n";
+    static const uint8_t partial[] = {0, YUGLEMIT_NO_INDEX, 0, YUGLEMIT_NO_INDEX, YUGLEMIT_NO_INDEX, YUGLEMIT_NO_TEXT, YUGLEMIT_NO_INDEX, YUGLEMIT_NO_INDEX};
+    handles all = {{NULL}, {NULL}, {NULL}, {NULL}, {NULL}, {NULL}, {NULL}};
+    yuglemit_options options = YUGLEMIT_OPTIONS;
+    options.limit = 1;
+    check(load(&all, (const uint8_t *)source, strlen(source), YUGLEMIT_TEXT) == 0 && yuglemit_run(&all.program, &all.inputs, &options, &all.stop, &all.report) == 0, "a run of one event");
+    for (int row = 0; row < 8; row++) check(read_output(row, &all.report) == YUGLEMIT_UNFINISHED, "an output of an unfinished run");
+    check(yuglemit_print_report(&all.report, &all.text) == 0 && yuglemit_print_json(&all.report, &all.text) == 0, "it is printed");
+    options.partial = 1;
+    check(yuglemit_run(&all.program, &all.inputs, &options, &all.stop, &all.report) == 0, "a run whose options ask for what is there");
+    for (int row = 0; row < 8; row++) check(read_output(row, &all.report) == partial[row], "what is there");
+    options.size -= sizeof options.partial;
+    check(yuglemit_run(&all.program, &all.inputs, &options, &all.stop, &all.report) == 0, "a run with options of six numbers");
+    for (int row = 0; row < 8; row++) check(read_output(row, &all.report) == partial[row], "as they were then");
+    free_all(&all);
+}
+
+/* A read of no member is one of an output that there is, up to its end. */
+static void check_no_members(void) {
+    handles all = {{NULL}, {NULL}, {NULL}, {NULL}, {NULL}, {NULL}, {NULL}};
+    yuglemit_member member;
+    make_each(&all);
+    check(yuglemit_report_members(&all.report, 0, 0, &member, 0) == 0, "none of a number");
+    check(yuglemit_report_members(&all.report, 0, 1, &member, 0) == YUGLEMIT_NO_INDEX && yuglemit_report_members(&all.report, 0, SIZE_MAX, &member, 0) == YUGLEMIT_NO_INDEX, "after its end");
+    check(yuglemit_report_members(&all.report, 1, 0, &member, 0) == YUGLEMIT_NO_INDEX && yuglemit_report_members(&all.report, SIZE_MAX, 0, &member, 0) == YUGLEMIT_NO_INDEX, "of no output");
+    free_all(&all);
+}
+
+/* A program is loaded if its version is at most that of the options. */
+static void check_versions(void) {
+    static const char *const sources[] = {"proc control\nregs\nRET\n", "version 2\nproc control\nregs\nRET\n", "version 4\nproc control\nregs\nRET\n"};
+    static const uint64_t versions[] = {1, 2, 4}, most[] = {0, 1, 2, 3, 4, 5, UINT64_MAX};
+    for (int k = 0; k < 3 * 7; k++) {
+        const uint8_t *source = (const uint8_t *)sources[k % 3];
+        yuglemit_load_options options = YUGLEMIT_LOAD_OPTIONS;
+        yuglemit_program program = {NULL};
+        yuglemit_verdict verdict = YUGLEMIT_VERDICT;
+        options.version = most[k / 3];
+        uint8_t code = yuglemit_load_with(source, strlen(sources[k % 3]), YUGLEMIT_TEXT, &options, &program, &verdict);
+        int is_loaded = versions[k % 3] <= most[k / 3];
+        check(code == (is_loaded ? 0 : YUGLEMIT_REJECTED) && !program.at == !is_loaded, "a program up to a version");
+        check(is_loaded || (verdict.letter == 'F' && verdict.number == 2 && verdict.place == 3), "a later one is F02");
+        options.size -= sizeof options.version;
+        check(yuglemit_load_with(source, strlen(sources[k % 3]), YUGLEMIT_TEXT, &options, &program, &verdict) == 0, "as without this option");
+        yuglemit_program_free(program);
+    }
+}
+
+/* Why a program is refused, in words: lines of a check if the error is in a line, else what the code means. */
+static void check_told(void) {
+    static const struct { const char *source, *begin; uint64_t most; } rows[] = {
+        {"proc control write int\nregs int\nINT v0 7\nRET\n", "refused V10", 1000}, {"TWB", "F03: ", 1000}, {"5", "H01: ", 1000}, {"version 4\nproc control\nregs\nRET\n", "H02: ", 9}};
+    for (size_t k = 0; k < sizeof rows / sizeof *rows; k++) {
+        yuglemit_program program = {NULL};
+        yuglemit_text words = {NULL};
+        yuglemit_verdict verdict = YUGLEMIT_VERDICT;
+        yuglemit_load_options options = YUGLEMIT_LOAD_OPTIONS;
+        char room[2000] = {0};
+        options.most_bytes = rows[k].most;
+        uint8_t code = yuglemit_load_told((const uint8_t *)rows[k].source, strlen(rows[k].source), YUGLEMIT_ANY_FORMAT, &options, &program, &verdict, &words);
+        check(code == YUGLEMIT_REJECTED && !program.at && yuglemit_text_copy(&words, (uint8_t *)room, sizeof room - 1) == 0, "a refused program has words");
+        check(!strncmp(room, rows[k].begin, strlen(rows[k].begin)), rows[k].begin);
+        options.most_bytes = 1000;
+        code = yuglemit_load_told((const uint8_t *)rows[3].source, strlen(rows[3].source), YUGLEMIT_TEXT, &options, &program, &verdict, &words);
+        check(code == 0 && program.at, "an accepted one has none");
+        yuglemit_program_free(program);
+        yuglemit_text_free(words);
+    }
+}
+
+/* ---- Lengths of 0, with a pointer and without */
+
+static void check_empty(void) {
+    static uint8_t none[1] = {9};
+    uint8_t *pointers[] = {none, NULL};
+    for (int k = 0; k < 2; k++) {
+        handles all = {{NULL}, {NULL}, {NULL}, {NULL}, {NULL}, {NULL}, {NULL}};
+        uint8_t *p = pointers[k], status = 9;
+        static const uint8_t formats[] = {YUGLEMIT_ANY_FORMAT, YUGLEMIT_BYTES, YUGLEMIT_HEX, YUGLEMIT_TEXT, 'x'};
+        for (size_t f = 0; f < sizeof formats; f++) check(load(&all, p, 0, formats[f]) != 0 && !all.program.at, "no source");
+        check(yuglemit_session(p, 0, p, 0, p, 0, &status) > 0 && status == 2, "a session without words");
+        check(yuglemit_session_text(p, 0, p, 0, &all.text) == 2 && all.text.at, "and its text");
+        check(yuglemit_input_text(&all.inputs, p, 0) == 0 && all.inputs.at, "an empty text");
+        check(yuglemit_container_new(&all.container, 't', 't') == 0 && yuglemit_member_text_by_text(&all.container, p, 0, p, 0) == 0, "an empty subscript");
+        check(yuglemit_source_name(p, 0, 0, &all.text) == 0 && all.text.at, "the name in no source");
+        check(yuglemit_text_copy(&all.text, p, 0) == 0 && none[0] == 9, "an empty text is copied");
+        size_t place = 9;
+        check(yuglemit_report_find_text(&all.report, 0, p, 0, &place) == YUGLEMIT_NO_REPORT && place == 9, "an empty subscript in no report");
+        check(yuglemit_unfit_input(&all.program, &all.inputs, &place) == YUGLEMIT_NO_PROGRAM && place == 9, "an empty text for no program");
+        free_all(&all);
+    }
+}
+
+/* ---- Many inputs, many members, long texts */
+
+static void check_many(void) {
+    handles all = {{NULL}, {NULL}, {NULL}, {NULL}, {NULL}, {NULL}, {NULL}};
+    check(load(&all, program_bytes, program_length, YUGLEMIT_BYTES) == 0, "the program");
+    int wrong = 0;
+    for (int k = 0; k < MANY; k++) wrong += yuglemit_input_int(&all.inputs, k) != 0;
+    check(wrong == 0 && run(&all) == YUGLEMIT_INPUT_COUNT && !all.report.at, "O01: 900,000 inputs");
+    yuglemit_inputs_free(all.inputs);
+    all.inputs.at = NULL;
+    check(yuglemit_container_new(&all.container, 'i', 'i') == 0, "a container");
+    for (int k = 0; k < MANY; k++) wrong += yuglemit_member_int(&all.container, k, -k) != 0;
+    check(wrong == 0 && yuglemit_input_container(&all.inputs, &all.container) == 0, "900,000 members");
+    check(run(&all) == YUGLEMIT_INPUT_TYPE && !all.report.at, "O02: they are no text");
+    size_t index = 9;
+    check(yuglemit_unfit_input(&all.program, &all.inputs, &index) == 0 && index == 0, "they are the first that doesn't fit");
+    free_all(&all);
+}
+
+static void check_long_text(const uint8_t *text, size_t length) {
+    handles all = {{NULL}, {NULL}, {NULL}, {NULL}, {NULL}, {NULL}, {NULL}};
+    check(load(&all, program_bytes, program_length, YUGLEMIT_BYTES) == 0, "the program");
+    check(yuglemit_input_text(&all.inputs, text, length) == 0 && run(&all) == YUGLEMIT_INPUT_TYPE && !all.report.at, "O02: a text that is too long");
+    check(yuglemit_container_new(&all.container, 't', 't') == 0 && yuglemit_member_text_by_text(&all.container, text, length, text, length) == 0, "a long member");
+    free_all(&all);
+}
+
+/* ---- Large sources of each shape */
+
+static void check_source(const uint8_t *source, size_t length, const char *shape) {
+    static const uint8_t formats[] = {YUGLEMIT_ANY_FORMAT, YUGLEMIT_BYTES, YUGLEMIT_HEX, YUGLEMIT_TEXT};
+    handles all = {{NULL}, {NULL}, {NULL}, {NULL}, {NULL}, {NULL}, {NULL}};
+    yuglemit_verdict verdict = YUGLEMIT_VERDICT;
+    for (size_t f = 0; f < sizeof formats; f++) check(load(&all, source, length, formats[f]) != 0 && !all.program.at, shape);
+    yuglemit_verify(source, length, &verdict);
+    check(verdict.letter != 0, shape);
+    uint8_t code = yuglemit_source_name(source, length, 3, &all.text);
+    check((code == 0) == (all.text.at != NULL) && (code == 0 || code == YUGLEMIT_NO_UTF8), shape);
+    free_all(&all);
+}
+
+static const char *const shapes[] = {
+    "a", "\n", " ", "\t\r\n", "0", "54", "5 ", "(", ";", "\xff", "\xc3\xa9", "\xed\xa0\x80", "proc control\n", "proc leaf x(a: val int)\nregs\nRET\n",
+    "names\n", "const a 7\n", "REPEAT 2\n", "END\n", "cont ", "INT v0 7 ", "label:\n", "TWB\x01", "545742", "-9", "\"",
+};
+
+static void fill(uint8_t *room, size_t length, const char *shape) {
+    size_t one = strlen(shape);
+    for (size_t k = 0; k < length; k++) room[k] = (uint8_t)shape[k % one];
+}
+
+static void check_large(void) {
+    uint8_t *room = __real_malloc(large_length);
+    if (!room) {
+        check(0, "memory for the large sources");
+        return;
+    }
+    for (size_t k = 0; k < sizeof shapes / sizeof *shapes; k++) {
+        fill(room, large_length, shapes[k]);
+        check_source(room, large_length, shapes[k]);
+    }
+    memset(room, 0, large_length);
+    check_source(room, large_length, "zeros");
+    fill(room, large_length, "a");
+    check_long_text(room, large_length);
+    __real_free(room);
+}
+
+/* ---- Each call with each kind of handle, and each layout. The rest of what a call takes is right. */
+
+enum { EMPTY, OF_PROGRAM, OF_INPUTS, OF_CONTAINER, OF_STOP, OF_REPORT, OF_TEXT, KINDS };
+
+static uint8_t run_with(void *program, void *inputs, void *stop) {
+    yuglemit_program of = {program};
+    yuglemit_inputs given = {inputs};
+    yuglemit_stop flag = {stop};
+    yuglemit_options options = YUGLEMIT_OPTIONS;
+    yuglemit_report report = {NULL};
+    uint8_t code = yuglemit_run(&of, &given, &options, &flag, &report);
+    yuglemit_report_free(report);
+    return code;
+}
+
+static uint8_t ask_program(int row, void *at) {
+    yuglemit_program program = {at}, other = {NULL};
+    yuglemit_bounds bounds = YUGLEMIT_BOUNDS;
+    yuglemit_order order = YUGLEMIT_ORDER;
+    yuglemit_procedure procedure = YUGLEMIT_PROCEDURE;
+    yuglemit_parameter parameter = YUGLEMIT_PARAMETER;
+    yuglemit_needs needs = YUGLEMIT_NEEDS;
+    yuglemit_inputs none = {NULL};
+    size_t count;
+    uint64_t budget;
+    switch (row) {
+    case 0: return yuglemit_program_procedures(&program, &count);
+    case 1: return yuglemit_program_budget(&program, 0, &budget);
+    case 2: return yuglemit_program_bounds(&program, 1, &bounds);
+    case 3: return yuglemit_program_order(&program, &order);
+    case 4: return yuglemit_program_procedure(&program, 0, &procedure);
+    case 5: return yuglemit_program_parameter(&program, 0, 0, &parameter);
+    case 6: return yuglemit_program_needs(&program, &needs);
+    case 7: return yuglemit_program_share(&program, &other);
+    case 8: return yuglemit_unfit_input(&program, &none, &count);
+    case 9: return run_with(at, NULL, NULL);
+    default: return YUGLEMIT_DONE;
+    }
+}
+
+static uint8_t ask_report(int row, void *at) {
+    yuglemit_report report = {at};
+    yuglemit_ending ending = YUGLEMIT_ENDING;
+    yuglemit_meter meter = YUGLEMIT_METER;
+    yuglemit_order order = YUGLEMIT_ORDER;
+    yuglemit_item item;
+    yuglemit_member member;
+    yuglemit_text text = {NULL};
+    uint8_t room[ROOM] = {0};
+    size_t place;
+    uint64_t count;
+    switch (row) {
+    case 0: return yuglemit_report_ending(&report, &ending);
+    case 1: return yuglemit_report_meter(&report, &meter);
+    case 2: return yuglemit_report_instructions(&report, &count);
+    case 3: return yuglemit_report_output(&report, 0, &item);
+    case 4: return yuglemit_report_member(&report, 0, 0, &member);
+    case 5: return yuglemit_report_members(&report, 0, 0, &member, 1);
+    case 6: return yuglemit_report_find_int(&report, 0, 0, &place);
+    case 7: return yuglemit_report_find_text(&report, 0, room, 0, &place);
+    case 8: return yuglemit_report_text(&report, 0, room, ROOM);
+    case 9: return yuglemit_report_member_text(&report, 0, 0, room, ROOM);
+    case 10: return yuglemit_report_subscript_text(&report, 0, 0, room, ROOM);
+    case 11: return yuglemit_print_report(&report, &text);
+    case 12: return yuglemit_print_trace(&report, &text);
+    case 13: return yuglemit_print_json(&report, &text);
+    case 14: return yuglemit_report_order(&report, &order);
+    default: return YUGLEMIT_DONE;
+    }
+}
+
+static uint8_t ask_container(int row, void *at) {
+    static const uint8_t one[] = "1";
+    yuglemit_container container = {at};
+    yuglemit_inputs inputs = {NULL};
+    switch (row) {
+    case 0: return yuglemit_member_int(&container, 1, 1);
+    case 1: return yuglemit_member_text(&container, 1, one, 1);
+    case 2: return yuglemit_member_int_by_text(&container, one, 1, 1);
+    case 3: return yuglemit_member_text_by_text(&container, one, 1, one, 1);
+    case 4: return yuglemit_input_container(&inputs, &container);
+    default: return YUGLEMIT_DONE;
+    }
+}
+
+static uint8_t ask_inputs(int row, handles *all, void *at) {
+    yuglemit_inputs inputs = {at};
+    size_t index;
+    switch (row) {
+    case 0: return yuglemit_input_int(&inputs, 1);
+    case 1: return yuglemit_input_text(&inputs, (const uint8_t *)"1", 1);
+    case 2: return yuglemit_input_container(&inputs, &all->container);
+    case 3: return yuglemit_unfit_input(&all->program, &inputs, &index);
+    case 4: return run_with(all->program.at, at, NULL);
+    case 5: return yuglemit_input_ints(&inputs, NULL, numbers, 3);
+    case 6: return yuglemit_input_texts(&inputs, NULL, texts, 4, text_ends, 3);
+    case 7: return yuglemit_input_ints_by_text(&inputs, names, 4, name_ends, numbers, 3);
+    case 8: return yuglemit_input_texts_by_text(&inputs, names, 4, name_ends, texts, 4, text_ends, 3);
+    default: return YUGLEMIT_DONE;
+    }
+}
+
+static uint8_t ask_stop(int row, handles *all, void *at) {
+    yuglemit_stop stop = {at}, other = {NULL};
+    switch (row) {
+    case 0: return yuglemit_stop_raise(&stop);
+    case 1: return yuglemit_stop_lower(&stop);
+    case 2: return yuglemit_stop_share(&stop, &other);
+    case 3: return run_with(all->program.at, all->inputs.at, at);
+    default: return YUGLEMIT_DONE;
+    }
+}
+
+static uint8_t ask_text(int row, void *at) {
+    yuglemit_text text = {at};
+    uint8_t room[ROOM];
+    size_t size;
+    switch (row) {
+    case 0: return yuglemit_text_length(&text, &size);
+    case 1: return yuglemit_text_copy(&text, room, ROOM);
+    default: return YUGLEMIT_DONE;
+    }
+}
+
+/* Makes each kind of handle. The one of inputs has what the program takes. */
+static void make_each(handles *all) {
+    check(load(all, program_bytes, program_length, YUGLEMIT_BYTES) == 0 && yuglemit_input_text(&all->inputs, (const uint8_t *)"41", 2) == 0, "a program and inputs");
+    check(yuglemit_container_new(&all->container, 'i', 'i') == 0 && yuglemit_stop_new(&all->stop) == 0, "a container and a flag");
+    check(run(all) == 0 && yuglemit_print_report(&all->report, &all->text) == 0, "a report and a text");
+}
+
+/* Each call with each kind of handle that it doesn't take. An empty handle has no input, and a run without a flag has an empty one. */
+static void check_pairs(void) {
+    handles all = {{NULL}, {NULL}, {NULL}, {NULL}, {NULL}, {NULL}, {NULL}};
+    make_each(&all);
+    void *const each[KINDS] = {NULL, all.program.at, all.inputs.at, all.container.at, all.stop.at, all.report.at, all.text.at};
+    for (int kind = 0; kind < KINDS; kind++) {
+        void *at = each[kind];
+        for (int row = 0; row < 10; row++) check(kind == OF_PROGRAM || ask_program(row, at) == YUGLEMIT_NO_PROGRAM, "it holds no program");
+        for (int row = 0; row < 15; row++) check(kind == OF_REPORT || ask_report(row, at) == YUGLEMIT_NO_REPORT, "it holds no report");
+        for (int row = 0; row < 5; row++) check(kind == OF_CONTAINER || ask_container(row, at) == YUGLEMIT_NO_CONTAINER, "it holds no container");
+        for (int row = 0; row < 9; row++) check(kind == EMPTY || kind == OF_INPUTS || ask_inputs(row, &all, at) == YUGLEMIT_NO_INPUTS, "it holds no inputs");
+        for (int row = 0; row < 4; row++) check(kind == OF_STOP || (kind == EMPTY && row == 3) || ask_stop(row, &all, at) == YUGLEMIT_NO_STOP, "it holds no flag");
+        for (int row = 0; row < 2; row++) check(kind == OF_TEXT || ask_text(row, at) == YUGLEMIT_NO_STRING, "it holds no text");
+    }
+    check(ask_program(0, all.program.at) == 0 && ask_report(8, all.report.at) == 0 && ask_text(0, all.text.at) == 0, "what they held");
+    check(ask_container(0, all.container.at) == 0 && ask_inputs(4, &all, all.inputs.at) == 0 && ask_stop(2, &all, NULL) == YUGLEMIT_NO_STOP, "is as it was");
+    free_all(&all);
+}
+
+/* Layouts and limits, beside their bounds and where a byte or 32 bits would cut them. */
+static void check_layouts(void) {
+    static const uint64_t counts[] = {0, 1, 2, 3, 4, 5, 15, 16, 17, 255, 256, 257, 65537, 4294967297, UINT64_MAX};
+    static const uint64_t limits[] = {0, 1, 10000, 1000000, 1000001, 4294967297, UINT64_MAX};
+    enum { COUNTS = sizeof counts / sizeof *counts, LIMITS = sizeof limits / sizeof *limits };
+    handles all = {{NULL}, {NULL}, {NULL}, {NULL}, {NULL}, {NULL}, {NULL}};
+    yuglemit_options options = YUGLEMIT_OPTIONS;
+    int wrong = 0;
+    make_each(&all);
+    for (int k = 0; k < COUNTS * COUNTS * COUNTS * LIMITS; k++) {
+        options.engines = counts[k % COUNTS];
+        options.servers = counts[k / COUNTS % COUNTS];
+        options.workers = counts[k / COUNTS / COUNTS % COUNTS];
+        options.limit = limits[k / COUNTS / COUNTS / COUNTS];
+        int is_layout = options.engines - 1 < 4 && options.servers - 1 < 4 && options.workers - 1 < 16;
+        uint8_t code = yuglemit_run(&all.program, &all.inputs, &options, &all.stop, &all.report);
+        wrong += code != (!is_layout ? YUGLEMIT_NO_LAYOUT : options.limit - 1 < 1000000 ? YUGLEMIT_DONE : YUGLEMIT_NO_LIMIT);
+    }
+    check(!wrong, "layouts and limits");
+    free_all(&all);
+}
+
+int main(int argc, char **argv) {
+    FILE *file = argc >= 2 ? fopen(argv[1], "rb") : NULL;
+    if (!file) return 2;
+    program_length = fread(program_bytes, 1, sizeof program_bytes, file);
+    fclose(file);
+    if (argc > 2) large_length = strtoul(argv[2], NULL, 10);
+    long before = held;
+    check_empty();
+    check_lists();
+    check_wrong_lists();
+    check_unfinished();
+    check_no_members();
+    check_versions();
+    check_told();
+    check_pairs();
+    check_layouts();
+    check_many();
+    check_refused();
+    check_kept_members();
+    check_large();
+    check(held == before, "nothing is left");
+    printf("%d checks, %d failed\n", checks, failures);
+    return failures > 0;
+}

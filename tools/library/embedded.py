@@ -1,0 +1,237 @@
+# SPDX-License-Identifier: Apache-2.0
+"""Compares the library's examples with the program tw: ./dev embedded says how."""
+
+from __future__ import annotations
+
+import doctest
+import os
+import re
+import subprocess
+import sys
+import time
+from collections.abc import Callable
+from functools import cache, partial
+from typing import Any
+
+from tools.common.program import package, program
+from tools.common.sessions import sessions
+
+root, room, *parts = sys.argv[1:]
+languages = [it for it in parts if it != "stack"]
+tw = program()
+folder = f"{root}/examples"
+
+Answer = tuple[int, bytes]
+counts = {True: 0, False: 0}
+
+
+def say(is_same: bool, *what: object) -> None:
+    """Counts an answer, and prints one that differs."""
+    counts[is_same] += 1
+    if not is_same:
+        print("DIFFERS", *what)
+
+
+def started(program: str, words: list[str], data: bytes = b"") -> Answer:
+    """Returns the status and the text of a program."""
+    done = subprocess.run([program, *words], input=data, stdout=subprocess.PIPE, stderr=subprocess.DEVNULL, check=False)
+    return done.returncode, done.stdout
+
+
+@cache
+def module() -> Any:
+    """Returns the Python package."""
+    return package()
+
+
+def by_python(words: list[str], data: bytes) -> Answer:
+    """Returns what the Python package answers."""
+    status, text = module().session(words, data)
+    return int(status), bytes(text)
+
+
+def answer_of(language: str, words: list[str], data: bytes) -> Answer:
+    """Returns what a language's example answers."""
+    return by_python(words, data) if language == "python" else started(f"{room}/{language}", words, data)
+
+
+def compare(words: list[str], data: bytes = b"") -> None:
+    """Compares one answer of each language with the program's."""
+    in_turn = ["--in-turn"] if words[:1] == ["run"] and not {"--help", "--in-turn"} & {*words} else []
+    wanted = started(tw, words[:1] + in_turn + words[1:], data)
+    options: list[list[str]] = [[], in_turn] if in_turn else [[]]
+    for language in languages:
+        if not words and language in ("cpp", "rust"):
+            continue  # without words these show what the calls give
+        for more in options:
+            got = answer_of(language, words[:1] + more + words[1:], data)
+            say(got == wanted, language, words, got[0], wanted[0], got[1][:100], wanted[1][:100])
+
+
+def shown_words(name: str) -> list[list[str]]:
+    """Returns the words after `run` and others that examples/sessions.txt shows for a file."""
+    found = (it.words for it in sessions() if it.command in ("run", "replay", "picture") and it.path.name == name)
+    return [list(words) for words in found if words and "--inputs" not in words]
+
+
+def compare_example(name: str) -> None:
+    """Compares what all commands answer to a file of examples/."""
+    with open(f"{folder}/{name}", "rb") as file:
+        data = file.read()
+    text = ["--text"] if name.endswith((".tw", ".twn")) else []
+    for command in ("asm", "asm --names", "asm --names --plain", "check", "check --places", "disasm", "disasm --places"):
+        words = command.split()
+        compare(words[:1] + (text if words[0] != "asm" else []) + words[1:], data)
+    layouts: list[list[str]] = [[], ["--engines", "2", "--servers", "2", "--workers", "4"]]
+    for given in layouts + shown_words(name):
+        for option in ("", "--trace", "--stats", "--picture"):
+            compare(["run", *text, *option.split(), *given], data)
+        for command in ("replay", "replay --stats", "picture"):
+            compare([*command.split(), *text, *given], data)
+    # A byte in the middle is another one.
+    middle = len(data) // 2
+    for words in (["asm"], ["check", *text], ["run", *text, "--limit", "300"]):
+        compare(words, data[:middle] + b"9" + data[middle + 1 :])
+
+
+def compare_unread(words: list[str]) -> None:
+    """Checks that an example ends where tw reads nothing, though its standard input stays open."""
+    for language in languages:
+        if language == "python":
+            continue
+        read, write = os.pipe()
+        try:
+            done = subprocess.run([f"{room}/{language}", *words], stdin=read, stdout=subprocess.PIPE, stderr=subprocess.DEVNULL, timeout=120, check=False)
+            say((done.returncode, done.stdout) == started(tw, words), language, words, done.returncode, done.stdout[:100])
+        except subprocess.TimeoutExpired:
+            say(False, language, words, "waits for an input")
+        finally:
+            os.close(read)
+            os.close(write)
+
+
+def compare_call(name: str, order: list[str], data: bytes, call: Callable[[], str]) -> None:
+    """Compares what a function of the Python module gives, or refuses, with the program's text."""
+    try:
+        got = call()
+    except module().Refused as why:
+        got = why.text
+    wanted = started(tw, order, data)[1].decode()
+    say(got == wanted, "python", name, order, got[:100], wanted[:100])
+
+
+def hex_of(text: str) -> str:
+    return str(module().assemble(text).hex()) + "\n"
+
+
+def checked(text: str) -> str:
+    return str(module().load(text).checked)
+
+
+def reported(text: str, inputs: list[str]) -> str:
+    return str(module().load(text).run(*map(module().read_input, inputs), workers=2).text)
+
+
+def compare_report(name: str, assembles: list[str], text: str, inputs: list[str]) -> None:
+    """Compares a run's report, which has no line of the text, so it is that of the program's bytes. A rejected program's error has its line."""
+    data = text.encode()
+    words = ["--in-turn", "--workers", "2", *inputs]
+    is_accepted = started(tw, ["check", "--text"], data)[0] == 0
+    order, given = (["run", *words], started(tw, assembles, data)[1]) if is_accepted else (["run", "--text", *words], data)
+    compare_call(name, order, given, partial(reported, text, inputs))
+
+
+def compare_calls() -> None:
+    """Compares the functions of the Python module with the program."""
+    yuglemit = module()
+    for name in sorted(it for it in os.listdir(folder) if it.endswith((".tw", ".twn"))):
+        with open(f"{folder}/{name}", encoding="utf-8") as file:
+            text = file.read()
+        inputs = [word for word in (shown_words(name) or [[]])[0] if ":" in word]
+        data, order = text.encode(), ["asm", "--names"] if name.endswith(".twn") else ["asm"]
+        compare_call(name, order, data, partial(hex_of, text))
+        compare_call(name, ["check", "--text"], data, partial(checked, text))
+        if inputs or not re.search(r"^proc control.*\b(closed|ref)\b", text, re.M):  # inputs that main doesn't ask for are a TypeError
+            compare_report(name, order, text, inputs)
+        try:
+            answer = "accepted" if yuglemit.verify(yuglemit.assemble(text)) else ""
+        except yuglemit.Refused as why:
+            answer = why.text.splitlines()[0]
+        lines = started(tw, ["check", "--text"], text.encode())[1].decode().splitlines()
+        say(answer in lines, "python", name, "verify", answer, lines[:1])
+    os.chdir(root)
+    failed, tried = doctest.testfile(f"{root}/embed/python/README.md", module_relative=False)
+    if os.path.exists("run.svg"):
+        os.remove("run.svg")  # its example writes it
+    say(failed == 0, "embed/python/README.md", failed, "of", tried)
+
+
+def compare_stack() -> None:
+    """Makes calls over hostile inputs in a thread with little stack, and prints the most that one took."""
+    from tools.program import hostile
+
+    most, whose = 0, ""
+    for given in hostile.all_inputs():
+        data = given.make(1 << 20).encode()
+        for command in given.commands:
+            status, answer = started(f"{room}/stack", command.split(), data)
+            say(status == 0, "stack", given.name, command, status)
+            if status == 0 and int(answer) > most:
+                most, whose = int(answer), f"{command} of {given.name}"
+    print(f"the most stack: {most} bytes, {whose}")
+
+
+def seconds(times: int, what: Callable[[], object]) -> float:
+    """Returns how long one call takes."""
+    begun = time.perf_counter()
+    for _ in range(times):
+        what()
+    return (time.perf_counter() - begun) / times
+
+
+def seconds_of(language: str, words: list[str], data: bytes) -> float:
+    """Returns how long a call of C or Python takes."""
+    if language == "python":
+        return seconds(5000, partial(module().verify, data) if words == ["verify"] else partial(module().session, words, data))
+    answer = subprocess.run([f"{room}/c", *words], input=data, capture_output=True, env={**os.environ, "TIMES": "20000"}, check=False).stderr
+    return float(answer.split()[0]) / 1e6
+
+
+def print_rates() -> None:
+    """Prints how many calls a second are made."""
+    with open(f"{folder}/fan_out.twn", "rb") as file:
+        text = file.read()
+    program = bytes.fromhex(started(tw, ["asm", "--names"], text)[1].decode())
+    for words in (["check", "--text"], ["run", "--text"], ["verify"]):
+        data = program if words == ["verify"] else text
+        rates = []
+        if words != ["verify"]:
+            order = words + (["--in-turn"] if words[0] == "run" else [])
+            rates.append(f"starting tw {1 / seconds(300, partial(started, tw, order, text)):,.0f}")
+        rates += [f"{it} {1 / seconds_of(it, words, data):,.0f}" for it in languages if it in ("c", "python")]
+        print(f"calls a second, {words[0]} of fan_out.twn: {', '.join(rates)}")
+
+
+def compare_all() -> None:
+    """Compares all that was asked for."""
+    for name in sorted(it for it in os.listdir(folder) if it.endswith((".tw", ".twn", ".hex", ".history"))):
+        compare_example(name)
+    orders: list[list[str]] = [["--help"], ["--version"], ["run", "--help"], [], ["fly"], ["run", "--workers", "17"], ["run", "int:x"], ["explain"], ["run", "text:a\r"], ["run", "text:a\nb"]]
+    orders += [["explain", f"{letter}{number:02}"] for letter in "AFHOVEX" for number in range(20)]
+    orders += [["explain", f"C{number}"] for number in range(17)]
+    for words in orders:
+        compare(words)
+    for words in (["--help"], ["--version"], ["run", "--help"], ["help", "run"], ["fly"], ["run", "--workers", "17"], ["run", "int:x"], ["explain", "V04"]):
+        compare_unread(words)
+    if "python" in languages:
+        compare_calls()
+
+
+if languages:
+    compare_all()
+if "stack" in parts:
+    compare_stack()
+print(f"{counts[True]} same, {counts[False]} differ")
+if languages:
+    print_rates()
+sys.exit(counts[False] > 0)

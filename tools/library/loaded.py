@@ -1,0 +1,192 @@
+# SPDX-License-Identifier: Apache-2.0
+"""Compares programs that are loaded once with the program tw: ./dev loaded says how."""
+
+from __future__ import annotations
+
+import os
+import re
+import subprocess
+import sys
+from pathlib import Path
+
+from tools.common.sessions import sessions
+from tools.fuzz import positions
+
+root, room, tw, *watch = sys.argv[1:]
+is_quick = watch == ["--quick"]
+watch = [] if is_quick else watch
+examples = Path(root, "examples")
+
+Answer = tuple[int, bytes]
+
+
+def started(words: list[str], data: bytes = b"") -> Answer:
+    """Returns the status and the text of a program. What tw says of codes isn't printed, but what valgrind says of the others is."""
+    errors = subprocess.DEVNULL if words[0] == tw else None
+    done = subprocess.run(words, input=data, stdout=subprocess.PIPE, stderr=errors, check=False)
+    return done.returncode, done.stdout
+
+
+def assembled(path: Path) -> bytes | None:
+    """Returns the bytes of an example, if it can be assembled."""
+    words = ["--names"] if path.suffix == ".twn" else []
+    status, text = started([tw, "asm", *words], path.read_bytes())
+    return bytes.fromhex(text.decode()) if status == 0 else None
+
+
+def inputs_of(path: Path) -> list[list[str]]:
+    """Returns the inputs that examples/sessions.txt shows for an example, without options; and none."""
+    shown = dict.fromkeys(it.inputs for it in sessions() if it.command == "run" and it.path.stem == path.stem and it.path.suffix != ".hex" and it.inputs)
+    return [[], *(list(words) for words in shown)]
+
+
+def wanted(path: Path, inputs: list[str]) -> Answer:
+    """Returns the status and the lines of outputs that the program prints."""
+    status, text = started([tw, "run", "--text", "--in-turn", *inputs], path.read_bytes())
+    return status, b"".join(line for line in text.splitlines(True) if line.startswith((b"out ", b"  at ")))
+
+
+def is_same(path: Path, source: bytes, inputs: list[str]) -> bool:
+    """Compares the run of an example in one of its formats. Where tw refuses it, the status is enough."""
+    status, text = started([*watch, f"{room}/loaded", *inputs], source)
+    is_alike = (status, b"" if status == 1 else text) == wanted(path, inputs)
+    if not is_alike:
+        print("DIFFERS", path.name, inputs, status, text[:100])
+    return is_alike
+
+
+def compare_examples() -> tuple[int, int]:
+    """Returns how many runs are the same, and how many differ."""
+    counts = {True: 0, False: 0}
+    for path in sorted(examples.glob("*.tw")) + sorted(examples.glob("*.twn")):
+        code = assembled(path)
+        for inputs in inputs_of(path) if code is not None else []:
+            for source in (code or b"", (code or b"").hex().encode(), path.read_bytes()):
+                counts[is_same(path, source, inputs)] += 1
+    return counts[True], counts[False]
+
+
+def damaged(text: bytes) -> list[bytes]:
+    """Returns texts with an error: a word dropped, a word too many, and a word changed, in a few lines."""
+    lines = text.split(b"\n")
+    made = []
+    for index in range(1, len(lines), max(1, len(lines) // 6)):
+        words = lines[index].split(b" ")
+        for line in (b" ".join(words[:-1]), lines[index] + b" 7", b" ".join([*words[:-1], b"zz"])):
+            made.append(b"\n".join([*lines[:index], line, *lines[index + 1:]]))
+    return made
+
+
+def position(text: str) -> tuple[str, int, int, int]:
+    """Returns code, line, word and column of an error that `tw check --text` prints. A register's error has no word."""
+    code = re.search(r"^refused ([A-Z])0?(\d+)", text, re.M)
+    line = re.search(r" at line (\d+)$", text, re.M) or re.search(r"^at line (\d+)", text, re.M)
+    lines = text.split("\n")[:-1]
+    at = positions.of_error(lines, lines[1]) if len(lines) > 1 else (0, 0)
+    return f"{code[1]}{int(code[2]):02}" if code else "", int(line[1]) if line else 0, *at
+
+
+def has_same_position(path: Path, text: bytes) -> bool:
+    """Compares where the library and `tw check` find the error of a text."""
+    _, told = started([tw, "check", "--text"], text)
+    status, said = started([f"{room}/loaded"], text)
+    found = re.match(rb"refused ([A-Z]\d+) procedure \d+ place \d+ line (\d+) word (\d+) column (\d+)", said)
+    wanted_at = position(told.decode(errors="replace"))
+    is_alike = found is None if not wanted_at[0] else found is not None and (found[1].decode(), *map(int, found.groups()[1:])) == wanted_at
+    if not is_alike:
+        print("DIFFERS", path.name, status, said[:100], told[:200])
+    return is_alike
+
+
+def compare_positions() -> tuple[int, int]:
+    """Returns how many errors of texts are at the same position, and how many differ."""
+    counts = {True: 0, False: 0}
+    for path in sorted(examples.glob("*.tw")) + sorted(examples.glob("*.twn")):
+        for text in damaged(path.read_bytes()):
+            counts[has_same_position(path, text)] += 1
+    return counts[True], counts[False]
+
+
+BEGINS = ("ints:", "texts:", "tints:", "ttexts:")
+MEMBERS = ('1=2', '1="b"', '"a"=2', '"a"="b"')
+CONTAINERS = ("{0}", "{0},", ",{0}", "{0},,{0}", "{0} ", " {0}", "{0}x", "x", "1", '"a"', "1=", "=2", '"a"=', '="b"', '1="b', '"a=2', '"a"="b', "1:2", "1=x", "x=2", "a=2", "{0};{0}")
+NUMBERS = ("7", "-7", "007", "-0", "9223372036854775807", "-9223372036854775808")
+NO_NUMBERS = ("", "x", "-", "--7", "+7", " 7", "7 ", "7x", "0x7", "7.5", "9223372036854775808", "-9223372036854775809", "9" * 40)
+
+
+def input_words() -> list[str]:
+    """Returns words that are inputs, and such that are none."""
+    containers = [begin + form.format(member) for begin in BEGINS for member in MEMBERS for form in CONTAINERS]
+    numbers = [*NUMBERS, *NO_NUMBERS]
+    members = [f"ints:{number}=2" for number in numbers] + [f"ints:1={number}" for number in numbers] + [f'tints:"a"={number}' for number in numbers]
+    return ["7", "x", "int", "Int:7", "text:", "text:a=1", *BEGINS, *dict.fromkeys(containers), *(f"int:{number}" for number in numbers), *members]
+
+
+def is_word_refused(words: list[str], data: bytes) -> bool:
+    """Returns whether a program says that its second input is none, with status 2; a program that takes two minutes hasn't said so."""
+    try:
+        done = subprocess.run(words, input=data, stdout=subprocess.PIPE, stderr=subprocess.DEVNULL, timeout=120, check=False)
+    except subprocess.TimeoutExpired:
+        return False
+    return done.returncode == 2 and done.stdout.startswith(b"input word 2 refused\n")
+
+
+def has_same_word(word: str) -> bool:
+    """Compares whether the library's example and tw take a word as an input; main has one input only, so nothing runs."""
+    data = b"proc control closed int\nregs\nDROPR d0\nRET\n"
+    is_alike = is_word_refused([f"{room}/loaded", "int:1", word], data) == is_word_refused([tw, "run", "-", "--text", "int:1", word], data)
+    if not is_alike:
+        print("DIFFERS", word)
+    return is_alike
+
+
+def compare_words() -> tuple[int, int]:
+    """Returns how many words both take or reject, and of how many one does."""
+    alike = [has_same_word(word) for word in input_words()]
+    return sum(alike), len(alike) - sum(alike)
+
+
+def said(words: list[str], data: bytes) -> float:
+    """Returns the number that an example prints of many calls."""
+    done = subprocess.run(words, input=data, capture_output=True, check=False, env={**os.environ, "TIMES": "50000"})
+    return float(done.stderr.split()[0])
+
+
+def print_rates() -> None:
+    """Prints how many runs a second are made of a program that is loaded once, and by sessions, which parse and verify it each time."""
+    path = examples / "fan_out.twn"
+    code, text = assembled(path) or b"", path.read_bytes()
+    loaded = said([f"{room}/loaded"], code)
+    from_hex = 1e6 / said([f"{room}/session", "run"], code.hex().encode())
+    from_text = 1e6 / said([f"{room}/session", "run", "--text"], text)
+    print(f"runs a second of fan_out.twn: loaded once {loaded:,.0f}, sessions from hex {from_hex:,.0f}, from text {from_text:,.0f}")
+
+
+def has_version() -> bool:
+    """Returns whether the header has the version of the repository."""
+    parts = [*map(int, Path(root, "VERSION").read_text(encoding="utf-8").strip().split(".")), 0, 0][:3]
+    found = re.search(r"YUGLEMIT_VERSION_NUMBER (\d+)", Path(root, "embed/yuglemit.h").read_text(encoding="utf-8"))
+    return found is not None and int(found[1]) == parts[0] * 1_000_000 + parts[1] * 1_000 + parts[2]
+
+
+def main() -> int:
+    """Makes all checks."""
+    program = Path(room, "program")
+    program.write_bytes(assembled(examples / "read_number.twn") or b"")
+    hostile, text = started([*watch, f"{room}/hostile", str(program)])
+    print(text.decode(), end="")
+    cpp, text = started([*watch, f"{room}/cpp", str(examples)]) if Path(room, "cpp").exists() else (0, b"C++: no compiler\n")
+    print(text.decode(), end="")
+    same, differ = compare_examples()
+    alike, apart = compare_positions()
+    print(f"{alike} errors of texts at the same position, {apart} not")
+    taken, strange = compare_words()
+    print(f"{taken} input words taken alike, {strange} not")
+    if not is_quick:
+        print_rates()
+    print(f"{same} same, {differ} differ")
+    return int(not has_version() or hostile + cpp != 0 or differ + apart + strange != 0 or same == 0 or alike == 0)
+
+
+if __name__ == "__main__":
+    sys.exit(main())

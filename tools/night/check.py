@@ -1,0 +1,71 @@
+"""Runs what CI runs of the harnesses, in some minutes of two processors. Prints what fails, with its log, and what is left out.
+
+    ./dev check              all
+    ./dev check NAME..       these
+    ./dev check --sources    those of the sources, which test no program
+    ./dev check --built      those that test programs and the library
+    ./dev check --times      prints a line for each, too
+
+What is tested is the release, or what is built here (script/pick.sh). The seed of the fuzz tests is the commit."""
+
+from __future__ import annotations
+
+import os
+import subprocess
+import sys
+import tempfile
+from pathlib import Path
+
+from tools import ROOT
+from tools.common.program import LIBRARY, PROGRAM, describe, for_package
+from tools.harnesses import TOOLS, Tool
+from tools.night.runner import FAILED, LEFT_OUT, Ended, Runner, heed_signals, status_of, total
+
+SECONDS_A_KIND, JOBS = "10", 2
+
+
+def commit() -> str:
+    """Returns the commit that is tested."""
+    done = subprocess.run(["git", "-C", str(ROOT), "rev-parse", "--short=12", "HEAD"], capture_output=True, text=True, check=False)
+    return done.stdout.strip() or "1"
+
+
+def chosen(words: list[str]) -> list[Tool] | str:
+    """Returns the harnesses that arguments name, or which of these names isn't one."""
+    rows = [tool for tool in TOOLS if tool.is_harness and tool.in_ci]
+    if words in (["--sources"], ["--built"]):
+        return [tool for tool in rows if bool(tool.tests) == (words == ["--built"])]
+    named = {tool.name: tool for tool in TOOLS if tool.is_harness}
+    unknown = [word for word in words if word not in named]
+    return unknown[0] if unknown else [named[word] for word in words] or rows
+
+
+def report(ended: Ended, logs: Path, prints_all: bool) -> None:
+    """Prints what a reader has to know of a harness."""
+    if ended.outcome == FAILED:
+        print((logs / f"{ended.tool.name}.log").read_text(encoding="utf-8", errors="replace"), end="")
+    if ended.outcome == FAILED or prints_all:
+        print(ended.line(), flush=True)
+    elif ended.outcome == LEFT_OUT or ended.parts:
+        print(f"left out: {ended.tool.name}: {', '.join(ended.parts) or ended.text}", flush=True)
+
+
+def main(words: list[str]) -> int:
+    """Runs them; returns an exit status."""
+    prints_all = "--times" in words
+    tools = chosen([word for word in words if word != "--times"])
+    if isinstance(tools, str):
+        print(f"there is no harness {tools}; ./dev list names them", file=sys.stderr)
+        return 2
+    environment: dict[str, str] = {}
+    if any(tool.tests for tool in tools):
+        print(f"tests {describe(PROGRAM)} and {describe(LIBRARY)}", flush=True)
+        environment = for_package()
+    with tempfile.TemporaryDirectory() as name:
+        logs = Path(name)
+        runner = Runner(ROOT, logs, {"seed": commit(), "count": "100000", "seconds": SECONDS_A_KIND}, float(os.environ.get("PATIENCE", "1")), environment=environment)
+        runner.say = lambda ended: report(ended, logs, prints_all)
+        heed_signals(runner)
+        ended = runner.run_all(tools, JOBS)
+    print(total(ended))
+    return status_of(ended)

@@ -1,0 +1,272 @@
+#!/usr/bin/env python3
+# SPDX-License-Identifier: Apache-2.0
+"""Checks the progress that `tw` prints on standard error, with a pseudo terminal.
+
+A run of some seconds prints once a second how many events there are so far, and --each how many lines are answered, and at which rate.
+Each such line replaces the one before, and the last is cleared. Nothing is printed with --quiet, by --in-turn, into a pipe, or of a short
+run whose program comes late. A rejected command line prints the reason and a hint. Standard output and the status are the same each time. A command that
+reads a terminal says so first, except with --help. Prints each that differs, ends with `N as wanted, M not`, and fails if one differs.
+"""
+
+from __future__ import annotations
+
+import os
+import pty
+import re
+import subprocess
+import sys
+import threading
+import time
+from typing import Callable, NamedTuple
+
+from tools.common.program import program
+
+SECONDS = 60
+SHORT = "proc control write int\nregs int\nINT v0 7\nSTORE d0 v0\nRET\n"
+NO_LINES = (
+    "tw: --each needs lines of inputs: tw run FILE --each LINES; those in FILE itself follow a line `inputs`\n"
+    "tw: tw run --help lists its arguments\n"
+)
+REFUSED = "error: --workers takes a number from 1 to 16\ntw: tw run --help lists its arguments\n"
+# The most tasks that an event limit of 1,000,000 allows, with five events each.
+MOST_TASKS = 199_000
+# Tasks of a hundred thousand iterations each, one after the other on one worker.
+LONG = """proc control
+regs
+REPEAT %d
+REPEAT %d
+PUT 1 0 any
+END
+END
+RET
+
+proc leaf
+regs int int
+INT v1 1
+REPEAT 1000
+REPEAT 100
+ADD v0 v0 v1 +0
+END
+END
+RET
+"""
+
+
+# A run of ten thousand iterations, which is made for each line of inputs.
+EACH = """proc control write int
+regs int int
+INT v1 1
+REPEAT 100
+REPEAT 100
+ADD v0 v0 v1 +0
+END
+END
+STORE d0 v0
+RET
+"""
+# The most lines that are tried.
+MOST_LINES = 2_000_000
+# Clears a terminal's line.
+CLEAR = "\r\x1b[K"
+
+
+class Answer(NamedTuple):
+    """The lines on standard error, the output, and the status."""
+
+    printed: str
+    written: str
+    status: int
+
+
+def run(words: list[str], text: str, on_terminal: bool = True, late: float = 0.0) -> tuple[Answer, float]:
+    """Runs a program, which comes so many seconds late, and returns what came of it and how long it took."""
+    ours, theirs = pty.openpty() if on_terminal else os.pipe()
+    printed: list[bytes] = []
+
+    def listen() -> None:
+        while True:
+            try:
+                more = os.read(ours, 4096)
+            except OSError:
+                return
+            if not more:
+                return
+            printed.append(more)
+
+    begun = time.monotonic()
+    process = subprocess.Popen([program(), "run", "--text", "--limit=1000000", *words], stdin=subprocess.PIPE, stdout=subprocess.PIPE, stderr=theirs)
+    os.close(theirs)
+    listener = threading.Thread(target=listen)
+    listener.start()
+    time.sleep(late)
+    written = process.communicate(text.encode())[0].decode()
+    took = time.monotonic() - begun
+    listener.join()
+    os.close(ours)
+    return Answer(b"".join(printed).decode().replace("\r\n", "\n"), written, process.returncode), took
+
+
+def tasks(count: int) -> str:
+    """Returns a program of at least so many tasks."""
+    return LONG % (min(count, 1000), (count + 999) // 1000)
+
+
+def each_text(lines: int) -> str:
+    """Returns a program and so many lines of inputs."""
+    return EACH + "inputs\n" + "[]\n" * lines
+
+
+class Work(NamedTuple):
+    """A text for each count, from the least to the most, and the arguments of the command that runs it."""
+
+    text: Callable[[int], str]
+    least: int
+    most: int
+    words: list[str]
+
+
+TASKS = Work(tasks, 16, MOST_TASKS, [])
+LINES = Work(each_text, 1000, MOST_LINES, ["--each"])
+
+
+def run_long(work: Work, words: list[str], on_terminal: bool) -> tuple[int, Answer, float]:
+    """Runs work of growing counts until a run takes four seconds. Returns the last run's count, what came of it and how long it took.
+
+    A run isn't timed beforehand: on a busy machine the next one may be much shorter, or longer.
+    """
+    count = work.least
+    while True:
+        got, took = run([*work.words, *words], work.text(count), on_terminal=on_terminal)
+        if took >= 4 or count >= work.most:
+            return count, got, took
+        count = min(work.most, int(count * min(8, 5.5 / max(took, 0.1))))
+
+
+def printed_lines(printed: str) -> list[str]:
+    """Returns the lines of which each replaced the one before, or none if the last isn't cleared."""
+    parts = printed.split(CLEAR)
+    return parts[1:-1] if parts[0] == "" and parts[-1] == "" else []
+
+
+def is_timely(count: int, took: float) -> bool:
+    """Returns whether work of so many seconds prints this many lines: one for each second from the second on.
+
+    One line in five may be missing, since the thread that writes them may be late on a busy machine.
+    """
+    return int(0.8 * took) - 2 <= count <= int(took) - 1 and count > 1
+
+
+def is_rising(numbers: list[int]) -> bool:
+    """Returns whether the numbers never fall, and the last is above the first."""
+    return numbers == sorted(numbers) and numbers[0] < numbers[-1]
+
+
+def is_progress(printed: str, took: float) -> bool:
+    """Returns whether these are the lines of a run that took so many seconds, and the events rise."""
+    found = [re.fullmatch(r"tw: ([0-9]+) events so far", line) for line in printed_lines(printed)]
+    events = [int(it[1]) for it in found if it]
+    return len(events) == len(found) and is_timely(len(events), took) and is_rising(events)
+
+
+def second_of(answered: int, rate: str, took: float) -> int:
+    """Returns after how many seconds this rate is that of so many answered lines; 0 if it never is."""
+    for second in range(2, int(took) + 1):
+        tenths = answered * 10 // second
+        if rate == f"{tenths // 10}.{tenths % 10}":
+            return second
+    return 0
+
+
+def is_line_progress(printed: str, took: float, lines: int) -> bool:
+    """Returns whether these are the lines of `--each` that took so many seconds: answered lines and seconds rise, and the rates follow."""
+    form = re.compile(r"tw: ([1-9][0-9]*) lines so far, ([0-9]+\.[0-9]) a second")
+    found = [form.fullmatch(line) for line in printed_lines(printed)]
+    rows = [(int(it[1]), it[2]) for it in found if it]
+    seconds = [second_of(answered, rate, took) for answered, rate in rows]
+    return (
+        len(rows) == len(found) and is_timely(len(rows), took) and is_rising([row[0] for row in rows])
+        and rows[-1][0] <= lines and 0 not in seconds and seconds == sorted(set(seconds))
+    )
+
+
+def are_answers(written: str, lines: int) -> bool:
+    """Returns whether each line has its answer, in order: ten thousand iterations are counted."""
+    answers = written.splitlines()
+    return len(answers) == lines and all(
+        answer.startswith(f'{{"line":{number},') and answer.endswith('"kinds":["int"],"outputs":[10000],"status":"quiet"}')
+        for number, answer in enumerate(answers, 1)
+    )
+
+
+def each_faults() -> list[str]:
+    """Returns what is wrong with `--each` of some seconds, likewise."""
+    faults: list[str] = []
+    rows: list[tuple[str, list[str], bool, bool]] = [
+        ("--each on a terminal", [], True, True), ("--each --jobs 2", ["--jobs=2"], True, True),
+        ("--each --quiet", ["--quiet"], True, False), ("--each into a pipe", [], False, False),
+    ]
+    for name, words, on_terminal, is_printed in rows:
+        lines, got, took = run_long(LINES, words, on_terminal)
+        is_right = is_line_progress(got.printed, took, lines) if is_printed else not got.printed
+        is_well = is_right and are_answers(got.written, lines) and got.status == 0
+        faults.append("" if is_well else f"{name}, {lines} lines, {took:.1f} seconds: {got.printed!r}, status {got.status}, {got.written[-200:]}")
+    return faults
+
+
+def long_faults() -> list[str]:
+    """Returns what is wrong with runs of some seconds, or nothing for each that is well."""
+    faults: list[str] = []
+    rows: list[tuple[str, list[str], bool]] = [
+        ("a run on a terminal", [], True), ("--quiet", ["--quiet"], True), ("--in-turn", ["--in-turn"], True), ("into a pipe", [], False),
+    ]
+    for name, words, on_terminal in rows:
+        _, got, took = run_long(TASKS, words, on_terminal)
+        is_right = is_progress(got.printed, took) if on_terminal and not words else not got.printed
+        is_well = is_right and (got.written, got.status) == ("quiet\n", 0)
+        faults.append("" if is_well else f"{name}, {took:.1f} seconds: {got}")
+    return faults
+
+
+def short_faults() -> list[str]:
+    """Returns what is wrong with short runs, likewise."""
+    faults: list[str] = []
+    rows: list[tuple[str, list[str], float, Answer]] = [
+        ("a short run whose program comes late", [], 3.5, Answer("", "out 0 int 7\nquiet\n", 0)),
+        ("--each without lines", ["--each"], 0.0, Answer(NO_LINES, "command line refused\n", 2)),
+        ("a refused command line", ["--workers=17"], 0.0, Answer(REFUSED, "command line refused\n", 2)),
+    ]
+    for name, words, late, expected in rows:
+        got, _ = run(words, SHORT, late=late)
+        faults.append("" if got == expected else f"{name}: {got}")
+    return faults
+
+
+def read_terminal(words: list[str]) -> Answer:
+    """Runs a command whose standard input is a terminal, at which Ctrl-D is typed at once."""
+    ours, theirs = pty.openpty()
+    os.write(ours, b"\x04")
+    done = subprocess.run([program(), *words], stdin=theirs, capture_output=True, text=True, timeout=SECONDS, check=False)
+    os.close(theirs)
+    os.close(ours)
+    return Answer(done.stderr, done.stdout, done.returncode)
+
+
+def terminal_faults() -> list[str]:
+    """Returns what is wrong with commands that read a terminal, likewise."""
+    notice = "tw: reading standard input, which Ctrl-D ends; a FILE after the command is read instead\n"
+    read, asked = read_terminal(["check", "--text"]), read_terminal(["check", "--help"])
+    return [
+        "" if read.printed.startswith(notice) and read.status == 1 else f"a terminal that is read: {read}",
+        "" if asked.printed == "" and asked.status == 0 else f"--help on a terminal: {asked}",
+    ]
+
+
+def main() -> int:
+    results = long_faults() + each_faults() + short_faults() + terminal_faults()
+    faults = [fault for fault in results if fault]
+    print("\n".join([*faults, f"{len(results) - len(faults)} as wanted, {len(faults)} not"]))
+    return 1 if faults else 0
+
+
+if __name__ == "__main__":
+    sys.exit(main())

@@ -1,0 +1,292 @@
+#!/usr/bin/env python3
+# SPDX-License-Identifier: Apache-2.0
+"""Checks that `tw run --seconds N` stops runs: ./dev seconds
+
+Runs that take minutes are stopped after a second and not before: in turn, by a seed, in threads, on a terminal; and a line of --each, while the
+others have their own ends. The same again beside busy processes, two for each processor. On a busy machine a run waits while time passes, so
+the limit of each run is in processor time, and only the quickest of some runs has to end soon by the clock. A signal ends such a run at once.
+A session of the library has no clock: it rejects the option.
+"""
+
+from __future__ import annotations
+
+import contextlib
+import json
+import os
+import pty
+import resource
+import signal
+import subprocess
+import sys
+import tempfile
+import time
+from collections.abc import Callable, Iterator, Sequence
+from dataclasses import dataclass
+from pathlib import Path
+
+from tools.common.program import package, program
+from tools.cases.json_cases import TIMED, UNCHECKED, faults, validators
+from tools.program.stream import Wrong, expect, heed_signals
+
+# Each turn joins texts 5,000 times, which takes a millisecond or more, and starts the next one, as many as the input says.
+TURNS = """proc control closed int write int
+regs int
+GET v0 d0
+DROPR d0
+PUT 1 0 any 1 0
+RET
+
+proc control write int val int
+regs int int int text
+JEQ v0 v1 done
+INT v2 -1
+ADD v0 v0 v2 +0
+REPEAT 5
+REPEAT 1000
+TEXT v3 "aaaaaaaaaaaaaaaaaaaaaaaaaaaaaaaaaaaaaaaaaaaaaaaaaaaaaaaaaaaaaaaa"
+CAT v3 v3 v3 +0
+END
+END
+PUT 1 0 any 0 0
+RET
+done:
+STORE d0 v0
+RET
+"""
+# As many turns as the most events allow.
+MANY = 240_000
+MOST_EVENTS = "--limit=1000000"
+STOPPED = "out 0 unset\nstopped\n"
+TRIES = 5
+# After so many seconds a process isn't waited for any longer.
+PATIENCE = 120.0
+
+
+@dataclass(frozen=True)
+class Given:
+    """The program, and the file with the turns."""
+
+    tw: str
+    turns: str
+
+
+@dataclass(frozen=True)
+class Window:
+    """How many seconds a command takes by the clock, at least each time and at most in one of the tries, and at most of processors each time."""
+
+    least: float
+    most: float
+    used: float
+
+
+# A run of one second, with one turn more, and with what precedes and follows the run.
+A_SECOND = Window(1.0, 3.0, 2.0)
+
+
+@dataclass(frozen=True)
+class Ran:
+    """A command's status, its output, its seconds by the clock, and those of processors."""
+
+    status: int
+    output: str
+    took: float
+    used: float
+
+
+def used_so_far() -> float:
+    """Returns the processor time of the children that were waited for."""
+    usage = resource.getrusage(resource.RUSAGE_CHILDREN)
+    return usage.ru_utime + usage.ru_stime
+
+
+def run(words: Sequence[str], given: bytes = b"", stderr: int = subprocess.DEVNULL) -> Ran:
+    """Runs a command to its end."""
+    before, begun = used_so_far(), time.monotonic()
+    try:
+        done = subprocess.run(words, input=given, stdout=subprocess.PIPE, stderr=stderr, timeout=PATIENCE, check=False)
+    except subprocess.TimeoutExpired as late:
+        raise Wrong(f"no end after {PATIENCE} seconds") from late
+    return Ran(done.returncode, done.stdout.decode(), time.monotonic() - begun, used_so_far() - before)
+
+
+def in_time(window: Window, make: Callable[[], Ran]) -> Ran:
+    """Returns a run that lasts as long as it has to."""
+    quickest = float("inf")
+    for _ in range(TRIES):
+        ran = make()
+        if ran.took < window.least:
+            raise Wrong(f"over after {ran.took:.3f} seconds, before {window.least}")
+        if ran.used > window.used:
+            raise Wrong(f"{ran.used:.3f} seconds of processor time")
+        if ran.took < window.most:
+            return ran
+        quickest = min(quickest, ran.took)
+    raise Wrong(f"the quickest of {TRIES} runs took {quickest:.3f} seconds")
+
+
+def command(given: Given, *words: str) -> list[str]:
+    """Returns the command of a run that takes minutes."""
+    return [given.tw, "run", given.turns, f"int:{MANY}", MOST_EVENTS, *words]
+
+
+def reported(*words: str) -> Callable[[Given], None]:
+    """A run is stopped, and its report says so."""
+    def check(given: Given) -> None:
+        ran = in_time(A_SECOND, lambda: run(command(given, "--seconds", "1", *words)))
+        expect("status and report", (ran.status, ran.output), (4, STOPPED))
+    return check
+
+
+def stopped_answer(text: str) -> dict[str, object]:
+    """Returns the object of a stopped run, with its own events and instructions. Checks that it fits the schema, if the module jsonschema is there."""
+    found = json.loads(text)
+    schemas = validators()
+    expect("faults by the schema", faults(schemas, "run", found) if schemas else [], [])
+    events = int(found["events"])
+    if events >= 1_000_000:
+        raise Wrong(f"{events} events")
+    return {"events": events, "instructions": int(found["instructions"]), "kinds": ["unset"], "outputs": [None], "status": TIMED}
+
+
+def in_json(given: Given) -> None:
+    """The object of a stopped run has all members, and no order, since another run may end."""
+    ran = in_time(A_SECOND, lambda: run(command(given, "--in-turn", "--json", "--seconds", "1")))
+    expect("status and object", (ran.status, json.loads(ran.output)), (4, stopped_answer(ran.output)))
+    ordered = run(command(given, "--in-turn", "--json", "--seconds", "1", "--order"))
+    expect("status and object", (ordered.status, json.loads(ordered.output)), (4, stopped_answer(ordered.output) | {"order": None}))
+
+
+def on_terminal(given: Given) -> None:
+    """A run in threads that prints its progress is stopped, too."""
+    ours, theirs = pty.openpty()
+    try:
+        ran = in_time(Window(3.0, 6.0, 4.5), lambda: run(command(given, "--seconds", "3"), stderr=theirs))
+    finally:
+        os.close(theirs)
+    printed = os.read(ours, 65536)
+    os.close(ours)
+    expect("status and report", (ran.status, ran.output), (4, STOPPED))
+    if b" events so far" not in printed or not printed.endswith(b"\r\x1b[K"):
+        raise Wrong(f"progress is {printed!r}")
+
+
+def quick_answer(line: int) -> dict[str, object]:
+    """Returns the object of a line that asks for no turns."""
+    return {"line": line, "events": 9, "instructions": 7, "kinds": ["int"], "outputs": [0], "status": "quiet"}
+
+
+def each(jobs: int, least: float) -> Callable[[Given], None]:
+    """Two of five lines are stopped, each after its own second; the others have their ends. Without other jobs that takes two seconds."""
+    def check(given: Given) -> None:
+        words = [given.tw, "run", given.turns, "--each", "-", "--jobs", str(jobs), MOST_EVENTS, "--seconds", "1"]
+        lines = b"[0]\n[%d]\n[0]\n[%d]\n[0]\n" % (MANY, MANY)
+        ran = in_time(Window(least, 6.0, 4.0), lambda: run(words, lines))
+        answers = ran.output.splitlines()
+        expect("lines", len(answers), 5)
+        wanted = [stopped_answer(answers[line - 1]) | {"line": line} if line in (2, 4) else quick_answer(line) for line in range(1, 6)]
+        expect("status and answers", (ran.status, list(map(json.loads, answers))), (4, wanted))
+    return check
+
+
+def by_signal(number: signal.Signals, *words: str) -> Callable[[Given], None]:
+    """A signal ends a run whose time is limited, and nothing is written."""
+    def check(given: Given) -> None:
+        process = subprocess.Popen(command(given, "--seconds", "100000", *words), stdout=subprocess.PIPE, preexec_fn=heed_signals)
+        time.sleep(0.3)
+        process.send_signal(number)
+        output, _ = process.communicate(timeout=PATIENCE)
+        expect("status and output", (process.returncode, output), (-number, b""))
+    return check
+
+
+def unreached(given: Given) -> None:
+    """A run that ends in time is as without the option."""
+    runs: tuple[list[str], ...] = ([], ["--in-turn"], ["--json", "--in-turn"], ["--trace", "--in-turn"])
+    for words in runs:
+        plain = [given.tw, "run", given.turns, "int:2", *words]
+        expect(f"{words}", run([*plain, "--seconds", "4294967295"]).output, run(plain).output)
+
+
+# ---- The library
+
+
+# The text of a session, which has no clock.
+CLOCKLESS = "command line refused\n--seconds needs the command tw: the library has no clock, and is stopped by flags\n"
+
+
+def session(words: list[str], text: str) -> tuple[int, str]:
+    """Holds a session of the library. Returns its status and its text."""
+    status, answer = package().session(words, text.encode())
+    return int(status), answer.decode()
+
+
+def clockless(_: Given) -> None:
+    """A session rejects the option, before a run and before lines."""
+    expect("a run", session(["run", "--text", "--seconds", "100", "int:0"], TURNS), (2, CLOCKLESS))
+    expect("lines", session(["run", "--text", "--each", "--seconds", "100"], f"{TURNS}inputs\n[0]\n"), (2, CLOCKLESS))
+
+
+def rejected(given: Given) -> None:
+    """A session and the command reject the same numbers."""
+    for words in (["--seconds"], ["--seconds", "0"], ["--seconds", "4294967296"], ["--seconds", "1.5"], ["--seconds", "1", "--seconds", "1"]):
+        ran = run([given.tw, "run", *words, given.turns, "int:0"])
+        expect(f"command {words}", (ran.status, ran.output), (2, "command line refused\n"))
+        expect(f"session {words}", session(["run", "--text", *words, "int:0"], TURNS), (2, "command line refused\n"))
+
+
+# ---- All checks
+
+Check = Callable[[Given], None]
+# These are made beside a load, too.
+CHECKS: dict[str, Check] = {
+    "in turn": reported("--in-turn"), "by a seed": reported("--in-turn", "--seed", "7"), "in threads": reported(),
+    "in many threads": reported("--engines", "4", "--servers", "4", "--workers", "16"),
+    "each line": each(1, 2.0), "each line, 4 jobs": each(4, 1.0),
+}
+QUIET_CHECKS: dict[str, Check] = {
+    "JSON": in_json, "on a terminal": on_terminal, "unreached": unreached, "a session": clockless, "rejected": rejected,
+    "SIGTERM": by_signal(signal.SIGTERM), "SIGINT": by_signal(signal.SIGINT), "SIGHUP in turn": by_signal(signal.SIGHUP, "--in-turn"),
+}
+
+
+@contextlib.contextmanager
+def load() -> Iterator[None]:
+    """Keeps two processes busy for each processor."""
+    busy = [subprocess.Popen([sys.executable, "-c", "while True: pass"]) for _ in range(2 * (os.cpu_count() or 1))]
+    try:
+        yield
+    finally:
+        for process in busy:
+            process.kill()
+            process.wait()
+
+
+def wrong(checks: dict[str, Check], where: str, given: Given) -> int:
+    """Makes the checks, prints why one fails, and returns how many do."""
+    count = 0
+    for what, check in checks.items():
+        try:
+            check(given)
+        except Wrong as why:
+            print(f"seconds.py: {what}{where}: {why}", flush=True)
+            count += 1
+    return count
+
+
+def main() -> int:
+    with tempfile.TemporaryDirectory() as name:
+        folder = Path(name)
+        turns = folder / "turns.tw"
+        turns.write_text(TURNS, encoding="ascii")
+        given = Given(program(), str(turns))
+        count = wrong(CHECKS | QUIET_CHECKS, "", given)
+        with load():
+            count += wrong(CHECKS, ", beside a load", given)
+    if not validators():
+        print(UNCHECKED)
+    print(f"{2 * len(CHECKS) + len(QUIET_CHECKS) - count} passed, {count} failed")
+    return int(count > 0)
+
+
+if __name__ == "__main__":
+    sys.exit(main())

@@ -1,0 +1,348 @@
+# SPDX-License-Identifier: Apache-2.0
+"""Tests of ./dev release, ./dev must_fail, tools/release/package.py and script/sources.sh."""
+
+from __future__ import annotations
+
+import contextlib
+import dataclasses
+import gzip
+import hashlib
+import io
+import shutil
+import tarfile
+import tempfile
+import unittest
+from pathlib import Path
+from unittest import mock
+
+from tools import ROOT
+from tools.night import record
+from tools.proofs import must_fail
+from tools.release import package
+from tools.release import release
+
+MUTANT = "file: src/lib.rt\nold:     1\nnew:     2\n"
+
+
+def make_repository(root: Path) -> None:
+    """Writes a repository of six crates, four of which something is built of."""
+    files = {
+        "VERSION": "0.5\n",
+        "CHANGELOG.md": "# Changelog\n\n## 0.5 - unreleased\n",
+        "crates.txt": "# comment\nlow: slab\ntw_main: low\ntw_embed staticlib: low\ntw_cases: low\ntw_host_cases: low\nother:\n",
+        "crates/tw_cli/src/help.rt": 'pub(crate) const VERSION: &str = "0.5";\n',
+        "crates/low/src/lib.rt": "pub fn one() -> u8 {\n    1\n}\n",
+        "crates/low/proofs/Lib.antt": "mod one\n",
+        "crates/tw_main/src/main.rt": "fn main() {}\n",
+        "crates/tw_embed/src/lib.rt": "fn embed() {}\n",
+        "crates/tw_cases/src/main.rt": "fn rows() {}\n",
+        "crates/tw_host_cases/src/main.rt": "fn host_rows() {}\n",
+        "crates/other/src/lib.rt": "fn other() {}\n",
+        "tools/proofs/must-fail/low/two.edit": MUTANT,
+    }
+    for name, text in files.items():
+        (root / name).parent.mkdir(parents=True, exist_ok=True)
+        (root / name).write_text(text, encoding="utf-8")
+    (root / "script").mkdir()
+    shutil.copy(ROOT / "script" / "sources.sh", root / "script")
+
+
+def manifest_of(root: Path) -> release.Manifest:
+    """Returns a manifest of the repository's sources."""
+    sums = {crate: release.sums_of_sources(root, crate) for crate in release.BUILT}
+    sources = {"all": release.sums_of_sources(root)[0], **{crate: found[0] for crate, found in sums.items()}}
+    code = {crate: found[1] for crate, found in sums.items()}
+    return release.Manifest("0.5", "kit", "9 passed, 0 failed", "5 crates, 6 functions", release.TWICE, sources, code, {"tw": (3, "ab")})
+
+
+class WithRepository(unittest.TestCase):
+    """Has a small repository in a folder of its own, with a release."""
+
+    def setUp(self) -> None:
+        room = tempfile.TemporaryDirectory()
+        self.addCleanup(room.cleanup)
+        self.root = Path(room.name)
+        make_repository(self.root)
+        self.manifest = manifest_of(self.root)
+        (self.root / "release").mkdir()
+        (self.root / "release/MANIFEST").write_text(self.manifest.text(), encoding="utf-8")
+
+    def edit(self, name: str, text: str) -> None:
+        """Replaces the text of a file."""
+        (self.root / name).write_text(text, encoding="utf-8")
+
+
+class OfARepository(WithRepository):
+    """Tests of whether a release is fresh."""
+
+    def test_the_release_of_the_same_sources_is_fresh(self) -> None:
+        self.assertEqual(release.staleness(self.root), [])
+
+    def test_a_manifest_is_read_as_it_was_written(self) -> None:
+        self.assertEqual(release.manifest_at_hand(self.root), self.manifest)
+
+    def test_unproved_files_are_no_release(self) -> None:
+        unproved = dataclasses.replace(self.manifest, gate=release.UNPROVED)
+        self.edit("release/MANIFEST", unproved.text())
+        self.assertEqual(release.staleness(self.root), ["its files aren't proved"])
+
+    def test_a_changed_library_changes_all_that_is_built_on_it(self) -> None:
+        self.edit("crates/low/src/lib.rt", "pub fn one() -> u8 {\n    2\n}\n")
+        (fault,) = release.staleness(self.root)
+        self.assertTrue(fault.endswith("tw_main, tw_cases, tw_host_cases, tw_embed"), fault)
+
+    def test_a_program_that_the_release_has_not_yet_is_named(self) -> None:
+        self.edit("release/MANIFEST", "".join(line for line in self.manifest.text().splitlines(True) if "tw_host_cases" not in line))
+        self.edit("crates/other/src/lib.rt", "fn another() {}\n")
+        (fault,) = release.staleness(self.root)
+        self.assertTrue(fault.endswith("of what is built: tw_host_cases"), fault)
+
+    def test_a_changed_crate_that_nothing_is_built_on_is_named_so(self) -> None:
+        self.edit("crates/other/src/lib.rt", "fn another() {}\n")
+        (fault,) = release.staleness(self.root)
+        self.assertTrue(fault.endswith("nothing"), fault)
+
+    def test_a_changed_proof_changes_the_sources_and_not_the_code(self) -> None:
+        self.edit("crates/low/proofs/Lib.antt", "mod two\n")
+        sources, code = release.sums_of_sources(self.root, "tw_main")
+        self.assertNotEqual(sources, self.manifest.sources["tw_main"])
+        self.assertEqual(code, self.manifest.code["tw_main"])
+
+    def test_a_renamed_file_changes_the_sources(self) -> None:
+        (self.root / "crates/low/proofs/Lib.antt").rename(self.root / "crates/low/proofs/Lob.antt")
+        self.assertNotEqual(release.sums_of_sources(self.root, "tw_main")[0], self.manifest.sources["tw_main"])
+
+    def test_a_comment_of_the_list_and_another_crates_line_change_nothing(self) -> None:
+        self.edit("crates.txt", "low: slab # low\ntw_main: low\ntw_embed staticlib: low\ntw_cases: low\ntw_host_cases: low\nother: low\n")
+        self.assertEqual(release.sums_of_sources(self.root, "tw_main")[0], self.manifest.sources["tw_main"])
+
+    def test_a_crates_own_line_changes_the_sources(self) -> None:
+        self.edit("crates.txt", "low: slab\ntw_main: low slab\ntw_embed staticlib: low\ntw_cases: low\ntw_host_cases: low\nother:\n")
+        self.assertNotEqual(release.sums_of_sources(self.root, "tw_main")[0], self.manifest.sources["tw_main"])
+
+    def test_each_place_of_the_version_is_compared(self) -> None:
+        self.edit("VERSION", "0.6\n")
+        self.assertEqual(len(release.staleness(self.root)), 3)
+
+    def test_the_sum_is_that_of_sha256sum_lines(self) -> None:
+        lines = [("low: slab\ntw_main: low\n", "crates.txt")]
+        lines += [((self.root / name).read_text(), name) for name in ("crates/low/proofs/Lib.antt", "crates/low/src/lib.rt", "crates/tw_main/src/main.rt")]
+        listed = "".join(f"{hashlib.sha256(text.encode()).hexdigest()}  {name}\n" for text, name in lines)
+        self.assertEqual(release.sums_of_sources(self.root, "tw_main")[0], hashlib.sha256(listed.encode()).hexdigest())
+
+
+class OfProver(unittest.TestCase):
+    """Tests of which command of the toolchain tries mutants."""
+
+    def printed(self, of_ci: str) -> list[str]:
+        """Returns the commands that are run if `rt ci NAME` prints this."""
+        ran: list[str] = []
+
+        def fake(_tree: Path, *words: str) -> str:
+            ran.append(" ".join(words))
+            return of_ci
+
+        with mock.patch.object(must_fail, "output_of", fake):
+            must_fail.run_prover(Path(), ["low"])
+        return ran
+
+    def test_ci_of_a_crate_is_enough(self) -> None:
+        self.assertEqual(self.printed("rt: low proved\n3 passed, 0 failed\n"), ["ci low"])
+        self.assertEqual(self.printed("0 passed, 1 failed\n"), ["ci low"])
+
+    def test_an_older_toolchain_takes_no_names(self) -> None:
+        self.assertEqual(self.printed("usage: rt new FOLDER\n"), ["ci low", "must-fail low"])
+
+
+class OfMutants(WithRepository):
+    """Tests of which mutants are noted as rejected, with a prover that prints a line for each."""
+
+    def setUp(self) -> None:
+        super().setUp()
+        self.edit("tools/proofs/must-fail/low/three.edit", MUTANT.replace("2", "3"))
+        self.printed = "must-fail low/two.edit: refused, as it must be: src/lib.rt:2\nmust-fail low/three.edit: refused, as it must be\n"
+        for name, fake in {"copy_mutants": lambda *words: None, "run_prover": lambda *words: self.printed}.items():
+            patch = mock.patch.object(must_fail, name, fake)
+            patch.start()
+            self.addCleanup(patch.stop)
+
+    def attempt(self) -> list[str]:
+        """Tries the mutants, without what they print."""
+        with contextlib.redirect_stdout(io.StringIO()):
+            return must_fail.attempt(self.root, "kit", ["low"])
+
+    def test_rejected_mutants_are_noted(self) -> None:
+        self.assertEqual(must_fail.untried(self.root, "kit"), ["low"])
+        self.assertEqual(self.attempt(), [])
+        self.assertEqual(must_fail.untried(self.root, "kit"), [])
+        self.assertRegex((self.root / "release/REJECTED").read_text(), r"\Alow [0-9a-f]{64} 2 rejected\n\Z")
+
+    def test_a_mutant_that_is_proved_or_not_tried_is_not_noted(self) -> None:
+        for line in ("must-fail low/three.edit: NOT REFUSED: the crate is still proved with this edit\n", "must-fail low/three.edit: NOT TRIED: ..\n", ""):
+            self.printed = f"{self.printed.splitlines()[0]}\n{line}"
+            self.assertEqual(self.attempt(), ["low/three.edit"])
+            self.assertEqual(must_fail.untried(self.root, "kit"), ["low"])
+
+    def test_what_a_verdict_depends_on_makes_it_void(self) -> None:
+        self.attempt()
+        self.assertEqual(must_fail.untried(self.root, "another kit"), ["low"])
+        for name, text in (("tools/proofs/must-fail/low/two.edit", MUTANT.replace("2", "4")), ("crates/low/proofs/Lib.antt", "mod two\n"), ("crates.txt", "low: slab hex\n")):
+            old = (self.root / name).read_text()
+            self.edit(name, text)
+            self.assertEqual(must_fail.untried(self.root, "kit"), ["low"])
+            self.edit(name, old)
+        self.edit("crates/other/src/lib.rt", "fn another() {}\n")
+        self.assertEqual(must_fail.untried(self.root, "kit"), [])
+
+    def test_a_failed_trial_drops_the_note_and_keeps_others(self) -> None:
+        shutil.copytree(self.root / "tools/proofs/must-fail/low", self.root / "tools/proofs/must-fail/other")
+        must_fail.note(self.root, "kit", ["low", "other"])
+        self.edit("tools/proofs/must-fail/low/four.edit", MUTANT)
+        self.assertEqual(self.attempt(), ["low/four.edit"])
+        self.assertEqual(must_fail.untried(self.root, "kit"), ["low"])
+
+    def test_a_mutant_that_replaces_nothing_is_found(self) -> None:
+        crate = self.root / "crates/low"
+        for text, fault in ((MUTANT, None), ("", "it replaces nothing"), (MUTANT.replace("    1", "    7"), " 0 times"), (MUTANT.replace("lib", "lob"), " 0 times")):
+            self.edit("tools/proofs/must-fail/low/two.edit", text)
+            found = must_fail.fault_of(crate, self.root / "tools/proofs/must-fail/low/two.edit")
+            self.assertTrue(found == fault if fault is None else (found or "").endswith(fault), found)
+
+    def test_the_mutants_of_this_repository_replace_something(self) -> None:
+        with contextlib.redirect_stdout(io.StringIO()) as said:
+            self.assertEqual(must_fail.check(ROOT), 0, said.getvalue())
+
+
+class OfABuild(WithRepository):
+    """Tests of how a release is made, with builds that write a line for a file."""
+
+    def setUp(self) -> None:
+        super().setUp()
+        self.second = "built\n"
+        self.faults: list[str] = []
+        fakes = {"ROOT": self.root, "kit_folder": lambda: self.root, "stop_on_changes": lambda root: None, "strip": lambda *words: None}
+        fakes |= {"copy_committed": self.copy, "run_ci": lambda tree, log: "9 passed, 0 failed", "build_library": self.build_library}
+        fakes |= {"build_page": self.build_page, "build_manual": lambda tree, to: to.write_text("manual\n"), "rebuild_programs": self.rebuild}
+        for name, fake in fakes.items():
+            patch = mock.patch.object(release, name, fake)
+            patch.start()
+            self.addCleanup(patch.stop)
+        patch = mock.patch.object(record, "faults", lambda rows, before: self.faults)
+        patch.start()
+        self.addCleanup(patch.stop)
+        self.edit("KIT-ID", "kit\n")
+        must_fail.note(self.root, "kit", ["low"])
+
+    def copy(self, root: Path, tree: Path, with_checks: bool) -> None:
+        """Acts as the copy and what `rt ci` leaves in it."""
+        for crate in release.PROGRAMS:
+            (tree / f"crates/{crate}/out").mkdir(parents=True)
+            (tree / f"crates/{crate}/out/{crate}").write_text("built\n")
+
+    def rebuild(self, tree: Path) -> None:
+        """Acts as the second build of the programs."""
+        (tree / "crates/tw_main/out/tw_main").write_text(self.second)
+
+    def build_library(self, kit: Path, tree: Path) -> None:
+        """Acts as the build of the libraries."""
+        out = tree / f"crates/{release.LIBRARY}/out"
+        out.mkdir(parents=True)
+        for name in release.LIBRARIES:
+            (out / name).write_text("library\n")
+
+    def build_page(self, tree: Path) -> None:
+        """Acts as the build of the page."""
+        (tree / "page/out").mkdir(parents=True)
+        (tree / "page/out" / release.PAGE).write_text("page\n")
+
+    def test_two_builds_that_are_the_same_make_a_release(self) -> None:
+        release.make(None, once=False)
+        made = release.manifest_at_hand(self.root)
+        self.assertEqual((made.gate, made.compared), ("9 passed, 0 failed", release.TWICE))
+        self.assertEqual(release.staleness(self.root), [])
+        for name, (size, digest) in made.sums.items():
+            data = gzip.decompress((self.root / f"release/{name}.gz").read_bytes())
+            self.assertEqual((len(data), hashlib.sha256(data).hexdigest()), (size, digest))
+        self.assertEqual(sorted(made.sums), ["index.html", "libyuglemit.a", "libyuglemit.so", "manual.tar", "tw", "tw_cases", "tw_host_cases"])
+
+    def test_mutants_that_were_not_rejected_make_none(self) -> None:
+        before = release.manifest_at_hand(self.root)
+        (self.root / "release/REJECTED").unlink()
+        with self.assertRaisesRegex(SystemExit, "first run ./dev must_fail, .*: low$"):
+            release.make(None, once=True)
+        self.assertEqual(release.manifest_at_hand(self.root), before)
+
+    def test_harnesses_that_have_not_passed_make_none(self) -> None:
+        self.faults = ["shown has no row"]
+        with self.assertRaisesRegex(SystemExit, "first ./dev night and ./dev record: shown has no row$"):
+            release.make(None, once=True)
+
+    def test_two_builds_that_differ_make_none(self) -> None:
+        before = release.manifest_at_hand(self.root)
+        self.second = "another\n"
+        with self.assertRaisesRegex(SystemExit, "two builds differ in: tw$"):
+            release.make(None, once=False)
+        self.assertEqual(release.manifest_at_hand(self.root), before)
+
+    def test_a_check_finds_what_is_built_otherwise(self) -> None:
+        release.make(None, once=True)
+        self.assertEqual(release.manifest_at_hand(self.root).compared, release.ONCE)
+        release.check()
+        self.second = "another\n"
+        with self.assertRaisesRegex(SystemExit, "differs from the release in: tw$"):
+            release.check()
+
+
+class OfRelease(unittest.TestCase):
+    """Tests of what needs no repository."""
+
+    def test_files_that_differ_are_named(self) -> None:
+        first = {"same": (1, "a"), "size": (1, "a"), "sum": (1, "a"), "gone": (1, "a")}
+        second = {"same": (1, "a"), "size": (2, "a"), "sum": (1, "b"), "new": (1, "a")}
+        self.assertEqual(release.differences(first, second), ["gone", "new", "size", "sum"])
+
+    def test_functions_are_counted_outside_of_comments(self) -> None:
+        text = "/// fn no()\nfn a() {}\n    pub(crate) const fn b() {}\n    pub unsafe extern \"C\" fn c() {}\nlet f = fn_of;\n"
+        self.assertEqual(release.functions_in(text), 3)
+
+    def test_a_log_that_failed_is_no_gate(self) -> None:
+        with tempfile.TemporaryDirectory() as name:
+            log = Path(name) / "log"
+            log.write_text("rt: ok\n12 passed, 0 failed\n\n")
+            self.assertEqual(release.last_line(log), "12 passed, 0 failed")
+            for text in ("12 passed, 1 failed\n", "", "12 passed, 0 failed\nstopped\n"):
+                log.write_text(text)
+                self.assertRaises(SystemExit, release.last_line, log)
+
+
+class OfPackages(unittest.TestCase):
+    """Tests of the forms of packages."""
+
+    def test_an_archive_of_ar_is_padded(self) -> None:
+        data = package.ar_of([("odd", b"abc"), ("even", b"ab")])
+        self.assertTrue(data.startswith(b"!<arch>\nodd "))
+        self.assertEqual(len(data), 8 + 60 + 4 + 60 + 2)
+
+    def test_a_tar_archive_has_no_trace_of_its_maker(self) -> None:
+        with tempfile.TemporaryDirectory() as name:
+            folder = Path(name) / "tree"
+            (folder / "bin").mkdir(parents=True)
+            (folder / "bin/tw").write_text("x")
+            (folder / "bin/tw").chmod(0o700)
+            (folder / "link").symlink_to("bin/tw")
+            first = package.tar_of(folder, ".")
+            (folder / "bin/tw").touch()
+            self.assertEqual(package.tar_of(folder, "."), first)
+        with tarfile.open(fileobj=io.BytesIO(first)) as archive:
+            found = {it.name: (it.mode, it.uid, it.mtime, it.issym()) for it in archive if not it.isdir()}
+        self.assertEqual(found["./bin/tw"], (0o755, 0, package.EPOCH, False))
+        self.assertTrue(found["./link"][3])
+
+    def test_a_record_has_a_line_for_each_file(self) -> None:
+        lines = package.record_of({"a.py": b"", "b.py": b"1"}).decode().splitlines()
+        self.assertEqual(lines[0], "a.py,sha256=47DEQpj8HBSa-_TImW-5JCeuQeRkm5NMpJWZG3hSuFU,0")
+        self.assertEqual(len(lines), 3)
+
+
+if __name__ == "__main__":
+    unittest.main()
