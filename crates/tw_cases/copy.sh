@@ -1,7 +1,7 @@
 #!/bin/sh
 # Brings data/ up to date with examples/ and with what README.md and docs/ show: each `$ ./tw ..` in a block of code, and
 # its output below it. CI runs the cases of data/ and reads nothing outside of it, so run this after an edit of those.
-# With an argument it writes into that new folder instead: tools/twins.py --check compares it with data/.
+# With an argument it writes into that new folder instead: ./dev twins --check compares it with data/.
 cd "$(dirname "$0")/../.." || exit 1
 data=${1:-crates/tw_cases/data}
 
@@ -16,8 +16,8 @@ as_input() {
 }
 
 [ $# -gt 0 ] || rm -rf "$data"
-mkdir "$data" && cp -R examples "$data/examples" || exit 1
-awk -f tools/shown.awk -v folder="$data" README.md docs/*.md
+mkdir "$data" && cp -R examples "$data/examples" && rm "$data/examples/README.md" || exit 1
+awk -f tools/program/shown.awk -v folder="$data" README.md docs/*.md
 as_input "$data/shown.txt"
 as_input "$data/examples/sessions.txt"
 as_input "$data/examples/orders.txt"

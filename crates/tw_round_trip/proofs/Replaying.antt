@@ -82,8 +82,7 @@ module _ (program : List Procedure) (text : Option (List ℕ)) (order : RunOrder
 
   -- an answer to the events is the report
   answered : (version : Version) (r : Reply) → reached program order.inputs order.options.layout events ≡ Went s → IsAnswered text (replay_of order) (record { version = version; procedures = program }) events r → IsReportOf text program order events s e r
-  answered version r goes (names, are, detailed) =
-      let (answer, more, played_is, more_is, joined) = detailed in
+  answered version r goes (answer, more, played_is, more_is, joined) =
       let whole = played_is ∙ all_played program order.options.layout 1 events (opening program order.inputs) s goes ∙ same_report program s e is in
       let printed = ran.run_report text program order s (closing_of e) in
       let texts : answer.text ≡ printed = ap (λ (x : Reply). x.text) whole ∙ sym (append-nil _) ∙ ap (λ (l : List ℕ). end_report program s (Some (closing_of e)) ++ l) (sym (no_limit text order e)) in

@@ -22,7 +22,7 @@ esac
 mkdir -p "$results" && results=$(readlink -f "$results") || exit
 
 # The options of sbatch go to a list that the shell reads again, and those of tw run stay.
-sbatch='' partition='' limit=10000 before=''
+sbatch='' partition='' limit=1000000 before=''
 while [ $# -gt 0 ] && [ "$1" != -- ]; do
     case $before$1 in
         --partition=* | -p=*) partition=${1#*=} ;;

@@ -11,5 +11,4 @@ from dask.distributed import Client
 if __name__ == "__main__":
     program = yuglemit.load(pathlib.Path(sys.argv[1]))
     with Client(sys.argv[3]) as client:
-        window = 4 * sum(client.ncores().values())
-        folder.table(program, folder.read(program, sys.argv[2]), client.get_executor(pure=False), window=window)
+        folder.table(program, folder.read(program, sys.argv[2]), client)

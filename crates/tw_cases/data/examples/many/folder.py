@@ -6,9 +6,8 @@ from __future__ import annotations
 import pathlib
 import sys
 from collections.abc import Iterable
-from concurrent.futures import Executor
 from dataclasses import dataclass
-from typing import TextIO
+from typing import Any, TextIO
 
 import yuglemit
 
@@ -64,14 +63,13 @@ def line(program: yuglemit.Program, file: File, report: yuglemit.Report | None) 
 def table(
     program: yuglemit.Program,
     files: Iterable[File],
-    executor: Executor | None = None,
+    executor: Any = None,
     file: TextIO = sys.stdout,
-    window: int | None = None,
     on_broken: str = "raise",
 ) -> None:
     """Runs a program on files, by this executor, and prints the table: a line for each file with its name, the status and the report."""
     files = list(files)
-    reports = yuglemit.map(program, [it.inputs for it in files if it.inputs is not None], executor, window=window, on_broken=on_broken, text=True)
+    reports = yuglemit.map(program, [it.inputs for it in files if it.inputs is not None], executor, on_broken=on_broken, text=True)
     for it in files:
         status, text = line(program, it, None if it.inputs is None else next(reports))
         print(it.path.stem, status, text.replace("\n", ";"), sep="\t", file=file)
