@@ -10,6 +10,7 @@ mod opening;
 mod sections;
 
 pub use arguments::requests_help;
+pub use naming::may_name;
 pub use opening::{
     Contents, InputFiles, Misfit, NoInput, SessionInput, session_input, words_without_files,
 };

@@ -49,7 +49,7 @@ fn is_input(word: &[u8]) -> bool
 }
 
 /// Returns whether an argument may name a file: it is no option, and no word of an input.
-fn may_name(word: &[u8]) -> bool
+pub fn may_name(word: &[u8]) -> bool
     ensures { result ≡ may_name_is word.now }
 {
     match word {

@@ -1,5 +1,5 @@
 -- The answer of a check about an accepted program, whose values are printed.
-use Rattle.std.specs.Prelude.{◌≡◌, ℕ, suc, List, [], ◌∷◌, codes, Option, Some, None, option_map, ⊤}
+use Rattle.std.specs.Prelude.{◌≡◌, ℕ, suc, List, [], ◌∷◌, codes, Option, Some, None, option_map, IfSome}
 use Rattle.tw_types.specs.declared.actor.Kind.{Kind}
 use Rattle.tw_types.specs.declared.actor.Kind.TheVariants.{Control, Leaf}
 use Rattle.tw_code.specs.declared.procedure.Procedure.{Procedure}
@@ -24,6 +24,7 @@ use Rattle.tw_order.specs.declared.form.Places.TheVariants.{Hidden, Shown}
 use Rattle.tw_program_output.specs.declared.answer.CheckAnswer.{CheckAnswer}
 use Rattle.tw_program_output.specs.declared.answer.FoundBounds.{FoundBounds}
 use Rattle.tw_program_output.specs.declared.answer.ProcedureRow.{ProcedureRow}
+use Rattle.tw_visible.specs.Visible.{HidesNothing}
 
 -- ---- procedures
 
@@ -39,10 +40,10 @@ AreRows number (p ∷ others) rows =
 
 -- ---- what may be requested
 
--- holds for any listing, if it is requested
+-- holds for any listing that hides nothing, if it is requested
 abbrev pub MayBeListed : Places → Option (List ℕ) → Type 0
 MayBeListed Hidden listing = listing ≡ None
-MayBeListed Shown listing = ⊤
+MayBeListed Shown listing = IfSome listing HidesNothing
 
 abbrev pub IsCircleOf : List Procedure → Option Circle → Type 0
 IsCircleOf program None = CallsEnd program 0

@@ -4,6 +4,7 @@ ghost use Rattle.std.specs.Prelude.{◌<◌, ◌^◌, IfOk};
 ghost use Rattle.std.specs.List.{AllByRecursion};
 ghost use Rattle.tw_code.specs.format.Program.{IsInstr, IsProcedure};
 ghost use Rattle.tw_program_output.specs.Listing.{IsDisassembly};
+ghost use Rattle.tw_visible.specs.Visible.{HidesNothing};
 
 use std::alloc::{AllocError, Global};
 use tw_asm::{LabelPlaces, disassemble, put_head_lines, put_right};
@@ -12,6 +13,7 @@ use tw_order::Places;
 use tw_symbols::{RightNames, put_named};
 use tw_types::{Items, Param};
 use tw_verify::{RightType, Typing};
+use tw_visible::{columns, visible_bytes};
 use tw_writer::{Piece, Writer};
 
 /// The number of columns for a place.
@@ -58,7 +60,7 @@ fn rights_of(out: &Writer, names: &RightNames<'_>, typing: &Typing) -> Writer {
     text
 }
 
-/// Adds, beside a text of so many bytes, what the right registers hold, if any does.
+/// Adds, beside a text of so many columns, what the right registers hold, if any does.
 fn put_beside(out: &mut Writer, width: usize, rights: &Writer) {
     out.note_of(rights);
     if !rights.bytes.is_empty() {
@@ -66,6 +68,15 @@ fn put_beside(out: &mut Writer, width: usize, rights: &Writer) {
             Piece::Spaces(TEXT_COLUMNS.saturating_sub(width)),
             Piece::Bytes(&rights.bytes),
         ]);
+    }
+}
+
+/// Adds, beside a text, what the right registers of these names hold.
+fn put_rights(out: &mut Writer, names: &RightNames<'_>, text: &[u8], typing: &Typing) {
+    let rights = rights_of(out, names, typing);
+    match columns(out.alloc, text) {
+        Ok(width) => put_beside(out, width, &rights),
+        Err(_) => out.fail(),
     }
 }
 
@@ -80,8 +91,7 @@ pub(crate) fn put_code_line(
     put_place(out, place);
     out.put_bytes(text);
     if let Some(typing) = typings.get(place) {
-        let rights = rights_of(out, names, typing);
-        put_beside(out, text.len(), &rights);
+        put_rights(out, names, text, typing);
     }
     out.put("\n");
 }
@@ -159,12 +169,15 @@ pub(crate) fn typed_text(
     alloc: Global,
     program: &Program,
     all: &[Items<Typing>],
-) -> Result<Vec<u8>, AllocError> {
+) -> Result<Vec<u8>, AllocError>
+    ensures { IfOk result (λ listing. HidesNothing listing.items) }
+{
     let mut text = Writer::new(alloc);
     for (number, procedure) in program.procedures().iter().enumerate() {
         put_procedure(&mut text, number, procedure, typings_at(all, number));
     }
-    text.finish()
+    let listing = text.finish()?;
+    visible_bytes(alloc, &listing)
 }
 
 /// Returns a program's assembly text, or its listing if that is requested.

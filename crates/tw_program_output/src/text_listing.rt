@@ -1,5 +1,8 @@
 //! Output of `check --places`: a program's listing, by its text's own lines if it was read from a text.
 
+ghost use Rattle.std.specs.Prelude.{IfOk};
+ghost use Rattle.tw_visible.specs.Visible.{HidesNothing};
+
 use crate::listing::{put_code_line, put_number, typed_text, typings_at};
 use std::alloc::{AllocError, Global};
 use tw_code::Program;
@@ -8,6 +11,7 @@ use tw_source::SourceText;
 use tw_symbols::RightNames;
 use tw_types::Items;
 use tw_verify::{Refused, Typing, Verified};
+use tw_visible::visible_bytes;
 use tw_writer::{Piece, Writer};
 
 /// How many procedures have begun, and how many instructions the last of them has.
@@ -64,7 +68,9 @@ fn said_text(
     text: &str,
     plain: &str,
     all: &[Items<Typing>],
-) -> Result<Vec<u8>, AllocError> {
+) -> Result<Vec<u8>, AllocError>
+    ensures { IfOk result (λ listing. HidesNothing listing.items) }
+{
     let mut names = RightNames::of(alloc, text)?;
     let mut out = Writer::new(alloc);
     let mut counts = Counts {
@@ -77,7 +83,8 @@ fn said_text(
         put_role_line(&mut out, &names, all, counts, line, says);
         counts = counts.advanced(says);
     }
-    out.finish()
+    let listing = out.finish()?;
+    visible_bytes(alloc, &listing)
 }
 
 /// Returns a copy of typings.
@@ -111,7 +118,9 @@ fn listed(
     source: &Option<SourceText<'_>>,
     program: &Program,
     all: &[Items<Typing>],
-) -> Result<Vec<u8>, AllocError> {
+) -> Result<Vec<u8>, AllocError>
+    ensures { IfOk result (λ listing. HidesNothing listing.items) }
+{
     match source {
         Some(source) => said_text(alloc, source.text, source.plain(), all),
         None => typed_text(alloc, program, all),
@@ -123,7 +132,9 @@ pub(crate) fn accepted_listing(
     alloc: Global,
     source: &Option<SourceText<'_>>,
     verified: &Verified,
-) -> Result<Vec<u8>, AllocError> {
+) -> Result<Vec<u8>, AllocError>
+    ensures { IfOk result (λ listing. HidesNothing listing.items) }
+{
     let all = accepted_typings(alloc, verified)?;
     listed(alloc, source, verified.program(), &all)
 }
@@ -133,7 +144,9 @@ pub(crate) fn refused_listing(
     alloc: Global,
     source: &Option<SourceText<'_>>,
     refused: &Refused,
-) -> Result<Vec<u8>, AllocError> {
+) -> Result<Vec<u8>, AllocError>
+    ensures { IfOk result (λ listing. HidesNothing listing.items) }
+{
     let all = refused_typings(alloc, refused)?;
     listed(alloc, source, &refused.program, &all)
 }

@@ -13,6 +13,7 @@ use Rattle.tw_source.specs.declared.failure.Position.{Position}
 use Rattle.tw_source.specs.declared.failure.Position.TheVariants as position
 use Rattle.tw_source.specs.Reply.{Reply, reply}
 use Rattle.tw_source.specs.declared.close.Close.TheVariants.{Unreadable}
+use Rattle.tw_visible.specs.Visible.{visible_bytes}
 
 -- ---- lines
 
@@ -49,7 +50,7 @@ input_word_line number = codes "input word " ++ (decimal number ++ codes " refus
 
 -- holds for the line with the first input word that can't be parsed, and the one with the reason
 abbrev pub PrintsInputWord : RejectedWord → Reply → Type 0
-PrintsInputWord refused r = r ≡ reply (input_word_line refused.number ++ refused.reason) (Unreadable (uncoded (position.Input refused.number)))
+PrintsInputWord refused r = r ≡ reply (input_word_line refused.number ++ visible_bytes refused.reason) (Unreadable (uncoded (position.Input refused.number)))
 
 -- returns where a fault of JSON inputs is: in one input, or in all
 abbrev pub fault_position : Place → Position

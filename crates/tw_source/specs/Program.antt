@@ -1,5 +1,5 @@
 -- The program that is read: hex text of its bytes, or assembly text, with names or without.
-use Rattle.std.specs.Prelude.{◌≡◌, ◌⊎◌, ℕ, List, [], IsUtf8, Option, Some, None, Ok, Err, String, string_bytes, ⊤}
+use Rattle.std.specs.Prelude.{◌≡◌, ◌⊎◌, ℕ, List, [], IsUtf8, Option, Some, None, Ok, Err, String, string_bytes}
 use Rattle.std.specs.Result.{IsErr}
 use Rattle.std.specs.Str.Lines.{lines}
 use Rattle.std.specs.declared.alloc.Global.{Global}
@@ -27,6 +27,7 @@ use Rattle.tw_source.specs.declared.program.NoProgram.{NoProgram}
 use Rattle.tw_source.specs.declared.program.NoProgram.TheVariants.{NotHex, NotUtf8, Bytes, Text, Named, NoMemory}
 use Rattle.tw_source.specs.declared.failure.Failure.{Failure}
 use Rattle.tw_source.specs.declared.failure.Position.TheVariants as position
+use Rattle.tw_visible.specs.Visible.{HidesNothing}
 
 -- holds if the expanded text encodes the program
 abbrev pub TextHasProgram : List ℕ → Versioned → Type 0
@@ -74,10 +75,10 @@ IsFailure (Named f) failure =
     (at : ℕ × ℕ) × IsNamePlace f.text.now f.error.line f.error.word.now at × (failure ≡ coded 78 (name_number f.error.no) (position.Line f.error.line at.0 at.1))
 IsFailure NoMemory failure = ⊥
 
--- holds for what may follow its first line: anything about a rejected text
+-- holds for what may follow its first line: anything about a rejected text that hides nothing
 abbrev pub MayHaveDetails : NoProgram → List ℕ → Type 0
-MayHaveDetails (Text f) more = ⊤
-MayHaveDetails (Named f) more = ⊤
+MayHaveDetails (Text f) more = HidesNothing more
+MayHaveDetails (Named f) more = HidesNothing more
 MayHaveDetails other more = more ≡ []
 
 -- holds for the reply with the reason why there is no program

@@ -12,6 +12,7 @@ use Rattle.tw_verify.specs.declared.rejection.VerifyError.TheVariants as rejecti
 use Rattle.tw_source.specs.Failure.{coded, failed}
 use Rattle.tw_source.specs.declared.failure.Position.TheVariants as position
 use Rattle.tw_source.specs.Reply.{Reply}
+use Rattle.tw_visible.specs.Visible.{visible_bytes}
 
 -- ---- a text
 
@@ -21,9 +22,13 @@ RepliesByUtf8 bytes Answers r = (IsUtf8 bytes × Answers) ⊎ ((IsUtf8 bytes →
 
 -- ---- the line of a rejected place
 
--- returns the number of a line of the text, and as much of the line as a diagnostic shows
+-- returns as much of a line as a diagnostic shows, without hidden characters
+abbrev pub visible_line : List ℕ → List ℕ
+visible_line line = visible_bytes (shortened line)
+
+-- returns the number of a line of the text, and what is shown of the line
 abbrev pub text_line : ℕ → List ℕ → List ℕ
-text_line number line = codes "at line " ++ (decimal number ++ (codes ": " ++ (shortened line ++ codes "\n")))
+text_line number line = codes "at line " ++ (decimal number ++ (codes ": " ++ (visible_line line ++ codes "\n")))
 
 -- returns the name of the procedure in which a line is, if it has one
 abbrev pub in_name : List ℕ → List ℕ
@@ -31,7 +36,7 @@ in_name [] = []
 in_name (b ∷ name) = codes " in " ++ (b ∷ name)
 
 abbrev pub line_in_text : List ℕ → ℕ → List ℕ → List ℕ
-line_in_text name number line = codes "at line " ++ (decimal number ++ (in_name name ++ (codes ": " ++ (shortened line ++ codes "\n"))))
+line_in_text name number line = codes "at line " ++ (decimal number ++ (in_name name ++ (codes ": " ++ (visible_line line ++ codes "\n"))))
 
 -- holds for the line with this number, counted from 1, without white space around it
 abbrev pub IsLineAt : List (List ℕ) → ℕ → List ℕ → Type 0

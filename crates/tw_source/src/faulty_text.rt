@@ -7,15 +7,18 @@ ghost use Rattle.tw_source.specs.FaultyText.{fault_word, is_same_line as is_same
 ghost use Rattle.tw_source.specs.Program.{IsFailure, PrintsNone};
 ghost use Rattle.tw_source.specs.Reply.{reply};
 ghost use Rattle.tw_source.specs.declared.program.NoProgram.TheVariants.{Text};
+ghost use Rattle.tw_visible.specs.Visible.{HidesNothing};
 
 use crate::failure::{Failure, Position};
 use crate::name_hint::put_head;
 use crate::reply::{Reply, detailed_reply};
 use crate::source::plain_or;
+use crate::usual_words::{first_word, put_usual};
 use std::alloc::{AllocError, Global};
 use tw_asm::{AsmFault, FaultNo};
 use tw_diagnostics::{Reason, error_word, put_shown_line, put_text_diagnostic, text_reason};
 use tw_lexer::{line_numbered, put};
+use tw_visible::visible_bytes;
 
 /// An assembly text with a fault. If it has names, the fault is in the expanded text.
 #[derive(Drop)]
@@ -103,7 +106,9 @@ fn fault_details(
     alloc: Global,
     faulty: &FaultyText<'_>,
     reason: &Reason<'_>,
-) -> Result<Vec<u8>, AllocError> {
+) -> Result<Vec<u8>, AllocError>
+    ensures { IfOk result (λ details. HidesNothing details.items) }
+{
     let mut out = Vec::new(alloc);
     let line = faulty.fault.line;
     if !faulty.is_written() {
@@ -111,10 +116,13 @@ fn fault_details(
         put(&mut out, "expands to: ")?;
     }
     put_text_diagnostic(alloc, &mut out, faulty.plain(), line, reason)?;
+    if matches!(faulty.fault.no, FaultNo::Word) {
+        put_usual(&mut out, first_word(faulty.plain(), line))?;
+    }
     if faulty.is_head_printed() {
         put_head(alloc, &mut out, faulty.text, line)?;
     }
-    Ok(out)
+    visible_bytes(alloc, &out)
 }
 
 /// Returns the reply to a text with a fault.

@@ -16,6 +16,7 @@ use crate::reply::Reply;
 use std::alloc::{AllocError, Global};
 use tw_inputs::{Place, WordError};
 use tw_lexer::{put, put_numbered};
+use tw_visible::put_visible;
 
 /// Returns the first line, and what follows its line feed, if it has one.
 fn first_line(text: &[u8]) -> (&[u8], Option<&[u8]>)
@@ -83,7 +84,7 @@ pub fn input_word_reply(alloc: Global, number: usize, reason: &[u8]) -> Result<R
 {
     let mut text = Vec::new(alloc);
     put_input_word_line(alloc, &mut text, number)?;
-    text.extend_from_slice(reason)?;
+    put_visible(alloc, &mut text, reason)?;
     Ok(Reply {
         text,
         close: Close::Unreadable(Failure::uncoded(Position::Input(number))),

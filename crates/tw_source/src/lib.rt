@@ -14,6 +14,7 @@ mod program;
 mod reply;
 mod source;
 mod text_lines;
+mod usual_words;
 
 pub use close::Close;
 pub use digits::is_gap;

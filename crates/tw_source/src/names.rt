@@ -4,16 +4,19 @@ ghost use Rattle.std.specs.Prelude.{IfOk};
 ghost use Rattle.tw_source.specs.Program.{IsFailure, PrintsNone, RepliesByPlain};
 ghost use Rattle.tw_source.specs.declared.program.NoProgram.TheVariants.{Named};
 ghost use Rattle.tw_source.specs.Reply.{reply};
+ghost use Rattle.tw_visible.specs.Visible.{HidesNothing};
 
 use crate::close::Close;
 use crate::failure::{Failure, Position};
 use crate::name_hint::{is_argument, put_head, put_name_hint};
 use crate::name_place::text_place;
 use crate::reply::{Reply, detailed_reply, fixed_reply, not_utf8_reply};
+use crate::usual_words::first_word;
 use std::alloc::{AllocError, Global};
 use tw_diagnostics::put_shown_line;
 use tw_lexer::{put, put_both, put_shortened};
 use tw_symbols::{Bank, Binding, Expected, NameError, NameNo, expanded_text};
+use tw_visible::visible_bytes;
 
 /// A symbolic assembly text that can't be expanded, and its first error.
 #[derive(Clone, Copy)]
@@ -43,9 +46,15 @@ fn expected_words(asked: Expected) -> &'static str {
     }
 }
 
-/// Returns how the mistake is usually mended, if it is a usual one.
-fn kind_hint(binding: Binding, asked: Expected) -> &'static str {
+/// Returns how the mistake is usually mended, if it is a usual one. `first` is the first word of the line.
+fn kind_hint(first: &str, binding: Binding, asked: Expected) -> &'static str {
     match (binding, asked) {
+        (Binding::Register(_, _, _), Expected::Number) if first == "INT" => {
+            "; GET reads a datum into a register, COPY copies a register"
+        }
+        (Binding::Register(_, _, _), Expected::Number) if first == "REPEAT" => {
+            "; how often is fixed: a number or a constant; JEQ and JLT skip the body"
+        }
         (Binding::Constant(_), Expected::Value | Expected::ValueArgument) => {
             "; INT puts a constant into a register"
         }
@@ -61,10 +70,15 @@ fn kind_hint(binding: Binding, asked: Expected) -> &'static str {
 }
 
 /// Adds what a name means, and what is required in its place.
-fn put_kind(out: &mut Vec<u8>, binding: Binding, asked: Expected) -> Result<(), AllocError> {
+fn put_kind(
+    out: &mut Vec<u8>,
+    first: &str,
+    binding: Binding,
+    asked: Expected,
+) -> Result<(), AllocError> {
     put_both(out, "it is ", binding_words(binding))?;
     put_both(out, ", ", expected_words(asked))?;
-    put_both(out, " is required", kind_hint(binding, asked))
+    put_both(out, " is required", kind_hint(first, binding, asked))
 }
 
 /// Says which form a line lacks, by the word at which it ends to have one.
@@ -101,10 +115,15 @@ fn fixed_diagnostic(no: NameNo) -> &'static str {
 }
 
 /// Adds what is wrong with a word.
-fn put_diagnostic(out: &mut Vec<u8>, word: &[u8], no: NameNo) -> Result<(), AllocError> {
+fn put_diagnostic(
+    out: &mut Vec<u8>,
+    first: &str,
+    word: &[u8],
+    no: NameNo,
+) -> Result<(), AllocError> {
     match no {
         NameNo::Form => put(out, form_diagnostic(word)),
-        NameNo::Kind(binding, asked) => put_kind(out, binding, asked),
+        NameNo::Kind(binding, asked) => put_kind(out, first, binding, asked),
         NameNo::Taken(binding) => put_both(out, "the name is taken by ", binding_words(binding)),
         NameNo::Unknown(asked) => put(out, unknown_diagnostic(asked)),
         _ => put(out, fixed_diagnostic(no)),
@@ -117,10 +136,15 @@ fn separator(word: &[u8]) -> &'static str {
 }
 
 /// Adds a word, and what is wrong with it.
-fn put_word_reason(out: &mut Vec<u8>, word: &[u8], no: NameNo) -> Result<(), AllocError> {
+fn put_word_reason(
+    out: &mut Vec<u8>,
+    first: &str,
+    word: &[u8],
+    no: NameNo,
+) -> Result<(), AllocError> {
     put_shortened(out, word)?;
     put(out, separator(word))?;
-    put_diagnostic(out, word, no)
+    put_diagnostic(out, first, word, no)
 }
 
 /// Adds the line of a word: what is wrong with it, and what was meant.
@@ -128,27 +152,25 @@ fn put_word_diagnostic(
     alloc: Global,
     out: &mut Vec<u8>,
     text: &str,
-    word: &[u8],
-    no: NameNo,
+    rejection: NameError<'_>,
 ) -> Result<(), AllocError> {
-    put_word_reason(out, word, no)?;
+    let NameError { line, word, no } = rejection;
+    put_word_reason(out, first_word(text, line), word, no)?;
     put_name_hint(alloc, out, text, no, word)?;
     put(out, "\n")
 }
 
 /// Returns the rejected line as it was written, what is wrong with which word of it, and the head of the procedure that is called.
-fn name_details(
-    alloc: Global,
-    text: &str,
-    rejection: NameError<'_>,
-) -> Result<Vec<u8>, AllocError> {
+fn name_details(alloc: Global, text: &str, rejection: NameError<'_>) -> Result<Vec<u8>, AllocError>
+    ensures { IfOk result (λ details. HidesNothing details.items) }
+{
     let mut out = Vec::new(alloc);
     put_shown_line(&mut out, text, rejection.line)?;
-    put_word_diagnostic(alloc, &mut out, text, rejection.word, rejection.no)?;
+    put_word_diagnostic(alloc, &mut out, text, rejection)?;
     if is_argument(rejection.no) {
         put_head(alloc, &mut out, text, rejection.line)?;
     }
-    Ok(out)
+    visible_bytes(alloc, &out)
 }
 
 /// Returns the error of symbolic assembly that can't be expanded, at the name's place.

@@ -7,7 +7,8 @@ ghost use Rattle.tw_code.specs.declared.procedure.Procedure.{Procedure as Sectio
 ghost use Rattle.tw_source.specs.Source.{IsSourceAt, MayBeSourceAt, plain_of, plain_or, text_of};
 ghost use Rattle.tw_symbols.specs.Expansion.{ExpandsTo};
 ghost use Rattle.tw_symbols.specs.Symbols.{AreSymbols};
-ghost use Rattle.tw_source.specs.Text.{IsLineOf, IsPlaceLine, IsPlaceText, IsRejectionLine, in_name, line_in_text, text_line};
+ghost use Rattle.tw_source.specs.Text.{IsLineOf, IsPlaceLine, IsPlaceText, IsRejectionLine, in_name, line_in_text, text_line, visible_line};
+ghost use Rattle.tw_visible.specs.Visible.{HidesNothing};
 
 use crate::text_lines::TextLines;
 use std::alloc::{AllocError, Global};
@@ -16,6 +17,7 @@ use tw_diagnostics::{head_line, put_main_diagnostic, put_program_diagnostic};
 use tw_lexer::{line_numbered, put, put_numbered, put_shortened};
 use tw_symbols::{Symbols, put_with_name};
 use tw_verify::{Refused, VerifyError};
+use tw_visible::{put_visible, visible_bytes};
 
 /// A text, with the line of each instruction of its program.
 #[derive(Drop)]
@@ -108,6 +110,15 @@ fn put_in(out: &mut Vec<u8>, name: &[u8]) -> Result<(), AllocError>
     out.extend_from_slice(name)
 }
 
+/// Adds a line as a message has it: cut if it is long, and without hidden characters.
+fn put_visible_line(alloc: Global, out: &mut Vec<u8>, line: &str) -> Result<(), AllocError>
+    ensures { OnOk result (out.new.items ≡ out.old.items ++ visible_line line.now) }
+{
+    let mut shown = Vec::new(alloc);
+    put_shortened(&mut shown, line.as_bytes())?;
+    put_visible(alloc, out, &shown)
+}
+
 /// Adds the line with this number, with the name of its procedure, without the white space around it.
 fn put_line_in(
     alloc: Global,
@@ -121,7 +132,7 @@ fn put_line_in(
     put_numbered(alloc, out, "at line ", number)?;
     put_in(out, name)?;
     put(out, ": ")?;
-    put_shortened(out, line.as_bytes())?;
+    put_visible_line(alloc, out, line)?;
     put(out, "\n")
 }
 
@@ -136,7 +147,7 @@ pub fn put_text_line(
 {
     put_numbered(alloc, out, "at line ", number)?;
     put(out, ": ")?;
-    put_shortened(out, line.as_bytes())?;
+    put_visible_line(alloc, out, line)?;
     put(out, "\n")
 }
 
@@ -226,12 +237,14 @@ pub fn rejection_details(
     source: &Option<SourceText<'_>>,
     refused: &Refused,
     number: Option<usize>,
-) -> Result<Vec<u8>, AllocError> {
+) -> Result<Vec<u8>, AllocError>
+    ensures { IfOk result (λ details. HidesNothing details.items) }
+{
     let mut out = Vec::new(alloc);
     if let (Some(source), Some(number)) = (source, number) {
         put_rejected_line(alloc, &mut out, source, refused, number)?;
     }
-    Ok(out)
+    visible_bytes(alloc, &out)
 }
 
 /// Returns the number of the line at which the program of a text is wrong.

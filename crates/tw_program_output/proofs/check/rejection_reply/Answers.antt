@@ -26,5 +26,6 @@ returns c =
       c.requires.first,
       at_is,
       c.in_ok-text.ensures,
+      c.in_ok-details.ensures,
       c.refused_by.ensures ∙ ap (λ (t : List ℕ). reply t (Refused c.failure_at-failure.result)) all ∙ ap (λ (f : Failure). reply (before ++ (line ++ more)) (Refused f)) failure,
     )

@@ -16,6 +16,6 @@ returns c =
       failure,
       c.in_ok-details.details.items,
       (reason, is, c.fault_failure-failure.ensures ∙ ap (fault_failure fault.no fault.line) c.word.ensures),
-      tt,
+      c.in_ok-details.ensures,
       h ∙ ap (failed_with failure) c.deref.ensures.value,
     )) c.detailed_reply.ensures

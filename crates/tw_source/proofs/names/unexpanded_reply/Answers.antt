@@ -7,4 +7,4 @@ pub returns : goal.returns
 returns c =
     let failure = c.in_ok-failure.failure in
     IfOk-weaker _ _ (λ (r : Reply). PrintsNone (Named c.args.unexpanded.now) (reply r.text.items r.close))
-    (λ (r : Reply) h. (failure, c.in_ok-details.details.items, c.in_ok-failure.ensures, tt, h ∙ ap (failed_with failure) c.deref.ensures.value)) c.detailed_reply.ensures
+    (λ (r : Reply) h. (failure, c.in_ok-details.details.items, c.in_ok-failure.ensures, c.in_ok-details.ensures, h ∙ ap (failed_with failure) c.deref.ensures.value)) c.detailed_reply.ensures

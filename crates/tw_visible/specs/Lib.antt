@@ -1,0 +1,2 @@
+-- Texts without hidden characters.
+pub mod Visible
