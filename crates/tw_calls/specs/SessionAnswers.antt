@@ -2,9 +2,8 @@
 use Rattle.std.specs.Prelude.{◌≡◌, ◌⊎◌, ◌==◌, ◌++◌, ℕ, List, [], ◌∷◌, Option, Some, codes, length, drop, nat_lt, if◌then◌else◌, IsUtf8}
 use Rattle.std.specs.Io.BufRead.{strip_last}
 use Rattle.std.specs.List.{slice_split}
-use Rattle.tw_cli.specs.CommandLine.{request_by_words, request_in_turn, word_faults}
 use Rattle.tw_source.specs.Reply.{reply}
-use Rattle.tw_session.specs.Clockless.{AnswersClockless}
+use Rattle.tw_session.specs.Clockless.{AnswersWords}
 use Rattle.tw_session.specs.Status.{code_of}
 use Rattle.tw_source.specs.declared.close.Close.{Close}
 use Rattle.tw_source.specs.declared.close.Close.TheVariants.{CommandLine}
@@ -29,7 +28,7 @@ arguments_in ending (byte ∷ text) = slice_split (λ b. b == ending) (strip_las
 -- Arguments that aren't UTF-8 are always rejected.
 abbrev pub Answers : ℕ → List ℕ → List ℕ → Status → List ℕ → Type 0
 Answers ending words input (Ended close) text =
-    (IsUtf8 words × AnswersClockless (word_faults (arguments_in ending words)) (request_in_turn (request_by_words (arguments_in ending words))) input (reply text close))
+    (IsUtf8 words × AnswersWords (arguments_in ending words) input (reply text close))
     ⊎ ((IsUtf8 words → ⊥) × (close ≡ CommandLine) × (text ≡ codes "command line refused\n"))
 Answers ending words input NoMemory text = IsUtf8 words × (text ≡ codes "memory\n")
 Answers ending words input ReadFailed text = ⊥

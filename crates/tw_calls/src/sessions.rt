@@ -1,9 +1,8 @@
 //! Sessions.
 
 ghost use Rattle.std.specs.Prelude.{◌≡◌, ◌<◌, IfOk, length};
-ghost use Rattle.tw_cli.specs.CommandLine.{request_by_words, request_in_turn, word_faults};
 ghost use Rattle.tw_source.specs.Reply.{reply};
-ghost use Rattle.tw_session.specs.Clockless.{AnswersClockless};
+ghost use Rattle.tw_session.specs.Clockless.{AnswersWords};
 ghost use Rattle.tw_session.specs.Status.{code_of};
 ghost use Rattle.tw_calls.specs.SessionAnswers.{IsAnswered, arguments_in, filled};
 
@@ -20,7 +19,7 @@ pub(crate) fn answer(
     input: &[u8],
 ) -> Result<Reply, AllocError>
     requires { ending < 128 }
-    ensures { IfOk result (λ r. AnswersClockless (word_faults (arguments_in ending words.now)) (request_in_turn (request_by_words (arguments_in ending words.now))) input.now (reply r.text.items r.close)) }
+    ensures { IfOk result (λ r. AnswersWords (arguments_in ending words.now) input.now (reply r.text.items r.close)) }
 {
     let words = arguments_of(alloc, words, ending)?;
     answer_in_turn(alloc, words.as_slice(), input)

@@ -1,5 +1,3 @@
-pub mod Numbers
-pub mod Options
-pub mod Words
-pub mod Requests
+pub mod FoundRows
 pub mod Tables
+pub mod Words

@@ -3,8 +3,7 @@ use Rattle.std.specs.Prelude.{◌≡◌, ◌++◌, ◌==◌, ◌&&◌, ◌||◌,
 use Rattle.std.specs.List.{list_any, starts_with}
 use Rattle.std.specs.Char.{to_ascii_uppercase}
 use Rattle.std.specs.Str.{bytes_eq}
-use Rattle.clap.specs.Words.{Kinds, Row, Text, first_of}
-use Rattle.clap.specs.declared.error.ErrorKind.TheVariants.{ValueValidation}
+use Rattle.clap.specs.Words.{Row, Text, first_of}
 
 -- ---- all codes, as errors and traps name them
 
@@ -78,6 +77,6 @@ IsMeaningOf word code text = IsExplainedBy (length word == 0) word code text
 abbrev pub number_word : List Row → Text
 number_word rows = unwrap_or (first_of (codes "number") rows) []
 
--- returns the fault of an argument that names no code
-abbrev pub number_faults : Text → Kinds
-number_faults word = if length word == 0 then [] else if is_number (meant word) then [] else ValueValidation ∷ []
+-- returns whether an argument names a code, or is empty
+abbrev pub names_code : Text → Bool
+names_code word = length word == 0 || is_number (meant word)

@@ -1,50 +1,45 @@
--- Why the arguments give no order.
-use Rattle.std.specs.Prelude.{◌≡◌, ◌≢◌, ◌⊎◌, List, [], ⊤, MatchResult, Result}
-use Rattle.clap.specs.Words.{IsAmong, Kinds, Text}
-use Rattle.clap.specs.declared.error.ErrorKind.{ErrorKind}
-use Rattle.clap.specs.declared.error.ErrorKind.TheVariants.{DisplayHelp, DisplayVersion, OutOfMemory}
-use Rattle.tw_cli.specs.CommandLine.{IsExplained, IsRejectedInput, IsRequested, Request}
-use Rattle.tw_inputs.specs.InputWords.{IsRejectedWord, refused_word}
+-- The order that arguments give, or the reason why there is none.
+use Rattle.std.specs.Prelude.{List, [], ⊤, Option, Some, None, MatchResult, Result, codes, unwrap_or}
+use Rattle.std.specs.Option.{option_map_or}
+use Rattle.clap.specs.Words.{Row, Text, all_of, subcommand_of}
+use Rattle.tw_types.specs.declared.input.Input.{Input}
+use Rattle.tw_inputs.specs.InputWords.{AreEncoded, IsRejectedWord, refused_word}
 use Rattle.tw_order.specs.declared.order.Order.{Order}
+use Rattle.tw_order.specs.declared.order.Order.TheVariants.{Replay, Run}
+use Rattle.tw_order.specs.declared.runs.RunInputs.TheVariants.{Given}
+use Rattle.tw_cli.specs.Explanations.{IsMeaningOf, number_word}
+use Rattle.tw_cli.specs.Rows.{command_line}
 use Rattle.tw_cli.specs.declared.command.NoOrder.{NoOrder}
-use Rattle.tw_cli.specs.declared.command.NoOrder.TheVariants.{Help, Refused, InputWord, Explanation, NoMemory}
+use Rattle.tw_cli.specs.declared.command.NoOrder.TheVariants.{InputWord, Explanation}
 
--- holds if help or the version is requested
-abbrev pub IsHelp : ErrorKind → Type 0
-IsHelp kind = (kind ≡ DisplayHelp) ⊎ (kind ≡ DisplayVersion)
+-- returns the input arguments that clap found
+abbrev pub given_words : List Row → List Text
+given_words rows = unwrap_or (all_of (codes "input") rows) []
 
--- hold if one of these kinds requests help or the version, or if one is a fault
-abbrev pub RequestHelp : Kinds → Type 0
-RequestHelp kinds = (kind : ErrorKind) × IsAmong kind kinds × IsHelp kind
+-- holds if inputs, where arguments give them, are those that the input arguments encode
+abbrev pub AreListed : List Row → Option (List Input) → Type 0
+AreListed rows (Some inputs) = AreEncoded inputs (given_words rows)
+AreListed rows None = ⊤
 
-abbrev pub HaveFault : Kinds → Type 0
-HaveFault kinds = (kind : ErrorKind) × IsAmong kind kinds × (IsHelp kind → ⊥)
+abbrev pub HasInputs : List Row → Order → Type 0
+HasInputs rows (Run source options (Given inputs)) = AreListed rows (Some inputs)
+HasInputs rows (Replay source answer layout given) = AreListed rows given
+HasInputs rows order = ⊤
 
--- holds if clap's error of this kind gives this reason
-abbrev pub IsReason : ErrorKind → NoOrder → Type 0
-IsReason kind NoMemory = ⊤
-IsReason kind (Help text) = IsHelp kind
-IsReason kind Refused = (IsHelp kind → ⊥) × (kind ≢ OutOfMemory)
-IsReason kind (InputWord number reason) = ⊥
-IsReason kind (Explanation text) = ⊥
+-- holds for a reason: an input argument is the first that encodes no input; or a code is explained, and it is the one that is named. Nothing is said of
+-- other reasons.
+abbrev pub HasReason : List Row → NoOrder → Type 0
+HasReason rows (InputWord number line) = IsRejectedWord (given_words rows) (refused_word number line.items)
+HasReason rows (Explanation explained) = IsMeaningOf (number_word rows) explained.code.items explained.text.items
+HasReason rows why = ⊤
 
--- holds if this reason comes from these input words
-abbrev pub IsWordReason : List Text → NoOrder → Type 0
-IsWordReason words NoMemory = ⊤
-IsWordReason words (Help text) = ⊥
-IsWordReason words Refused = ⊥
-IsWordReason words (InputWord number reason) = IsRejectedWord words (refused_word number reason.items)
-IsWordReason words (Explanation text) = ⊥
+-- holds for the order, or the reason, by what clap found after the command
+abbrev pub Gives : List Row → Result Order NoOrder → Type 0
+Gives rows result = MatchResult result (HasInputs rows) (HasReason rows)
 
--- holds if the reason comes from one of the kinds; or the arguments are accepted, and it comes from the input words, or is the explanation that they
--- request
-abbrev pub HasReason : Kinds → Request → NoOrder → Type 0
-HasReason kinds request NoMemory = ⊤
-HasReason kinds request (Help text) = RequestHelp kinds
-HasReason kinds request Refused = HaveFault kinds
-HasReason kinds request (InputWord number reason) = (kinds ≡ []) × IsRejectedInput request (refused_word number reason.items)
-HasReason kinds request (Explanation explained) = (kinds ≡ []) × IsExplained request explained
+abbrev pub found_after : Option (Text × List Row) → List Row
+found_after found = option_map_or (λ command. command.1) found []
 
--- holds for the order that is requested, if the arguments are accepted; or for the reason why there is none
-abbrev pub Gives : Kinds → Request → Result Order NoOrder → Type 0
-Gives kinds request result = MatchResult result (λ order. (kinds ≡ []) × IsRequested request order) (HasReason kinds request)
+-- holds for the order, or the reason, that these arguments give
+abbrev pub GivesByWords : List Text → Result Order NoOrder → Type 0
+GivesByWords words result = Gives (found_after (subcommand_of command_line words)) result

@@ -1,10 +1,10 @@
 -- The rows of the command line: each command with its arguments, in the order of its help; and how clap is set up for them.
-use Rattle.std.specs.Prelude.{ℕ, Bool, true, false, List, [], ◌∷◌, ◌++◌, ◌==◌, ◌&&◌, Some, codes, fold, map}
+use Rattle.std.specs.Prelude.{ℕ, Bool, true, false, List, [], ◌∷◌, ◌++◌, ◌==◌, ◌&&◌, Some, codes, fold}
 use Rattle.std.specs.List.{list_any}
 use Rattle.std.specs.Str.{bytes_eq}
 use Rattle.clap.specs.Lexer.{usize_max}
 use Rattle.clap.specs.Words.{App, Rule, Text, new_app, new_rule, with_rule, with_subcommand}
-use Rattle.tw_cli.specs.Options.{NumberOption, actor_options, bounds, cap_options, each, event_order, events, flag_rule, in_turn, inputs, inputs_json, jobs, json, limit, main_rule, names, number_options, option_rule, picture, picture_options, places, plain, quiet, seconds, seed, stats, text, trace}
+use Rattle.clap.specs.declared.builder.action.ArgAction.TheVariants.{SetTrue}
 use Rattle.tw_cli.specs.declared.command_rows.ArgumentForm.{ArgumentForm}
 use Rattle.tw_cli.specs.declared.command_rows.ArgumentForm.TheVariants.{Flag, Value, ValueOrMain, Inputs, Trace, Position, Positions}
 
@@ -25,33 +25,55 @@ argument form name = record { form = form; name = name }
 abbrev pub flag : Text → Argument
 flag name = argument Flag name
 
-abbrev pub numbers : List NumberOption → List Argument
-numbers options = map (λ o. argument Value o.name) options
+abbrev pub value : Text → Argument
+value name = argument Value name
 
 abbrev pub command : Text → Bool → List Argument → Command
 command name reads arguments = record { name = name; reads_program = reads; arguments = arguments }
 
+-- the options for actors, for the events of a timeline, and for caps
+abbrev pub actor_options : List Argument
+actor_options = value (codes "engines") ∷ value (codes "servers") ∷ value (codes "workers") ∷ []
+
+abbrev pub range_options : List Argument
+range_options = value (codes "from") ∷ value (codes "to") ∷ []
+
+abbrev pub cap_options : List Argument
+cap_options =
+    value (codes "most-tasks") ∷ value (codes "most-instructions") ∷ value (codes "most-data") ∷ value (codes "most-bytes") ∷ value (codes "most-budget")
+    ∷ value (codes "most-members") ∷ []
+
 -- how the program and its inputs are read, and the input arguments
 abbrev pub reading_arguments : List Argument
-reading_arguments = flag text ∷ argument Inputs inputs ∷ argument Positions (codes "input") ∷ []
+reading_arguments = flag (codes "text") ∷ argument Inputs (codes "inputs") ∷ argument Positions (codes "input") ∷ []
 
 abbrev pub run_arguments : List Argument
 run_arguments =
-    numbers number_options ++ (numbers (jobs ∷ [])
-    ++ (flag trace ∷ flag stats ∷ flag event_order ∷ flag json ∷ argument Inputs each ∷ flag picture ∷ (numbers cap_options
-    ++ (flag in_turn ∷ argument Value seed.name ∷ argument Value seconds.name ∷ flag quiet ∷ argument Inputs inputs_json ∷ reading_arguments))))
+    actor_options ++ (value (codes "limit") ∷ (range_options ++ (value (codes "jobs") ∷ flag (codes "trace") ∷ flag (codes "stats") ∷ flag (codes "order") ∷ flag (codes "json")
+    ∷ argument Inputs (codes "each") ∷ flag (codes "picture") ∷ (cap_options ++ (flag (codes "in-turn") ∷ value (codes "seed") ∷ value (codes "seconds") ∷ flag (codes "quiet")
+    ∷ argument Inputs (codes "inputs-json") ∷ reading_arguments)))))
 
 abbrev pub rows : List Command
 rows =
-    command (codes "asm") true (flag names ∷ flag plain ∷ flag json ∷ [])
-    ∷ command (codes "disasm") true (flag text ∷ flag places ∷ flag json ∷ [])
-    ∷ command (codes "check") true (flag text ∷ flag places ∷ flag json ∷ flag event_order ∷ argument ValueOrMain bounds ∷ numbers (limit ∷ cap_options))
+    command (codes "asm") true (flag (codes "names") ∷ flag (codes "plain") ∷ flag (codes "json") ∷ [])
+    ∷ command (codes "disasm") true (flag (codes "text") ∷ flag (codes "places") ∷ flag (codes "json") ∷ [])
+    ∷ command (codes "check") true (flag (codes "text") ∷ flag (codes "places") ∷ flag (codes "json") ∷ flag (codes "order") ∷ argument ValueOrMain (codes "bounds") ∷ value (codes "limit") ∷ cap_options)
     ∷ command (codes "run") true run_arguments
-    ∷ command (codes "replay") true (numbers actor_options ++ (flag stats ∷ flag json ∷ argument Trace events ∷ reading_arguments))
-    ∷ command (codes "picture") true (numbers picture_options ++ (argument Trace events ∷ reading_arguments))
-    ∷ command (codes "explain") false (argument Position (codes "number") ∷ flag json ∷ []) ∷ []
+    ∷ command (codes "replay") true (actor_options ++ (flag (codes "stats") ∷ flag (codes "json") ∷ argument Trace (codes "events") ∷ reading_arguments))
+    ∷ command (codes "picture") true (actor_options ++ (range_options ++ (argument Trace (codes "events") ∷ reading_arguments)))
+    ∷ command (codes "explain") false (argument Position (codes "number") ∷ flag (codes "json") ∷ []) ∷ []
 
 -- ---- clap
+
+-- return how clap is set up for an option of this name, for a flag, and for an option that has the value `main` if none is given
+abbrev pub option_rule : Text → Rule
+option_rule name = record (new_rule name) { long = Some name }
+
+abbrev pub flag_rule : Text → Rule
+flag_rule name = record (option_rule name) { action = Some SetTrue }
+
+abbrev pub main_rule : Text → Rule
+main_rule name = record (option_rule name) { range = Some (record { start_inclusive = 0; end_inclusive = 1 }); missing = codes "main" ∷ [] }
 
 -- returns how clap is set up for arguments of this name, any number of them
 abbrev pub several_rule : Text → Rule

@@ -9,7 +9,8 @@ ghost use Rattle.tw_cli.specs.reading.Rows.{with_row};
 
 use crate::arguments::command_of;
 use crate::command_rows::{COMMANDS, CommandRow};
-use crate::form::Explained;
+use crate::complaint::Complaint;
+use crate::explanations::Explained;
 use crate::help::{ABOUT, VERSION};
 use clap::Command;
 use std::alloc::{AllocError, Global};
@@ -19,8 +20,8 @@ use std::alloc::{AllocError, Global};
 pub enum NoOrder {
     /// They request this help, or the version.
     Help(String),
-    /// No command of `tw` accepts them, an option has no number in its range, or inputs are given in two ways.
-    Refused,
+    /// No command of `tw` accepts them, an option has no number in its range, or options exclude each other. The line says why.
+    Refused(Complaint),
     /// The input argument with this number is the first that encodes no input. Input arguments count from 1. The line says why. All other arguments
     /// are accepted.
     InputWord(usize, Vec<u8>),

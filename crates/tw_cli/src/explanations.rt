@@ -3,15 +3,23 @@
 ghost use Rattle.std.specs.Prelude.{◌≡◌, ◌++◌, ◌∷◌, [], true, false, codes, is_some, IfOk, IfSome, MatchOption, OnOk};
 ghost use Rattle.std.specs.List.{find, list_any};
 ghost use Rattle.std.specs.Str.{bytes_eq};
-ghost use Rattle.clap.specs.declared.error.ErrorKind.TheVariants.{ValueValidation};
-ghost use Rattle.tw_cli.specs.Explanations.{IsExplanation, IsMeaningOf, assembly_numbers, byte_numbers, full_number, is_among, is_number, meant, name_numbers, number_faults, session_numbers, trap_numbers, verifier_numbers};
+ghost use Rattle.tw_cli.specs.Explanations.{IsExplanation, IsMeaningOf, assembly_numbers, byte_numbers, full_number, is_among, is_number, meant, name_numbers, names_code, session_numbers, trap_numbers, verifier_numbers};
 
 use crate::explained_names::NAMES;
 use crate::explained_programs::{BYTES, TRAPS, VERIFIER};
-use crate::form::Explained;
 use std::alloc::{AllocError, Global};
 use tw_lexer::put;
 use tw_order::Form;
+
+/// The explanation that is requested.
+#[derive(Drop)]
+pub struct Explained {
+    /// The requested form.
+    pub form: Form,
+    /// The code; empty for the list of all codes.
+    pub code: Vec<u8>,
+    pub text: Vec<u8>,
+}
 
 /// The explanation of a code.
 #[derive(Clone, Copy)]
@@ -298,9 +306,13 @@ fn all_meanings(alloc: Global, form: Form) -> Result<Explained, AllocError>
 
 /// Returns the explanation that the argument of `explain` requests, in this form. An empty argument requests the list of all codes. Returns none if it
 /// names no code.
-pub fn explained(alloc: Global, form: Form, word: &str) -> Result<Option<Explained>, AllocError>
-    ensures { IfOk result (λ requested. MatchOption requested (number_faults word.now ≡ ValueValidation ∷ [])
-        (λ e. (number_faults word.now ≡ []) × (e.form ≡ form) × IsMeaningOf word.now e.code.items e.text.items)) }
+pub fn explained_code(
+    alloc: Global,
+    form: Form,
+    word: &str,
+) -> Result<Option<Explained>, AllocError>
+    ensures { IfOk result (λ requested. MatchOption requested (names_code word.now ≡ false)
+        (λ e. (names_code word.now ≡ true) × (e.form ≡ form) × IsMeaningOf word.now e.code.items e.text.items)) }
 {
     if word.is_empty() {
         let all = all_meanings(alloc, form)?;

@@ -11,9 +11,10 @@ pub(crate) struct CommandHelp<'a> {
 }
 
 /// The program's version, which the newest section of CHANGELOG.md names.
-pub(crate) const VERSION: &str = "0.26";
+pub(crate) const VERSION: &str = "0.27";
 
-pub(crate) const ABOUT: &str = "Assembles, checks and runs dataflow programs of the task host.";
+pub(crate) const ABOUT: &str =
+    "Yuglemit assembles, checks and runs dataflow programs on a proved task host. Its manual is `man tw`.";
 
 pub(crate) const ASM: CommandHelp<'static> = CommandHelp {
     about: "Turns assembly text into hex text of a program",

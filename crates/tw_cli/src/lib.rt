@@ -4,27 +4,21 @@
 #![tactic(auto)]
 
 mod arguments;
-mod caps;
-mod checks;
 mod command;
 mod command_rows;
-mod each;
+mod complaint;
 mod explained_names;
 mod explained_programs;
 mod explanations;
-mod form;
-mod found;
 mod help;
+mod numbers;
 mod option_forms;
+mod options;
 mod orders;
-mod shown;
-mod theorems;
-mod wrong_words;
 
 pub use command::NoOrder;
 pub use command_rows::ArgumentForm;
-pub use form::Explained;
+pub use complaint::Complaint;
+pub use explanations::Explained;
 pub use option_forms::{is_option, reads_program};
-pub use orders::{read_order, rejects};
-pub use theorems::{commands_are_taken, options_have_forms, strangers_are_refused};
-pub use wrong_words::complaint;
+pub use orders::read_order;

@@ -1,15 +1,7 @@
--- A session's end after a reply is written, and after arguments are read.
-use Rattle.std.proofs.Common.{◌≡◌, ◌≢◌, ℕ, List, [], ◌∷◌, codes, Option, Some, None, IfOk, IfSome, Result, Ok, Err, OnErr, inl, inr, refl, sym, subst}
+-- A session's end after a reply is written.
+use Rattle.std.proofs.Common.{◌≡◌, ◌≢◌, ℕ, List, codes, Option, Some, None, IfOk, IfSome, Result, Ok, Err, OnErr, refl, sym, subst}
 use Rattle.std.specs.Io.KnownBytes.{Appends}
-use Rattle.clap.specs.Words.{Kinds}
-use Rattle.tw_cli.specs.CommandLine.{Request, Explains, IsRejectedInput}
-use Rattle.tw_cli.proofs.Requests.{never_rejected, not_rejected, one_rejected}
-use Rattle.tw_inputs.specs.InputWords.{RejectedWord}
-use Rattle.tw_source.specs.Inputs.{PrintsInputWord}
 use Rattle.tw_source.specs.Reply.{Reply, reply}
-use Rattle.tw_cli.specs.Options.{ExplainOrder}
-use Rattle.tw_session.specs.Parts.{Given}
-use Rattle.tw_session.specs.Session.{AnswersWordsOn, MayAnswer, MayAnswerOn, RejectsWords, PrintsMeaning}
 use Rattle.tw_session.specs.Status.{EndsWithReply}
 use Rattle.tw_source.specs.declared.reply.Reply.{Reply as MadeReply}
 use Rattle.tw_source.specs.declared.close.Close.{Close}
@@ -58,24 +50,3 @@ ends_with_reply Answers (Err e) status old new h ended refused memory = no_reply
 pub whatever : {X : Type 0} {P : X → Type 0} (o : Option X) → ((x : X) → P x) → IfSome o P
 whatever None h = tt
 whatever (Some x) h = h x
-
--- ---- arguments
-
--- arguments that are accepted
-pub taken : (kinds : Kinds) (request : Request) (g : Given) (r : Reply) → kinds ≡ [] → AnswersWordsOn kinds request g r → MayAnswerOn request g r
-taken [] request g r e h = h
-taken (kind ∷ others) request g r e h = absurd cc
-
-pub not_taken : (kinds : Kinds) (request : Request) (g : Given) (r : Reply) → (kinds ≡ [] → ⊥) → AnswersWordsOn kinds request g r → RejectsWords kinds r
-not_taken [] request g r e h = absurd (e refl)
-not_taken (kind ∷ others) request g r e h = h
-
-pub word_printed : (request : Request) (input : List ℕ) (number : RejectedWord) (r : Reply) → IsRejectedInput request number → MayAnswer request input r → PrintsInputWord number r
-word_printed request input number r refused (inl (order, is_requested, h)) = absurd (never_rejected request order number is_requested refused)
-word_printed request input number r refused (inr (inl (other, is, h))) = subst (λ (n : RejectedWord). PrintsInputWord n r) (one_rejected request other number is refused) h
-word_printed request input number r refused (inr (inr h)) = absurd (not_rejected request h.0 number h.1 refused)
-
-pub meaning_printed : (number : ExplainOrder) (input : List ℕ) (r : Reply) → MayAnswer (Explains number) input r → PrintsMeaning (Explains number) r
-meaning_printed number input r (inl (order, is_requested, h)) = absurd is_requested
-meaning_printed number input r (inr (inl (other, is, h))) = absurd is
-meaning_printed number input r (inr (inr h)) = h

@@ -1,13 +1,15 @@
 -- The replies of a session that has no clock: it rejects an order that limits the time of a run.
-use Rattle.std.specs.Prelude.{◌≡◌, ◌⊎◌, ℕ, Bool, false, List, [], codes, is_some, MatchBool}
-use Rattle.clap.specs.Words.{Kinds}
-use Rattle.tw_cli.specs.CommandLine.{IsRequested, Request}
+use Rattle.std.specs.Prelude.{◌≡◌, ℕ, Bool, false, List, codes, is_some, MatchBool, MatchResult, Result}
+use Rattle.clap.specs.Words.{Text}
+use Rattle.tw_cli.specs.Order.{GivesByWords}
+use Rattle.tw_cli.specs.declared.command.NoOrder.{NoOrder}
+use Rattle.tw_order.specs.Orders.{order_in_turn}
 use Rattle.tw_order.specs.declared.order.Order.{Order}
 use Rattle.tw_order.specs.declared.order.Order.TheVariants.{Assemble, Check, Disassemble, Each, Replay, Run}
 use Rattle.tw_source.specs.Reply.{Reply, reply}
 use Rattle.tw_source.specs.declared.close.Close.TheVariants.{CommandLine}
 use Rattle.tw_session.specs.Parts.{Given, alone}
-use Rattle.tw_session.specs.Session.{AnswersWords, MayReplyTo}
+use Rattle.tw_session.specs.Session.{MayReplyTo, RepliesByReason}
 
 -- returns whether an order limits the time of a run
 abbrev pub limits_time : Order → Bool
@@ -26,7 +28,10 @@ clockless_reply = reply (codes "command line refused\n--seconds needs the comman
 abbrev pub MayReplyClockless : Order → Given → Reply → Type 0
 MayReplyClockless order g r = MatchBool (limits_time order) (r ≡ clockless_reply) (MayReplyTo order g r)
 
--- holds for a reply to arguments, by their faults and their request, and to the bytes that come with them
-abbrev pub AnswersClockless : Kinds → Request → List ℕ → Reply → Type 0
-AnswersClockless kinds request input r =
-    ((kinds ≡ []) × ((order : Order) × IsRequested request order × MayReplyClockless order (alone input) r)) ⊎ AnswersWords kinds request input r
+-- holds for a reply to the order that arguments give, in one thread, or to the reason why there is none; and to the bytes that come with them
+abbrev pub AnswersClockless : Result Order NoOrder → List ℕ → Reply → Type 0
+AnswersClockless asked input r = MatchResult asked (λ order. MayReplyClockless (order_in_turn order) (alone input) r) (λ why. RepliesByReason why r)
+
+-- holds for a reply to arguments and these bytes
+abbrev pub AnswersWords : List Text → List ℕ → Reply → Type 0
+AnswersWords words input r = (asked : Result Order NoOrder) × GivesByWords words asked × AnswersClockless asked input r

@@ -1,8 +1,8 @@
 -- The end of a session whose program is run on lines that are read apart from it.
 use Rattle.std.specs.Prelude.{◌≡◌, ◌⊎◌, ℕ, List, Option, Ok, Err, ⊤, codes}
 use Rattle.std.specs.Io.KnownBytes.{Appends, Keeps}
-use Rattle.tw_cli.specs.CommandLine.{Request, IsRequested}
 use Rattle.tw_order.specs.declared.runs.EachOrder.{EachOrder}
+use Rattle.tw_order.specs.declared.order.Order.{Order}
 use Rattle.tw_order.specs.declared.order.Order.TheVariants.{Each}
 use Rattle.tw_order.specs.declared.order.Source.{Source}
 use Rattle.tw_each.specs.Worst.{close_of}
@@ -10,7 +10,7 @@ use Rattle.tw_each.specs.declared.worst.WorstEnd.{WorstEnd}
 use Rattle.tw_each.specs.Stream.{BreaksFirst, IsRejection, RunsOnLines}
 use Rattle.tw_each.specs.declared.stream.StreamError.TheVariants as stream
 use Rattle.tw_source.specs.Reply.{reply}
-use Rattle.tw_session.specs.Session.{MayAnswer}
+use Rattle.tw_session.specs.Session.{MayReply}
 use Rattle.tw_session.specs.Status.{EndsWithReply}
 use Rattle.tw_session.specs.declared.status.Status.{Status}
 use Rattle.tw_session.specs.declared.status.Status.TheVariants.{Ended, NoMemory, ReadFailed, WriteFailed}
@@ -26,8 +26,8 @@ EndsEach source order input from left old new NoMemory =
 EndsEach source order input from left old new ReadFailed = RunsOnLines source order input from left old new (Err stream.Read)
 EndsEach source order input from left old new WriteFailed = ⊤
 
--- holds for the end of such a session with accepted arguments; without an order for lines only the program is read
-abbrev pub EndsEachSession : Request → List ℕ → Option (List ℕ) → Option (List ℕ) → Option (List ℕ) → Option (List ℕ) → Status → Type 0
-EndsEachSession request input from left old new status =
-    ((source : Source) × (order : EachOrder) × IsRequested request (Each source order) × EndsEach source order input from left old new status)
-    ⊎ EndsWithReply (MayAnswer request input) status old new
+-- holds for the end of a session whose lines are read apart; for another order than that of `--each` only the program is read
+abbrev pub EndsEachSession : Order → List ℕ → Option (List ℕ) → Option (List ℕ) → Option (List ℕ) → Option (List ℕ) → Status → Type 0
+EndsEachSession order input from left old new status =
+    ((source : Source) × (each : EachOrder) × (order ≡ Each source each) × EndsEach source each input from left old new status)
+    ⊎ EndsWithReply (MayReply order input) status old new

@@ -10,7 +10,7 @@ use Rattle.tw_order.specs.declared.form.Places.{Places}
 use Rattle.tw_order.specs.declared.form.Places.TheVariants.{Hidden, Shown}
 use Rattle.tw_order.specs.declared.runs.RunAnswer.{RunAnswer}
 use Rattle.tw_order.specs.declared.runs.RunAnswer.TheVariants as written
-use Rattle.tw_cli.specs.declared.form.Explained.{Explained}
+use Rattle.tw_cli.specs.declared.explanations.Explained.{Explained}
 use Rattle.tw_order.specs.declared.form.Form.{Form}
 use Rattle.tw_order.specs.declared.form.Form.TheVariants as form
 use Rattle.tw_json_output.specs.declared.text_object.Printed.{Printed}

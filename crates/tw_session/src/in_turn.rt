@@ -1,14 +1,13 @@
 //! The replies of a single-threaded `run`.
 
 ghost use Rattle.std.specs.Prelude.{◌≡◌, IfOk, is_some, map, string_bytes};
-ghost use Rattle.tw_cli.specs.CommandLine.{request_by_words, request_in_turn, word_faults};
 ghost use Rattle.tw_code.specs.machine.Inputs.{AreInputsOf};
 ghost use Rattle.tw_in_turn.specs.InTurn.{IsLeft};
 ghost use Rattle.tw_in_turn.specs.Stopping.{IsLeftIf};
 ghost use Rattle.tw_pool.specs.Openings.{opened};
 ghost use Rattle.tw_source.specs.Reply.{reply};
 ghost use Rattle.tw_session.specs.Run.{RepliesByOpening, RepliesByRun};
-ghost use Rattle.tw_session.specs.Clockless.{AnswersClockless, MayReplyClockless, clockless_reply, limits_time};
+ghost use Rattle.tw_session.specs.Clockless.{AnswersWords, MayReplyClockless, clockless_reply, limits_time};
 ghost use Rattle.tw_session.specs.Parts.{seen_given};
 ghost use Rattle.tw_source.specs.Source.{MayBeSource, text_of};
 
@@ -170,8 +169,7 @@ fn reply_without_clock(alloc: Global, order: Order, given: Given<'_>) -> Result<
 
 /// Returns the reply to arguments and the bytes that come with them, with a run single-threaded. It starts no thread, never waits, and has no clock.
 pub fn answer_in_turn(alloc: Global, words: &[String], input: &[u8]) -> Result<Reply, AllocError>
-    ensures { IfOk result (λ r. AnswersClockless (word_faults (map string_bytes words.now)) (request_in_turn (request_by_words (map string_bytes words.now)))
-        input.now (reply r.text.items r.close)) }
+    ensures { IfOk result (λ r. AnswersWords (map string_bytes words.now) input.now (reply r.text.items r.close)) }
 {
     match read_order(alloc, words) {
         Ok(order) => reply_without_clock(alloc, order.in_turn(), Given::alone(input)),

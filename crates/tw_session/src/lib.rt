@@ -1,7 +1,7 @@
-//! A session of the command `tw`: it maps arguments and bytes to text and a status.
+//! A session of the command `tw`: it maps an order and bytes to text and a status.
 //!
-//! `session` works over any reader and writer, `given_session` over bytes that were read. `reply_to` returns their reply to an order. `answer_in_turn`
-//! returns the reply to arguments, and has neither streams nor threads.
+//! `session` works over any reader and writer, `given_session` over bytes that were read. `reply_to` returns their reply to an order, `unordered_session`
+//! writes that to arguments without one. `answer_in_turn` returns the reply to arguments, and has neither streams nor threads.
 #![tactic(auto)]
 
 mod action;
@@ -17,7 +17,6 @@ mod prepare;
 mod programs;
 mod run;
 mod shell;
-mod standard_error;
 mod status;
 mod streams;
 
@@ -26,8 +25,7 @@ pub use input::MOST_BYTES;
 pub use line_session::each_session;
 pub use order::reply_to;
 pub use parts::Given;
-pub use shell::{given_session, session, without_words};
-pub use standard_error::{complain, is_quiet};
+pub use shell::{given_session, session, unordered_session, without_words};
 pub use status::Status;
 pub use streams::{InStream, OutStream};
 pub use tw_inputs::input_of;

@@ -1,26 +1,22 @@
 //! A session whose program is run on lines that are read.
 
-ghost use Rattle.std.specs.Prelude.{◌≡◌, ◌≢◌, [], Err, List, ℕ, Ok, Option, map, string_bytes};
+ghost use Rattle.std.specs.Prelude.{◌≡◌, Err, List, ℕ, Ok, Option};
 ghost use Rattle.std.specs.Thread.{IsSync};
-ghost use Rattle.tw_cli.specs.CommandLine.{Request, IsRequested, request_by_words, word_faults};
 ghost use Rattle.tw_order.specs.declared.runs.EachOrder.{EachOrder as SpecOrder};
 ghost use Rattle.tw_order.specs.declared.order.Source.{Source as ReadAs};
 ghost use Rattle.tw_each.specs.Stream.{Streams};
 ghost use Rattle.tw_session.specs.Each.{EndsEachSession, EndsEach};
-ghost use Rattle.tw_session.specs.Session.{RejectsWords};
-ghost use Rattle.tw_session.specs.Status.{EndsWithReply};
 
 use crate::line_progress::LineProgress;
 use crate::order::reply_to;
 use crate::parts::Given;
-use crate::shell::{unordered_reply, write_memory, write_reply};
+use crate::shell::{write_memory, write_reply};
 use crate::status::Status;
 use std::alloc::Global;
 use std::io::{Read, Write};
 use std::sync::Wait;
 use std::thread::{Threads, join_mut};
 use std::time::Clock;
-use tw_cli::read_order;
 use tw_each::{LineCount, LineThreads, StreamError, Streamed, close_of, stream_each};
 use tw_order::{EachOrder, Order, Source};
 use tw_workers::Gate;
@@ -110,8 +106,9 @@ where
     }
 }
 
-/// Obeys an order, of which only `--each` reads lines.
-fn obey_with_lines<H, G, R, W>(
+/// Like `session`, for a program and lines that are read apart from it. The answer to a line is written as soon as it and those before it are there. For
+/// another order than that of `--each` it is a session that reads the program alone.
+pub fn each_session<H, G, R, W>(
     rt: &H,
     gate: &G,
     order: Order,
@@ -124,7 +121,7 @@ where
     G: Gate + Sync,
     R: Read,
     W: Write,
-    ensures { (request : Request) → IsRequested request order → EndsEachSession request program.items
+    ensures { EndsEachSession order program.items
         (R.remaining reader.old) (R.remaining reader.new) (W.contents writer.old) (W.contents writer.new) result }
 {
     match order {
@@ -135,32 +132,5 @@ where
             let given = Given::alone(&program);
             write_reply(reply_to(rt, rt.alloc(), gate, other, given), writer)
         }
-    }
-}
-
-/// Like `session`, for a program and lines that are read apart from it. The answer to a line is written as soon as it and those before it are there. For
-/// another order than that of `--each` it is a session that reads the program alone.
-pub fn each_session<H, G, R, W>(
-    rt: &H,
-    gate: &G,
-    words: &[String],
-    program: Vec<u8>,
-    reader: &mut R,
-    writer: &mut W,
-) -> Status
-where
-    H: AllocGlobal + Threads + Wait + Clock + Sync,
-    G: Gate + Sync,
-    R: Read,
-    W: Write,
-    ensures taken { word_faults (map string_bytes words.now) ≡ [] → EndsEachSession (request_by_words (map string_bytes words.now)) program.items
-        (R.remaining reader.old) (R.remaining reader.new) (W.contents writer.old) (W.contents writer.new) result }
-    ensures refused { word_faults (map string_bytes words.now) ≢ []
-        → EndsWithReply (RejectsWords (word_faults (map string_bytes words.now))) result (W.contents writer.old) (W.contents writer.new) }
-{
-    let alloc = rt.alloc();
-    match read_order(alloc, words) {
-        Ok(order) => obey_with_lines(rt, gate, order, program, reader, writer),
-        Err(no_order) => write_reply(unordered_reply(alloc, no_order), writer),
     }
 }

@@ -1,7 +1,6 @@
 use Rattle.std.proofs.Common.{List, ℕ, inl, inr, refl, subst, sym}
-use Rattle.tw_cli.specs.CommandLine.{request_by_words, request_in_turn, word_faults}
 use Rattle.tw_source.specs.Reply.{reply}
-use Rattle.tw_session.specs.Clockless.{AnswersClockless}
+use Rattle.tw_session.specs.Clockless.{AnswersWords}
 use Rattle.tw_source.specs.declared.close.Close.TheVariants.{CommandLine}
 use Rattle.tw_session.specs.declared.status.Status.TheVariants.{Ended}
 use Rattle.tw_calls.specs.SessionAnswers.{Answers, arguments_in, line_feed}
@@ -22,7 +21,7 @@ returns-in-Ok-answer c =
     let r = c.in-Ok-answer.reply in
     let words = c.in-Ok.ensures.cases in
     let input = c.args.input.now in
-    let answered = subst (λ (ws : List ℕ). AnswersClockless (word_faults (arguments_in line_feed ws)) (request_in_turn (request_by_words (arguments_in line_feed ws))) input (reply r.text.items r.close)) words.0 c.in-Ok-answer.ensures in
+    let answered = subst (λ (ws : List ℕ). AnswersWords (arguments_in line_feed ws) input (reply r.text.items r.close)) words.0 c.in-Ok-answer.ensures in
     record {
       status = Ended r.close;
       text = c.as_slice.result.now;

@@ -1,9 +1,8 @@
 use Rattle.std.proofs.Common.{List, ℕ, ap, inl, inr, subst}
 use Rattle.std.proofs.lemmas.Result.{IfOk-weaker}
-use Rattle.tw_cli.specs.CommandLine.{request_by_words, request_in_turn, word_faults}
 use Rattle.tw_source.specs.Reply.{Reply, reply}
 use Rattle.tw_source.specs.declared.reply.Reply.{Reply as MadeReply}
-use Rattle.tw_session.specs.Clockless.{AnswersClockless}
+use Rattle.tw_session.specs.Clockless.{AnswersWords}
 use Rattle.tw_calls.specs.SessionAnswers.{arguments_in, nul}
 use Rattle.tw_calls.proofs.texts.reply_to.Goals as goal
 
@@ -11,7 +10,7 @@ pub returns-in-Ok : goal.returns-in-Ok
 returns-in-Ok c =
     let words = c.in-Ok.ensures.cases in
     IfOk-weaker _ _ _
-    (λ (r : MadeReply) answers. inl (words.1, subst (λ (ws : List ℕ). AnswersClockless (word_faults (arguments_in nul ws)) (request_in_turn (request_by_words (arguments_in nul ws))) c.args.input.now (reply r.text.items r.close)) words.0 answers)) c.answer.ensures
+    (λ (r : MadeReply) answers. inl (words.1, subst (λ (ws : List ℕ). AnswersWords (arguments_in nul ws) c.args.input.now (reply r.text.items r.close)) words.0 answers)) c.answer.ensures
 
 pub returns-in-Err : goal.returns-in-Err
 returns-in-Err c =

@@ -3,7 +3,7 @@ use Rattle.std.specs.Prelude.{is_some, Option, Some, None}
 use Rattle.std.specs.Str.{bytes_eq}
 use Rattle.std.proofs.lemmas.Slice.Eq.{bytes_eq-Decides}
 use Rattle.tw_cli.specs.declared.explanations.Explanation.{Explanation}
-use Rattle.tw_cli.proofs.Numbers.{found_passes, some_found}
+use Rattle.tw_cli.proofs.FoundRows.{found_passes, some_found}
 use Rattle.tw_cli.proofs.explanations.found.Goals as goal
 
 pub returns-clause-known : goal.returns-clause-known

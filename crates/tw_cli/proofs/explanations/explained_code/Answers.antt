@@ -1,9 +1,9 @@
 use Rattle.std.proofs.Common.{◌≡◌, ◌∙◌, ◌==◌, ℕ, Bool, List, IfOk, false, true, length, refl, subst, sym}
 use Rattle.std.specs.Prelude.{MatchOption}
-use Rattle.tw_cli.specs.declared.form.Explained.{Explained}
+use Rattle.tw_cli.specs.declared.explanations.Explained.{Explained}
 use Rattle.tw_cli.specs.Explanations.{IsExplainedBy, IsExplanation, is_number, meant}
-use Rattle.tw_cli.proofs.Numbers.{explained_word}
-use Rattle.tw_cli.proofs.explanations.explained.Goals as goal
+use Rattle.tw_cli.proofs.FoundRows.{explained_word}
+use Rattle.tw_cli.proofs.explanations.explained_code.Goals as goal
 
 pub returns-in_ok-all : goal.returns-in_ok-all
 returns-in_ok-all c =
