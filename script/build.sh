@@ -112,7 +112,7 @@ build_command() {
     esac
     built=$(built_file "$crate") folder=$root/crates/$crate/out
     log=$folder/build.log
-    need_rt
+    need_rt "./tw build proves the sources"
     mkdir -p "$folder"
     take_turn
     if is_built "$crate"; then

@@ -45,15 +45,15 @@ unpack() {
     unpacked=$out/release/$1
     sum=$(in_manifest file "$1" 4)
     [ -f "$unpacked" ] && [ "$(cat "$unpacked.sum" 2>/dev/null)" = "$sum" ] && return
-    part=$unpacked.$$
-    mkdir -p "$out/release" || return
-    gzip -dc "$root/release/$1.gz" >"$part"
-    if [ "$(sum_of_input <"$part")" != "$sum" ]; then
-        rm -f "$part"
+    if ! gzip -dc "$root/release/$1.gz" 2>/dev/null | sum_of_input | grep -qx "$sum"; then
         say "release/$1.gz isn't the file that release/MANIFEST names"
         return 1
     fi
-    chmod 755 "$part" && mv "$part" "$unpacked" && echo "$sum" >"$unpacked.sum"
+    part=$unpacked.$$
+    mkdir -p "$out/release" && gzip -dc "$root/release/$1.gz" >"$part" && chmod 755 "$part" && mv "$part" "$unpacked" && echo "$sum" >"$unpacked.sum" && return
+    rm -f "$part" "$unpacked.sum"
+    say "release/$1.gz can't be unpacked into $out/release; is there room?"
+    return 1
 }
 
 # Compares a file of the release with the sources at hand: `same`, `same_code`, or another word.
@@ -68,9 +68,20 @@ compare_release() {
     fi
 }
 
+# Why the release's file of a crate doesn't serve.
+reason_to_build() {
+    if [ ! -r "$root/release/$(released_name "$1").gz" ]; then
+        echo "release/$(released_name "$1").gz is missing"
+    elif [ ! -r "$manifest" ]; then
+        echo "release/MANIFEST is missing"
+    else
+        echo "the sources aren't the release's"
+    fi
+}
+
 # Makes an unverified build of a crate, as the file `program`, and removes older ones than the newest three.
 build_unverified() {
-    say "the sources differ from the release's, so an unverified build is made; it takes one to two minutes, and is kept"
+    say "$(reason_to_build "$1"), so an unverified build is made; it takes one to two minutes, and is kept"
     kit=$(dirname "$(dirname "$(readlink -f "$(command -v rt)")")")
     if ! python3 -B "$root/tools/proofs/unverified.py" "$kit" "$root" "$1" "$program" >&2; then
         say "the unverified build failed; \`rt try\` in crates/$1 says more"
@@ -85,7 +96,7 @@ build_unverified() {
 unverified() {
     program=$out/unverified/$1/$2/$1 kind=unverified
     [ -x "$program" ] && return
-    need_rt
+    need_rt "$(reason_to_build "$1")"
     mkdir -p "$out/unverified"
     exec 9>"$out/unverified/lock"
     ! command -v flock >/dev/null 2>&1 || flock 9
@@ -93,7 +104,8 @@ unverified() {
     exec 9>&-
 }
 
-# Sets `program` and `kind` (built, same or same_code) for a crate, by its sources and their two sums; or fails, if nothing proved fits.
+# Sets `program` and `kind` (built, same or same_code) for a crate, by its sources and their two sums; or fails, if nothing proved fits. If what
+# fits can't be unpacked, all ends.
 pick_proved() {
     if is_built "$1"; then
         program=$(built_file "$1") kind=built
@@ -101,7 +113,7 @@ pick_proved() {
     fi
     kind=$(compare_release "$@") program=$out/release/$(released_name "$1")
     case $kind in
-        same | same_code) unpack "$(released_name "$1")" ;;
+        same | same_code) unpack "$(released_name "$1")" || exit 70 ;;
         *) return 1 ;;
     esac
 }
@@ -115,9 +127,10 @@ need_proved() {
     exit 70
 }
 
+# Ends without a toolchain; its argument says why one is needed.
 need_rt() {
     command -v rt >/dev/null 2>&1 && return
-    say "the sources aren't the release's, and the command rt of the Rattle toolchain, which builds them, isn't on the PATH (README.md, \"The toolchain\")"
+    say "$1, and the command rt of the Rattle toolchain, which builds them, isn't on the PATH (README.md, \"The toolchain\")"
     exit 70
 }
 

@@ -26,6 +26,14 @@ Exit status: 0 done, 2 command line rejected, 66 nothing is installed there, 70 
 TEXT
 }
 
+# Quotes a word for a shell, if it isn't plain.
+quoted() {
+    case $1 in
+        *[!A-Za-z0-9_./+-]* | '') printf "'%s'" "$(printf '%s' "$1" | sed "s/'/'\\\\''/g")" ;;
+        *) printf '%s' "$1" ;;
+    esac
+}
+
 # Lays out a file: its mode, the file, and its name below the prefix.
 put() {
     mkdir -p "$stage/$(dirname "$3")" && cp "$2" "$stage/$3" && chmod "$1" "$stage/$3" || exit 70
@@ -174,7 +182,7 @@ install_all() {
     mkdir -p "$base/${list%/*}" && cat "$room/before" "$room/after" >"$base/$list" || exit 73 # both, until all is in place
     while read -r name; do move_in "$name"; done <"$room/names"
     cp "$room/after" "$base/$list" || exit 73
-    say "tw $version is installed below $prefix; ./tw install $prefix --uninstall removes it"
+    say "tw $version is installed below $prefix; $(quoted "$0") install $(quoted "$prefix") --uninstall removes it"
 }
 
 # Removes each file of the list that is as it was, and the folders that are empty then.

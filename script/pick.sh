@@ -17,7 +17,7 @@ say() {
 # Sets `room` to a folder for the files of this command.
 need_room() {
     [ -n "$room" ] && return
-    room=$(mktemp -d) || exit 70
+    room=$(mktemp -d) || { say "no folder can be made in ${TMPDIR:-/tmp}"; exit 70; }
     trap 'rm -rf "$room"' EXIT
 }
 
@@ -25,7 +25,7 @@ need_room() {
 use_out() {
     # shellcheck disable=SC2154
     out=$root/out
-    [ -w "$out" ] || mkdir -p "$out" 2>/dev/null && [ -w "$out" ] && return
+    mkdir -p "$out" 2>/dev/null && [ -w "$out" ] && return
     need_room
     out=$room
 }

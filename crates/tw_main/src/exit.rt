@@ -15,16 +15,20 @@ pub enum Exit {
     Session(Status),
     /// None was, since a file can't be read.
     Unread,
+    /// Nobody reads standard output any more.
+    Abandoned,
 }
 
 impl Exit {
-    /// Returns the exit status of the command `tw`: that of its session, or 66 for a file that can't be read.
+    /// Returns the exit status of the command `tw`: that of its session, or 66 for a file that can't be read, or that of a process
+    /// which the signal SIGPIPE has ended.
     fn code(self) -> u8
         ensures { result ≡ code_of_exit self }
     {
         match self {
             Exit::Session(status) => status.code(),
             Exit::Unread => 66,
+            Exit::Abandoned => 128 + 13,
         }
     }
 }

@@ -1,11 +1,13 @@
 //! Messages of the command on standard error.
 
 use crate::symbolic::Misnamed;
+use std::alloc::{AllocError, Global};
 use std::io;
 use std::io::ErrorKind;
 use std::rt::Stderr;
 use tw_files::{Misfit, requests_help};
 use tw_session::{Close, ErrorCode, Failure, Position, Status};
+use tw_visible::{Kind, visible};
 
 /// An answer to a command, as far as hints are about it.
 #[derive(Drop)]
@@ -15,6 +17,8 @@ pub struct Answered<'a> {
     pub status: Status,
     /// The arguments of the session.
     pub words: &'a [String],
+    /// Whether lines of inputs were to be answered.
+    pub is_each: bool,
     /// The file whose name promises another text.
     pub misnamed: Option<Misnamed<'a>>,
     /// Whether standard input was read as it is.
@@ -31,8 +35,19 @@ fn reason_of(kind: ErrorKind) -> Option<&'static str> {
     }
 }
 
+/// Returns the name of a file without hidden characters.
+fn shown(alloc: Global, path: &str) -> Result<String, AllocError> {
+    visible(alloc, Kind::Lines, path.as_bytes())
+}
+
 /// Prints why a file can't be read.
-pub fn complain_unread(stderr: &Stderr, path: &str, error: &io::Error) -> io::Result<()> {
+pub fn complain_unread(
+    alloc: Global,
+    stderr: &Stderr,
+    path: &str,
+    error: &io::Error,
+) -> io::Result<()> {
+    let path = shown(alloc, path)?;
     match reason_of(error.kind()) {
         Some(reason) => eprintln!(stderr; "tw: {path} can't be read: {reason}"),
         None => eprintln!(stderr; "tw: {path} can't be read: {error}"),
@@ -40,7 +55,8 @@ pub fn complain_unread(stderr: &Stderr, path: &str, error: &io::Error) -> io::Re
 }
 
 /// Prints why a file doesn't fit the program's.
-pub fn complain_misfit(stderr: &Stderr, path: &str, why: Misfit) -> io::Result<()> {
+pub fn complain_misfit(alloc: Global, stderr: &Stderr, path: &str, why: Misfit) -> io::Result<()> {
+    let path = shown(alloc, path)?;
     match why {
         Misfit::InputsTwice => eprintln!(stderr;
             "tw: {path} isn't read: the program's file has a line `inputs`, too; remove it, or don't name {path}"
@@ -55,12 +71,13 @@ pub fn complain_misfit(stderr: &Stderr, path: &str, why: Misfit) -> io::Result<(
 }
 
 /// Prints that a word that is no input names no file, either.
-pub fn complain_missing(stderr: &Stderr, word: &str) -> io::Result<()> {
+pub fn complain_missing(alloc: Global, stderr: &Stderr, word: &str) -> io::Result<()> {
+    let word = shown(alloc, word)?;
     eprintln!(stderr; "tw: there is no file {word}, either")
 }
 
 /// Prints that `--each` has no lines to answer.
-pub fn complain_lineless(stderr: &Stderr, name: &str) -> io::Result<()> {
+fn complain_lineless(stderr: &Stderr, name: &str) -> io::Result<()> {
     eprintln!(stderr;
         "tw: --each needs lines of inputs: {name} run FILE --each LINES; those in FILE itself follow a line `inputs`"
     )
@@ -103,25 +120,45 @@ fn print_explain_hint(stderr: &Stderr, name: &str, code: ErrorCode) -> io::Resul
     eprintln!(stderr; "tw: {name} explain {letter}{tens}{ones} says more")
 }
 
-/// Prints how a text is read whose file's name promises another one, or what reads it.
-fn print_misnamed(stderr: &Stderr, misnamed: Misnamed<'_>) -> io::Result<()> {
+/// Returns the name of an odd file.
+fn path_of(misnamed: Misnamed<'_>) -> &str {
     match misnamed {
-        Misnamed::Symbolic(path) => eprintln!(stderr;
+        Misnamed::Symbolic(path)
+        | Misnamed::Python(path)
+        | Misnamed::Marked(path)
+        | Misnamed::Long(path) => path,
+    }
+}
+
+/// Prints how a text is read whose file's name promises another one, what reads it, or why nothing does.
+fn print_misnamed(alloc: Global, stderr: &Stderr, misnamed: Misnamed<'_>) -> io::Result<()> {
+    let path = shown(alloc, path_of(misnamed))?;
+    match misnamed {
+        Misnamed::Symbolic(_) => eprintln!(stderr;
             "tw: {path} doesn't begin with a line `names`, so it is read as assembly text without names"
         ),
-        Misnamed::Python(path) => eprintln!(stderr;
+        Misnamed::Python(_) => eprintln!(stderr;
             "tw: {path} is a Python file: python3 -m yuglemit run {path} compiles and runs it"
         ),
+        Misnamed::Marked(_) => eprintln!(stderr;
+            "tw: {path} begins with a byte order mark, which belongs to its first word; save it as UTF-8 without one"
+        ),
+        Misnamed::Long(_) => eprintln!(stderr; "tw: {path} has more than 16777216 bytes"),
     }
 }
 
 /// Prints hints about an error with a code: about its file, standard input, and `explain`.
-fn print_error_hint(stderr: &Stderr, answered: &Answered<'_>, failure: &Failure) -> io::Result<()> {
+fn print_error_hint(
+    alloc: Global,
+    stderr: &Stderr,
+    answered: &Answered<'_>,
+    failure: &Failure,
+) -> io::Result<()> {
     let Some(code) = failure.code else {
         return Ok(());
     };
     if let Some(misnamed) = answered.misnamed {
-        print_misnamed(stderr, misnamed)?;
+        print_misnamed(alloc, stderr, misnamed)?;
     }
     if answered.reads_input && holds_no_program(failure) {
         eprintln!(stderr;
@@ -150,10 +187,14 @@ fn print_command_hint(stderr: &Stderr, name: &str, words: &[String]) -> io::Resu
 }
 
 /// Prints where to read more of an error, or what to do about a limit.
-pub fn print_hints(stderr: &Stderr, answered: &Answered<'_>) -> io::Result<()> {
+pub fn print_hints(alloc: Global, stderr: &Stderr, answered: &Answered<'_>) -> io::Result<()> {
     match answered.status {
         Status::Ended(Close::Refused(failure) | Close::Trapped(failure)) => {
-            print_error_hint(stderr, answered, &failure)
+            print_error_hint(alloc, stderr, answered, &failure)
+        }
+        Status::Ended(Close::CommandLine) if answered.is_each => {
+            complain_lineless(stderr, answered.name)?;
+            print_command_hint(stderr, answered.name, answered.words)
         }
         Status::Ended(Close::CommandLine | Close::Unreadable(_)) => {
             print_command_hint(stderr, answered.name, answered.words)

@@ -1,18 +1,25 @@
 //! The command `tw`.
 #![tactic(auto)]
 
+mod bare_input;
 mod exit;
+mod file_parts;
 mod hints;
+mod noted_reader;
+mod output;
 mod progress_printer;
 mod symbolic;
 mod system_files;
 mod tool;
+mod typed;
 
 use crate::exit::Exit;
 use crate::tool::{Streams, Tool};
+use std::io::ErrorKind;
 use std::rt::Env;
 use std::{env, io};
 use tw_session::without_words;
+use tw_visible::{Kind, visible};
 
 /// Returns the arguments of the process, without the program's own name.
 fn own_words(rt: &(impl Env + AllocGlobal)) -> io::Result<Vec<String>> {
@@ -21,7 +28,19 @@ fn own_words(rt: &(impl Env + AllocGlobal)) -> io::Result<Vec<String>> {
 
 /// Returns how messages name the command: as the script `tw`, which sets this variable, was called.
 fn own_name(rt: &(impl Env + AllocGlobal)) -> Option<String> {
-    env::var(rt, "TW_NAME").ok()
+    let name = env::var(rt, "TW_NAME").ok()?;
+    visible(rt.alloc(), Kind::Lines, name.as_bytes()).ok()
+}
+
+/// Ends the command, since an allocation failed, or an argument isn't UTF-8.
+fn without_own_words(streams: Streams, kind: ErrorKind) -> Exit {
+    let mut stdout = streams.stdout;
+    let status = without_words(kind, &mut stdout);
+    if kind != ErrorKind::OutOfMemory {
+        let stderr = &streams.stderr;
+        let _printed = eprintln!(stderr; "tw: an argument isn't UTF-8");
+    }
+    Exit::Session(status)
 }
 
 /// Runs the command `tw` with the arguments and streams of the process.
@@ -36,6 +55,6 @@ fn main(rt: HostRuntime) -> Exit {
             Some(name) => Tool::new(&rt, streams, name.as_str()).answer(&words),
             None => Tool::new(&rt, streams, "tw").answer(&words),
         },
-        Err(error) => Exit::Session(without_words(error.kind(), &mut rt.stdout())),
+        Err(error) => without_own_words(streams, error.kind()),
     }
 }

@@ -1,26 +1,30 @@
 //! Answers the arguments of the command.
 
 use crate::exit::Exit;
+use crate::file_parts::inputs_and_trace;
 use crate::hints::{
-    Answered, complain_lineless, complain_misfit, complain_missing, complain_unread, print_hints,
-    print_notice,
+    Answered, complain_misfit, complain_missing, complain_unread, print_hints, print_notice,
 };
+use crate::noted_reader::NotedReader;
+use crate::output::Output;
 use crate::progress_printer::ProgressPrinter;
 use crate::symbolic::{Misnamed, find_misnamed};
 use crate::system_files::SystemFiles;
+use crate::typed::{CommandWords, rewritten, takes_file, takes_inputs};
 use std::alloc::{AllocError, Global};
-use std::io::{ErrorKind, IsTerminal, Read};
+use std::io::{ErrorKind, IsTerminal, Read, Write};
 use std::rt::{Files, Stderr, Stdin, Stdout};
 use std::sync::Wait;
 use std::thread::Threads;
 use std::time::Clock;
 use std::{fs, io};
-use tw_cli::{ArgumentForm, is_option, reads_program, rejects};
-use tw_files::{Contents, NoInput, SessionInput, followed, session_input, words_without_files};
+use tw_cli::{Complaint, NoOrder, read_order, reads_program};
+use tw_files::{Contents, NoInput, SessionInput, session_input, words_without_files};
+use tw_order::Order;
 use tw_session::{
-    Close, Given, InStream, Status, complain, each_session, given_session, is_quiet, session,
-    without_words,
+    Given, InStream, Status, each_session, given_session, session, unordered_session, without_words,
 };
+use tw_visible::Kind;
 
 /// The standard streams.
 #[derive(Clone, Copy)]
@@ -40,42 +44,20 @@ fn words_of(alloc: Global, command: &str, others: &[String]) -> Result<Vec<Strin
     Ok(words)
 }
 
-/// Returns whether the command `tw` answers lines, by `--each`.
-fn is_each(words: &[String]) -> bool {
-    words.iter().any(|word| word.as_str() == "--each")
+/// Returns whether a word is among the arguments of a session.
+fn has_word(words: &[String], sought: &str) -> bool {
+    words.iter().any(|word| word.as_str() == sought)
 }
 
-/// Returns the bytes of a file that may not have been read.
-fn bytes_of(bytes: &Option<Vec<u8>>) -> Option<&[u8]> {
-    match bytes {
-        Some(bytes) => Some(bytes.as_slice()),
-        None => None,
-    }
-}
-
-/// Returns the inputs and the events of a trace that files hold, as a session's input.
-fn inputs_and_trace(files: &Contents) -> (Option<&[u8]>, Option<&[u8]>) {
-    let inputs = bytes_of(&files.inputs);
-    let parts = match inputs {
-        Some(inputs) if files.trace_follows => followed(inputs),
-        _ => None,
-    };
-    match parts {
-        Some((inputs, events)) => (Some(inputs), Some(events)),
-        None => (inputs, bytes_of(&files.trace)),
-    }
-}
-
-/// Returns whether the name of a file follows this option of the command `tw`.
-fn takes_file(option: &str) -> bool {
-    is_option(ArgumentForm::Inputs, option) || is_option(ArgumentForm::Trace, option)
+/// Returns whether arguments request JSON.
+fn writes_json(words: &[String]) -> bool {
+    has_word(words, "--json") || has_word(words, "--each")
 }
 
 /// Returns whether a word may be meant as an input: the command takes inputs, none has a file, and the word looks like no file's name.
 fn is_bare_word(command: &str, others: &[String], word: &str) -> bool {
     let has_files = others.iter().any(|other| takes_file(other.as_str()));
-    let takes_inputs = command == "run" || command == "replay" || command == "picture";
-    takes_inputs && !has_files && !word.contains('.') && !word.contains('/')
+    takes_inputs(command) && !has_files && !word.contains('.') && !word.contains('/')
 }
 
 /// The command, with the system that it is run on.
@@ -93,46 +75,102 @@ impl<'a, H: AllocGlobal + Files + Threads + Wait + Clock + Sync> Tool<'a, H> {
         Tool { rt, streams, name }
     }
 
-    /// Prints why arguments were rejected, and hints about the answer.
+    /// Returns standard output: without hidden characters if it is a terminal, or JSON.
+    fn output(&self, words: &[String]) -> Output<Stdout> {
+        let stdout = self.streams.stdout;
+        let kind = if writes_json(words) {
+            Some(Kind::Json)
+        } else if stdout.is_terminal() {
+            Some(Kind::Lines)
+        } else {
+            None
+        };
+        Output::new(self.rt.alloc(), stdout, kind)
+    }
+
+    /// Prints why a file can't be read.
+    fn unread(&self, path: &str, error: &io::Error) -> Exit {
+        let _printed = complain_unread(self.rt.alloc(), &self.streams.stderr, path, error);
+        Exit::Unread
+    }
+
+    /// Prints hints about an answer.
     fn advise(
         &self,
         words: &[String],
         status: Status,
+        is_each: bool,
         misnamed: Option<Misnamed<'_>>,
         reads_input: bool,
     ) {
-        let mut stderr = self.streams.stderr;
-        complain(self.rt.alloc(), status, words, &mut stderr);
-        if self.lacks_lines(words, status) {
-            let _printed = complain_lineless(&stderr, self.name);
-        }
         let answered = Answered {
             name: self.name,
             status,
             words,
+            is_each,
             misnamed,
             reads_input,
         };
-        let _printed = print_hints(&stderr, &answered);
+        let stderr = self.streams.stderr;
+        let _printed = print_hints(self.rt.alloc(), &stderr, &answered);
     }
 
-    /// Returns whether arguments were rejected only since there are no lines for `--each`.
-    fn lacks_lines(&self, words: &[String], status: Status) -> bool {
-        let was_rejected = status == Status::Ended(Close::CommandLine);
-        was_rejected && is_each(words) && matches!(rejects(self.rt.alloc(), words), Ok(false))
+    /// Ends the command after a session. Hints are printed, unless nobody reads the output.
+    fn ended(
+        &self,
+        words: &[String],
+        status: Status,
+        is_each: bool,
+        misnamed: Option<Misnamed<'_>>,
+        reads_input: bool,
+        output: &Output<Stdout>,
+    ) -> Exit {
+        if output.is_unread {
+            return Exit::Abandoned;
+        }
+        self.advise(words, status, is_each, misnamed, reads_input);
+        Exit::Session(status)
+    }
+
+    /// Returns the observer of runs that prints their progress.
+    fn reporter(&self, words: &[String]) -> ProgressPrinter {
+        ProgressPrinter::new(self.streams.stderr, has_word(words, "--quiet"))
+    }
+
+    /// Prints why arguments are rejected.
+    fn complain(&self, complaint: &Complaint) {
+        let mut errors = Output::new(self.rt.alloc(), self.streams.stderr, Some(Kind::Lines));
+        let _printed = errors.write_all(complaint.line().as_bytes());
+    }
+
+    /// Answers arguments that give no order.
+    fn answer_unordered(&self, words: &[String], why: NoOrder) -> Exit {
+        let mut writer = self.output(words);
+        let status = match why {
+            NoOrder::Refused(complaint) => {
+                let status = without_words(ErrorKind::InvalidInput, &mut writer);
+                self.complain(&complaint);
+                status
+            }
+            other => unordered_session(self.rt.alloc(), other, &mut writer),
+        };
+        self.ended(words, status, false, None, false, &writer)
     }
 
     /// Holds a session of the command `tw`, and prints hints about its answer.
-    fn hold<R: InStream>(&self, words: &[String], reader: &mut R, reads_input: bool) -> Status {
-        let mut writer = self.streams.stdout;
-        let reporter = ProgressPrinter::new(self.streams.stderr, is_quiet(words));
-        let status = session(self.rt, &reporter, words, reader, &mut writer);
-        self.advise(words, status, None, reads_input);
-        status
+    fn hold<R: InStream>(&self, words: &[String], reader: &mut R, reads_input: bool) -> Exit {
+        let order = match read_order(self.rt.alloc(), words) {
+            Ok(order) => order,
+            Err(why) => return self.answer_unordered(words, why),
+        };
+        let is_each = matches!(order, Order::Each(..));
+        let mut writer = self.output(words);
+        let status = session(self.rt, &self.reporter(words), order, reader, &mut writer);
+        self.ended(words, status, is_each, None, reads_input, &writer)
     }
 
     /// Holds a session over standard input, and says so if that is a terminal.
-    fn hold_over_input(&self, words: &[String]) -> Status {
+    fn hold_over_input(&self, words: &[String]) -> Exit {
         let mut stdin = self.streams.stdin;
         if stdin.is_terminal() {
             let _printed = print_notice(&self.streams.stderr, words);
@@ -141,65 +179,72 @@ impl<'a, H: AllocGlobal + Files + Threads + Wait + Clock + Sync> Tool<'a, H> {
     }
 
     /// Holds a session over what files hold.
-    fn hold_over_files(&self, others: &[String], words: &[String], files: &Contents) -> Status {
+    fn hold_over_files(&self, typed: &CommandWords, words: &[String], files: &Contents) -> Exit {
+        let order = match read_order(self.rt.alloc(), words) {
+            Ok(order) => order,
+            Err(why) => return self.answer_unordered(words, why),
+        };
+        let is_each = matches!(order, Order::Each(..));
         let (inputs, trace) = inputs_and_trace(files);
         let given = Given {
             program: &files.program,
             inputs,
             trace,
         };
-        let misnamed = find_misnamed(others, given.program);
-        let mut writer = self.streams.stdout;
-        let reporter = ProgressPrinter::new(self.streams.stderr, is_quiet(words));
-        let status = given_session(self.rt, &reporter, words, given, &mut writer);
-        self.advise(words, status, misnamed, false);
-        status
+        let misnamed = find_misnamed(typed.program_path(), given.program);
+        let mut writer = self.output(words);
+        let status = given_session(self.rt, &self.reporter(words), order, given, &mut writer);
+        self.ended(words, status, is_each, misnamed, false, &writer)
     }
 
-    /// Holds a session over a program and lines that are read one after the other.
-    fn answer_lines<R: Read>(
+    /// Holds a session over a program and lines of this file, which are read one after the other.
+    fn answer_lines<R: Read + Drop>(
         &self,
-        others: &[String],
+        typed: &CommandWords,
         words: &[String],
         program: Vec<u8>,
-        reader: &mut R,
-    ) -> Status {
-        let misnamed = find_misnamed(others, &program);
-        let mut writer = self.streams.stdout;
-        let reporter = ProgressPrinter::new(self.streams.stderr, is_quiet(words));
-        let status = each_session(self.rt, &reporter, words, program, reader, &mut writer);
-        self.advise(words, status, misnamed, false);
-        status
+        path: &str,
+        lines: R,
+    ) -> Exit {
+        let order = match read_order(self.rt.alloc(), words) {
+            Ok(order) => order,
+            Err(why) => return self.answer_unordered(words, why),
+        };
+        let misnamed = find_misnamed(typed.program_path(), &program);
+        let mut reader = NotedReader::new(lines);
+        let mut writer = self.output(words);
+        let reporter = self.reporter(words);
+        let status = each_session(self.rt, &reporter, order, program, &mut reader, &mut writer);
+        match &reader.error {
+            Some(error) if path != "-" => self.unread(path, error),
+            _ => self.ended(words, status, true, misnamed, false, &writer),
+        }
     }
 
     /// Holds a session over a program and the file of the lines of `--each`; `-` is standard input.
     fn hold_over_lines(
         &self,
-        others: &[String],
+        typed: &CommandWords,
         words: &[String],
         program: Vec<u8>,
         path: &str,
     ) -> Exit {
         if path == "-" {
-            let mut stdin = self.streams.stdin;
-            return Exit::Session(self.answer_lines(others, words, program, &mut stdin));
+            return self.answer_lines(typed, words, program, path, self.streams.stdin);
         }
         match fs::open(self.rt, path) {
-            Ok(mut file) => Exit::Session(self.answer_lines(others, words, program, &mut file)),
-            Err(error) => {
-                let _printed = complain_unread(&self.streams.stderr, path, &error);
-                Exit::Unread
-            }
+            Ok(file) => self.answer_lines(typed, words, program, path, file),
+            Err(error) => self.unread(path, &error),
         }
     }
 
     /// Holds a session over what `session_input` returned for the arguments after a command.
-    fn hold_over(&self, others: &[String], made: SessionInput<'_>) -> Exit {
+    fn hold_over(&self, typed: &CommandWords, made: SessionInput<'_>) -> Exit {
         let words = made.words;
         match (made.contents, made.lines) {
-            (None, _) => Exit::Session(self.hold_over_input(&words)),
-            (Some(files), Some(path)) => self.hold_over_lines(others, &words, files.program, path),
-            (Some(files), None) => Exit::Session(self.hold_over_files(others, &words, &files)),
+            (None, _) => self.hold_over_input(&words),
+            (Some(files), Some(path)) => self.hold_over_lines(typed, &words, files.program, path),
+            (Some(files), None) => self.hold_over_files(typed, &words, &files),
         }
     }
 
@@ -212,27 +257,27 @@ impl<'a, H: AllocGlobal + Files + Threads + Wait + Clock + Sync> Tool<'a, H> {
         error: &io::Error,
     ) -> Exit {
         if error.kind() != ErrorKind::NotFound || !is_bare_word(command, others, path) {
-            let _printed = complain_unread(&self.streams.stderr, path, error);
-            return Exit::Unread;
+            return self.unread(path, error);
         }
         let Ok(words) = words_of(self.rt.alloc(), command, others) else {
             let mut stdout = self.streams.stdout;
             return Exit::Session(without_words(ErrorKind::OutOfMemory, &mut stdout));
         };
-        let status = self.hold(&words, &mut { self.streams.stdin }, false);
-        let _printed = complain_missing(&self.streams.stderr, path);
-        Exit::Session(status)
+        let exit = self.hold(&words, &mut { self.streams.stdin }, false);
+        let _printed = complain_missing(self.rt.alloc(), &self.streams.stderr, path);
+        exit
     }
 
     /// Answers a command that reads a program, if its arguments may be accepted.
-    fn answer_command(&self, command: &str, others: &[String]) -> Exit {
+    fn answer_command(&self, command: &str, typed: &CommandWords) -> Exit {
         let mut stdout = self.streams.stdout;
+        let others = typed.others.as_slice();
         let files = SystemFiles::new(self.rt, self.streams.stdin, self.streams.stderr);
         match session_input(&files, self.rt.alloc(), command, others) {
-            Ok(made) => self.hold_over(others, made),
+            Ok(made) => self.hold_over(typed, made),
             Err(NoInput::Unread(path, error)) => self.answer_unread(command, others, path, &error),
             Err(NoInput::Misfit(path, why)) => {
-                let _printed = complain_misfit(&self.streams.stderr, path, why);
+                let _printed = complain_misfit(self.rt.alloc(), &self.streams.stderr, path, why);
                 Exit::Session(without_words(ErrorKind::InvalidInput, &mut stdout))
             }
             Err(NoInput::NoMemory) => {
@@ -241,34 +286,35 @@ impl<'a, H: AllocGlobal + Files + Threads + Wait + Clock + Sync> Tool<'a, H> {
         }
     }
 
-    /// Returns the arguments without the files that they name, if they are rejected whatever the files hold.
-    fn rejected_words(
-        &self,
-        command: &str,
-        others: &[String],
-    ) -> Result<Option<Vec<String>>, AllocError> {
+    /// Returns why arguments are rejected, whatever the files hold that they name, if they are. `draws_run` is whether a run is drawn.
+    fn rejection(&self, command: &str, draws_run: bool, others: &[String]) -> Option<NoOrder> {
         let alloc = self.rt.alloc();
-        let words = words_without_files(alloc, command, false, others)?;
-        if !rejects(alloc, &words)? {
-            return Ok(None);
+        let Ok(words) = words_without_files(alloc, command, draws_run, others) else {
+            return Some(NoOrder::NoMemory);
+        };
+        match read_order(alloc, &words) {
+            Ok(_) | Err(NoOrder::Help(_) | NoOrder::Explanation(_)) => None,
+            Err(why) => Some(why),
         }
-        // Without a trace it draws a run, which takes other options.
-        if command == "picture" {
-            let drawing = words_without_files(alloc, command, true, others)?;
-            if !rejects(alloc, &drawing)? {
-                return Ok(None);
-            }
-        }
-        Ok(Some(words))
     }
 
-    /// Answers a command that reads a program. Rejected arguments are answered before a file is opened.
-    fn judge_command(&self, command: &str, others: &[String]) -> Exit {
-        match self.rejected_words(command, others) {
-            Ok(None) => self.answer_command(command, others),
-            Ok(Some(words)) => {
-                Exit::Session(self.hold(&words, &mut { self.streams.stdin }, false))
+    /// Answers a command that reads a program. Rejected arguments are answered before a file is opened. Without a trace `picture` draws a run, which takes
+    /// other options.
+    fn judge_command(&self, words: &[String], command: &str, typed: &CommandWords) -> Exit {
+        let others = typed.others.as_slice();
+        match self.rejection(command, false, others) {
+            Some(_) if command == "picture" && self.rejection(command, true, others).is_none() => {
+                self.answer_command(command, typed)
             }
+            Some(why) => self.answer_unordered(words, why),
+            None => self.answer_command(command, typed),
+        }
+    }
+
+    /// Answers a command that reads a program, whose arguments are as people type them.
+    fn read_command(&self, words: &[String], command: &str, others: &[String]) -> Exit {
+        match rewritten(self.rt.alloc(), command, others) {
+            Ok(typed) => self.judge_command(words, command, &typed),
             Err(_) => {
                 let mut stdout = self.streams.stdout;
                 Exit::Session(without_words(ErrorKind::OutOfMemory, &mut stdout))
@@ -280,9 +326,9 @@ impl<'a, H: AllocGlobal + Files + Threads + Wait + Clock + Sync> Tool<'a, H> {
     pub fn answer(&self, words: &[String]) -> Exit {
         match words {
             [command, others @ ..] if reads_program(command.as_str()) => {
-                self.judge_command(command.as_str(), others)
+                self.read_command(words, command.as_str(), others)
             }
-            _ => Exit::Session(self.hold(words, &mut { self.streams.stdin }, false)),
+            _ => self.hold(words, &mut { self.streams.stdin }, false),
         }
     }
 }
