@@ -23,22 +23,25 @@ fn picture_reply(
     names: Symbols,
     plain: &Plain,
     timeline_builder: TimelineBuilder,
+    cut: Option<&'static str>,
 ) -> Result<Reply, AllocError>
     ensures { IfOk result (λ r. IsPicture plain.now.state (reply r.text.items r.close)) }
 {
     let close = close_of(plain.ending());
-    let drawing = timeline_builder.drawing(alloc, plain, names)?;
+    let drawing = timeline_builder.drawing(alloc, plain, names, cut)?;
     let text = timeline(alloc, &drawing, Settings::between(shown.from, shown.to))?;
     Ok(Reply { text, close })
 }
 
-/// Executes the events and draws these of them. If an event isn't enabled or traps, the reply reports the first such event.
+/// Executes the events and draws these of them, with the words on how the run was cut off, if it was. If an event isn't enabled or traps, the reply
+/// reports the first such event.
 pub fn draw(
     alloc: Global,
     shown: EventRange,
     names: Symbols,
     first: Plain,
     events: &[Event],
+    cut: Option<&'static str>,
 ) -> Result<Reply, AllocError>
     requires below { AreBelow opening_bound first.state }
     requires sizes { AreShort events.now }
@@ -53,5 +56,5 @@ pub fn draw(
             Err(stopped) => return stopped_reply(alloc, stopped, index + 1),
         }
     }
-    picture_reply(alloc, shown, names, &replaying.plain, timeline_builder)
+    picture_reply(alloc, shown, names, &replaying.plain, timeline_builder, cut)
 }

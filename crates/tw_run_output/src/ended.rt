@@ -183,6 +183,15 @@ fn put_run_numbers(
     }
 }
 
+/// Returns the words on how a run was cut off, if it was.
+fn cut_words(closing: Closing) -> Option<&'static str> {
+    match closing {
+        Closing::Limit => Some("ended by limit"),
+        Closing::Stopped => Some("stopped"),
+        Closing::Quiet | Closing::Stuck(_) => None,
+    }
+}
+
 /// Adds the timeline of the events in this range.
 fn put_run_picture(
     alloc: Global,
@@ -192,13 +201,14 @@ fn put_run_picture(
     order: &RunOrder,
     verified: Verified,
     history: &History,
+    closing: Closing,
 ) -> Result<(), AllocError>
     requires { IsFinished verified.program order.now history.now.events }
     ensures { OnOk result ((picture : List ℕ) × IsXml picture × IsPrinted picture × (out.new.items ≡ out.old.items ++ picture)) }
 {
     let names = symbols_of(alloc, source)?;
     let Begun { first, events } = begin(alloc, order, verified, history)?;
-    let drawn = draw(alloc, shown, names, first, &events)?;
+    let drawn = draw(alloc, shown, names, first, &events, cut_words(closing))?;
     put_bytes(out, &drawn.text)
 }
 
@@ -288,7 +298,7 @@ fn put_outcome(
             put_order_json(alloc, out, order, &verified, outcome, history, cut, closing)
         }
         RunAnswer::Picture(shown) => {
-            put_run_picture(alloc, out, source, shown, order, verified, history)
+            put_run_picture(alloc, out, source, shown, order, verified, history, closing)
         }
     }
 }

@@ -55,7 +55,7 @@ pub struct Drawing {
     pub marks: Vec<Mark>,
     pub bars: Vec<Bar>,
     pub threads: Vec<Thread>,
-    /// The last line of the report.
+    /// The words on how the run ended, or that it is still running.
     pub closing: Vec<u8>,
     /// The number of the circle's rules that are drawn.
     pub rules: u32,

@@ -3,25 +3,13 @@
 ghost use Rattle.std.specs.Prelude.{◌<◌};
 
 use crate::drawing::Mark;
+use crate::kinds::Kind;
 use crate::page::{Page, rectangle, text};
 use crate::places::{View, lane_top};
 use tw_machine::actor_of;
 use tw_report::put_event_line;
-use tw_types::{Event, Layout};
+use tw_types::Layout;
 use tw_writer::Piece;
-
-/// Returns the class of an event.
-fn class_of(event: &Event) -> &'static str {
-    match event {
-        Event::Take(_) => "take",
-        Event::Local(_, _) => "local",
-        Event::Call(_) => "call",
-        Event::End(_) => "end",
-        Event::Ask(_, _, _) => "ask",
-        Event::Deliver(_, _, _, _) => "deliver",
-        Event::Release(_, _) => "release",
-    }
-}
 
 /// Adds the marker of an event, if it is shown.
 fn put_mark(out: &mut Page, layout: Layout, view: View, mark: &Mark) {
@@ -38,10 +26,11 @@ fn put_mark(out: &mut Page, layout: Layout, view: View, mark: &Mark) {
     );
     let done = put_event_line(out.alloc, &mut title.bytes, &mark.event);
     title.note(done);
-    let x = view.across(mark.number as usize) + view.mark_inset();
-    let y = lane_top(layout, actor_of(&mark.event)) + 19;
-    let row = rectangle(class_of(&mark.event), x, y, view.mark_width(), 12);
-    out.put_titled("rect", &row, &title);
+    let left = view.across(mark.number as usize) + view.mark_inset();
+    let top = lane_top(layout, actor_of(&mark.event)) + 19;
+    let kind = Kind::of(&mark.event);
+    let route = kind.route(out.alloc, left, top, view.mark_width());
+    out.put_titled_path(kind.class, &route, &title);
 }
 
 /// Adds a marker for each event that is shown.

@@ -5,6 +5,7 @@ mod bars;
 mod drawing;
 mod events;
 mod heading;
+mod kinds;
 mod lanes;
 mod links;
 mod page;

@@ -88,6 +88,18 @@ fn waits_at(alloc: Global, plain: &Plain) -> Result<Vec<Wait>, AllocError> {
     }
 }
 
+/// Returns the words on how a run was cut off, or else on the machine's state.
+fn closing_of(
+    alloc: Global,
+    plain: &Plain,
+    cut: Option<&'static str>,
+) -> Result<Vec<u8>, AllocError> {
+    match cut {
+        Some(words) => words.as_bytes().to_vec(alloc),
+        None => ending_line(alloc, plain),
+    }
+}
+
 /// The events of a trace so far, with their bars and the makers of tasks.
 #[derive(Drop)]
 pub struct TimelineBuilder {
@@ -141,17 +153,19 @@ impl TimelineBuilder {
         Ok(())
     }
 
-    /// Returns the drawing of the events that have led to the machine's current state, with these names for its procedures.
+    /// Returns the drawing of the events that have led to the machine's current state, with these names for its procedures. `cut` has the words on how
+    /// the run was cut off, if it was.
     pub fn drawing(
         self,
         alloc: Global,
         plain: &Plain,
         names: Symbols,
+        cut: Option<&'static str>,
     ) -> Result<Drawing, AllocError> {
         let bars = all_ended(alloc, &self.marks, &self.bars)?;
         let threads = threads_to(alloc, &self.makers, &bars)?;
         let waits = waits_at(alloc, plain)?;
-        let closing = ending_line(alloc, plain)?;
+        let closing = closing_of(alloc, plain, cut)?;
         Ok(Drawing {
             layout: plain.layout(),
             names,

@@ -64,6 +64,7 @@ pub fn timeline(alloc: Global, drawing: &Drawing, settings: Settings) -> Result<
     .finish()?;
     let size = [
         word("xmlns", "http://www.w3.org/2000/svg"),
+        word("role", "img"),
         number("width", width),
         number("height", height),
         Attribute {
