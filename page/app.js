@@ -5,8 +5,9 @@ import {mostEvents} from "./bounds.js";
 import {Breaking} from "./breaking.js";
 import {Completion} from "./complete.js";
 import {Contents} from "./contents.js";
-import {$} from "./dom.js";
-import {Editor} from "./editor.js";
+import {$, h} from "./dom.js";
+import {Editor, LARGE} from "./editor.js";
+import {errorsAfter} from "./errors.js";
 import {Fields} from "./fields.js";
 import {Files} from "./files.js";
 import {Following} from "./follow.js";
@@ -15,7 +16,7 @@ import {arrowKeys, print} from "./keys.js";
 import {Learning} from "./learning.js";
 import {Library} from "./library.js";
 import {Manual} from "./manual.js";
-import {Opening} from "./opening.js";
+import {Opening, sure} from "./opening.js";
 import {ordered, Orders} from "./orders.js";
 import {load} from "./own.js";
 import {decode} from "./program.js";
@@ -90,12 +91,12 @@ async function restore(take) {
     await during(shown(what, false));
 }
 
-/** Checks and runs what was put on the page. If it can't be run, no other program's run stays there.
+/** Checks and runs what was put on the page, unless it is large. If it can't be run, no other program's run stays there.
  * @param {Page} page @param {boolean} playing */
 async function shown(page, playing) {
-    const before = shows;
-    await check();
-    await run(page.event, playing, page.seed);
+    const before = shows, isLarge = editor.text.length > LARGE;
+    if (isLarge) unread();
+    else { await check(); await run(page.event, playing, page.seed); }
     contents.save();
     if (shows !== before) return;
     for (const id of ["controls", "running", "data", "state"]) $(id).hidden = true;
@@ -119,8 +120,28 @@ function asTyped(edited) {
     if (edited || stepper.run) stepper.leave();
     document.body.dataset.state = "busy";
     clearTimeout(typing);
-    typing = setTimeout(() => during(check()), editor.text.length > 500000 ? 1000 : PAUSE);
     contents.save();
+    if (editor.text.length > LARGE) unread();
+    else typing = setTimeout(() => during(check()), PAUSE);
+}
+
+/** Takes a large text that is pasted, if it is wanted, as a program of its own.
+ * @param {InputEvent} event */
+function pasted(event) {
+    const {field} = editor, data = event.data ?? "";
+    if (editor.setting || data.length <= LARGE) return;
+    event.preventDefault();
+    if (sure("The pasted text", data.length)) open(contents.fresh(field.value.slice(0, field.selectionStart) + data + field.value.slice(field.selectionEnd)));
+}
+
+/** Says that a large text is checked only when it is run. */
+function unread() {
+    checks++;
+    asked++;
+    checked = null;
+    for (const id of ["why", "perhaps"]) $(id).hidden = true;
+    cannot(`The text has ${Math.round(editor.text.length / LARGE)} MB. Run checks it, and then runs it.`);
+    document.body.dataset.state = "ready";
 }
 
 let checks = 0;
@@ -137,6 +158,7 @@ async function check() {
     checked = {text, source, verdict, places: readPlaces(listed, source), names: program ? namings(source, plain) : [], program};
     if (program) fields.ask(program, parameterNames(checked));
     await showVerdict(checked);
+    if (verdict.rejection) await showMore(checked, verdict.rejection, () => mine === checks && editor.text === text);
 }
 
 /** Returns the names of main's parameters.
@@ -155,14 +177,29 @@ async function showVerdict({verdict, source, program}) {
     const {rejection, budgets} = verdict, heads = new Map(budgets.map(({procedure, budget, more}) => [source.heads[procedure], `budget ${grouped(budget)}${more ? `, ${more}` : ""}`]));
     const most = verdict.accepted && program ? mostEvents(program) : null, hint = rejection ? hintFor(rejection, source) : "";
     if (most !== null) heads.set(source.heads[0], `${heads.get(source.heads[0])}, run ${grouped(most)}`);
-    editor.mark({fault: rejection && rejection.line >= 0 ? {line: rejection.line, from: rejection.from, to: rejection.to, message: `${rejection.number}: ${rejection.reason || "see below"}`} : null, heads});
+    editor.mark({faults: faultsOf(rejection ? [rejection] : []), heads});
     $("text").setAttribute("aria-invalid", String(!!rejection));
     $("verdict").className = verdict.accepted ? "good" : "bad";
     $("verdict").replaceChildren(...verdict.accepted ? [accepted(verdict, source, most, {limit: fields.layout[3], rules: (program ?? []).some(({code}) => code.some(({name}) => name.startsWith("RULE")))})] : rejection ? [stopped(refusedAt(rejection)), ...coded(hint && ` ${hint}`)] : [verdict.text]);
     $("stale").textContent = `This run is of the program or the inputs before your change. ${verdict.accepted ? "Press Run." : "Repair the program, then press Run."}`;
+    $("perhaps").hidden = true;
     await explain(library, $("why"), rejection);
     learning.showPython();
     showHeld();
+}
+
+/** Returns what is wrong in lines. All errors but the first are so only perhaps.
+ * @param {import("./replies.js").Rejection[]} all */
+const faultsOf = all => new Map(all.filter(it => it.line >= 0).map(({line, from, to, number, reason}, k) => [line, {from, to, perhaps: k > 0, message: `${k ? "perhaps " : ""}${number}: ${reason || "see below"}`}]));
+
+/** Looks for errors after the first, and shows them at their lines and in a list.
+ * @param {Checked} it @param {import("./replies.js").Rejection} first @param {() => boolean} still whether the text is the same */
+async function showMore({text}, first, still) {
+    const more = await errorsAfter(library, text, first, still);
+    if (!still() || !more.length) return;
+    editor.mark({faults: faultsOf([first, ...more])});
+    $("perhaps").hidden = false;
+    $("perhaps-list").replaceChildren(...more.map(({line, number, reason}) => h("li", {}, h("button.link", {onclick: () => lead(line)}, `line ${line + 1}`), `: ${number}${reason && `: ${reason}`}`)));
 }
 
 /** Reports that the library doesn't answer.
@@ -318,6 +355,7 @@ function bind() {
         contents.edited(/^history/.test(/** @type {InputEvent} */ (event).inputType ?? ""));
         asTyped(true);
     });
+    $("text").addEventListener("beforeinput", event => pasted(/** @type {InputEvent} */ (event)));
     for (const kind of ["keyup", "click", "focus"]) $("text").addEventListener(kind, () => showHeld());
     for (const id of ["run", "again"]) $(id).addEventListener("click", () => during(run(0, true)));
     $("stop").addEventListener("click", () => { library.stop(); following.stop(); });

@@ -10,12 +10,13 @@ export const open = async (address, width = 1300, height = 1000) => {
     const child = spawn('chromium', ['--headless', '--no-sandbox', '--disable-gpu', `--user-data-dir=${home}`, `--window-size=${width},${height}`, '--remote-debugging-pipe', 'about:blank'],
         {stdio: ['ignore', 'ignore', 'ignore', 'pipe', 'pipe']});
     let count = 0, rest = '', session;
-    const waiting = new Map(), messages = [];
+    const waiting = new Map(), messages = [], heard = new Map();
     child.stdio[4].setEncoding('utf8').on('data', data => {
         rest += data;
         for (let end; (end = rest.indexOf('\0')) >= 0; rest = rest.slice(end + 1)) {
             const it = JSON.parse(rest.slice(0, end));
             if (it.id) { waiting.get(it.id)(it); waiting.delete(it.id); }
+            else if (heard.has(it.method)) heard.get(it.method)(it.params);
             else if (it.method === 'Runtime.exceptionThrown') messages.push(it.params.exceptionDetails.exception?.description || it.params.exceptionDetails.text);
             else if (it.method === 'Runtime.consoleAPICalled') messages.push(it.params.args.map(arg => arg.value ?? arg.description).join(' '));
             else if (it.method === 'Log.entryAdded') messages.push(it.params.entry.text);
@@ -35,7 +36,7 @@ export const open = async (address, width = 1300, height = 1000) => {
         return it.result.value;
     };
     return {
-        ask, evaluate, messages,
+        ask, evaluate, messages, on: (method, act) => heard.set(method, act),
         until: async (text, most = 30000) => {
             for (const from = Date.now(); Date.now() - from < most; await new Promise(go => setTimeout(go, 20))) if (await evaluate(text).catch(() => false)) return true;
             return false;

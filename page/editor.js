@@ -5,9 +5,14 @@
 import {h} from "./dom.js";
 import {coloured, uncommented} from "./source.js";
 
-/** The marks: lines of the event, lines where actors continue, a fault, and notes after lines.
- * @typedef {{hits: Set<number>, next: Map<number, string[]>, fault: {line: number, from: number, to: number, message: string} | null, heads: Map<number, string>, held: {line: number, text: string} | null}} Marks */
+/** What is wrong in a line: its columns and a message; and whether it is wrong only perhaps.
+ * @typedef {{from: number, to: number, message: string, perhaps: boolean}} Fault */
+/** The marks: lines of the event, lines where actors continue, lines with a fault, and notes after lines.
+ * @typedef {{hits: Set<number>, next: Map<number, string[]>, faults: Map<number, Fault>, heads: Map<number, string>, held: {line: number, text: string} | null}} Marks */
 
+/** A length beyond which the page asks before it takes a text, and the field has just its beginning: browsers lay out all of a field. */
+export const LARGE = 1 << 20;
+const BEGINNING = 20000;
 /** A change of up to so many lines is made by an edit that Ctrl+Z takes back; browsers need a time for it that is quadratic in the lines. */
 const UNDOABLE = 60;
 
@@ -20,6 +25,10 @@ function differing(old, text) {
     while (tail < most - head && old[old.length - 1 - tail] === text[text.length - 1 - tail]) tail++;
     return {head, tail};
 }
+
+/** Returns the first lines of a large text.
+ * @param {string} text */
+const beginningOf = text => `${text.slice(0, text.lastIndexOf("\n", BEGINNING) + 1 || BEGINNING)}\n; .. and more: a text of ${Math.round(text.length / LARGE)} MB is run as a whole, but not shown or changed here.\n`;
 
 /** Returns the number of lines of a text.
  * @param {string} text */
@@ -40,7 +49,9 @@ export class Editor {
         this.paint = paint;
         this.gutter = gutter;
         /** @type {Marks} */
-        this.marks = {hits: new Set(), next: new Map(), fault: null, heads: new Map(), held: null};
+        this.marks = {hits: new Set(), next: new Map(), faults: new Map(), heads: new Map(), held: null};
+        /** A text that is too long for the field; empty if there is none. */
+        this.whole = "";
         /** @type {string[]} */
         this.lines = [""];
         this.high = 20;
@@ -60,15 +71,17 @@ export class Editor {
         });
     }
 
-    get text() { return this.field.value; }
+    get text() { return this.whole || this.field.value; }
 
     /** Puts another text in, by replacing what differs. The browser's undo brings a short change back.
      * @param {string} text @param {boolean} undoable */
     set(text, undoable) {
-        const {field} = this, old = field.value;
+        const {field} = this, old = field.value, isLarge = text.length > LARGE, put = isLarge ? beginningOf(text) : text;
+        this.whole = isLarge ? text : "";
+        field.readOnly = isLarge;
         this.setting = true;
-        if (old !== text) this.replace(old, text, undoable);
-        if (field.value !== text) field.value = text;
+        if (old !== put) this.replace(old, put, undoable && !isLarge);
+        if (field.value !== put) field.value = put;
         this.setting = false;
         field.setSelectionRange(0, 0);
         field.scrollTop = field.scrollLeft = 0;
@@ -89,7 +102,7 @@ export class Editor {
 
     changed() {
         this.lines = this.field.value.split("\n");
-        this.marks = {hits: new Set(), next: new Map(), fault: null, heads: new Map(), held: null};
+        this.marks = {hits: new Set(), next: new Map(), faults: new Map(), heads: new Map(), held: null};
         this.draw();
     }
 
@@ -150,14 +163,14 @@ export class Editor {
 
     /** @param {number} line */
     numberOf(line) {
-        const {hits, next, fault} = this.marks, actors = next.get(line) ?? [];
-        const kind = fault?.line === line ? "bad" : hits.has(line) ? "hit" : "";
+        const {hits, next, faults} = this.marks, actors = next.get(line) ?? [];
+        const kind = faults.has(line) ? "bad" : hits.has(line) ? "hit" : "";
         return h(`div.${kind}`, {"data-line": line, title: "go to the next event of this line"}, actors.length ? h("span.chip", {}, actors.length > 2 ? `${actors.length}` : actors.join(" ")) : "", String(line + 1));
     }
 
     /** @param {string} line @param {number} number */
     lineOf(line, number) {
-        const {hits, fault, heads, held} = this.marks, wrong = fault?.line === number ? fault : null;
+        const {hits, faults, heads, held} = this.marks, wrong = faults.get(number);
         const made = h(`div.line${hits.has(number) ? ".hit" : ""}`), pieces = line.length > 2000 ? [{text: line.slice(0, 2000), group: ""}] : coloured(line);
         let at = 0;
         for (const {text, group} of pieces) {
@@ -173,9 +186,9 @@ export class Editor {
 }
 
 /** Returns the parts of a piece, with what is wrong in it underlined.
- * @param {string} text @param {number} at @param {{from: number, to: number}} wrong @param {string} group */
-function parted(text, at, {from, to}, group) {
+ * @param {string} text @param {number} at @param {Fault} wrong @param {string} group */
+function parted(text, at, {from, to, perhaps}, group) {
     const cuts = [0, from - at, to - at, text.length].map(it => Math.max(0, Math.min(text.length, it))), [, one, other] = cuts;
     const part = (/** @type {string} */ it, /** @type {string} */ more) => it ? [h(`span${more}.${group && "tw-" + group}`, {}, it)] : [];
-    return [...part(text.slice(0, one), ""), ...part(text.slice(one, other), ".fault"), ...part(text.slice(other), "")];
+    return [...part(text.slice(0, one), ""), ...part(text.slice(one, other), perhaps ? ".fault.perhaps" : ".fault"), ...part(text.slice(other), "")];
 }

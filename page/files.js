@@ -4,6 +4,7 @@
 import {chromeTrace} from "./chrome.js";
 import {$, download, h} from "./dom.js";
 import {ordered} from "./orders.js";
+import {pythonOf} from "./python.js";
 import {SHOWN} from "./results.js";
 
 /** Returns a word of a command as a shell reads it.
@@ -33,6 +34,7 @@ export class Files {
             case "bytes": return ["hex", await ask(["asm", "--names"], editor.text), "text/plain"];
             case "trace": return ["history", `${await ask(["asm", "--names"], results.last.text)}${this.history.slice(results.last.text.length + 1)}`, "text/plain"];
             case "timeline": return ["svg", await ask(["picture", "--text", ...results.last.words], this.history), "image/svg+xml"];
+            case "python": return ["py", pythonOf(this.contents.current, this.fileName), "text/x-python"];
             case "chrome": { const run = this.run(); return ["json", run ? chromeTrace(run, this.fileName) : "", "application/json"]; }
             default: return ["txt", results.last.report, "text/plain"];
         }
@@ -58,6 +60,7 @@ export class Files {
      * @param {string} what @param {string} name */
     command(what, name) {
         const {words, limit, seed} = this.results.last, verb = /** @type {Record<string, string[]>} */ ({text: ["run", "--in-turn", ...ordered(seed).slice(1), "--limit", String(limit)], bytes: ["run", "--in-turn", ...ordered(seed).slice(1), "--limit", String(limit)], trace: ["replay"]})[what];
+        if (what === "python") return `python3 ${name}`;
         return verb ? ["tw", ...verb, name, ...words].map(quoted).join(" ") : "";
     }
 

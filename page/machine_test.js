@@ -5,6 +5,7 @@ import fs from "node:fs";
 import {dearestWalk, mostEvents} from "./bounds.js";
 import {followInParts} from "./follower.js";
 import {open, report, step} from "./machine.js";
+import {begin} from "./module.js";
 import {decode} from "./program.js";
 import {readPlaces, readTrace, readVerdict} from "./replies.js";
 import {Run} from "./run.js";
@@ -12,21 +13,10 @@ import {namings, scan, wordsOf} from "./source.js";
 import {inputFault, normal, openingFault, readInput} from "./values.js";
 
 const [module, folder, examplesFolder] = process.argv.slice(2);
-const x = (await WebAssembly.instantiate(fs.readFileSync(module))).instance.exports;
+const session = await begin(module);
 const groups = JSON.parse(fs.readFileSync(`${folder}/examples.json`, "utf8"));
 let passed = 0, failed = 0;
 const say = (is, ...what) => { if (is) passed++; else { failed++; console.log("FAILED", ...what); } };
-
-// Returns the library's reply to these words and this input.
-function session(words, input) {
-    const bytes = [new TextEncoder().encode(words.join("\n")), new TextEncoder().encode(input)], room = 1 << 24;
-    const places = [bytes[0].length, bytes[1].length, room, 1].map(length => x.yuglemit_room(BigInt(length + 1)));
-    bytes.forEach((it, k) => new Uint8Array(x.memory.buffer).set(it, Number(places[k])));
-    const length = Number(x.yuglemit_session(places[0], BigInt(bytes[0].length), places[1], BigInt(bytes[1].length), places[2], BigInt(room), places[3]));
-    const text = new TextDecoder().decode(new Uint8Array(x.memory.buffer, Number(places[2]), length)), [status] = new Uint8Array(x.memory.buffer, Number(places[3]), 1);
-    places.forEach(place => x.yuglemit_free(place));
-    return {status, text};
-}
 
 // Returns a report without the rules of a deadlock, as the page's machine writes it.
 const plain = text => text.replace(/^(waits|rule) .*\n/gm, "");

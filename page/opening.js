@@ -2,14 +2,17 @@
 // SPDX-License-Identifier: Apache-2.0
 // Opens a file: a program as text, hex text or bytes, and a trace after it, also one of a run in threads.
 import {$} from "./dom.js";
+import {LARGE} from "./editor.js";
 
 /** A file's program and the lines of its trace; empty if it has none.
  * @typedef {{program: string, trace: string}} Parts */
 
-/** A size beyond which the page asks first, since it reads all of a text at each pause in typing. */
-const LARGE = 1 << 20;
 /** The most actors of a layout, by their letter. */
 const MOST = {e: 4, s: 4, w: 16};
+
+/** Returns whether a text is taken: a large one is asked about.
+ * @param {string} what @param {number} length */
+export const sure = (what, length) => length <= LARGE || confirm(`${what} has ${Math.round(length / LARGE)} MB, and the page may be slow. Take it?`);
 
 /** Parts a file into its program and its trace.
  * @param {string} text @returns {Parts} */
@@ -57,10 +60,10 @@ export class Opening {
         addEventListener("drop", event => { const file = event.dataTransfer?.files[0]; if (file) { event.preventDefault(); this.take(file); } });
     }
 
-    /** Opens a file. A large one is asked about.
+    /** Opens a file.
      * @param {File} file */
     async take(file) {
-        if (file.size > LARGE && !confirm(`${file.name} has ${Math.round(file.size / LARGE)} MB, and the page may be slow. Open it?`)) return;
+        if (!sure(file.name, file.size)) return;
         const {program, trace} = parted(textOf(new Uint8Array(await file.arrayBuffer()))), isHex = /^[\s0-9a-fA-F]+$/.test(program);
         const reply = isHex ? await this.library.session(["disasm"], program) : null;
         if (reply && reply.status !== 0) { this.say(`${file.name} isn't a program: ${reply.text.split("\n")[0]}`); return; }

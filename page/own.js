@@ -10,7 +10,7 @@ import {whole} from "./share.js";
  * as an own program, and whether it is deleted.
  * @typedef {Kept & {id: number, when: number, name: string, kept: boolean, gone: boolean}} Own */
 
-const KEY = "yuglemit own", STORED = 12, PATIENCE = 2000, MONTH = 30 * 86400000;
+const KEY = "yuglemit own", STORED = 12, LONGEST = 1 << 20, PATIENCE = 2000, MONTH = 30 * 86400000;
 /** The programs out of the database, and those that this page has saved.
  * @type {Map<number, Own>} */
 const known = new Map();
@@ -52,9 +52,10 @@ export async function keepOwn(own) {
     return written || kept;
 }
 
-/** Writes a program into the storage, where those that the database has give way. Returns whether there was space.
+/** Writes a program into the storage, where those that the database has give way. Returns whether there was space. A long one is left to the database.
  * @param {Own} own */
 function store(own) {
+    if (own.text.length > LONGEST) return false;
     const others = records().filter(it => it.id !== own.id), must = others.filter(it => !based.has(it.id)), may = others.filter(it => based.has(it.id)).slice(0, STORED);
     for (let count = may.length; count >= 0; count = count ? count >> 1 : -1) {
         try {

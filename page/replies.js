@@ -79,8 +79,8 @@ export function readPlaces(text, source) {
     let at = 0;
     source.lines.forEach(({kind, place}, k) => {
         if (kind === "proc" && /^procedure \d+/.test(listing[at] ?? "")) at++;
-        const line = listing[at++] ?? "", prefix = `${String(place).padStart(5)}  `;
-        if (kind !== "instruction" || !line.startsWith(prefix)) return;
+        const line = listing[at++] ?? "", prefix = kind === "instruction" ? `${String(place).padStart(5)}  ` : "";
+        if (!prefix || !line.startsWith(prefix)) return;
         const rest = line.slice(prefix.length + source.text[k].replace(/\s+$/, "").length);
         const rights = rest.split(/ {2,}/).filter(it => it).map(it => /^(d\d+)\b.*?\b((?:closed|ref|write) .*)$/.exec(it.trim()));
         held.set(k, rights.flatMap(it => it ? [[it[1], it[2]]] : []));

@@ -67,7 +67,7 @@ let keeping = 0;
 /** Puts contents into the address. Returns whether they fit. Of two calls the later one counts, whichever is packed first.
  * @param {Kept} kept */
 export async function keep(kept) {
-    const mine = ++keeping, letters = await packed(kept), fits = letters.length <= LONGEST_LINK;
+    const mine = ++keeping, letters = kept.text.length > LONGEST_TEXT ? "" : await packed(kept), fits = letters !== "" && letters.length <= LONGEST_LINK;
     if (mine !== keeping) return fits;
     try {
         history.replaceState(null, "", fits ? `#p=${letters}` : location.pathname + location.search);

@@ -35,6 +35,7 @@ export function scan(text) {
     /** @type {Source} */
     const source = {text: text.split("\n"), lines: [], places: [], heads: [], names: []};
     source.text.forEach((line, k) => {
+        if (line === "" || line[0] === ";") { source.lines.push({kind: "other", procedure: source.heads.length - 1, place: -1}); return; } // Most of a large text is such.
         const [first = {word: ""}, , third] = wordsOf(line), procedure = source.heads.length - 1;
         if (first.word === "proc") {
             source.lines.push({kind: "proc", procedure: procedure + 1, place: -1});
@@ -92,6 +93,7 @@ export function namings(source, plain) {
     let values = 0;
     source.lines.forEach(({kind, procedure}, line) => {
         const add = (/** @type {string} */ register, /** @type {string} */ name) => all.push({line, procedure, register, name});
+        if (kind === "other" && !/^\s*let\b/.test(source.text[line])) return;
         const words = wordsOf(source.text[line]).map(it => it.word);
         if (kind === "proc") {
             const head = namesOfHead(source.text[line]);

@@ -1,8 +1,9 @@
 #!/bin/sh
 # SPDX-License-Identifier: Apache-2.0
-# Tests the page: its types, if TypeScript's tsc is there; the 128-bit arithmetic against the machine's own; its machine against the
-# library's replay, for each prefix of the runs of all examples. The page itself is used in headless Chromium like by a reader, and compared with
-# the program tw; then in Firefox, if firefox-esr is there. Each part ends with `N passed, 0 failed`. On a busy machine PATIENCE=3 allows three times
+# Tests the page: its types, if TypeScript's tsc is there; the 128-bit arithmetic against the machine's own. Then its machine against the library's
+# replay, for each prefix of the runs of all examples, and for traces of random programs (three each of RUNS, else 300). The page itself is used in
+# headless Chromium like by a reader, and compared with the program tw; then in Firefox, if firefox-esr is there. Each part ends with
+# `N passed, 0 failed`. On a busy machine PATIENCE=3 allows three times
 # as long for what has to be quick.
 #
 # The program is that of script/pick.sh. The page is the one that is built, else one with the release's module, which isn't compared with the
@@ -18,5 +19,6 @@ set --
 if command -v tsc >/dev/null; then tsc -p "$here" || exit; else echo "left out: types, since tsc isn't installed"; fi
 cc -O2 -o "$out/wide_test" "$here/wide_test.c" && "$out/wide_test" || exit
 node "$here/machine_test.js" "$out/yuglemit.wasm" "$here" "$root/examples" || exit
+node "$here/random_test.js" "$out/yuglemit.wasm" "${RUNS:-300}" || exit
 node "$here/test.js" "$out/index.html" "$program" "$root/examples" "$out/pictures" "$@" || exit
 if command -v firefox-esr >/dev/null; then node --experimental-websocket "$here/firefox_test.js" "$out/index.html"; else echo "left out: the page in Firefox, since firefox-esr isn't installed"; fi

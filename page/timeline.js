@@ -52,7 +52,7 @@ export class Timeline {
         for (const [id, by] of Object.entries({"zoom-in": 2, "zoom-out": 0.5, "zoom-all": 0})) $(id).addEventListener("click", () => this.zoom(by));
         new ResizeObserver(() => { this.draw(); this.overview(); }).observe(box);
         for (const kind of ["pointerdown", "pointermove"]) strip.addEventListener(kind, event => this.fromStrip(/** @type {PointerEvent} */ (event)));
-        $("legend").replaceChildren(...Object.entries(SHAPES).flatMap(([kind, shape]) => [s("svg.key", {viewBox: "-7 -7 14 14"}, s(`path.${kind}`, {d: shape(6)})), CALLED[/** @type {keyof typeof CALLED} */ (kind)], " "]), "· In order, not in time.");
+        $("legend").replaceChildren(...Object.entries(SHAPES).flatMap(([kind, shape]) => [s("svg.key", {viewBox: "-7 -7 14 14"}, s(`path.${kind}`, {d: shape(6)})), CALLED[/** @type {keyof typeof CALLED} */ (kind)], " "]), "· order of events, not duration");
     }
 
     /** Shows a run.

@@ -1,0 +1,47 @@
+// SPDX-License-Identifier: Apache-2.0
+// Compares the page's machine with the library on traces of random programs (tools/fuzz makes them), in turn and in other orders:
+// random_test.js MODULE.wasm COUNT [SEED]. After a trace, and after a part of it, both have to report the same. Ends with `N passed, 0 failed`.
+import {spawn} from "node:child_process";
+import path from "node:path";
+import readline from "node:readline";
+import {open, report, step} from "./machine.js";
+import {begin} from "./module.js";
+import {decode} from "./program.js";
+import {readTrace} from "./replies.js";
+import {readInput} from "./values.js";
+
+const [module, count, seed = "1"] = process.argv.slice(2), session = await begin(module), folder = path.dirname(new URL(import.meta.url).pathname);
+let passed = 0, failed = 0, events = 0;
+const kinds = new Map(), plain = text => text.replace(/^(waits|rule) .*\n/gm, "");
+
+// Compares the machines after some events of a trace.
+function compare(what, {hex, words, layout}, lines, options) {
+    const program = decode(hex), state = open(program, words.map(readInput), layout[1]), wanted = plain(session(["replay", ...options, ...words], `${hex}\nevents\n${lines.map(it => `${it}\n`).join("")}end\n`).text);
+    for (const line of lines) step(state, program, line);
+    if (report(state) === wanted) { passed++; return; }
+    failed++;
+    console.log("FAILED", what, JSON.stringify(report(state)), JSON.stringify(wanted));
+}
+
+// Makes runs of a program, in turn and in two orders, and compares the machines.
+function tryRun(it) {
+    if (it.words.some(word => /[\0\n]/.test(word))) return;
+    const options = ["--engines", "--servers", "--workers"].flatMap((name, k) => [name, String(it.layout[k])]);
+    for (const order of [[], ["--in-turn", "--seed", String(it.number + 1)], ["--in-turn", "--seed", String(it.number + 1000000)]]) {
+        const {text} = session(["run", "--trace", "--limit", "400", ...order, ...options, ...it.words], it.hex), {trace, report: end} = readTrace(text), lines = trace.split("\n").slice(0, -1);
+        if (!lines.length) { kinds.set("not run", (kinds.get("not run") ?? 0) + 1); return; }
+        for (const line of lines) kinds.set(line.split(" ")[0], (kinds.get(line.split(" ")[0]) ?? 0) + 1);
+        events += lines.length;
+        compare(`program ${it.number} ${order.join(" ")}`, it, lines, options);
+        compare(`program ${it.number} ${order.join(" ")} in part`, it, lines.slice(0, (it.number * 7919) % (lines.length + 1)), options);
+        if (!/^(quiet|stuck \d+|limit)$/m.test(end)) { failed++; console.log("FAILED", it.number, "has no end", end); }
+    }
+}
+
+const maker = spawn("python3", ["-B", `${folder}/random_runs.py`, seed, count], {stdio: ["ignore", "pipe", "inherit"]});
+let made = 0;
+for await (const line of readline.createInterface({input: maker.stdout})) { tryRun(JSON.parse(line)); made++; }
+if (made !== +count) { failed++; console.log("FAILED", made, "programs of", count); }
+console.log(`${made} programs, ${passed / 2} traces of ${events} events: ${[...kinds].map(([kind, times]) => `${kind} ${times}`).join(", ")}`);
+console.log(`${passed} passed, ${failed} failed`);
+process.exitCode = failed ? 1 : 0;
