@@ -8,7 +8,6 @@ import re
 import resource
 import subprocess
 import sys
-import tempfile
 import time
 from collections.abc import Callable, Iterable, Mapping
 from typing import TypeVar
@@ -176,13 +175,7 @@ def long_jobs(thousands: int, aim: str) -> None:
 
 def peak_memory(text: str, *words: str) -> float:
     """The most memory that a run had at once, in MiB."""
-    with tempfile.TemporaryFile() as given:
-        given.write(hex_of(text))
-        given.seek(0)
-        run = subprocess.Popen([program, "run", *words], stdin=given, stdout=subprocess.DEVNULL)
-        _, _, used = os.wait4(run.pid, 0)
-        run.returncode = 0
-    return float(used.ru_maxrss) / 1024
+    return float(timed([os.path.join(peers, "memory"), program, "run", *words], hex_of(text))[2]) / 1024
 
 
 def memory() -> None:

@@ -1,12 +1,15 @@
 #!/usr/bin/env python3
 # SPDX-License-Identifier: Apache-2.0
-"""Tests of bench/plot.py, and that results.svg is the plot of results.csv: python3 bench/test_plot.py"""
+"""Tests of bench/plot.py, that results.svg is the plot of results.csv, and of peers/memory.c: python3 bench/test_plot.py"""
 
 from __future__ import annotations
 
 import pathlib
 import re
+import shutil
+import subprocess
 import sys
+import tempfile
 import unittest
 import xml.etree.ElementTree
 
@@ -48,6 +51,20 @@ class Plots(unittest.TestCase):
         fresh = plot.plot({name: it for name, it in groups.items() if len(it) > 1})
         self.assertEqual((HERE / "results.svg").read_text(encoding="utf-8").rstrip("\n"), fresh)
         self.assertFalse(re.search(r"nan|inf\b", fresh))
+
+
+@unittest.skipUnless(shutil.which("cc"), "cc isn't installed")
+class Memory(unittest.TestCase):
+    """The most memory of a command."""
+
+    def test_it_is_that_of_the_command_and_not_of_its_parent(self) -> None:
+        with tempfile.TemporaryDirectory() as name:
+            tool = str(pathlib.Path(name, "memory"))
+            subprocess.run(["cc", "-o", tool, HERE / "peers" / "memory.c"], check=True)
+            mine = bytearray(b"x" * (100 << 20))
+            little, much = (int(subprocess.check_output([tool, *command])) >> 10 for command in (["/bin/echo", "7"], [sys.executable, "-c", "len(b'x' * (60 << 20))"]))
+        self.assertLess(little, len(mine) >> 22)
+        self.assertTrue(60 <= much < 90, much)
 
 
 if __name__ == "__main__":

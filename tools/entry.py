@@ -17,11 +17,11 @@ COMMANDS = {"check": "tools.night.check", "night": "tools.night.night", "record"
 
 def run_tool(tool: Tool, words: list[str]) -> int:
     """Runs a tool in this process; returns its exit status."""
-    path = path_of(tool.file)
+    path, (file, *first) = path_of(tool.file), tool.file.split()
     if path.suffix == ".sh" or tool.file.startswith("./"):
         os.execv(path, [str(path), *words])
-    sys.argv[1:] = words
-    runpy.run_module(f"tools.{tool.file.removesuffix('.py').replace('/', '.')}", run_name="__main__", alter_sys=True)
+    sys.argv[1:] = [*first, *words]
+    runpy.run_module(f"tools.{file.removesuffix('.py').replace('/', '.')}", run_name="__main__", alter_sys=True)
     return 0
 
 

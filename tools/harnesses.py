@@ -2,7 +2,7 @@
 nights and release/HARNESSES take them from here.
 
 The arguments of a harness are those of CI and of quick nights (`short`), and of whole ones (`whole`), each with the least number of things that
-it has to count as passed. `@seed`, `@seconds` and `@count` are those of the run; `NAME=1` is a variable."""
+it has to count as passed. `@seed` is the run's, `@seconds` and `@count` those of a whole night; `NAME=1` is a variable."""
 
 from __future__ import annotations
 
@@ -11,8 +11,12 @@ from typing import NamedTuple
 
 from tools import ROOT
 
-# The kinds of fuzz tests.
-KINDS = "check bounds run each names asm decode args library handles verify orders history traces inputs stats".split()
+# The kinds of fuzz tests, and how many CI makes of each: some ten seconds of a processor. A number of tests and no time bounds them, and their
+# seed is a sum of what they test (record.sum_of). So the same sources have the same tests here and in CI, and others have others.
+KINDS = {
+    "check": 100, "bounds": 700, "run": 450, "each": 2000, "names": 2000, "asm": 2000, "decode": 4000, "args": 8000, "library": 2000, "handles": 900,
+    "verify": 2000, "orders": 60, "history": 3000, "traces": 4000, "inputs": 2000, "stats": 800,
+}
 
 
 class Run(NamedTuple):
@@ -23,7 +27,7 @@ class Run(NamedTuple):
 
 
 class Tool(NamedTuple):
-    """A row of the table. The file is below tools/, or below the top if it begins with `./`."""
+    """A row of the table. The file is below tools/, or below the top if it begins with `./`; its first arguments may follow it."""
 
     name: str
     file: str
@@ -48,13 +52,14 @@ class Tool(NamedTuple):
 
 
 def path_of(file: str) -> Path:
-    """Returns the path of a file of the table."""
+    """Returns the path of a file of the table, without arguments."""
+    file = file.split()[0]
     return ROOT / file if file.startswith("./") else ROOT / "tools" / file
 
 
 def fuzz(kind: str) -> Tool:
     """Returns the row of a kind of fuzz tests."""
-    short, whole = (Run(f"{kind} @seed @count --seconds @seconds", least) for least in (5, 100))
+    short, whole = Run(f"{kind} @seed {KINDS[kind]}", KINDS[kind]), Run(f"{kind} @seed @count --seconds @seconds", 100)
     return Tool(f"fuzz_{kind}", "fuzz/main.py", f"the kind {kind} of fuzz tests", short, whole, tests="tw_main tw_embed", depends="fuzz", limit=1500, is_beside=True)
 
 
@@ -68,6 +73,8 @@ TOOLS = (
     Tool("json_cases", "cases/json_cases.py", "the JSON that cases expect, and the schemas", Run("", 1000)),
     Tool("instructions", "sources/instructions.py", "rows of instructions, and docs/ADDING.md", Run("--check")),
     Tool("instruction_rows", "sources/instruction_rows.py", "rows that follow from the table of instructions", Run("--check")),
+    Tool("adding", "sources/adding.py", "the example of docs/ADDING.md, made in a copy; at night it is built, unverified, and runs", Run("--rows", 7), Run("", 15),
+         needs="rt", depends="sources/instructions.py sources/instruction_rows.py", limit=1200),
     Tool("stacks", "sources/stacks.py", "which crate depends on which", Run("--check")),
     Tool("site", "release/site.py", "the manual as HTML: its titles, contents and links", Run("--check")),
     Tool("believed", "proofs/believe", "the table of docs/PROOFS.md of what must be believed", Run("--check")),
@@ -83,7 +90,9 @@ TOOLS = (
     Tool("shown", "program/shown.sh", "every command that documents show", Run("", 200), tests=PROGRAM),
     Tool("json_runs", "program/json_runs.py", "--json of each command against what is printed without it, and the schemas", Run("", 500), tests=PROGRAM, is_beside=True),
     Tool("stream", "program/stream.py", "--each as a process that answers line by line: order, bytes, long lines, memory, signals", Run("--short", 14), Run("", 18), PROGRAM),
-    Tool("loaded", "library/loaded.sh", "loaded programs against the program", Run("--quick", 190), Run("", 190), LINKED, "cc", "library/loaded.c library/loaded.py", 900),
+    Tool("echoes", "program/echoes.py", "that no hidden character is printed wherever tw echoes a text", Run("--texts 100 --seed @seed", 1900),
+         Run("--texts 10000 --seed @seed", 190_000), PROGRAM, limit=3600, shard=6, is_beside=True),
+    Tool("loaded", "library/loaded.sh", "loaded programs against the program", Run("--quick", 190), Run("", 190), LINKED, "cc", "library/callers.c library/callers.h library/loaded.c library/loaded.py", 900),
     Tool("abi", "library/abi.sh", "the tests of earlier releases, with the library", Run("", 5), tests="tw_embed libyuglemit.a", needs="cc c++ readelf"),
     Tool("replayed", "program/replayed.py", "runs in threads, replayed", Run("1", 25), Run("200", 5000), PROGRAM, limit=3600),
     Tool("scarce", "program/scarce.sh", "sessions that are short of memory, with one arena of malloc", Run("1", 1), Run("5", 5), "tw_cases", "cc taskset", limit=1200),
@@ -103,7 +112,7 @@ TOOLS = (
     Tool("refused", "program/refused.py", "a run for each failing allocation", Run("--most 60", 500), Run("", 2000), PROGRAM, "cc", "program/refuse.c", 3600, 5, False, True),
     Tool("many", "program/many.sh", "the engines of docs/MANY.md", Run("threads", 1), Run("", 20), BOTH, limit=2400, shard=5, in_ci=False),
     Tool("callers", "library/callers.sh", "C, C++ and Rust with hostile calls, under valgrind and with sanitizers", Run("--quick", 35), Run("", 40), "libyuglemit.a", "cc c++ objcopy",
-         "library/loaded.c library/callers.c", 3600, 0, False, True),
+         "library/callers.c library/callers.h library/loaded.c", 3600, 0, False, True),
     Tool("embedded", "library/embedded.sh", "callers in C, C++, Rust and Python against the program", Run("c cpp python", 5000), Run("", 5000), f"{LINKED} tw_embed", "cc c++ cargo",
          "library/embedded.c library/embedded.py", 1200, 0, False, True),
     Tool("builder", "./embed/python/test.sh", "Python's builder, with more programs", Run("FILES=100 MUTANTS=500 FUNCTIONS=50 test_build test_build_source", 50),
@@ -114,8 +123,9 @@ TOOLS = (
     Tool("wheel", "release/wheel.sh", "the wheel, where there is no network", None, Run("", 300), "tw_embed", "unshare", limit=900, shard=1, in_ci=False, is_beside=True),
     Tool("packaged", "release/packaged.sh", "the packages", None, Run("", 10), BOTH, "unshare mmdebstrap", limit=2400, shard=1, in_ci=False),
     Tool("released", "release/released.sh", "a clean clone, and the commands of docs/HOSTING.md", None, Run("", 10), BOTH, limit=1200, shard=6, in_ci=False),
-    Tool("mutants", "proofs/mutants.py", "that tests notice edits of what no contract holds", None, Run("--table", 100), BOTH, "node rt", limit=3600, shard=2, in_ci=False, is_beside=True),
-    Tool("wakes", "proofs/wakes.py", "that cases notice each place that doesn't wake", None, Run("", 20), "tw_host_cases", "rt", limit=3600, shard=2, in_ci=False),
+    Tool("mutants", "proofs/mutants.py", "that tests notice edits of what no contract holds", None,
+         Run("--table main script release cases python build cpp rust page", 100), BOTH, "node rt", limit=3600, shard=2, in_ci=False, is_beside=True),
+    Tool("wakes", "proofs/mutants.py host", "that cases notice each place that doesn't wake", None, Run("", 20), "tw_host_cases", "rt", limit=3600, shard=2, in_ci=False),
     Tool("must_fail", "proofs/must_fail.py", "that the mutants which CI leaves out are rejected", None, Run(), "tw_main", "rt", "proofs/must-fail", 10800, 6, False),
     Tool("planted", "night/planted.py", "that harnesses fail on a program that always rejects, on one that is always quiet, and on others", Run("", 40), tests=BOTH, needs="cc",
          depends="night harnesses.py", limit=1800, in_ci=False, is_beside=True),
@@ -126,7 +136,7 @@ TOOLS = (
     Tool("passed", "sources/passed.py", "prints the functions that a command passes"),
     Tool("editor", "sources/editor.sh", "the files of editors and shells in script/install"),
     Tool("prooftime", "proofs/prooftime.py", "what proofs cost, by crate and by function"),
-    Tool("gatetime", "proofs/gatetime.py", "what a run of rt ci costs, by crate"),
+    Tool("gatetime", "proofs/prooftime.py --gate", "what a run of rt ci costs, by crate"),
     Tool("alone", "proofs/alone.py", "a crate over unproved sources"),
     Tool("collisions", "program/collisions.py", "prints names whose hashes collide"),
     Tool("release", "release/release.py", "makes the release, and compares it"),

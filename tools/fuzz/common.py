@@ -16,6 +16,20 @@ from tools.fuzz.oracle.machine import Layout, Value
 from tools.fuzz.oracle.report import input_words
 
 
+# Characters that aren't printed as they are: control characters but a line feed, and those that change the direction of text.
+HIDDEN = re.compile("[\x00-\x09\x0b-\x1f\x7f-\x9f\u061c\u200e\u200f\u202a-\u202e\u2066-\u2069]")
+
+
+def visible(text: str) -> str:
+    """Returns what is printed of a text: hidden characters by their codes, a tab as a blank."""
+    return HIDDEN.sub(lambda found: " " if found[0] == "\t" else f"\\u{{{ord(found[0]):x}}}", text)
+
+
+def visible_json(text: str) -> str:
+    """Returns what the command prints of JSON: hidden characters by their escapes."""
+    return HIDDEN.sub(lambda found: f"\\u{ord(found[0]):04x}", text)
+
+
 class FuzzTest:
     """A random input, and an oracle that isn't what is tested."""
 

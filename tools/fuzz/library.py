@@ -11,6 +11,8 @@ from typing import Any
 from tools.common.program import package, program
 
 Answer = tuple[int, str]
+# How long the program may take, by the clock.
+COMMAND_SECONDS = 900
 
 
 @dataclass(frozen=True)
@@ -40,10 +42,10 @@ class Library:
         status, text = self.native.session(words, data.encode() if isinstance(data, str) else data)
         return int(status), text.decode("utf-8", "backslashreplace")
 
-    def command(self, words: list[str], data: str | bytes = b"", seconds: float = 60) -> Answer:
+    def command(self, words: list[str], data: str | bytes = b"") -> Answer:
         """Returns the status and the text of a command by the program."""
         data = data.encode() if isinstance(data, str) else data
-        done = subprocess.run([program(), *words], input=data, stdout=subprocess.PIPE, stderr=subprocess.DEVNULL, timeout=seconds, check=False)
+        done = subprocess.run([program(), *words], input=data, stdout=subprocess.PIPE, stderr=subprocess.DEVNULL, timeout=COMMAND_SECONDS, check=False)
         return done.returncode, done.stdout.decode("utf-8", "backslashreplace")
 
     def verify(self, data: bytes) -> Verdict:

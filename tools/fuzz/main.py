@@ -24,6 +24,7 @@ from dataclasses import dataclass
 from typing import Any
 
 sys.dont_write_bytecode = True
+from tools.common.processes import fields_of, seconds_in
 from tools.fuzz.kinds import calls
 from tools.fuzz.kinds import each
 from tools.fuzz.kinds import handles
@@ -54,9 +55,11 @@ KINDS: dict[str, Kind] = {
     "inputs": Kind("the forms of inputs, as arguments and as lines, and which fit main", inputs.make_inputs),
     "stats": Kind("statistics against counting the trace", runs.make_stats),
 }
-# A kind ends after so many failures; a test may take so many seconds, and shrinking it so many more.
+# A kind ends after so many failures. A test may take so many seconds of processors, or so many by the clock: a machine that does other things too is
+# no fault. Shrinking may take so many more.
 MOST_FAILURES = 3
 CALL_SECONDS = 120
+CLOCK_SECONDS = 1800
 SHRINK_SECONDS = 20.0
 
 
@@ -130,17 +133,26 @@ def make_tests(kind: str, seed: str, numbers: range, seconds: float, shared: Sha
     shared.marks.value = "".join(f", {mark} {times}" for mark, times in marks.items()).encode()
 
 
+def used_by(number: int) -> float:
+    """Returns the processor seconds of a process; 0 if it has ended."""
+    try:
+        return seconds_in(fields_of(number))
+    except OSError:
+        return 0.0
+
+
 def watch(process: Any, shared: Shared) -> str | None:
     """Waits for the process that makes tests; returns how it ended if that isn't by itself."""
-    seen, since = -1, time.monotonic()
+    seen, since, before = -1, time.monotonic(), 0.0
     while process.is_alive():
         process.join(0.2)
+        used = used_by(process.pid)
         if shared.test.value != seen:
-            seen, since = shared.test.value, time.monotonic()
-        if time.monotonic() - since > CALL_SECONDS:
+            seen, since, before = shared.test.value, time.monotonic(), used
+        if used - before > CALL_SECONDS or time.monotonic() - since > CLOCK_SECONDS:
             process.kill()
             process.join()
-            return f"takes more than {CALL_SECONDS} s"
+            return f"takes more than {CALL_SECONDS} s of processors, or {CLOCK_SECONDS} by the clock"
     return None if process.exitcode == 0 else f"crashed, exit status {process.exitcode}"
 
 

@@ -10,6 +10,8 @@ PARTING = r" \t\r(),"
 ENDING = PARTING + ":;"
 # The end of a word that is cut.
 CUT = " .."
+# A hidden character, as it is printed.
+HIDDEN = re.compile(r"\\u\{([0-9a-f]+)\}")
 # The reason of which the name has its own colon.
 OF_A_COLON = "needs a type after it"
 
@@ -17,6 +19,7 @@ OF_A_COLON = "needs a type after it"
 def name_pattern(reason: str) -> str:
     """Returns an expression for the name of which a line says something."""
     name, _, said = reason.partition(": ")
+    name = HIDDEN.sub(lambda found: chr(int(found[1], 16)), name)
     if said.startswith(OF_A_COLON):
         name += ":"
     if name.endswith(CUT):
@@ -36,7 +39,7 @@ def of_name(line: str, reason: str) -> tuple[int, int]:
 
 def of_error(lines: list[str], line: str) -> tuple[int, int]:
     """Returns word and column of an error with these lines in a line of a text; zeros if it is at no word, or if the line expands to another."""
-    if len(lines) == 4 and lines[3].startswith("at line "):  # the head of the procedure that the line calls
+    if len(lines) > 3 and (lines[3].startswith("at line ") or lines[0].startswith("refused A01")):  # the head of the procedure that is called; what to type
         lines = lines[:3]
     if len(lines) != 3 or lines[0][:9] not in ("refused A", "refused N"):
         return 0, 0

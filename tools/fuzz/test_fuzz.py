@@ -354,6 +354,15 @@ class CallsTest(unittest.TestCase):
             called = set(re.findall(r"\.(yuglemit_\w+)\(", path.read_text(encoding="utf-8")))
             self.assertEqual(called - exported, set(), path.name)
 
+    def test_a_help_reads_no_file(self) -> None:
+        """The program takes a word for a file where the library, which has none, rejects it."""
+        library = Library()
+        for words in (("check", "\t", "-h"), ("run", "--help", "no.tw"), ("asm", "no.tw", "--names", "-h")):
+            test = calls.ArgsTest(words, "", True)
+            self.assertIsNone(test.fault(library))
+            with mock.patch.object(library, "command", return_value=(0, "Rejects\n\nUsage: tw other\n")):
+                self.assertIsNotNone(test.fault(library))
+
 
 class KindsTest(unittest.TestCase):
     """Each kind passes with the library, and notices one that lies."""
@@ -442,10 +451,16 @@ class RunnerTest(unittest.TestCase):
         self.assertIn("the oracle failed", self.run_numbers(0)[1])
 
     def test_slow_tests_fail(self) -> None:
-        kind = Kind("slow", lambda chance, corpus: signal.pause())  # type: ignore[arg-type,return-value]
-        with mock.patch.dict(fuzz.KINDS, {"slow": kind}), mock.patch.object(fuzz, "CALL_SECONDS", 0.3), contextlib.redirect_stdout(io.StringIO()) as said:
-            self.assertFalse(fuzz.run_kind("slow", "1", range(1), 60))
-        self.assertIn("takes more than 0.3 s", said.getvalue())
+        """A test that waits has the clock's seconds, one that counts has the processor's."""
+        def counts(chance: object, corpus: object) -> None:
+            while True:
+                pass
+
+        for test, name in ((lambda chance, corpus: signal.pause(), "CLOCK_SECONDS"), (counts, "CALL_SECONDS")):
+            kind = Kind("slow", test)  # type: ignore[arg-type]
+            with mock.patch.dict(fuzz.KINDS, {"slow": kind}), mock.patch.object(fuzz, name, 0.3), contextlib.redirect_stdout(io.StringIO()) as said:
+                self.assertFalse(fuzz.run_kind("slow", "1", range(1), 60))
+            self.assertIn("takes more than", said.getvalue())
 
     def test_cases_can_be_read(self) -> None:
         read = 0

@@ -1,20 +1,22 @@
 /* SPDX-License-Identifier: Apache-2.0 */
-/* Makes large and hostile calls over handles: `callers PROGRAM [SIZE]`, where PROGRAM holds the bytes of examples/read_number.twn and SIZE is how
- * many bytes the large sources have, 16 MiB if it isn't given. Refuses each request for memory in turn too. Links with
+/* Makes large and hostile calls over handles: `callers PROGRAM [SIZE]`, where PROGRAM holds the bytes of examples/read_number.twn, which takes a text
+ * and writes the text of the next number, and SIZE is how many bytes the large sources have, 16 MiB if it isn't given. Refuses each request for
+ * memory in turn, too. It is this file with loaded.c, whose calls are made with little stack. Links with
  * `-Wl,--wrap=malloc,--wrap=realloc,--wrap=free`, so that it counts what the library asks for and frees. Prints each check that fails, and their
- * number; ends with status 1 if one did. ./dev callers compiles and runs it. */
-#include "../../embed/yuglemit.h"
+ * number; ends with status 1 if one did. ./dev callers and ./dev loaded compile and run it. */
+#include "callers.h"
 #include <stdio.h>
 #include <stdlib.h>
 #include <string.h>
 
 enum { MANY = 900000, LIMIT = 10000, MOST_REQUESTS = 100000, ROOM = 8 };
 
-static uint8_t program_bytes[1 << 16];
-static size_t program_length, large_length = 16 << 20;
+uint8_t program_bytes[1 << 16];
+size_t program_length;
+static size_t large_length = 16 << 20;
 static int checks, failures;
 
-static void check(int holds, const char *what) {
+void check(int holds, const char *what) {
     checks++;
     if (holds) return;
     failures++;
@@ -27,25 +29,27 @@ void *__real_malloc(size_t size);
 void *__real_realloc(void *old, size_t size);
 void __real_free(void *old);
 
-static long held;                 /* blocks that aren't freed yet */
+static long held;                 /* blocks that aren't freed yet, in all threads */
 static unsigned long requests, refused; /* the number of requests so far, and that of the one that is refused; 0: none */
 
-static int is_refused(void) { return ++requests == refused; }
+static int is_refused(void) { return __atomic_add_fetch(&requests, 1, __ATOMIC_RELAXED) == refused; }
+
+static void hold(int blocks) { __atomic_add_fetch(&held, blocks, __ATOMIC_RELAXED); }
 
 void *__wrap_malloc(size_t size) {
     void *block = is_refused() ? NULL : __real_malloc(size);
-    held += block != NULL;
+    hold(block != NULL);
     return block;
 }
 
 void *__wrap_realloc(void *old, size_t size) {
     void *block = is_refused() ? NULL : __real_realloc(old, size);
-    held += !old && block;
+    hold(!old && block);
     return block;
 }
 
 void __wrap_free(void *old) {
-    held -= old != NULL;
+    hold(-(old != NULL));
     __real_free(old);
 }
 
@@ -595,6 +599,7 @@ int main(int argc, char **argv) {
     fclose(file);
     if (argc > 2) large_length = strtoul(argv[2], NULL, 10);
     long before = held;
+    check_with_little_stack();
     check_empty();
     check_lists();
     check_wrong_lists();

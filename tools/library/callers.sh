@@ -1,6 +1,6 @@
 #!/bin/sh
 # SPDX-License-Identifier: Apache-2.0
-# Compiles and runs the examples and tests of C, C++ and Rust on the library, hostile calls included (tools/library/loaded.c, tools/library/callers.c): under
+# Compiles and runs the examples and tests of C, C++ and Rust on the library, hostile calls included (tools/library/callers.c): under
 # valgrind, and with the caller's side under AddressSanitizer with UndefinedBehaviorSanitizer, and under ThreadSanitizer. Compiles the C
 # examples as C99 and as C++17, and links two copies of the library into one program. Prints a line for each; ends with `N passed, 0 failed`.
 #
@@ -55,8 +55,7 @@ compiled() {
     {
         tried "c_$suffix" cc $c $flags -o "$room/session_$suffix" "$root/embed/c/example.c" "$library"
         tried "c_loaded_$suffix" cc $c $flags -o "$room/loaded_$suffix" "$root/embed/c/loaded.c" "$library"
-        tried "c_hostile_$suffix" cc $c $flags -o "$room/hostile_$suffix" "$root/tools/library/loaded.c" "$library"
-        tried "c_callers_$suffix" cc $c $flags $wrapped -o "$room/callers_$suffix" "$root/tools/library/callers.c" "$library"
+        tried "c_callers_$suffix" cc $c $flags $wrapped -o "$room/callers_$suffix" "$root/tools/library/callers.c" "$root/tools/library/loaded.c" "$library"
         tried "cpp_$suffix" c++ $cpp $flags -o "$room/cpp_$suffix" "$root/embed/cpp/test.cpp" "$library"
         tried "cpp_results_$suffix" c++ $cpp -fno-exceptions $flags -o "$room/cpp_results_$suffix" "$root/embed/cpp/test.cpp" "$library"
         tried "cpp_example_$suffix" c++ $cpp $flags -o "$room/cpp_example_$suffix" "$root/embed/cpp/example.cpp" "$library"
@@ -68,7 +67,6 @@ ran() {
     suffix=$1 size=$2
     shift 2
     tried "session_$suffix" "$@" "$room/session_$suffix" explain V04
-    tried "hostile_$suffix" "$@" "$room/hostile_$suffix" "$room/read_number"
     tried "callers_$suffix" "$@" "$room/callers_$suffix" "$room/read_number" "$size"
     tried "cpp_test_$suffix" "$@" "$room/cpp_$suffix" "$root/examples"
     tried "cpp_results_test_$suffix" "$@" "$room/cpp_results_$suffix" "$root/examples"
@@ -112,7 +110,7 @@ compiled threads "$threads"
 assemble read_number && assemble fan_out || exit
 ran plain "$large"
 ran memory "$large"
-tried hostile_threads "$room/hostile_threads" "$room/read_number"
+tried callers_threads "$room/callers_threads" "$room/read_number" 65536
 tried cpp_test_threads "$room/cpp_threads" "$root/examples"
 if [ "$large" != 65536 ] && has valgrind "runs under valgrind"; then
     # shellcheck disable=SC2086

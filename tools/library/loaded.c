@@ -1,8 +1,6 @@
 /* SPDX-License-Identifier: Apache-2.0 */
-/* Makes hostile calls over handles: `loaded PROGRAM`, where PROGRAM holds the bytes of examples/read_number.twn, which takes a text and writes
- * the text of the next number. All are made in threads with a stack of 64 KiB, or of 96 with a sanitizer. Prints each check that fails, and their
- * number; ends with status 1 if one did. */
-#include "../../embed/yuglemit.h"
+/* Hostile calls over handles, made in threads with a stack of 64 KiB, or of 96 with a sanitizer. callers.c has the program and others. */
+#include "callers.h"
 #include <pthread.h>
 #include <stdio.h>
 #include <string.h>
@@ -15,17 +13,7 @@ enum { STACK = 64 * 1024 };
 #endif
 enum { THREADS = 8, RUNS = 200, LIMIT = 10000 };
 
-static uint8_t bytes[1 << 16];
-static size_t length;
-static int checks, failures;
 static pthread_attr_t small; /* of a thread with little stack */
-
-static void check(int holds, const char *what) {
-    checks++;
-    if (holds) return;
-    failures++;
-    printf("FAILS %s\n", what);
-}
 
 static uint8_t run_by(const yuglemit_program *program, const yuglemit_inputs *inputs, yuglemit_options options, yuglemit_report *report) {
     yuglemit_stop no_stop = {NULL};
@@ -50,16 +38,16 @@ static void check_load(yuglemit_program *program) {
     uint8_t none = 0;
     check(yuglemit_load(&none, 0, program, &verdict) == YUGLEMIT_REJECTED, "a rejected program has its code");
     check(verdict.letter == 'F' && !program->at, "no byte is no program, and the handle stays empty");
-    for (size_t k = 1; k < length; k++) {
-        yuglemit_load(bytes, k, program, &verdict);
+    for (size_t k = 1; k < program_length; k++) {
+        yuglemit_load(program_bytes, k, program, &verdict);
         check(verdict.letter != 0 && !program->at, "a prefix is no program");
     }
-    check(yuglemit_load(bytes, length, program, &verdict) == YUGLEMIT_DONE, "an accepted program is done");
+    check(yuglemit_load(program_bytes, program_length, program, &verdict) == YUGLEMIT_DONE, "an accepted program is done");
     check(verdict.letter == 0 && program->at, "the program is loaded");
     void *was = program->at;
-    yuglemit_load(bytes, length - 1, program, &verdict);
+    yuglemit_load(program_bytes, program_length - 1, program, &verdict);
     check(verdict.letter != 0 && program->at == was, "a refused load leaves the handle as it was");
-    yuglemit_load(bytes, length, program, &verdict);
+    yuglemit_load(program_bytes, program_length, program, &verdict);
     check(verdict.letter == 0, "a load over a full handle");
 }
 
@@ -110,30 +98,30 @@ static void check_sources(void) {
 
 /* The program's bytes as hex text, with a line end after each. */
 static void check_hex(void) {
-    static uint8_t hex[3 * sizeof bytes + 1];
+    static uint8_t hex[3 * sizeof program_bytes + 1];
     yuglemit_program program = {NULL};
     yuglemit_verdict v = YUGLEMIT_VERDICT;
-    for (size_t k = 0; k < length; k++) snprintf((char *)hex + 3 * k, 4, "%02X\n", bytes[k]);
-    yuglemit_load_source(hex, 3 * length, YUGLEMIT_ANY_FORMAT, &program, &v);
+    for (size_t k = 0; k < program_length; k++) snprintf((char *)hex + 3 * k, 4, "%02X\n", program_bytes[k]);
+    yuglemit_load_source(hex, 3 * program_length, YUGLEMIT_ANY_FORMAT, &program, &v);
     check(v.letter == 0 && program.at, "hex text");
-    yuglemit_load_source(bytes, length, YUGLEMIT_BYTES, &program, &v);
+    yuglemit_load_source(program_bytes, program_length, YUGLEMIT_BYTES, &program, &v);
     check(v.letter == 0 && program.at, "bytes by the other call");
-    yuglemit_load_source(bytes, length, YUGLEMIT_TEXT, &program, &v);
+    yuglemit_load_source(program_bytes, program_length, YUGLEMIT_TEXT, &program, &v);
     check(v.letter != 0 && program.at, "bytes are no text, and the handle stays");
     yuglemit_program_free(program);
 }
 
 /* Changes each byte in turn. What is accepted then may be run. */
 static void check_damaged(void) {
-    for (size_t k = 0; k < length; k++) {
+    for (size_t k = 0; k < program_length; k++) {
         for (unsigned mask = 1; mask < 256; mask *= 4) {
             yuglemit_program program = {NULL};
             yuglemit_inputs inputs = {NULL};
             yuglemit_report report = {NULL};
             yuglemit_verdict verdict = YUGLEMIT_VERDICT;
-            bytes[k] ^= (uint8_t)mask;
-            yuglemit_load(bytes, length, &program, &verdict);
-            bytes[k] ^= (uint8_t)mask;
+            program_bytes[k] ^= (uint8_t)mask;
+            yuglemit_load(program_bytes, program_length, &program, &verdict);
+            program_bytes[k] ^= (uint8_t)mask;
             check((verdict.letter == 0) == (program.at != NULL), "the handle is full if the verdict accepts");
             uint8_t code = run(&program, &inputs, LIMIT, &report);
             check((code == YUGLEMIT_NO_PROGRAM) == (verdict.letter != 0), "a run needs a program");
@@ -157,29 +145,20 @@ static void check_questions(yuglemit_program *program) {
     yuglemit_program_free(empty);
 }
 
-/* Passes a handle of one kind for another. */
+/* A handle of another kind: nothing is written. callers.c has each call with each kind. */
 static void check_kinds(yuglemit_program *program) {
-    yuglemit_inputs inputs = {NULL}, none = {NULL};
-    yuglemit_report report = {NULL}, unused = {NULL};
-    yuglemit_program other = {NULL}, share = {NULL};
-    check(yuglemit_program_share(program, &share) == 0, "a share");
-    check(yuglemit_input_text(&inputs, (const uint8_t *)"7", 1) == 0, "a text");
-    check(run(program, &inputs, LIMIT, &report) == 0, "a run");
-    yuglemit_program of_report = {report.at};
-    yuglemit_inputs of_program = {share.at};
-    yuglemit_report of_inputs = {inputs.at};
+    yuglemit_inputs inputs = {NULL};
+    yuglemit_report of_program = {program->at}, unused = {NULL};
+    yuglemit_program other = {NULL};
     yuglemit_ending ending = {sizeof ending, 1, 1, 1};
     yuglemit_meter meter = {sizeof meter, 1, 1, 1, 1, 1, 1};
-    check(yuglemit_program_share(&of_report, &other) == YUGLEMIT_NO_PROGRAM && !other.at, "a report isn't shared");
-    check(yuglemit_input_int(&of_program, 1) == YUGLEMIT_NO_INPUTS, "a program takes no input");
-    check(yuglemit_report_ending(&of_inputs, &ending) == YUGLEMIT_NO_REPORT && ending.events == 1, "inputs have no ending");
-    check(yuglemit_report_meter(&of_inputs, &meter) == YUGLEMIT_NO_REPORT && meter.events == 1, "inputs have no meter");
-    check(run(&of_report, &none, LIMIT, &unused) == YUGLEMIT_NO_PROGRAM, "a report isn't run");
-    check(run(program, &of_program, LIMIT, &unused) == YUGLEMIT_NO_INPUTS, "a program is no input");
-    check(!unused.at && !other.at, "nothing is made");
-    yuglemit_program_free(share);
+    check(yuglemit_report_ending(&of_program, &ending) == YUGLEMIT_NO_REPORT && ending.events == 1, "a program has no ending");
+    check(yuglemit_report_meter(&of_program, &meter) == YUGLEMIT_NO_REPORT && meter.events == 1, "a program has no meter");
+    check(yuglemit_input_text(&inputs, (const uint8_t *)"7", 1) == 0, "a text");
+    yuglemit_program of_inputs = {inputs.at};
+    check(yuglemit_program_share(&of_inputs, &other) == YUGLEMIT_NO_PROGRAM && !other.at, "inputs aren't shared");
+    check(run(&of_inputs, &inputs, LIMIT, &unused) == YUGLEMIT_NO_PROGRAM && !unused.at, "inputs aren't run");
     yuglemit_inputs_free(inputs);
-    yuglemit_report_free(report);
 }
 
 static void check_run(yuglemit_program *program) {
@@ -694,17 +673,17 @@ static void check_lengths(void) {
     yuglemit_program program = {NULL};
     yuglemit_verdict verdict = YUGLEMIT_VERDICT;
     yuglemit_load_options options = YUGLEMIT_LOAD_OPTIONS;
-    options.most_bytes = length;
-    check(yuglemit_load_with(bytes, length, YUGLEMIT_BYTES, &options, &program, &verdict) == 0 && program.at, "a program of the greatest length");
+    options.most_bytes = program_length;
+    check(yuglemit_load_with(program_bytes, program_length, YUGLEMIT_BYTES, &options, &program, &verdict) == 0 && program.at, "a program of the greatest length");
     yuglemit_program_free(program);
     program.at = NULL;
-    options.most_bytes = length - 1;
-    check(yuglemit_load_with(bytes, length, YUGLEMIT_BYTES, &options, &program, &verdict) == YUGLEMIT_REJECTED && !program.at, "a longer one");
+    options.most_bytes = program_length - 1;
+    check(yuglemit_load_with(program_bytes, program_length, YUGLEMIT_BYTES, &options, &program, &verdict) == YUGLEMIT_REJECTED && !program.at, "a longer one");
     check(verdict.letter == 'H' && verdict.number == 2 && verdict.line == 0, "is H02");
     options.size = sizeof(size_t);
-    check(yuglemit_load_with(bytes, length, YUGLEMIT_BYTES, &options, &program, &verdict) == 0 && program.at, "no greatest length is 16 MiB");
+    check(yuglemit_load_with(program_bytes, program_length, YUGLEMIT_BYTES, &options, &program, &verdict) == 0 && program.at, "no greatest length is 16 MiB");
     options.size = sizeof options + 8;
-    check(yuglemit_load_with(bytes, length, YUGLEMIT_BYTES, &options, &program, &verdict) == YUGLEMIT_NO_SIZE, "more options than there are");
+    check(yuglemit_load_with(program_bytes, program_length, YUGLEMIT_BYTES, &options, &program, &verdict) == YUGLEMIT_NO_SIZE, "more options than there are");
     yuglemit_program_free(program);
 }
 
@@ -862,13 +841,8 @@ static void *check_all(void *unused) {
     return unused;
 }
 
-int main(int argc, char **argv) {
-    FILE *file = argc == 2 ? fopen(argv[1], "rb") : NULL;
+void check_with_little_stack(void) {
     pthread_t thread;
-    if (!file || pthread_attr_init(&small) || pthread_attr_setstacksize(&small, STACK)) return 2;
-    length = fread(bytes, 1, sizeof bytes, file);
-    fclose(file);
-    if (pthread_create(&thread, &small, check_all, NULL) || pthread_join(thread, NULL)) return 2;
-    printf("%d checks, %d failed\n", checks, failures);
-    return failures > 0;
+    int is_made = !pthread_attr_init(&small) && !pthread_attr_setstacksize(&small, STACK) && !pthread_create(&thread, &small, check_all, NULL);
+    check(is_made && !pthread_join(thread, NULL), "a thread with little stack");
 }

@@ -173,7 +173,7 @@ def main() -> int:
     """Makes all checks."""
     program = Path(room, "program")
     program.write_bytes(assembled(examples / "read_number.twn") or b"")
-    hostile, text = started([*watch, f"{room}/hostile", str(program)])
+    hostile, text = started([*watch, f"{room}/hostile", str(program), "65536"])
     print(text.decode(), end="")
     cpp, text = started([*watch, f"{room}/cpp", str(examples)]) if Path(room, "cpp").exists() else (0, b"C++: no compiler\n")
     print(text.decode(), end="")

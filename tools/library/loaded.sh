@@ -1,6 +1,6 @@
 #!/bin/sh
 # SPDX-License-Identifier: Apache-2.0
-# Runs programs that are loaded once, by the library's handles: hostile calls (tools/library/loaded.c) and the tests of C++ (embed/cpp/test.cpp, if
+# Runs programs that are loaded once, by the library's handles: hostile calls (tools/library/callers.c) and the tests of C++ (embed/cpp/test.cpp, if
 # there is a compiler c++), under valgrind if it is there. Then runs every example by embed/c/loaded.c, whose outputs and status are compared
 # with those of the program tw, as are the input words that both reject. Ends with `N same, 0 differ`, and fails if a check fails or one
 # differs. Before that it prints how many runs a second are made of examples/fan_out.twn, loaded once and by sessions.
@@ -17,7 +17,7 @@ warnings="-std=c99 -O2 -Wall -Wextra -pedantic -Werror"
 # shellcheck disable=SC2086
 cc $warnings -o "$room/loaded" "$root/embed/c/loaded.c" "$library" &&
     cc $warnings -o "$room/session" "$root/embed/c/example.c" "$library" &&
-    cc $warnings -pthread -o "$room/hostile" "$root/tools/library/loaded.c" "$library" || exit
+    cc $warnings -pthread -Wl,--wrap=malloc,--wrap=realloc,--wrap=free -o "$room/hostile" "$root/tools/library/callers.c" "$root/tools/library/loaded.c" "$library" || exit
 if command -v c++ >"$room/which"; then
     c++ -std=c++17 -O2 -Wall -Wextra -pedantic -Werror -pthread -I "$root/embed" -o "$room/cpp" "$root/embed/cpp/test.cpp" "$library" || exit
 fi

@@ -6,12 +6,12 @@
     ./dev check --built      those that test programs and the library
     ./dev check --times      prints a line for each, too
 
-What is tested is the release, or what is built here (script/pick.sh). The seed of the fuzz tests is the commit."""
+What is tested is the release, or what is built here (script/pick.sh). The seed of the fuzz tests is the sum of what they test, so that they are
+the same ones before a commit, after it and in CI."""
 
 from __future__ import annotations
 
 import os
-import subprocess
 import sys
 import tempfile
 from pathlib import Path
@@ -19,15 +19,15 @@ from pathlib import Path
 from tools import ROOT
 from tools.common.program import LIBRARY, PROGRAM, describe, for_package
 from tools.harnesses import TOOLS, Tool
+from tools.night import record
 from tools.night.runner import FAILED, LEFT_OUT, Ended, Runner, heed_signals, status_of, total
 
-SECONDS_A_KIND, JOBS = "10", 2
+JOBS = 2
 
 
-def commit() -> str:
-    """Returns the commit that is tested."""
-    done = subprocess.run(["git", "-C", str(ROOT), "rev-parse", "--short=12", "HEAD"], capture_output=True, text=True, check=False)
-    return done.stdout.strip() or "1"
+def seed() -> str:
+    """Returns the sum of the sources that the fuzz tests test, and of their own."""
+    return record.sum_of(next(tool for tool in TOOLS if tool.name.startswith("fuzz_")))
 
 
 def chosen(words: list[str]) -> list[Tool] | str:
@@ -63,7 +63,7 @@ def main(words: list[str]) -> int:
         environment = for_package()
     with tempfile.TemporaryDirectory() as name:
         logs = Path(name)
-        runner = Runner(ROOT, logs, {"seed": commit(), "count": "100000", "seconds": SECONDS_A_KIND}, float(os.environ.get("PATIENCE", "1")), environment=environment)
+        runner = Runner(ROOT, logs, {"seed": seed()}, float(os.environ.get("PATIENCE", "1")), environment=environment)
         runner.say = lambda ended: report(ended, logs, prints_all)
         heed_signals(runner)
         ended = runner.run_all(tools, JOBS)

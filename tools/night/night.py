@@ -75,7 +75,7 @@ def chosen(names: list[str], is_all: bool, day: int) -> list[Tool] | str:
 def runner_of(folder: Path, logs: Path, whole: bool) -> Runner:
     """Returns what runs harnesses, as the environment says."""
     given = {"seed": os.environ.get("SEED") or str(datetime.date.today()), "count": os.environ.get("COUNT", "100000"),
-             "seconds": os.environ.get("SECONDS_A_KIND", "120" if whole else "10")}
+             "seconds": os.environ.get("SECONDS_A_KIND", "120")}
     return Runner(folder, logs, given, float(os.environ.get("PATIENCE", "1")), whole)
 
 

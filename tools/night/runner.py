@@ -16,6 +16,7 @@ from dataclasses import dataclass, field
 from pathlib import Path
 from typing import NamedTuple
 
+from tools.common.processes import used_in_session
 from tools.harnesses import Run, Tool
 
 OK, FAILED, LEFT_OUT = "ok", "FAILED", "left out"
@@ -23,6 +24,8 @@ OK, FAILED, LEFT_OUT = "ok", "FAILED", "left out"
 COUNT = re.compile(r"^(?:\w+ +)?(?:Ran )?(\d+) (?:passed|same|shown|as wanted|killed|noticed|rejected|checked|replayed alike|tests?\b)", re.M)
 # The line of a part that was left out.
 PART = re.compile(r"^left out: (.*)", re.M)
+# A harness that hasn't used its limit of processors may take so many times as long by the clock: the machine does other things too.
+LATE = 3
 # Among the arguments of a harness, a variable for it.
 VARIABLE = re.compile(r"\b([A-Z]+)=(\d+)")
 
@@ -109,10 +112,12 @@ class Runner:
             if found:
                 process.returncode = os.waitstatus_to_exitcode(state)
                 return process.returncode, usage.ru_utime + usage.ru_stime, late
-            if time.monotonic() > end:
-                late = True
-                os.killpg(process.pid, signal.SIGKILL)
-            time.sleep(0.05)
+            over = time.monotonic() - end
+            if over > 0:
+                late = used_in_session(process.pid) > limit or over > (LATE - 1) * limit
+                if late:
+                    os.killpg(process.pid, signal.SIGKILL)
+            time.sleep(0.05 if over < 0 or late else 1)
 
     def run(self, tool: Tool) -> Ended:
         """Runs a harness."""

@@ -17,7 +17,7 @@ from unittest import mock
 from tools import ROOT, entry
 from tools.fuzz import main as fuzz
 from tools.harnesses import KINDS, TOOLS, Run, Tool, path_of
-from tools.night import check, night, record
+from tools.night import check, night, record, runner
 from tools.night.runner import FAILED, LEFT_OUT, OK, Runner, count_in, fault_of, missing, status_of, total
 
 
@@ -30,7 +30,9 @@ class TableTest(unittest.TestCase):
                 self.assertTrue(path_of(path).exists(), path)
 
     def test_kinds_of_fuzz_tests(self) -> None:
-        self.assertEqual(KINDS, list(fuzz.KINDS))
+        self.assertEqual(list(KINDS), list(fuzz.KINDS))
+        short = {tool.name.removeprefix("fuzz_"): tool.short for tool in TOOLS if tool.name.startswith("fuzz_")}
+        self.assertEqual(short, {kind: Run(f"{kind} @seed {count}", count) for kind, count in KINDS.items()})
 
     def test_each_file_is_reached(self) -> None:
         """A file of tools/ is a row's, or one that is reached names it."""
@@ -102,7 +104,8 @@ class RunnerTest(WithScripts):
             self.tool("part", "echo left out: types, since tsc is missing; echo 1 passed"),
         ]
         rows.append(self.tool("variable", "TIMES=4 echo $TIMES passed"))
-        found = {it.tool.name: it for it in self.runner.run_all(rows, 2)}
+        with mock.patch.object(runner, "LATE", 1):
+            found = {it.tool.name: it for it in self.runner.run_all(rows, 2)}
         outcomes = {"variable": OK, "well": OK, "few": FAILED, "fails": FAILED, "dies": FAILED, "slow": FAILED, "lacks": LEFT_OUT, "part": OK}
         self.assertEqual({name: it.outcome for name, it in found.items()}, outcomes)
         self.assertEqual(found["variable"].passed, 4)
@@ -118,6 +121,12 @@ class RunnerTest(WithScripts):
         slow = self.tool("slow", "sleep 2; echo 1 passed", limit=1)
         self.runner.patience = 60
         self.assertEqual(self.runner.run(slow).outcome, OK)
+
+    def test_a_limit_is_of_processors(self) -> None:
+        """A wait since the machine does other things is no fault; what counts for too long is, however long that takes."""
+        with mock.patch.object(runner, "LATE", 1000):
+            self.assertEqual(self.runner.run(self.tool("waits", "sleep 3; echo 1 passed", limit=1)).outcome, OK)
+            self.assertEqual(self.runner.run(self.tool("counts", "while :; do :; done", limit=1)).text, "took longer than 1 s; it says nothing")
 
     def test_those_that_measure_are_run_one_after_another(self) -> None:
         words = "mkdir one && sleep 0.3 && rmdir one && echo 1 passed"
@@ -141,6 +150,16 @@ class NamesTest(unittest.TestCase):
         self.assertTrue(all({"shown", "many", "fuzz_run"} <= found for found in names))
         self.assertEqual([day for day, found in enumerate(names) if "hostile" in found], [4])
         self.assertEqual(set().union(*names), {tool.name for tool in TOOLS if tool.is_harness})
+
+    def test_the_seed_of_check_is_of_the_sources_alone(self) -> None:
+        """A commit, its name and what isn't tested change no test."""
+        sums = {"tw_main": "1", "tw_embed": "1"}
+        with mock.patch.object(record, "sources_of", sums.get), mock.patch.object(subprocess, "run", side_effect=AssertionError):
+            first = check.seed()
+            self.assertEqual(check.seed(), first)
+            for name in sums:
+                with mock.patch.dict(sums, {name: "2"}):
+                    self.assertNotEqual(check.seed(), first)
 
     def test_parts_of_check(self) -> None:
         sources, built = ({tool.name for tool in check.chosen([word])} for word in ("--sources", "--built"))  # type: ignore[union-attr]

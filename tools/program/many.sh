@@ -283,7 +283,7 @@ killed() {
     rm -rf "$room/killed"
     mkdir -p "$room/killed"
     # A shell lets its background jobs ignore INT, and a script can't undo that.
-    env --default-signal=INT "$many/parallel.sh" "$tw" "$program" "$room/few" "$room/killed" --jobs 1 --delay 0.1 >/dev/null 2>&1 &
+    env --default-signal=INT "$many/parallel.sh" "$tw" "$program" "$room/few" "$room/killed" --jobs 1 --delay 1 >/dev/null 2>&1 &
     child=$!
     until_it 60 test -e "$room/killed/n1.status"
     sleep 1

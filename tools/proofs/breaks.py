@@ -1,6 +1,6 @@
 # SPDX-License-Identifier: Apache-2.0
 """Builds a program of this repository, unproved, with places of its sources broken. One build has all breaks: each asks whether it is the one that
-is tried, and the number of that one is written into the program. For ./dev wakes and ./dev mutants."""
+is tried, and the number of that one is written into the program. For ./dev mutants."""
 
 from __future__ import annotations
 
@@ -15,7 +15,7 @@ from pathlib import Path
 from tools import ROOT
 
 # Is in the program where the number of a break is written.
-MARK = int.from_bytes(b"wakes.py", "little")
+MARK = int.from_bytes(b"mutants!", "little")
 TRIED = f"""//! Which break is tried.
 
 /// Returns whether this break is tried. The number is written over this one in the program.

@@ -5,12 +5,12 @@ ends with `N killed, M survive`. It fails if a mutant survives that isn't said t
 fail without an edit, whose mutants aren't tried.
 
     ./dev mutants                  all of them, in some ten minutes
-    ./dev mutants NAME..           these, or those of a part: main, script, release, cases, python, build, cpp, rust, page
+    ./dev mutants NAME..           these, or those of a part: main, host, script, release, cases, python, build, cpp, rust, page
     ./dev mutants --list           their names; like each call, it fails if an edit's text isn't in its file once
     ./dev mutants --table NAME..   prints a table of Markdown at the end
 
-The page's tests need node. The part `main` is built once, unproved, with
-all its edits (tools/proofs/breaks.py), which takes some minutes and needs the toolchain.
+The page's tests need node. The parts `main` and `host` are built once, unproved, with all their edits (tools/proofs/breaks.py), which takes some
+minutes and needs the toolchain. Cases have to notice those of the host (./dev wakes) as `late wakes N`, or since a run takes too long.
 """
 
 from __future__ import annotations
@@ -33,11 +33,12 @@ from tools.proofs.breaks import Place, built, names_of, write_broken
 
 # The tests of a part may take so many seconds without an edit, and so many times as long with one.
 SECONDS = 900
-TIMES = 10
+TIMES = 5
 
 # The command that tests each part, its quick tests first. @LIBRARY@, @ARCHIVE@ and @MODULE@ are the libraries and the page's module.
 TESTS = {
     "main": "./dev shown && ./dev progress",
+    "host": "crates/tw_host_cases/out/tw_host_cases <out/host_cases >out/host_said; head -n 1 out/host_said; grep -qxFf out/host_wanted out/host_said",
     "script": "./dev shown",
     "release": "python3 -B -m unittest -f tools.release.test_release",
     "cases": "python3 -B -m unittest -f tools.cases.test_cases",
@@ -50,10 +51,15 @@ TESTS = {
 }
 
 
+# The crates of the parts that are built, and the kinds of cases that turn or run a host.
+BUILT = {"main": "tw_main", "host": "tw_host_cases"}
+OF_HOSTS = ("turns ", "rounds ", "stops ", "drives", "threads ", "woken ")
+
+
 @dataclass(frozen=True)
 class Mutant:
-    """An edit: a text that a file has once, and what replaces it. `harmless` says why tests needn't notice it. Of the part `main`, `new` has the name
-    of the edit between two @, which asks whether it is the one that is tried."""
+    """An edit: a text that a file has once, and what replaces it. `harmless` says why tests needn't notice it. Of a part that is built, `new` has the
+    name of the edit between two @, which asks whether it is the one that is tried."""
 
     name: str
     part: str
@@ -62,6 +68,57 @@ class Mutant:
     new: str
     harmless: str = ""
 
+
+HOST = "crates/tw_host/src/host.rt"
+PARKERS = "crates/tw_host/src/parkers.rt"
+SLEEPERS = "crates/tw_host/src/sleepers.rt"
+WORK = "crates/tw_pool_state/src/work.rt"
+
+
+def unless(name: str, bits: str) -> str:
+    """Returns the text of bits that are 0 if the edit is tried."""
+    return f"(if @{name}@ {{ 0 }} else {{ {bits} }})"
+
+
+# Each place that decides or makes a wake of an idle thread. The lock's invariant refuses the edits of `Sleepers`.
+WAKES = (
+    Place(HOST, "        self.parkers.unpark(due);\n        answer\n", "        if !@turns_wake_nobody@ {\n            self.parkers.unpark(due);\n        }\n        answer\n"),
+    Place(HOST, "            self.progress.end();\n        }\n", "            if !@turns_do_not_end@ {\n                self.progress.end();\n            }\n        }\n"),
+    Place(
+        HOST,
+        "        self.progress.end();\n        self.parkers.unpark(due);\n",
+        "        if !@stop_does_not_end@ {\n            self.progress.end();\n        }\n        if !@stop_wakes_nobody@ {\n            self.parkers.unpark(due);\n        }\n",
+    ),
+    Place(PARKERS, "                parker.unpark();\n", "                if !@nobody_is_unparked@ {\n                    parker.unpark();\n                }\n"),
+    Place(PARKERS, "            self.state.wake_one();\n", "            if !@kernel_is_not_called@ {\n                self.state.wake_one();\n            }\n"),
+    Place(SLEEPERS, "            return self.asleep;\n", f"            return {unless('end_wakes_nobody', 'self.asleep')};\n"),
+    Place(SLEEPERS, "            self.is_over = true;\n        }\n", "            self.is_over = !@end_is_not_noted@;\n        }\n"),
+    Place(SLEEPERS, "        let asleep = self.asleep;\n", f"        let asleep = {unless('stop_wakes_no_sleeper', 'self.asleep')};\n"),
+    Place(
+        SLEEPERS,
+        "self.due_engines(pool) | self.due_servers(pool) | self.due_workers(pool)",
+        " | ".join(unless(f"engine_wakes_no_{kind}", f"self.due_{kind}s(pool)") for kind in ("engine", "server", "worker")),
+    ),
+    Place(SLEEPERS, "Actor::Server(_) => self.due_engines(pool),", f"Actor::Server(_) => {unless('server_wakes_no_engine', 'self.due_engines(pool)')},"),
+    Place(SLEEPERS, "                } else {\n                    self.due_servers(pool)\n", f"                }} else {{\n                    {unless('worker_wakes_no_server', 'self.due_servers(pool)')}\n"),
+    Place(
+        SLEEPERS,
+        "                    self.due_servers(pool) | self.due_workers(pool)\n",
+        f"                    {unless('worker_out_wakes_no_server', 'self.due_servers(pool)')} | {unless('worker_out_wakes_no_worker', 'self.due_workers(pool)')}\n",
+    ),
+    Place(
+        SLEEPERS,
+        "if pool.has_own_work(pool.layout().actor_at(index)) {\n            *due = with(*due, index);",
+        f"if pool.has_own_work(pool.layout().actor_at(index)) {{\n            *due |= {unless('own_work_wakes_nobody', 'with(0, index)')};",
+    ),
+    Place(SLEEPERS, "} else if *left {\n            *due = with(*due, index);", f"}} else if *left {{\n            *due |= {unless('task_wakes_nobody', 'with(0, index)')};"),
+    Place(SLEEPERS, "nobody_looks(of_kind, self.asleep, self.out)", f"nobody_looks(of_kind, self.asleep, {unless('who_is_out_looks', 'self.out')})"),
+    Place(WORK, "self.rules.next_release(engine).is_some()", "(!@releases_wake_nobody@ && self.rules.next_release(engine).is_some())"),
+    Place(WORK, "self.store.oldest_notice(server).is_some()", "(!@notices_wake_nobody@ && self.store.oldest_notice(server).is_some())"),
+    Place(WORK, " || self.tasks.has_targeted(actor)", " || (!@targets_wake_no_engine@ && self.tasks.has_targeted(actor))"),
+    Place(WORK, "Actor::Worker(_) => self.tasks.has_targeted(actor)", "Actor::Worker(_) => (!@targets_wake_no_worker@ && self.tasks.has_targeted(actor))"),
+    Place(WORK, "self.tasks.has_untargeted(kind)", "(!@tasks_wake_nobody@ && self.tasks.has_untargeted(kind))"),
+)
 
 SOURCES = "script/sources.sh"
 FILES, RUNS, CASES = "tools/cases/files.py", "tools/cases/runs.py", "tools/cases/main.py"
@@ -78,17 +135,18 @@ MUTANTS = (
     Mutant("folders_have_no_reason", "main", MAIN + "hints.rt", "        ErrorKind::IsADirectory =>", "        ErrorKind::IsADirectory if !@folders_have_no_reason@ =>"),
     Mutant("terminals_are_read_silently", "main", MAIN + "tool.rt", "if stdin.is_terminal() {", "if stdin.is_terminal() && !@terminals_are_read_silently@ {"),
     Mutant("help_reads_a_terminal", "main", MAIN + "hints.rt", "    if requests_help(words) {", "    if requests_help(words) && !@help_reads_a_terminal@ {"),
-    Mutant("errors_have_no_hint", "main", MAIN + "hints.rt", "            print_error_hint(stderr, answered, &failure)\n", "            if @errors_have_no_hint@ { Ok(()) } else { print_error_hint(stderr, answered, &failure) }\n"),
+    Mutant("errors_have_no_hint", "main", MAIN + "hints.rt", "            print_error_hint(alloc, stderr, answered, &failure)\n", "            if @errors_have_no_hint@ { Ok(()) } else { print_error_hint(alloc, stderr, answered, &failure) }\n"),
     Mutant("hex_text_has_no_hint", "main", MAIN + "hints.rt", "if answered.reads_input && ", "if answered.reads_input && !@hex_text_has_no_hint@ && "),
-    Mutant("files_are_standard_input", "main", MAIN + "tool.rt", "given, &mut writer);\n        self.advise(words, status, misnamed, false)", "given, &mut writer);\n        self.advise(words, status, misnamed, @files_are_standard_input@)"),
+    Mutant("files_are_standard_input", "main", MAIN + "tool.rt", "is_each, misnamed, false, &writer)", "is_each, misnamed, @files_are_standard_input@, &writer)"),
     Mutant("commands_have_no_hint", "main", MAIN + "hints.rt", "if tw_cli::reads_program(command.as_str()) => {", "if !@commands_have_no_hint@ && tw_cli::reads_program(command.as_str()) => {"),
     Mutant("pictures_have_no_limit", "main", MAIN + "hints.rt", "if draws(answered.words) => {", "if draws(answered.words) && !@pictures_have_no_limit@ => {"),
     Mutant("comments_hide_no_names", "main", MAIN + "symbolic.rt", "line.split(';').next().unwrap_or(\"\").trim()", "(if @comments_hide_no_names@ { line } else { line.split(';').next().unwrap_or(\"\") }).trim()"),
     Mutant("any_twn_has_names", "main", MAIN + "symbolic.rt", "Ok(text) if !begins_with_names(text) =>", "Ok(text) if !@any_twn_has_names@ && !begins_with_names(text) =>"),
-    Mutant("rejected_words_say_nothing", "main", MAIN + "tool.rt", "        complain(self.rt.alloc(), status, words, &mut stderr);\n", "        if !@rejected_words_say_nothing@ {\n            complain(self.rt.alloc(), status, words, &mut stderr);\n        }\n"),
+    Mutant("rejected_words_say_nothing", "main", MAIN + "tool.rt", "                self.complain(&complaint);\n", "                if !@rejected_words_say_nothing@ {\n                    self.complain(&complaint);\n                }\n"),
     Mutant("quiet_runs_print", "main", MAIN + "progress_printer.rt", "if !self.is_quiet && self.stderr", "if (!self.is_quiet || @quiet_runs_print@) && self.stderr"),
     Mutant("pipes_get_progress", "main", MAIN + "progress_printer.rt", "&& self.stderr.is_terminal() {", "&& (self.stderr.is_terminal() || @pipes_get_progress@) {"),
     Mutant("progress_at_each_look", "main", MAIN + "progress_printer.rt", "if second <= self.printed {", "if second <= self.printed && !@progress_at_each_look@ {"),
+    *(Mutant(name, "host", place.file, place.old, place.new) for place in WAKES for name in names_of((place,))[1:]),
     # The script: what it answers itself, and the program that it calls.
     Mutant("versions_are_the_programs", "script", "tw", 'echo "tw $(cat "$root/VERSION")"', "echo tw"),
     Mutant("statuses_are_lost", "script", "tw", '[ -n "$room" ] || exec "$program" "$@"', '[ -n "$room" ] || { "$program" "$@"; exit 0; }'),
@@ -232,21 +290,32 @@ def copy_repository(folder: Path) -> None:
         shutil.copy2(ROOT / program, folder / program)
 
 
-def places_of_main() -> tuple[Place, ...]:
-    """Returns the edits of the program, each of which asks whether it is tried."""
-    return tuple(Place(mutant.file, mutant.old, mutant.new) for mutant in MUTANTS if mutant.part == "main")
+def places_of(part: str) -> tuple[Place, ...]:
+    """Returns the edits of a part that is built, each of which asks whether it is tried."""
+    return tuple(dict.fromkeys(Place(mutant.file, mutant.old, mutant.new) for mutant in MUTANTS if mutant.part == part))
 
 
 @cache
-def main_with_edits() -> bytes:
-    return built("tw_main", places_of_main())
+def with_edits(part: str) -> bytes:
+    return built(BUILT[part], places_of(part))
 
 
-def put_main(folder: Path, name: str) -> None:
+def write_cases(folder: Path) -> None:
+    """Writes the cases that turn or run a host, the names that they use, and the line that they have to end with."""
+    lines = [line for line in (ROOT / "crates/tw_host_cases/stdin").read_text(encoding="utf-8").splitlines() if not line.startswith(("#", "long_", "control_"))]
+    kept = [line for line in lines if line.startswith("let ") or (line.count("|") > 1 and line.split("|")[1].strip().startswith(OF_HOSTS))]
+    (folder / "out").mkdir(exist_ok=True)
+    (folder / "out/host_cases").write_text("\n".join(kept) + "\n", encoding="utf-8")
+    (folder / "out/host_wanted").write_text(f"{sum(not line.startswith('let ') for line in kept)} cases as wanted\n", encoding="utf-8")
+
+
+def put_built(folder: Path, part: str, name: str) -> None:
     """Puts the program in which an edit is tried into the copy, newer than its sources there; without a name no edit is."""
-    program = folder / "crates/tw_main/out/tw_main"
+    program = folder / "crates" / BUILT[part] / "out" / BUILT[part]
     program.parent.mkdir(parents=True, exist_ok=True)
-    write_broken(program, main_with_edits(), names_of(places_of_main()).index(name))
+    write_broken(program, with_edits(part), names_of(places_of(part)).index(name))
+    if part == "host":
+        write_cases(folder)
 
 
 def library_of(_: Path) -> Path:
@@ -297,8 +366,8 @@ def test(part: str, folder: Path, seconds: float = SECONDS) -> tuple[bool, str]:
 
 def tested_with(mutant: Mutant, folder: Path, seconds: float) -> tuple[bool, str]:
     """Makes the edit, runs the tests, and takes the edit back."""
-    if mutant.part == "main":
-        put_main(folder, mutant.name)
+    if mutant.part in BUILT:
+        put_built(folder, mutant.part, mutant.name)
         return test(mutant.part, folder, seconds)
     path = folder / mutant.file
     text = path.read_text(encoding="utf-8")
@@ -345,8 +414,8 @@ def times_of(parts: list[str], folder: Path) -> dict[str, float]:
     """Runs the tests of each part without an edit. Returns how many seconds they may take with one, for each part whose tests pass."""
     most: dict[str, float] = {}
     for part in parts:
-        if part == "main":
-            put_main(folder, "")
+        if part in BUILT:
+            put_built(folder, part, "")
         begun = time.monotonic()
         passes, last = test(part, folder)
         if passes:

@@ -8,13 +8,18 @@
 
 The prover writes a file for each module when it is done with it, so the files' times give the seconds between them. Of a function's modules, `Lts` is
 what the borrow checker leaves, `Proof` its goals. Compare figures of one sitting: the load, which is printed, makes seconds worth less.
+
+  ./dev gatetime                          runs `rt ci`, and prints the seconds and the memory of each crate at its end
+  ./dev gatetime COMMAND WORD..           the same of another command, such as `rt ci NAME`
+
+The toolchain's processes below the command are looked at once a second, so a crate loses up to a second. What an earlier run kept costs nothing:
+measure on a machine that has kept nothing, or say which crates were.
 """
 
 from __future__ import annotations
 
 import argparse
 import bisect
-import collections
 import importlib
 import os
 import re
@@ -24,14 +29,16 @@ import sys
 import tempfile
 import threading
 import time
-from collections.abc import Iterable, Mapping
+from collections import defaultdict
+from collections.abc import Iterable, Mapping, Sequence
 from pathlib import Path
 from typing import Any, NamedTuple
 
 from tools import ROOT
+from tools.common.processes import fields_of, seconds_in, states
 
 KINDS = ("Lts", "Proof", "Tie", "Reads", "Kinds", "Layout")
-TICKS = os.sysconf("SC_CLK_TCK")
+PARTS = ("proof", "mutants")
 
 Seconds = dict[str, dict[str, float]]
 
@@ -75,7 +82,7 @@ def kind_of(module: str) -> str:
 def seconds_by_function(modules: Iterable[Module], samples: Samples, functions: Iterable[str]) -> tuple[float, Seconds]:
     """Returns the seconds before the first module, and those of each function by kind; those of no function are under ``."""
     ordered = sorted(modules, key=lambda module: module.written)
-    found: Seconds = collections.defaultdict(lambda: collections.defaultdict(float))
+    found: Seconds = defaultdict(lambda: defaultdict(float))
     names = set(functions)
     last = first = samples.at(ordered[0].written) if ordered else 0.0
     for module in ordered[1:]:
@@ -102,17 +109,11 @@ def modules_in(folder: Path, crate: str) -> list[Module]:
 # ---- a check
 
 
-def used_by(process: int) -> float:
-    """Returns the processor seconds of a process, and of its children that have ended."""
-    text = Path(f"/proc/{process}/stat").read_text(encoding="utf-8")
-    return sum(map(int, text[text.rindex(")") + 2 :].split()[11:15])) / TICKS
-
-
 def sample(process: int, samples: Samples, is_done: threading.Event) -> None:
     """Notes the seconds of a process four times a second."""
     while not is_done.wait(0.25):
         try:
-            used = used_by(process)
+            used = seconds_in(fields_of(process))
         except OSError:
             return
         samples.times.append(time.time())
@@ -189,8 +190,99 @@ def measure(rtlib: Any, name: str, only: str | None, most: int) -> int:
     return 0 if last.startswith(("logic=proved", "only=")) else 1
 
 
+# ---- a gate
+
+
+class Process(NamedTuple):
+    """A process of the toolchain: what it works on, the processor seconds of it and its ended children, and the most memory it had, in MB."""
+
+    crate: str
+    kind: str
+    seconds: float
+    memory: int
+
+
+Seen = dict[tuple[int, str], Process]
+
+
+def crate_in(words: Sequence[str]) -> str | None:
+    """Returns the crate that a command line names."""
+    return next((after for word, after in zip(words, words[1:]) if word == "--crate-name"), None)
+
+
+def kind_in(folder: str) -> str:
+    """Returns what a process that runs in a folder is for: mutants are tried in copies of the crate."""
+    return "mutants" if "/rt-edit" in folder or "/rt-seed" in folder else "proof"
+
+
+def below(parents: Mapping[int, int], first: int) -> set[int]:
+    """Returns a process and all that descend from it."""
+    found, last = {first}, 0
+    while len(found) > last:
+        last = len(found)
+        found |= {process for process, parent in parents.items() if parent in found}
+    return found
+
+
+def most_memory(process: int) -> int:
+    """Returns the most memory that a process had, in MB."""
+    lines = Path(f"/proc/{process}/status").read_text(encoding="utf-8").splitlines()
+    return next((int(line.split()[1]) // 1024 for line in lines if line.startswith("VmHWM")), 0)
+
+
+def crate_of(process: int) -> str | None:
+    """Returns the crate that a process works on, if it names one and hasn't ended."""
+    try:
+        return crate_in(Path(f"/proc/{process}/cmdline").read_text(encoding="utf-8", errors="replace").split("\0"))
+    except OSError:
+        return None
+
+
+def look(first: int, seen: Seen) -> None:
+    """Notes the toolchain's processes below a process. Those that one of them starts are counted with it, when they have ended."""
+    found = states()
+    parents = {number: int(state[1]) for number, state in found.items()}
+    crates = {process: crate for process in below(parents, first) & found.keys() if (crate := crate_of(process)) is not None}
+    for process, crate in crates.items():
+        try:
+            if parents[process] not in crates:
+                seconds = seconds_in(found[process])
+                seen[process, found[process][19]] = Process(crate, kind_in(os.readlink(f"/proc/{process}/cwd")), seconds, most_memory(process))
+        except OSError:
+            continue
+
+
+def table(processes: Iterable[Process]) -> list[str]:
+    """Returns the rows of the table, the dearest crate first, and their sum."""
+    seconds: dict[str, dict[str, float]] = defaultdict(lambda: defaultdict(float))
+    memory: dict[str, int] = defaultdict(int)
+    for process in processes:
+        seconds[process.crate][process.kind] += process.seconds
+        memory[process.crate] = max(memory[process.crate], process.memory)
+    rows = ["| Crate | Proof, s | Mutants, s | Most memory, MB |", "|---|---|---|---|"]
+    for crate in sorted(seconds, key=lambda name: -sum(seconds[name].values())):
+        rows.append(f"| `{crate}` | {' | '.join(f'{seconds[crate][kind]:.0f}' for kind in PARTS)} | {memory[crate]} |")
+    sums = [sum(used[kind] for used in seconds.values()) for kind in PARTS]
+    return [*rows, f"| together | {' | '.join(f'{used:.0f}' for used in sums)} | {max(memory.values(), default=0)} |"]
+
+
+def measure_gate(words: list[str]) -> int:
+    """Runs a command, and prints what it cost; returns its exit status."""
+    begun = time.monotonic()
+    seen: Seen = {}
+    with subprocess.Popen(words) as command:
+        while command.poll() is None:
+            look(command.pid, seen)
+            time.sleep(1)
+    print("\n".join(table(seen.values())))
+    print(f"gatetime: {(time.monotonic() - begun) / 60:.1f} minutes by the clock, {os.cpu_count()} processors, load {os.getloadavg()[2]:.1f}")
+    return command.returncode
+
+
 def main() -> int:
     """Reads the command line."""
+    if sys.argv[1:2] == ["--gate"]:
+        return measure_gate(sys.argv[2:] or ["rt", "ci"])
     parser = argparse.ArgumentParser(description="Measures what proofs cost.")
     parser.add_argument("--only", metavar="FUNCTION")
     parser.add_argument("--functions", type=int, default=15, metavar="COUNT")

@@ -238,6 +238,12 @@ def name_rows(rows: list[Row]) -> Iterator[str]:
         yield f"kind_of opcode.{row.opcode} = {'inr (refl, λ a. (_, refl))' if row.action else 'inl (λ a b. refl)'}"
 
 
+def call_rows(rows: list[Row]) -> Iterator[str]:
+    """Yields which instructions have a procedure as their first operand; these first."""
+    for row in sorted(rows, key=lambda row: not row.action):
+        yield f"call_of opcode.{row.opcode} = {'inr (refl, λ a. (_, refl))' if row.action else 'inl refl'}"
+
+
 class Region(NamedTuple):
     """Rows of a file: all lines after the line `after`, which comes after `head`, and before one that begins with `until`."""
 
@@ -266,6 +272,7 @@ REGIONS: tuple[Region, ...] = (
     Region(SEEN, "-- ---- an instruction with another skip", "abbrev pub local_with_skip : ℕ → LocalInstr → LocalInstr", "local_with_skip skip i", skip_lines("Local", "local_with_skip")),
     Region(SEEN, "-- ---- an instruction with another skip", "abbrev pub data_with_skip : ℕ → DataInstr → DataInstr", "data_with_skip skip i", skip_lines("Data", "data_with_skip")),
     Region("tw_symbols/proofs/RenamedTexts.antt", "kind_of : ", "kind_of : (o : Opcode) → IsFree o ⊎ IsCall o", "", name_rows),
+    Region("tw_symbols/proofs/RenamedTexts.antt", "call_of : ", "call_of : (o : Opcode) → (is_call (forms_of o) ≡ false) ⊎ IsCall o", "", call_rows),
 )
 
 

@@ -5,8 +5,8 @@
     ./dev instructions --check        fails if a row is missing, or a file that names an instruction is in no list
     ./dev instructions --rows NAME    lists the rows of an instruction, such as Length or Insert
 
-The instructions are the opcodes of crates/tw_code/src/opcode.rt and the variants of LocalInstr and DataInstr in instr.rt next to it. RULE, PUT and RET
-aren't variants of these. Checks (crates of cases, tw_fuzz) may name any instruction.
+The instructions are the opcodes of crates/tw_code/src/opcode.rt and the variants of LocalInstr, DataInstr and Arithmetic in instr.rt next to it. RULE,
+PUT and RET aren't variants of these. Checks (crates of cases, tw_fuzz) may name any instruction.
 """
 
 from __future__ import annotations
@@ -40,8 +40,12 @@ WHOLES: tuple[Whole, ...] = (
     Whole("tw_code/specs/format/Table.antt", "LocalInstr", (r"^row_of .*\blocal\.NAME\b", r"^local_row \(?local\.NAME\b")),
     Whole("tw_code/specs/format/Table.antt", "DataInstr", (r"^row_of .*\(on_data\.NAME\b", r"^data_row \(on_data\.NAME\b")),
     Whole("tw_code/src/sink.rt", "Opcode"),
-    Whole("tw_symbols/proofs/RenamedTexts.antt", "Opcode", (r"^kind_of opcode\.NAME = ",)),
+    Whole("tw_symbols/proofs/RenamedTexts.antt", "Opcode", (r"^kind_of opcode\.NAME = ", r"^call_of opcode\.NAME = ")),
     *(Whole(path, kind) for kind, paths in {
+        "Arithmetic": (
+            "tw_code/specs/format/Table.antt", "tw_code/specs/machine/Local.antt", "tw_code/src/compute.rt", "tw_code/src/operands.rt", "tw_code/src/sink.rt",
+            "tw_verify/src/quick.rt",
+        ),
         "LocalInstr": (
             "tw_code/src/sink.rt",
             "tw_code/specs/accepting/Typing.antt", "tw_code/specs/machine/Local.antt", "tw_soundness/proofs/Values.antt",
@@ -72,7 +76,7 @@ WHOLES: tuple[Whole, ...] = (
 PARTS: tuple[str, ...] = (
     "tw_code/specs/accepting/Flow.antt", "tw_code/src/flow.rt", "tw_asm/specs/Seen.antt", "tw_asm/src/skip.rt", "tw_binary/src/rows.rt",
     "tw_asm/src/instructions.rt",
-    "tw_code/proofs/TableRows.antt", "tw_asm/proofs/Table.antt", "tw_asm/proofs/Rows.antt", "tw_binary/proofs/VersionOne.antt",
+    "tw_code/proofs/Computing.antt", "tw_code/proofs/TableRows.antt", "tw_asm/proofs/Table.antt", "tw_asm/proofs/Rows.antt", "tw_binary/proofs/VersionOne.antt",
     "tw_binary/specs/VersionOne.antt", "tw_frame/src/step.rt", "tw_verify/src/quick.rt", "tw_verify/specs/Quick.antt",
     "tw_symbols/src/instruction.rt", "tw_symbols/specs/LineExpansion.antt",
     "tw_bounds/src/weighing.rt", "tw_bounds/specs/Bounds.antt", "tw_bounds/proofs/Paying.antt", "tw_budget/proofs/Sound.antt",
@@ -85,10 +89,10 @@ PARTS: tuple[str, ...] = (
     *(f"tw_pool_state/proofs/{name}.antt" for name in ("Copies", "Drops", "Gets", "Inserts", "Looks", "Maps", "News", "Sizes", "Stores")),
 )
 
-# Proofs that show one instruction to the prover, and then all others at once: a new one needs nothing there.
+# Files that treat some by themselves and then all others at once: a new one needs nothing there.
 SHOWN_ONE: tuple[str, ...] = (
     "tw_asm/proofs/Skips.antt", "tw_asm/proofs/Written.antt", "tw_diagnostics/proofs/Fewness.antt", "tw_diagnostics/proofs/Starting.antt",
-    "tw_asm/proofs/Firsts.antt", "tw_symbols/proofs/UnchangedLines.antt",
+    "tw_asm/proofs/Firsts.antt", "tw_symbols/proofs/UnchangedLines.antt", "tw_frame/src/arithmetic.rt",
 )
 
 
@@ -103,7 +107,7 @@ def variants_of(text: str, name: str) -> list[str]:
 def instructions_of(root: Path) -> dict[str, list[str]]:
     """Returns the names of the instructions of each kind."""
     opcodes, variants = ((root / path).read_text(encoding="utf-8") for path in (OPCODES, VARIANTS))
-    return {"Opcode": variants_of(opcodes, "Opcode"), "LocalInstr": variants_of(variants, "LocalInstr"), "DataInstr": variants_of(variants, "DataInstr")}
+    return {"Opcode": variants_of(opcodes, "Opcode"), **{kind: variants_of(variants, kind) for kind in ("LocalInstr", "DataInstr", "Arithmetic")}}
 
 
 def mentions(text: str, kind: str, names: list[str]) -> set[str]:
@@ -131,7 +135,7 @@ def missing_rows(root: Path, whole: Whole, names: list[str]) -> Iterator[str]:
     named = mentions(text, whole.kind, names)
     for name in names:
         if not whole.rows and name not in named:
-            yield f"{whole.path}: no row of {name}"
+            yield f"{whole.path}: no row of {name}, or its `use` line lacks it"
         for row in whole.rows:
             if not re.search(row.replace("NAME", name), text, re.M):
                 yield f"{whole.path}: no row of {name}, as {row}"
@@ -162,11 +166,16 @@ def undocumented(root: Path) -> Iterator[str]:
             yield f"{DOCUMENT}: doesn't name {path}"
 
 
+def missing(root: Path) -> list[str]:
+    """Returns which rows are missing."""
+    instructions = instructions_of(root)
+    return [fault for whole in WHOLES for fault in missing_rows(root, whole, instructions[whole.kind])]
+
+
 def faults(root: Path) -> list[str]:
     """Returns all that is wrong."""
     instructions = instructions_of(root)
-    rows = [fault for whole in WHOLES for fault in missing_rows(root, whole, instructions[whole.kind])]
-    return [*rows, *unlisted(root, instructions), *unused(root, instructions), *undocumented(root)]
+    return [*missing(root), *unlisted(root, instructions), *unused(root, instructions), *undocumented(root)]
 
 
 def check(root: Path) -> int:

@@ -38,6 +38,13 @@ pub enum DataInstr {
         datum: u8,
     },
 }
+
+pub enum Arithmetic {
+    Minus,
+}
+"""
+RESULTS = """use Rattle.tw_code.specs.declared.instr.Arithmetic.TheVariants.{Minus}
+result_of Minus a b = a
 """
 EFFECTS = """use Rattle.tw_code.specs.declared.instr.LocalInstr.TheVariants as local
 effect (local.Add to) = tt
@@ -50,6 +57,7 @@ WHOLES = (
     instructions.Whole("tw_code/src/opcode.rt", "Opcode", (r"^    NAME = 0x", r"^    (?:.* )?Opcode::NAME,(?: |$)", r'Opcode::NAME => "')),
     instructions.Whole("tw_code/specs/Local.antt", "LocalInstr"),
     instructions.Whole("tw_stats/specs/Waits.antt", "DataInstr"),
+    instructions.Whole("tw_code/specs/Results.antt", "Arithmetic"),
 )
 PARTS = ("tw_asm/src/skip.rt",)
 
@@ -63,7 +71,7 @@ class Rows(unittest.TestCase):
         self.root = pathlib.Path(folder.name)
         self.write("docs/ADDING.md", " ".join(f"`{path}`" for path in ("tw_code/src/instr.rt", *PARTS, *(whole.path for whole in WHOLES))))
         for path, text in (("tw_code/src/opcode.rt", OPCODES), ("tw_code/src/instr.rt", VARIANTS), ("tw_code/specs/Local.antt", EFFECTS),
-                           ("tw_stats/specs/Waits.antt", WAITS), ("tw_asm/src/skip.rt", "LocalInstr::Fly => 0,\n"),
+                           ("tw_stats/specs/Waits.antt", WAITS), ("tw_code/specs/Results.antt", RESULTS), ("tw_asm/src/skip.rt", "LocalInstr::Fly => 0,\n"),
                            ("tw_cases/src/a.rt", "LocalInstr::Fly => 0,\n"), ("tw_code/out/a.rt", "LocalInstr::Fly => 0,\n")):
             self.write(f"crates/{path}", text)
         for name, value in (("WHOLES", WHOLES), ("PARTS", PARTS), ("SHOWN_ONE", ())):
@@ -95,6 +103,12 @@ class Rows(unittest.TestCase):
         self.write("crates/tw_code/src/instr.rt", VARIANTS.replace("    Fly,\n", "    Fly,\n    Min { to: u8 },\n"))
         self.assertEqual(self.found(), ["tw_code/specs/Local.antt: no row of Min"])
 
+    def test_a_row_without_an_import_is_none(self) -> None:
+        self.write("crates/tw_code/src/instr.rt", VARIANTS.replace("    Minus,\n", "    Minus,\n    Minimum,\n"))
+        for text, is_well in ((RESULTS, False), (RESULTS + "result_of Minimum a b = b\n", False), (RESULTS.replace("{Minus}", "{Minus, Minimum}") + "result_of Minimum a b = b\n", True)):
+            self.write("crates/tw_code/specs/Results.antt", text)
+            self.assertEqual(self.found(), [] if is_well else ["tw_code/specs/Results.antt: no row of Minimum"])
+
     def test_an_import_is_no_row(self) -> None:
         self.write("crates/tw_stats/specs/Waits.antt", WAITS.replace("written (Store datum from)", "written x"))
         self.assertEqual(self.found(), ["tw_stats/specs/Waits.antt: no row of Store", "tw_stats/specs/Waits.antt: is in a list of ./dev instructions"])
@@ -113,7 +127,7 @@ class Rows(unittest.TestCase):
 
     def test_a_file_that_the_document_lacks_is_found(self) -> None:
         self.write("docs/ADDING.md", "`tw_code/src/instr.rt` `tw_code/src/opcode.rt` `tw_asm/src/skip.rt` tw_stats/specs/Waits.antt")
-        self.assertEqual(self.found(), [f"docs/ADDING.md: doesn't name {path}" for path in ("tw_code/specs/Local.antt", "tw_stats/specs/Waits.antt")])
+        self.assertEqual(self.found(), [f"docs/ADDING.md: doesn't name {path}" for path in ("tw_code/specs/Local.antt", "tw_code/specs/Results.antt", "tw_stats/specs/Waits.antt")])
 
     def test_rows_are_listed(self) -> None:
         printed = io.StringIO()

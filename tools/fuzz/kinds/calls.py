@@ -17,8 +17,11 @@ from tools.fuzz.common import Corpus, RunTest, FuzzTest, case_word, difference, 
 
 COMMANDS = ["asm", "disasm", "check", "run", "replay", "picture", "explain", "help", "--help", "-h", "--version", "-V", ""]
 FLAGS = ["--text", "--names", "--plain", "--places", "--bounds", "--trace", "--stats", "--picture", "--quiet", "--in-turn", "--inputs", "--inputs-json", "--help", "-h", "--", "-",
+         "--inputs=x", "--each=-", "[1,2]", '["a", "b]"]',
          "--json", "--each", "--bounds=all", "--order", "--seed=7", "--seed=0", "--seconds=0", "--seconds=1000", "--seconds=4294967295", "--seconds=4294967296"]
 NUMBERED = ["--engines", "--servers", "--workers", "--limit", "--from", "--to", "--jobs", "--most-tasks", "--most-instructions", "--most-data", "--most-bytes", "--most-budget", "--most-members"]
+VALUED = (*NUMBERED, "--seed", "--seconds")
+NAMING = ("--inputs", "--inputs-json", "--each", "--events")
 READING = ("asm", "check", "disasm", "picture", "replay", "run")
 VALUES = ["0", "1", "2", "4", "5", "16", "17", "100", "1000000", "1000001", "4294967295", "4294967296", "-1", "+1", "01", "x", "", "1.0", "99999999999999999999"]
 INPUTS = ["int:7", "int:-4", "int:", "int:x", "int:9223372036854775808", "ints:", "ints:1=7,5=-3", "ints:5=1,1=2", "ints:1=2,", "text:", "text:a b ", "text:é",
@@ -34,6 +37,8 @@ TEXTS = {
 }
 # How the library, which has no clock, rejects --seconds. The program takes it.
 CLOCKLESS = "command line refused\n--seconds needs the command tw"
+# A help has this; with it the program reads no file.
+IS_HELP = "\nUsage: tw "
 # The statuses if arguments are rejected, and if a file can't be read.
 REJECTED, NO_FILE = 2, 66
 
@@ -49,15 +54,62 @@ def answer_fault(answer: Answer) -> str | None:
 # --- args
 
 
+def may_name(word: str) -> bool:
+    """Says if a word may name a file."""
+    return bool(word) and (word[0] != "-" or word == "-") and not re.match("(int|ints|text|texts|tints|ttexts):", word)
+
+
+def bare_input(word: str) -> str | None:
+    """Returns the input that a bare word is."""
+    if re.fullmatch("-?[0-9]+", word):
+        return f"int:{word}"
+    if len(word) < 2 or word[0] != "[" or word[-1] != "]":
+        return None
+    inside = word[1:-1].strip(" \t\r\n\f")
+    pieces = re.findall(r'"(?:[^"\\\\]|\\\\.)*"?|[ \t\r\n\f]+|.', inside, re.S)
+    items: list[list[str]] = [[]] if inside else []
+    for piece in pieces:
+        if piece == ",":
+            items.append([])
+        else:
+            items[-1].append(" " if piece.isspace() else piece)
+    made = ",".join(f"{count}={''.join(item).strip(' ')}" for count, item in enumerate(items))
+    return ("texts:" if inside[:1] == '"' else "ints:") + made
+
+
+def rewritten(words: list[str]) -> list[str]:
+    """Returns a command line as the program passes it on: with the kinds of bare inputs after a file, files as arguments of their own, and no `--`."""
+    if not words or words[0] not in READING:
+        return words
+    made, before, file, has_dashes = [words[0]], "", "", False
+    for word in words[1:]:
+        option, before = before, word
+        name, sign, value = word.partition("=")
+        if not has_dashes and word == "--":
+            has_dashes = True
+        elif not has_dashes and sign and name in NAMING:
+            made += [name, value]
+            before = ""
+        elif not has_dashes and (option in VALUED or option in NAMING and may_name(word) or option == "--bounds" and word in ("main", "all")):
+            made.append(word)
+            before = ""
+        elif file not in ("", "-") and words[0] in ("run", "replay", "picture") and (bare := bare_input(word)) is not None:
+            made.append(bare)
+        else:
+            made.append(f"./{word}" if has_dashes and len(word) > 1 and word[0] == "-" else word)
+            file = file or (made[-1] if may_name(made[-1]) else "")
+    return made
+
+
 def file_places(words: list[str]) -> list[int]:
     """Returns where files are named: the first after `--inputs` or `--each`, and the first other argument that is no value and no input."""
     program = inputs = 0
     for place, (before, word) in enumerate(zip(words, words[1:]), 1) if words[:1] and words[0] in READING else ():
-        if not word or word[0] == "-" and word != "-" or re.match("(int|ints|text|texts|tints|ttexts):", word):
+        if not may_name(word):
             continue
-        if before in ("--inputs", "--each") and not inputs:
+        if before in NAMING and not inputs:
             inputs = place
-        elif not program and before not in NUMBERED and (before, word) not in (("--bounds", "main"), ("--bounds", "all")):
+        elif not program and before not in VALUED and (before, word) not in (("--bounds", "main"), ("--bounds", "all")):
             program = place
     return [place for place in (program, inputs) if place]
 
@@ -79,22 +131,23 @@ class ArgsTest(FuzzTest):
         return [words[0], "--in-turn", *words[1:]] if words[:1] == ["run"] and "--in-turn" not in words else words
 
     def fault(self, library: Library) -> str | None:
-        answer = library.session(self.line, self.data)
-        why = answer_fault(answer)
+        why = answer_fault(library.session(self.line, self.data))
         if why or not self.by_program:
             return why
+        line = rewritten(self.line)
+        answer = library.session(line, self.data)
         if answer[1].startswith(CLOCKLESS):
-            answer = library.session([word for word in self.line if not word.startswith("--seconds=")], self.data)
+            answer = library.session([word for word in line if not word.startswith("--seconds=")], self.data)
         status, text = library.command(self.line, self.data)
-        places = file_places(self.line)
-        files = [self.line[place] for place in places]
+        places = file_places(line)
+        files = [line[place] for place in places]
         if "-" in files or files and status == NO_FILE:
+            return None
+        others = [word for place, word in enumerate(line) if place not in places]
+        if files and (status == REJECTED or IS_HELP in text) and library.session(others, self.data) == (status, text):
             return None
         if files and not text.startswith("command line refused") and any("." in name or "/" in name for name in files):
             return f"program: status {status}, but {files} can't be read"
-        others = [word for place, word in enumerate(self.line) if place not in places]
-        if files and status == REJECTED and library.session(others, self.data) == (status, text):
-            return None
         if status != answer[0]:
             return f"program: status {status} {text[:100]!r}, the library {answer[0]} {answer[1][:100]!r}"
         return difference("program", answer[1], text)

@@ -15,7 +15,7 @@ from tools.fuzz.library import Answer, Library
 from tools.fuzz.oracle.machine import Value
 from tools.fuzz.oracle.report import input_words
 from tools.fuzz.kinds.runs import run_test
-from tools.fuzz.common import Corpus, FuzzTest, RunTest, case_word, difference
+from tools.fuzz.common import Corpus, FuzzTest, RunTest, case_word, difference, visible_json
 
 # Lines that no array of inputs is, with the first words of their errors.
 WRONG = {
@@ -108,9 +108,10 @@ class EachTest(RunTest):
         if why or not self.jobs:
             return why
         jobs = ["--jobs", str(self.jobs)]
+        printed = [visible_json(line) for line in expected]
         return (
-            self.answer_fault(expected, library.command([*self.arguments, *jobs], self.data))
-            or self.answer_fault(expected, self.streamed(library, jobs))
+            self.answer_fault(printed, library.command([*self.arguments, *jobs], self.data))
+            or self.answer_fault(printed, self.streamed(library, jobs))
         )
 
     def smaller(self) -> Iterator[FuzzTest]:

@@ -16,7 +16,7 @@ from tools.fuzz.oracle.code import (
 )
 from tools.fuzz.library import Library
 from tools.fuzz.oracle.names import is_name, new_name, symbolic, wrong
-from tools.fuzz.common import Corpus, FuzzTest, answer_part, difference, indented, input_lines
+from tools.fuzz.common import Corpus, FuzzTest, answer_part, difference, indented, input_lines, visible
 
 ERROR = re.compile(r"refused ([AN]\d\d)(?: at line (\d+))?(?:\n|$)")
 
@@ -272,7 +272,8 @@ class DamagedText(FuzzTest):
             return difference("check --text", got, text)
         source = self.text.split("\n")
         number = int(got.rstrip("\n").split(" ")[-1])
-        shown = source[number - 1].rstrip("\r") if number <= len(source) else ""
+        whole = [*(line.removesuffix("\r") for line in source[:-1]), source[-1]]  # a CR alone, at the end of the text, is no line end
+        shown = visible(whole[number - 1]) if number <= len(source) else ""
         if lines[1].removesuffix(" ..").rstrip()[:150] != shown[:200].rstrip()[:150] and shown.strip():
             return f"check --text: expected line {number}, {shown[:200]!r}, got {lines[1][:250]!r}"
         where = re.search(r"word (\d+), column (\d+)", lines[2] if len(lines) > 2 else "")
@@ -366,7 +367,7 @@ class WrongNameTest(TextTest):
         lines = got.split("\n")
         if status != 1 or lines[0] != f"refused {code} at line {line}":
             return f"asm --names: expected refused {code} at line {line}, {text.split(chr(10))[line - 1]!r}, got {got[:300]!r}"
-        if code[0] == "N" and (len(lines) < 3 or lines[1] != text.split("\n")[line - 1] or lines[2].split(":")[0].split(" ")[0] not in lines[1]):
+        if code[0] == "N" and (len(lines) < 3 or lines[1] != visible(text.split("\n")[line - 1]) or lines[2].split(":")[0].split(" ")[0] not in lines[1]):
             return f"names: the diagnostic of line {line}: {got[:300]!r}"
         return None
 

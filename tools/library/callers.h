@@ -1,0 +1,12 @@
+/* SPDX-License-Identifier: Apache-2.0 */
+/* What callers.c and loaded.c share. */
+#include "../../embed/yuglemit.h"
+
+extern uint8_t program_bytes[1 << 16]; /* those of examples/read_number.twn */
+extern size_t program_length;
+
+/* Counts a check, and prints what it is if it doesn't hold. */
+void check(int holds, const char *what);
+
+/* The checks of loaded.c. */
+void check_with_little_stack(void);

@@ -1,0 +1,95 @@
+"""Tests of script/find.sh: each cause for which no program answers has its own message, and a failed unpack never begins a build."""
+
+from __future__ import annotations
+
+import gzip
+import hashlib
+import os
+import shutil
+import subprocess
+import tempfile
+import unittest
+from pathlib import Path
+
+from tools import ROOT
+
+FAKE = b"#!/bin/sh\necho answered \"$@\"\n"
+
+
+class Found(unittest.TestCase):
+    """A clone with one small crate, whose release is a script."""
+
+    def setUp(self) -> None:
+        folder = tempfile.TemporaryDirectory()
+        self.addCleanup(folder.cleanup)
+        self.top = Path(folder.name) / "clone"
+        self.tools = Path(folder.name) / "bin"
+        shutil.copytree(ROOT / "script", self.top / "script")
+        shutil.copy(ROOT / "tw", self.top / "tw")
+        for name, text in (("crates.txt", "tw_main:\n"), ("VERSION", "0.0\n"), ("crates/tw_main/src/main.rt", "fn main() {}\n")):
+            (self.top / name).parent.mkdir(parents=True, exist_ok=True)
+            (self.top / name).write_text(text, encoding="utf-8")
+        (self.top / "release").mkdir()
+        (self.top / "release/tw.gz").write_bytes(gzip.compress(FAKE))
+        sums = subprocess.run([self.top / "script/sources.sh", "tw_main"], stdout=subprocess.PIPE, text=True, check=True).stdout.split()
+        manifest = f"sources tw_main {sums[0]}\ncode tw_main {sums[1]}\nfile tw {len(FAKE)} {hashlib.sha256(FAKE).hexdigest()}\n"
+        (self.top / "release/MANIFEST").write_text(manifest, encoding="utf-8")
+        # The folders of PATH without the command rt, and a folder for one that notes its calls.
+        self.path = ":".join(place for place in os.environ["PATH"].split(":") if not (Path(place) / "rt").exists())
+        self.tools.mkdir()
+
+    def answer(self, *words: str, **variables: str) -> tuple[int, str, str]:
+        """Returns the status of ./tw, what it printed, and its complaint."""
+        done = subprocess.run([self.top / "tw", *words], capture_output=True, text=True, check=False, env={**os.environ, "PATH": self.path, **variables})
+        return done.returncode, done.stdout, done.stderr
+
+    def assert_fails(self, cause: str, *words: str, **variables: str) -> None:
+        status, printed, complaint = self.answer(*(words or ("run",)), **variables)
+        self.assertEqual((status, printed), (70, ""))
+        self.assertIn(f"tw: {cause}", complaint)
+
+    def test_the_release_answers(self) -> None:
+        self.assertEqual(self.answer("run", "x"), (0, "answered run x\n", ""))
+
+    def test_a_file_in_place_of_out(self) -> None:
+        (self.top / "out").write_text("", encoding="utf-8")
+        self.assertEqual(self.answer("run")[:2], (0, "answered run\n"))
+        self.assert_fails("no folder can be made in /nothing", TMPDIR="/nothing")
+
+    def test_other_sources(self) -> None:
+        (self.top / "crates/tw_main/src/main.rt").write_text("fn other() {}\n", encoding="utf-8")
+        self.assert_fails("the sources aren't the release's, and the command rt")
+
+    def test_no_release(self) -> None:
+        (self.top / "release/tw.gz").unlink()
+        self.assert_fails("release/tw.gz is missing, and the command rt")
+
+    def test_no_manifest(self) -> None:
+        (self.top / "release/MANIFEST").unlink()
+        self.assert_fails("release/MANIFEST is missing, and the command rt")
+
+    def test_a_build_without_toolchain(self) -> None:
+        self.assert_fails("./tw build proves the sources, and the command rt", "build")
+
+    def test_a_failed_unpack_begins_no_build(self) -> None:
+        called = self.tools / "called"
+        (self.tools / "rt").write_text(f"#!/bin/sh\ntouch {called}\n", encoding="utf-8")
+        (self.tools / "rt").chmod(0o755)
+        path = f"{self.tools}:{self.path}"
+        (self.top / "out").mkdir()
+        (self.top / "out/release").write_text("", encoding="utf-8")
+        self.assert_fails("release/tw.gz can't be unpacked into", PATH=path)
+        (self.top / "out/release").unlink()
+        (self.top / "release/tw.gz").write_bytes(gzip.compress(b"other"))
+        self.assert_fails("release/tw.gz isn't the file that release/MANIFEST names", PATH=path)
+        self.assertFalse(called.exists())
+
+    def test_without_a_command_all_are_listed(self) -> None:
+        status, printed, complaint = self.answer()
+        self.assertEqual((status, printed), (2, "command line refused\n"))
+        for command in ("run", "test", "install", "package", "build"):
+            self.assertRegex(complaint, rf"(?m)^  {command} ")
+
+
+if __name__ == "__main__":
+    unittest.main()
