@@ -1,7 +1,6 @@
 //! Cases of whole sessions.
 
 use crate::calls::{has_line_feed, is_answered, is_kept};
-use crate::streams::Room;
 use crate::words::{read_words, unescaped};
 use std::alloc::Global;
 use std::ops::Range;
@@ -9,7 +8,8 @@ use std::sync::Wait;
 use std::thread::Threads;
 use std::time::Clock;
 use tw_case_lines::{Book, Complaint, Text, read_bytes};
-use tw_session::{InStream, NoGate, OutStream, Status, complain, session};
+use tw_cli::{NoOrder, read_order};
+use tw_session::{InStream, NoGate, OutStream, Status, session, unordered_session};
 
 /// Returns the status and the whole text of a session with these arguments and this input.
 pub fn tw_text<H: AllocGlobal + Threads + Wait + Clock + Sync>(
@@ -32,7 +32,10 @@ fn status_of<H, R: InStream, W: OutStream>(
 where
     H: AllocGlobal + Threads + Wait + Clock + Sync,
 {
-    session(rt, &NoGate, words, reader, writer)
+    match read_order(rt.alloc(), words) {
+        Ok(order) => session(rt, &NoGate, order, reader, writer),
+        Err(why) => unordered_session(rt.alloc(), why, writer),
+    }
 }
 
 /// Runs a session of a case, and returns its exit status.
@@ -48,20 +51,21 @@ where
     status_of(rt, words, reader, writer).code()
 }
 
-/// Returns the output of a case: the standard error of a session without input, or `nothing`.
-pub fn errors_text<H: AllocGlobal + Threads + Wait + Clock + Sync>(
-    rt: &H,
-    words: &str,
-) -> Result<String, Complaint> {
+/// Adds why arguments are rejected, or `nothing` if they aren't.
+fn put_reason(text: &mut Text, why: NoOrder) {
+    match why {
+        NoOrder::Refused(complaint) => text.put(complaint.line()),
+        _other => text.put("nothing"),
+    }
+}
+
+/// Returns the output of a case: why arguments are rejected, or `nothing`.
+pub fn errors_text<H: AllocGlobal>(rt: &H, words: &str) -> Result<String, Complaint> {
     let words = read_words(rt.alloc(), words)?;
-    let mut reader: &[u8] = &[];
-    let mut errors = Vec::new(rt.alloc());
-    let status = status_of(rt, words.as_slice(), &mut reader, &mut Room::new());
-    complain(rt.alloc(), status, words.as_slice(), &mut errors);
     let mut text = Text::new(rt.alloc());
-    text.put_bytes(errors.as_slice());
-    if errors.is_empty() {
-        text.put("nothing");
+    match read_order(rt.alloc(), words.as_slice()) {
+        Ok(_order) => text.put("nothing"),
+        Err(why) => put_reason(&mut text, why),
     }
     text.into_line()
 }

@@ -26,7 +26,7 @@ pub struct FlagSignal<'f> {
     pub(crate) ghost is_tracked: { word.now ≡ word_in seen.book },
 }
 
-/// What a run has seen of a flag, after the run. It has no bytes.
+/// A flag as a run has seen it, after the run. It has no bytes.
 #[derive(Drop)]
 pub struct SeenSettings {
     pub(crate) seen: Seen<bool, bool, FlagRule>,

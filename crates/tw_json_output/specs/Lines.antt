@@ -10,7 +10,7 @@ use Rattle.tw_json_output.specs.Run.{json_line}
 abbrev pub IsOneLine : List ℕ → Type 0
 IsOneLine text = (before : List ℕ) × (text ≡ before ++ codes "\n") × All (λ byte. byte ≢ 10) before
 
--- one line of JSON: the compact text of a value, which is read back if it isn't nested deeper than a reader goes
+-- one line of JSON: the compact text of a value, which is read back unless it is nested deeper than a reader allows
 pub record IsJsonLine (line : List ℕ) : Type 0 where
   pub value : Data
   pub is : line ≡ json_line value

@@ -14,4 +14,3 @@ pub mod Leasts
 pub mod BestTasks
 pub mod Bests
 pub mod Numbered
-pub mod Moments

@@ -1,4 +1,4 @@
-//! What an event adds to the counts of a trace.
+//! The share of an event in the counts of a trace.
 
 ghost use Rattle.tw_stats.specs.Sums.{IsShare};
 

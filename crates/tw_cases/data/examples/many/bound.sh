@@ -7,6 +7,7 @@
 # The limit bounds a program that has no bounds, or more than LIMIT events. Then no event does more instructions than the greatest
 # budget. Each instruction and each event counts as twice the dearest that the program may have: of ints; of texts, if it has some; READI of the
 # longest text, if it has that (./dev prices measures them). So most runs take a small part of it.
+[ $# = 2 ] || [ $# = 3 ] || { echo "usage: bound.sh TW PROGRAM [LIMIT]" >&2; exit 2; }
 tw=$1 program=$2 limit=${3:-1000000} text=''
 case $program in
     *.[tT][wW] | *.[tT][wW][nN]) text=--text ;;
