@@ -641,7 +641,7 @@ class Command(unittest.TestCase):
             code = f"import pathlib, yuglemit\nyuglemit.load(pathlib.Path({str(path)!r}))"
             done = subprocess.run([sys.executable, "-c", code], capture_output=True, text=True)
         self.assertNotIn("yuglemit/build", done.stderr)
-        self.assertEqual(done.stderr.count("Traceback"), 1)
+        self.assertEqual((done.stderr.count("Traceback"), done.stderr.count("  File ")), (1, 2))
         self.assertRegex(done.stderr.splitlines()[-1], f"^yuglemit.build.BuildError: {path}:4:5: a task of main may take .* \\(V17\\)")
 
     def test_run(self) -> None:

@@ -51,7 +51,7 @@ def _report_of(program: Program, words: Sequence[str], limit: Optional[int], sec
     asked = program.parameters
     words = words[1:] if words[:1] == ["--"] else words
     if any(it.startswith("--") for it in words):
-        raise ValueError("options stand before FILE.py")
+        raise ValueError("put options before FILE.py")
     if len(words) != len(asked):
         raise ValueError(f"the program takes {len(asked)} inputs ({', '.join(map(str, asked))}), {len(words)} are given")
     inputs = [_input_of(word, it, number) for number, (word, it) in enumerate(zip(words, asked), 1)]

@@ -90,22 +90,19 @@ def _is_hex(path: Path, data: bytes) -> bool:
     return path.suffix.lower() in (".hex", ".history") or first == b"545742"
 
 
-def _load_python(path: Path) -> Program:
-    """Compiles a file. An error of the compiler has no frames of it."""
+def _load_python(path: Path) -> Union[Program, Exception]:
+    """Compiles a file, or returns the compiler's error, which `load` raises: so its own frame is the only one after the user's."""
     from .build import BuildError, build_file
 
     try:
         return build_file(path).program
     except BuildError as why:
-        raise why.with_traceback(None) from None
+        return why.with_traceback(None)
 
 
 def _load_file(path: Path) -> Program:
-    ending = path.suffix.lower()
-    if ending == ".py":
-        return _load_python(path)
     data = path.read_bytes()
-    if ending not in (".tw", ".twn"):
+    if path.suffix.lower() not in (".tw", ".twn"):
         if data[:3] == b"TWB":
             return load_bytes(data)
         if _is_hex(path, data):
@@ -140,5 +137,9 @@ def load(source: Source) -> Program:
     if isinstance(source, (bytes, bytearray, memoryview)):
         return load_bytes(source)
     if isinstance(source, os.PathLike):
-        return _load_file(Path(source))
+        path = Path(source)
+        made = _load_python(path) if path.suffix.lower() == ".py" else _load_file(path)
+        if isinstance(made, Exception):
+            raise made from None
+        return made
     raise TypeError(f"expected a path, a str or bytes, got {shown(source)}")
