@@ -14,7 +14,7 @@ use Rattle.tw_binary.specs.declared.fault.FaultNo.{FaultNo}
 use Rattle.tw_binary.specs.declared.fault.FaultNo.TheVariants as fault
 use Rattle.tw_binary.specs.declared.fault.FaultNo.TheVariants.{Limit, Unknown}
 use Rattle.tw_code.specs.declared.version.Version.{Version}
-use Rattle.tw_code.specs.declared.version.Version.TheVariants.{One, Two, Four}
+use Rattle.tw_code.specs.declared.version.Version.TheVariants.{One, Two, Four, Five}
 use Rattle.tw_code.specs.format.Program.{IsWithin, IsRegister}
 use Rattle.tw_binary.specs.Spelling.{Item, byte, kind_code, mode_code, scalar_items, values_items, version_items}
 use Rattle.tw_binary.specs.Reading.{Reading, is_within, byte_at, register_at, exactly_at, kind_at, scalar_at, mode_at, values_at, version_at}
@@ -211,17 +211,19 @@ unfolding version_at
 version_strict = record { format = record { takes = takes; again = again }; some = One; some_fits = tt; fails = fails } where
   takes : (bytes : List ℕ) (x : Version) (rest : List ℕ) → IsBytes bytes → version_at bytes ≡ Ok (x, rest) → Takes bytes (concat (version_items x)) rest × AnyOf x
   takes [] x rest fits e = absurd cc
-  takes (b ∷ bs) x rest fits e = (by_code version_items 1 One _ b bs x rest fits refl (by_code version_items 2 Two _ b bs x rest fits refl (by_code version_items 4 Four _ b bs x rest fits refl (λ h. absurd cc))) e, tt)
+  takes (b ∷ bs) x rest fits e = (by_code version_items 1 One _ b bs x rest fits refl (by_code version_items 2 Two _ b bs x rest fits refl (by_code version_items 4 Four _ b bs x rest fits refl (by_code version_items 5 Five _ b bs x rest fits refl (λ h. absurd cc)))) e, tt)
 
   again : (x : Version) (rest : List ℕ) → AnyOf x → version_at (concat (version_items x) ++ rest) ≡ Ok (x, rest)
   again One rest h = refl
   again Two rest h = refl
   again Four rest h = refl
+  again Five rest h = refl
 
   fails : (bytes : List ℕ) (f : Broken) → IsBytes bytes → version_at bytes ≡ Err f → FailsAt AnyOf version_items version_at bytes f
   fails [] f fits e = inl (nothing_left f One tt 1 [] refl (err_is {Z = Version × List ℕ} _ f e))
   fails (b ∷ bs) f fits e =
       let g = not_this (eqb b 1) (One, bs) _ f e in
       let h = not_this (eqb b 2) (Two, bs) _ f g.1 in
-      let i = refused (eqb b 4) (Four, bs) (record { no = fault.Version; left = suc (length bs) }) f h.1 in
-      inr (wrong_byte b bs fault.Version f One tt 1 [] refl tt i.1 (λ rest. rw (g.0, h.0, i.0) refl))
+      let i = not_this (eqb b 4) (Four, bs) _ f h.1 in
+      let j = refused (eqb b 5) (Five, bs) (record { no = fault.Version; left = suc (length bs) }) f i.1 in
+      inr (wrong_byte b bs fault.Version f One tt 1 [] refl tt j.1 (λ rest. rw (g.0, h.0, i.0, j.0) refl))

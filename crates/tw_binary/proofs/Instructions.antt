@@ -11,7 +11,7 @@ use Rattle.tw_code.specs.declared.instr.Instr.TheVariants as instr
 use Rattle.tw_code.specs.declared.opcode.Opcode.{Opcode}
 use Rattle.tw_code.specs.declared.opcode.TheConstants.{OPCODES}
 use Rattle.tw_code.specs.declared.version.Version.{Version}
-use Rattle.tw_code.specs.declared.version.Version.TheVariants.{One, Two, Four}
+use Rattle.tw_code.specs.declared.version.Version.TheVariants.{One, Two, Four, Five}
 use Rattle.tw_code.specs.format.Program.{IsInstrOf, IsList, IsOperandOf, IsRegister, IsTarget, IsWithin}
 use Rattle.tw_binary.specs.Spelling.{Item, byte, counted_items, instr_items, operand_items, register_items, target_code}
 use Rattle.tw_code.specs.format.Table.{Content, Contents, Operand, Row, a_row, code_of, forms_in, forms_of, has_opcode, holds, if_had, opcode_at, row, row_of}
@@ -147,6 +147,7 @@ ret_fits : (version : Version) → IsInstrOf version instr.Ret
 ret_fits One = (refl, tt)
 ret_fits Two = (refl, tt)
 ret_fits Four = (refl, tt)
+ret_fits Five = (refl, tt)
 
 pub instr_strict : (version : Version) → IsStrict (IsInstrOf version) instr_items (instr_at version)
 unfolding instr_at

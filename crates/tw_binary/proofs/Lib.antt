@@ -10,5 +10,4 @@ pub mod Numbers
 pub mod Programs
 pub mod TextFormat
 pub mod Types
-pub mod VersionOne
-pub mod VersionTwo
+pub mod Keeping

@@ -18,10 +18,11 @@ use Rattle.tw_binary.specs.declared.fault.FaultNo.TheVariants.{Unknown, Nesting}
 use Rattle.tw_binary.specs.declared.fault.Stop.{Stop}
 use Rattle.tw_binary.specs.declared.fault.Stop.TheVariants as stop
 use Rattle.tw_code.specs.declared.version.Version.{Version}
-use Rattle.tw_code.specs.declared.version.Version.TheVariants.{One, Two, Four}
+use Rattle.tw_code.specs.declared.version.Version.TheVariants.{One, Two, Four, Five}
 use Rattle.tw_code.specs.format.Program.{IsMapOf, IsParamOf, IsSubscriptOf, IsTypeUnderOf}
+use Rattle.tw_code.specs.format.Versions.{has_maps, has_texts}
 use Rattle.tw_binary.specs.Spelling.{container_code, leaf_items, map_code, nested_items, scalar_code, type_items, param_items, values_items}
-use Rattle.tw_binary.specs.Reading.{Fails, Reading, as_is, container_in, has_texts, leaf_at, map_from, map_in, scalar_at, type_at, values_at, type_under, param_at, missing, wrong}
+use Rattle.tw_binary.specs.Reading.{Fails, Reading, as_is, container_in, leaf_at, map_from, map_in, scalar_at, type_at, values_at, type_under, param_at, missing, wrong}
 use Rattle.tw_binary.proofs.Formats.{IsBytes, IsBytes-rest, bind_ok, chosen, ok_is, Takes, Takes-then, as_is_takes, as_is_again, IsMade}
 use Rattle.tw_binary.proofs.Breaks.{IsStrict, FailsAt, GoesOn, carried, due_after, err_is, refused, as_is_fails, as_is_strict, then_strict}
 use Rattle.tw_binary.proofs.Bytes.{a_byte, AnyOf, front, nothing_left, wrong_byte, not_this, scalar_strict, mode_strict, values_strict}
@@ -50,12 +51,14 @@ container_is version b by e =
     texts One by h = cc
     texts Two by h = (subst (IsSubscriptOf Two) (some_is Text by h) tt, some_is Text by h)
     texts Four by h = (subst (IsSubscriptOf Four) (some_is Text by h) tt, some_is Text by h)
+    texts Five by h = (subst (IsSubscriptOf Five) (some_is Text by h) tt, some_is Text by h)
 
 container_known : (version : Version) (by : Scalar) → IsSubscriptOf version by → container_in version (container_code by) ≡ Some by
 container_known version Int h = refl
 container_known One Text h = absurd h
 container_known Two Text h = refl
 container_known Four Text h = refl
+container_known Five Text h = refl
 
 -- parsing depends on whether a container begins
 begun : {Z : Type 0} (o : Option Scalar) (f : Scalar → Z) (y z : Z) → option_map_or f o y ≡ z → ((by : Scalar) × (o ≡ Some by) × (f by ≡ z)) ⊎ ((o ≡ None) × (y ≡ z))
@@ -70,32 +73,37 @@ scalar_type_takes version room bytes t rest fits e =
     subst (λ (u : NestedScalar). Takes bytes (concat (type_items u)) rest × IsUnder version room u) a.3 (a.1, (omega arith, (tt, tt)))
 
 -- the first byte of a map is its code, and the version has maps
-map_is : (version : Version) (b : ℕ) (by : Scalar) → map_in version b ≡ Some by → (b ≡ map_code by) × (version ≡ Four)
-map_is One b by e = cc
-map_is Two b by e = cc
-map_is Four b by e =
-    elim (chosen (eqb b 5) (Some Int) (cond (eqb b 6) (Some Text) None) (Some by) e) [
+map_is : (version : Version) (b : ℕ) (by : Scalar) → map_in version b ≡ Some by → (b ≡ map_code by) × (has_maps version ≡ true)
+map_is version b by e = in_version (has_maps version) e
+  where
+    some_is : (x y : Scalar) → Some x ≡ Some y → x ≡ y
+    some_is x y h = cc
+
+    in_version : (has : Bool) → cond has (cond (eqb b 5) (Some Int) (cond (eqb b 6) (Some Text) None)) None ≡ Some by → (b ≡ map_code by) × (has ≡ true)
+    in_version false e = cc
+    in_version true e = elim (chosen (eqb b 5) (Some Int) (cond (eqb b 6) (Some Text) None) (Some by) e) [
       | inl h ↦ (subst (λ (s : Scalar). b ≡ map_code s) (some_is Int by h.1) (eqb-true b 5 h.0), refl)
       | inr h ↦ elim (chosen (eqb b 6) (Some Text) None (Some by) h.1) [
         | inl g ↦ (subst (λ (s : Scalar). b ≡ map_code s) (some_is Text by g.1) (eqb-true b 6 g.0), refl)
         | inr g ↦ cc
       ]
     ]
-  where
-    some_is : (x y : Scalar) → Some x ≡ Some y → x ≡ y
-    some_is x y h = cc
 
-map_known : (by : Scalar) → map_in Four (map_code by) ≡ Some by
-map_known Int = refl
-map_known Text = refl
+map_known : (version : Version) (by : Scalar) → has_maps version ≡ true → map_in version (map_code by) ≡ Some by
+map_known version Int has = rw has refl
+map_known version Text has = rw has refl
 
 map_items : (by : Scalar) (o : Option Scalar) → type_items (map_from by o) ≡ a_byte (map_code by) ++ values_items o
 map_items by None = refl
 map_items by (Some s) = refl
 
-map_under : (room : ℕ) (by : Scalar) (o : Option Scalar) → IsUnder Four room (map_from by o)
-map_under room by None = (omega arith, (tt, tt))
-map_under room by (Some s) = (omega arith, (tt, tt))
+map_under : (version : Version) (room : ℕ) (by : Scalar) (o : Option Scalar) → has_maps version ≡ true → IsUnder version room (map_from by o)
+map_under One room by o has = absurd cc
+map_under Two room by o has = absurd cc
+map_under Four room by None has = (omega arith, (tt, tt))
+map_under Four room by (Some s) has = (omega arith, (tt, tt))
+map_under Five room by None has = (omega arith, (tt, tt))
+map_under Five room by (Some s) has = (omega arith, (tt, tt))
 
 leaf_takes : (version : Version) (room : ℕ) (bytes : List ℕ) (t : NestedScalar) (rest : List ℕ) → IsBytes bytes → leaf_at version bytes ≡ Ok (t, rest) → Takes bytes (concat (type_items t)) rest × IsUnder version room t
 unfolding leaf_at
@@ -108,7 +116,7 @@ leaf_takes version room (b ∷ bs) t rest fits e =
           let begin : Takes (b ∷ bs) (concat (a_byte (map_code h.0))) bs = subst (λ (k : ℕ). Takes (b ∷ bs) (concat (a_byte k)) bs) is.0 (front b bs fits) in
           let whole = Takes-then (b ∷ bs) (a_byte (map_code h.0)) bs (values_items a.0) rest begin a.1 in
           let spelled : Takes (b ∷ bs) (concat (type_items (map_from h.0 a.0))) rest = subst (λ (items : List (List ℕ)). Takes (b ∷ bs) (concat items) rest) (sym (map_items h.0 a.0)) whole in
-          subst (λ (u : NestedScalar). Takes (b ∷ bs) (concat (type_items u)) rest × IsUnder version room u) a.3 (spelled, subst (λ (v : Version). IsUnder v room (map_from h.0 a.0)) (sym is.1) (map_under room h.0 a.0))
+          subst (λ (u : NestedScalar). Takes (b ∷ bs) (concat (type_items u)) rest × IsUnder version room u) a.3 (spelled, map_under version room h.0 a.0 is.1)
       | inr h ↦ scalar_type_takes version room (b ∷ bs) t rest fits h.1
     ]
 
@@ -210,6 +218,8 @@ leaf_again Two NoMap Int rest h = refl
 leaf_again Two NoMap Text rest h = refl
 leaf_again Four NoMap Int rest h = refl
 leaf_again Four NoMap Text rest h = refl
+leaf_again Five NoMap Int rest h = refl
+leaf_again Five NoMap Text rest h = refl
 leaf_again One (Values by) s rest h = absurd h
 leaf_again One (Sums by) s rest h = absurd h
 leaf_again Two (Values by) s rest h = absurd h
@@ -221,6 +231,13 @@ leaf_again Four (Values Text) Text rest h = refl
 leaf_again Four (Sums Int) Int rest h = refl
 leaf_again Four (Sums Text) Int rest h = refl
 leaf_again Four (Sums by) Text rest h = absurd h
+leaf_again Five (Values Int) Int rest h = refl
+leaf_again Five (Values Int) Text rest h = refl
+leaf_again Five (Values Text) Int rest h = refl
+leaf_again Five (Values Text) Text rest h = refl
+leaf_again Five (Sums Int) Int rest h = refl
+leaf_again Five (Sums Text) Int rest h = refl
+leaf_again Five (Sums by) Text rest h = absurd h
 
 -- a leaf's first byte begins no container
 leaf_first : (version : Version) (room : ℕ) (kind : MapKind) (s : Scalar) (rest : List ℕ) → type_at version room (concat (leaf_items kind s) ++ rest) ≡ leaf_at version (concat (leaf_items kind s) ++ rest)
@@ -266,14 +283,14 @@ in_container version room by has = record {
 }
 
 -- a map
-in_map : (room : ℕ) (by : Scalar) → GoesOn AnyOf values_items values_at (IsUnder Four room) type_items (type_at Four room) (concat (a_byte (map_code by)))
+in_map : (version : Version) (room : ℕ) (by : Scalar) → has_maps version ≡ true → GoesOn AnyOf values_items values_at (IsUnder version room) type_items (type_at version room) (concat (a_byte (map_code by)))
 unfolding leaf_at type_at
-in_map room by = record {
-  due = due_after (map_from by) (λ o h. map_under room by o) (a_byte (map_code by)) (λ o h. map_items by o);
-  fails = λ rest d h. first room by rest ∙ rw (map_known by, h) refl;
+in_map version room by has = record {
+  due = due_after (map_from by) (λ o h. map_under version room by o has) (a_byte (map_code by)) (λ o h. map_items by o);
+  fails = λ rest d h. first room by rest ∙ rw (map_known version by has, h) refl;
 }
   where
-    first : (room : ℕ) (by : Scalar) (rest : List ℕ) → type_at Four room (map_code by ∷ rest) ≡ leaf_at Four (map_code by ∷ rest)
+    first : (room : ℕ) (by : Scalar) (rest : List ℕ) → type_at version room (map_code by ∷ rest) ≡ leaf_at version (map_code by ∷ rest)
     first zero Int rest = refl
     first zero Text rest = refl
     first (suc room) Int rest = refl
@@ -286,8 +303,7 @@ leaf_fails version room b bs f fits plain e =
     elim (begun (map_in version b) (λ by. as_is (map_from by) values_at bs) (as_is scalar_type scalar_at (b ∷ bs)) (Err f) e) [
       | inl h ↦
           let is = map_is version b h.0 h.1 in
-          let fails = carried (in_map room h.0) bs (b ∷ bs) f (ap (λ (x : ℕ). x ∷ bs) is.0) (values_strict.fails bs f (IsBytes-rest b bs fits) (as_is_fails (map_from h.0) values_at bs f h.2)) in
-          subst (λ (v : Version). FailsAt (IsUnder v room) type_items (type_at v room) (b ∷ bs) f) (sym is.1) fails
+          carried (in_map version room h.0 is.1) bs (b ∷ bs) f (ap (λ (x : ℕ). x ∷ bs) is.0) (values_strict.fails bs f (IsBytes-rest b bs fits) (as_is_fails (map_from h.0) values_at bs f h.2))
       | inr h ↦
           let g = scalar_wrong b bs f h.1 in
           inr (wrong_byte b bs Unknown f int_type (omega arith, (tt, tt)) 1 [] refl tt g.2 (λ rest. stops room rest h.0 g.0 g.1))

@@ -27,11 +27,12 @@ use Rattle.tw_code.specs.declared.instr.Instr.{Instr}
 use Rattle.tw_code.specs.declared.opcode.Opcode.{Opcode}
 use Rattle.tw_code.specs.declared.procedure.Procedure.{Procedure}
 use Rattle.tw_code.specs.declared.version.Version.{Version}
-use Rattle.tw_code.specs.declared.version.Version.TheVariants.{One, Two, Four}
+use Rattle.tw_code.specs.declared.version.Version.TheVariants.{One, Two, Four, Five}
 use Rattle.tw_code.specs.declared.operands.Operands.{Operands}
 use Rattle.tw_code.specs.format.Operands.{gathered}
 use Rattle.tw_code.specs.format.Program.{Versioned}
 use Rattle.tw_code.specs.format.Table.{Content, Contents, Operand, Row, a_row, holds, opcode_at, row_of}
+use Rattle.tw_code.specs.format.Versions.{has_maps, has_texts}
 
 -- A parser returns a value and the bytes after it, or a fault: its code, and how many bytes there are from its item on.
 abbrev pub Reading : Type 0 → Type 0
@@ -105,21 +106,13 @@ unfoldable pub scalar_at : Reading Scalar
 scalar_at [] = missing
 scalar_at (b ∷ rest) = if b == 1 then Ok (Int, rest) else if b == 2 then Ok (Text, rest) else wrong Unknown (b ∷ rest)
 
--- returns whether subscripts may be texts
-abbrev pub has_texts : Version → Bool
-has_texts One = false
-has_texts Two = true
-has_texts Four = true
-
 -- returns the type of the subscripts, if this byte begins a container
 abbrev pub container_in : Version → ℕ → Option Scalar
 container_in version b = if b == 3 then Some Int else if b == 4 then if has_texts version then Some Text else None else None
 
 -- returns the type of the subscripts, if this byte begins a map
 abbrev pub map_in : Version → ℕ → Option Scalar
-map_in One b = None
-map_in Two b = None
-map_in Four b = if b == 5 then Some Int else if b == 6 then Some Text else None
+map_in version b = if has_maps version then if b == 5 then Some Int else if b == 6 then Some Text else None else None
 
 -- parses the type of a map's values; a 3 is sums'
 unfoldable pub values_at : Reading (Option Scalar)
@@ -226,7 +219,7 @@ procedure_at version = as_is (λ x. record { kind = x.0; params = x.1.0; registe
 
 unfoldable pub version_at : Reading Version
 version_at [] = missing
-version_at (b ∷ rest) = if b == 1 then Ok (One, rest) else if b == 2 then Ok (Two, rest) else if b == 4 then Ok (Four, rest) else wrong fault.Version (b ∷ rest)
+version_at (b ∷ rest) = if b == 1 then Ok (One, rest) else if b == 2 then Ok (Two, rest) else if b == 4 then Ok (Four, rest) else if b == 5 then Ok (Five, rest) else wrong fault.Version (b ∷ rest)
 
 unfoldable pub header_at : Reading Version
 header_at = as_is (λ x. x.1.1.1) (both (exactly_at 0x54 Magic) (both (exactly_at 0x57 Magic) (both (exactly_at 0x42 Magic) version_at)))

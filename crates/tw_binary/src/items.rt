@@ -82,6 +82,7 @@ pub fn version_of(bytes: &[u8]) -> Result<(Version, &[u8]), Stop>
         [1, rest @ ..] => Ok((Version::One, rest)),
         [2, rest @ ..] => Ok((Version::Two, rest)),
         [4, rest @ ..] => Ok((Version::Four, rest)),
+        [5, rest @ ..] => Ok((Version::Five, rest)),
         _ => Err(Stop::wrong(FaultNo::Version, bytes)),
     }
 }
@@ -144,7 +145,7 @@ fn container_of(version: Version, code: u8) -> Option<Scalar>
         3 => Some(Scalar::Int),
         4 => match version {
             Version::One => None,
-            Version::Two | Version::Four => Some(Scalar::Text),
+            _ => Some(Scalar::Text),
         },
         _ => None,
     }
@@ -156,7 +157,7 @@ fn map_of(version: Version, code: u8) -> Option<Scalar>
 {
     match version {
         Version::One | Version::Two => None,
-        Version::Four => match code {
+        _ => match code {
             5 => Some(Scalar::Int),
             6 => Some(Scalar::Text),
             _ => None,

@@ -16,5 +16,5 @@ mod writing;
 
 pub use fault::{Fault, FaultNo};
 pub use reading::decode;
-pub use theorems::{keeps_version_one, keeps_version_two};
+pub use theorems::keeps_versions;
 pub use writing::encode;

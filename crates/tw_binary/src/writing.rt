@@ -5,7 +5,7 @@ ghost use Rattle.std.specs.List.{concat, flat_map};
 ghost use Rattle.tw_code.specs.format.Program.{IsInstr, IsList, IsOperand, IsProcedure, IsTarget};
 ghost use Rattle.tw_code.specs.format.Sink.{AreOperands, seen};
 ghost use Rattle.tw_code.specs.format.Table.{code_of};
-ghost use Rattle.tw_binary.specs.Spelling.{kind_code, mode_code, scalar_code, container_code, leaf_items, map_code, version_code, target_code, byte, wide, text_items, type_items, param_items, scalar_items, register_items, operand_items, instr_items, counted_items, procedure_items, encoding};
+ghost use Rattle.tw_binary.specs.Spelling.{kind_code, mode_code, scalar_code, container_code, leaf_items, map_code, target_code, byte, wide, text_items, type_items, param_items, scalar_items, register_items, operand_items, instr_items, counted_items, procedure_items, encoding};
 ghost use Rattle.tw_types.specs.DataType.{has_sums, is_container_by};
 ghost use Rattle.tw_types.specs.declared.data_type.Scalar.TheVariants.{Int, Text};
 
@@ -53,17 +53,6 @@ fn code_of_container(ty: DataType) -> u8
         4
     } else {
         3
-    }
-}
-
-/// Returns the byte of a version.
-fn code_of_version(version: Version) -> u8
-    ensures { result ≡ version_code version }
-{
-    match version {
-        Version::One => 1,
-        Version::Two => 2,
-        Version::Four => 4,
     }
 }
 
@@ -267,7 +256,7 @@ pub fn encode(alloc: Global, program: &Program) -> Result<Vec<u8>, NoMemory>
     let mut bytes = Bytes {
         out: Vec::new(alloc),
     };
-    let version = code_of_version(program.version());
+    let version = program.version().number();
     bytes
         .out
         .extend_from_slice(&[0x54, 0x57, 0x42, version, procedures.len() as u8])?;

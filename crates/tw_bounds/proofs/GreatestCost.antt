@@ -6,7 +6,7 @@ use Rattle.tw_code.specs.declared.flow.Flow.{Flow}
 use Rattle.tw_code.specs.declared.flow.Flow.TheVariants.{Straight, Branch, Jump, Begin, Close, Stop}
 use Rattle.tw_code.specs.declared.flow.Way.{Way}
 use Rattle.tw_code.specs.declared.flow.Way.TheVariants.{Completed, Skipped}
-use Rattle.tw_code.specs.machine.Position.{goal_of, Loop, Cursor, turned}
+use Rattle.tw_code.specs.machine.Position.{goal_of, Loop, Cursor, turned, with_last}
 use Rattle.tw_code.specs.accepting.Structure.{end_of}
 use Rattle.tw_bounds.specs.GreatestCost.{by_flow}
 use Rattle.tw_code.specs.accepting.Walk.{moved}
@@ -78,6 +78,11 @@ further (suc k) turn = k * turn
 abbrev pub left : (ℕ → ℕ) → List Flow → ℕ → List Loop → ℕ
 left cost code place [] = greatest_cost cost code place
 left cost code place (inner ∷ outer) = greatest_cost cost code place + further inner.left (greatest_cost cost code inner.first) + left cost code (unwrap_or (end_of code place) 0 + 1) outer
+
+-- a last iteration leaves no more
+pub left_last : (cost : ℕ → ℕ) (code : List Flow) (place : ℕ) (loops : List Loop) → left cost code place (with_last loops) ≤ left cost code place loops
+left_last cost code place [] = omega arith
+left_last cost code place (inner ∷ outer) = omega arith
 
 -- if a place's path continues through another one in the same loops
 through : (cost : ℕ → ℕ) (code : List Flow) (p q c : ℕ) (loops : List Loop) → end_of code p ≡ end_of code q → c + greatest_cost cost code q ≤ greatest_cost cost code p → c + left cost code q loops ≤ left cost code p loops

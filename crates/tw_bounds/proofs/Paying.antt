@@ -52,12 +52,14 @@ use Rattle.tw_code.proofs.Placed.{IsCalled, called_is, put_called_is}
 use Rattle.tw_budget.specs.Frames.{LoopsFit}
 use Rattle.tw_budget.specs.Sound.{IsSound}
 use Rattle.tw_budget.proofs.FrameTheorems.{fits_next}
+use Rattle.tw_budget.proofs.Shortened.{fits_last}
 use Rattle.tw_soundness.specs.Invariant.{IsHeld}
 use Rattle.tw_soundness.specs.NoTrap.{AreRight}
 use Rattle.tw_soundness.proofs.Safe.{accepts}
 use Rattle.tw_soundness.proofs.Asked.{noted}
 use Rattle.tw_soundness.proofs.Sums.{sum_apart, sum_new, sum_replaced}
 use Rattle.tw_soundness.proofs.TaskEvents.{fresh_rule, fresh_task}
+use Rattle.tw_soundness.proofs.Values.{left_too}
 use Rattle.tw_bounds.specs.GreatestCost.{greatest_cost}
 use Rattle.tw_bounds.specs.declared.weights.Weights.{Weights}
 use Rattle.tw_bounds.specs.Bounds.{AreBounds, bound_at, cost_in, rule_events, text_registers, texts_added, weight_added}
@@ -65,9 +67,9 @@ use Rattle.tw_bounds.proofs.Numbers.{costs_true, greatest_same, mapped_some, num
 use Rattle.tw_bounds.specs.Contents.{members_held, texts_stored}
 use Rattle.tw_bounds.specs.Limited.{adds_member}
 use Rattle.tw_bounds.specs.Runs.{rule_events_by, instructions_by, tasks_by}
-use Rattle.tw_bounds.proofs.GreatestCost.{left, pays, stop_at}
+use Rattle.tw_bounds.proofs.GreatestCost.{left, left_last, pays, stop_at}
 use Rattle.tw_bounds.proofs.Holding.{Gains, one_if}
-use Rattle.tw_bounds.proofs.Moved.{DataGoes, GoesBy, StepsBy, data_goes, for_new, step_goes, subscribed_gains, subscribed_next, types_fit}
+use Rattle.tw_bounds.proofs.Moved.{DataGoes, GoesBy, StepsBy, by_way, data_goes, for_new, step_goes, subscribed_gains, subscribed_next, types_fit}
 use Rattle.tw_bounds.proofs.Reached.{greatest_is}
 
 -- the weight of an instruction on data pays for what it adds to the store
@@ -191,14 +193,15 @@ module _ (program : List Procedure) (p : Procedure) (sound : IsSound (flows p.co
   pub one_paid : (at to : Position) (i : Instr) → Fits at → slice_get p.code at.place ≡ Some i → GoesBy (flow_of i) at to → weight_num program weights bounds p.registers i + left_at to ≤ left_at at
   one_paid at to i fit here g =
       let flow = flow_there p.code at.place i here in
-      let h = pays cost (flows p.code) sound at.place (flow_of i) at.loops g.way (record { place = to.place; loops = to.loops }) flow fit.loops g.goes in
+      let h = pays cost (flows p.code) sound at.place (flow_of i) at.loops g.way (record { place = to.place; loops = g.loops }) flow fit.loops g.goes in
       let c : cost at.place ≡ weight_num program weights bounds p.registers i = ap (weight_in program weights bounds p.registers) here in
-      omega arith
+      left_too (λ loops. weight_num program weights bounds p.registers i + left cost (flows p.code) to.place loops ≤ left_at at) g.loops to.loops g.left
+      (λ paid. omega (arith, paid, left_last cost (flows p.code) to.place g.loops)) (omega arith)
 
   fits_on : (at to : Position) (i : Instr) → Fits at → slice_get p.code at.place ≡ Some i → GoesBy (flow_of i) at to → Fits to
   fits_on at to i fit here g =
-      let st = fits_next (flows p.code) sound at.place (flow_of i) at.loops g.way (record { place = to.place; loops = to.loops }) (flow_there p.code at.place i here) fit.loops g.goes in
-      record { inside = st.0; loops = st.1 }
+      let st = fits_next (flows p.code) sound at.place (flow_of i) at.loops g.way (record { place = to.place; loops = g.loops }) (flow_there p.code at.place i here) fit.loops g.goes in
+      record { inside = st.0; loops = left_too (LoopsFit (flows p.code) to.place) g.loops to.loops g.left (fits_last (flows p.code) to.place g.loops) st.1 }
 
   -- several local steps are paid for
   pub steps_paid : (n : ℕ) (at to : Position) → Fits at → local_steps n p.code at ≡ Went to → weights.instr * n + left_at to ≤ left_at at
@@ -333,7 +336,7 @@ module _ (program : List Procedure) (typings : Typings) (is : IsProgram program)
             if_ok (called program at.procedure.kind (context_of s at.frame) action) (λ call went.
             let m = ok_of (called program at.procedure.kind (context_of s at.frame) action) (IsCalled program at.procedure.kind action) call (called_is program at.procedure.kind (context_of s at.frame) action) went in
             let g : Frame = frame_after_call at.frame call.rights in
-            let h = one_paid program at.procedure (sound_at at.frame.procedure at.procedure here.procedure) weights bounds at.frame.position g.position (instr.Rule action) (fits_there a at.frame at.procedure here.frame here.procedure) (here.instr ∙ ap Some e) (record { way = Completed; goes = refl }) in
+            let h = one_paid program at.procedure (sound_at at.frame.procedure at.procedure here.procedure) weights bounds at.frame.position g.position (instr.Rule action) (fits_there a at.frame at.procedure here.frame here.procedure) (here.instr ∙ ap Some e) (by_way Completed refl) in
             let r = replaced a at.frame g here.frame in
             let x = owes_is at.frame at.procedure here.procedure in
             let y = owes_is g at.procedure here.procedure in
@@ -351,7 +354,7 @@ module _ (program : List Procedure) (typings : Typings) (is : IsProgram program)
             if_ok (put_called program at.procedure.kind (context_of s at.frame) action) (λ call went.
             let m = ok_of (put_called program at.procedure.kind (context_of s at.frame) action) (IsCalled program at.procedure.kind action) call (put_called_is program at.procedure.kind (context_of s at.frame) action) went in
             let g : Frame = frame_after_call at.frame call.rights in
-            let h = one_paid program at.procedure (sound_at at.frame.procedure at.procedure here.procedure) weights bounds at.frame.position g.position (instr.Put action) (fits_there a at.frame at.procedure here.frame here.procedure) (here.instr ∙ ap Some e) (record { way = Completed; goes = refl }) in
+            let h = one_paid program at.procedure (sound_at at.frame.procedure at.procedure here.procedure) weights bounds at.frame.position g.position (instr.Put action) (fits_there a at.frame at.procedure here.frame here.procedure) (here.instr ∙ ap Some e) (by_way Completed refl) in
             let r = replaced a at.frame g here.frame in
             let x = owes_is at.frame at.procedure here.procedure in
             let y = owes_is g at.procedure here.procedure in

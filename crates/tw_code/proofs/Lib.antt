@@ -1,5 +1,7 @@
 pub mod Computing
+pub mod Cutting
 pub mod Ever
+pub mod Finding
 pub mod Found
 pub mod Growth
 pub mod Leaving

@@ -15,6 +15,8 @@ use Rattle.tw_code.specs.declared.instr.LocalInstr.{LocalInstr}
 use Rattle.tw_code.specs.declared.instr.LocalInstr.TheVariants as local
 use Rattle.tw_code.specs.declared.instr.Priority.{Priority}
 use Rattle.tw_code.specs.declared.instr.Priority.TheVariants.{Constant, Computed}
+use Rattle.tw_code.specs.declared.instr.Sought.{Sought}
+use Rattle.tw_code.specs.declared.instr.Sought.TheVariants as sought
 use Rattle.tw_code.specs.declared.opcode.Opcode.{Opcode}
 use Rattle.tw_code.specs.declared.opcode.Opcode.TheVariants as opcode
 use Rattle.tw_code.specs.declared.opcode.TheConstants.{OPCODES}
@@ -118,8 +120,13 @@ compute_made : (operation : Arithmetic) (to left right skip : ℕ) → IsMadeSo 
 compute_made operation.Add to left right skip = (refl, refl)
 compute_made operation to left right skip = (refl, refl)
 
+seek_made : (sought : Sought) (to text pattern start skip : ℕ) → IsMadeSo (instr.Local (local.Seek sought to text pattern start skip))
+seek_made sought.Find to text pattern start skip = (refl, refl)
+seek_made sought to text pattern start skip = (refl, refl)
+
 local_made : (i : LocalInstr) → IsMadeSo (instr.Local i)
 local_made (local.Compute operation to left right skip) = compute_made operation to left right skip
+local_made (local.Seek sought to text pattern start skip) = seek_made sought to text pattern start skip
 local_made i = (refl, refl)
 
 data_made : (i : DataInstr) → IsMadeSo (instr.Data i)

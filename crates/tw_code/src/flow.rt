@@ -39,10 +39,15 @@ impl LocalInstr {
     {
         match self {
             LocalInstr::Compute { skip, .. }
+            | LocalInstr::MultiplyDivide { skip, .. }
             | LocalInstr::Concatenate { skip, .. }
             | LocalInstr::ReadInt { skip, .. }
+            | LocalInstr::ByteAt { skip, .. }
+            | LocalInstr::Slice { skip, .. }
+            | LocalInstr::Seek { skip, .. }
             | LocalInstr::JumpEqual { skip, .. }
-            | LocalInstr::JumpLess { skip, .. } => Flow::Branch(*skip),
+            | LocalInstr::JumpLess { skip, .. }
+            | LocalInstr::JumpTextLess { skip, .. } => Flow::Branch(*skip),
             LocalInstr::Jump { skip } => Flow::Jump(*skip),
             LocalInstr::Repeat { iterations } => Flow::Begin(*iterations),
             LocalInstr::End => Flow::Close,

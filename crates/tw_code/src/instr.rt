@@ -15,6 +15,31 @@ pub enum Arithmetic {
     Divide,
     /// REM: the remainder of that division.
     Remainder,
+    /// AND: the bits that both have, like the next four of two's complement.
+    And,
+    /// OR: the bits that one of them has.
+    Or,
+    /// XOR: the bits that exactly one has.
+    Xor,
+    /// SHL: the bits of the left one that many places up. What leaves 64 bits is lost.
+    ShiftLeft,
+    /// SHR: the bits of the left one that many places down, with zeros above.
+    ShiftRight,
+    /// WMUL: the product modulo 2^64.
+    WrappingMultiply,
+    /// WADD: the sum modulo 2^64.
+    WrappingAdd,
+}
+
+/// What a search in a text looks for.
+#[derive(Clone, Copy)]
+pub enum Sought {
+    /// FIND: the least place at which the pattern begins.
+    Find,
+    /// SPAN: the least place whose byte isn't one of the pattern's, or the text's end.
+    Span,
+    /// UNTIL: the least place whose byte is one of the pattern's, or the text's end.
+    Until,
 }
 
 /// The source of a task's priority.
@@ -56,13 +81,22 @@ pub enum LocalInstr {
         to: u8,
         from: u8,
     },
-    /// ADD, SUB, MUL, DIV and REM: sets `to` to the result. If that doesn't fit 64 bits, or there is no division by `right`, the
-    /// instruction is refused, and skips.
+    /// ADD and the others of `Arithmetic`: sets `to` to the result. If that doesn't fit 64 bits, or there is no division or shift by
+    /// `right`, the instruction is refused, and skips.
     Compute {
         operation: Arithmetic,
         to: u8,
         left: u8,
         right: u8,
+        skip: u16,
+    },
+    /// MULDIV: sets `to` to the product of `left` and `right` by `divisor`, rounded towards zero. Refused if `divisor` isn't positive,
+    /// or the quotient doesn't fit 64 bits.
+    MultiplyDivide {
+        to: u8,
+        left: u8,
+        right: u8,
+        divisor: u8,
         skip: u16,
     },
     /// CAT: sets `to` to the text of `left` followed by that of `right`. Refused if that would have over 4,096 bytes.
@@ -88,6 +122,32 @@ pub enum LocalInstr {
         from: u8,
         skip: u16,
     },
+    /// BYTE: sets `to` to the byte at the place in `place` of the text in `from`. Refused if there is none.
+    ByteAt {
+        to: u8,
+        from: u8,
+        place: u8,
+        skip: u16,
+    },
+    /// SLICE: sets `to` to the text in `from` from the place in `start` up to the one in `end`. Refused if they aren't two places
+    /// of the text, in this order, at which it may be cut.
+    Slice {
+        to: u8,
+        from: u8,
+        start: u8,
+        end: u8,
+        skip: u16,
+    },
+    /// FIND, SPAN and UNTIL: sets `to` to the place that the search for `pattern` finds in `text`, from the place in `start` on.
+    /// Refused if it finds none, or if the text has no such place.
+    Seek {
+        sought: Sought,
+        to: u8,
+        text: u8,
+        pattern: u8,
+        start: u8,
+        skip: u16,
+    },
     /// JMP: skips.
     Jump {
         skip: u16,
@@ -104,12 +164,20 @@ pub enum LocalInstr {
         right: u8,
         skip: u16,
     },
+    /// JTLT: skips if the text in `left` is before that in `right`, by their bytes.
+    JumpTextLess {
+        left: u8,
+        right: u8,
+        skip: u16,
+    },
     /// REPEAT: begins a loop at the next place, with this many iterations.
     Repeat {
         iterations: u16,
     },
     /// END: ends one iteration of the innermost loop. Continues at the loop's first place if iterations are left, else at the next place.
     End,
+    /// LAST: makes this iteration the innermost loop's last. Outside of loops it does nothing.
+    Last,
 }
 
 impl LocalInstr {

@@ -12,6 +12,7 @@ mod opcode;
 mod operands;
 mod procedure;
 mod program;
+pub mod searching;
 mod sink;
 mod theorems;
 mod version;
@@ -21,7 +22,7 @@ pub use form::Form;
 pub use inputs::{
     MAX_ENTRIES, MAX_MEMBERS, has_fitting_inputs, has_input_count, input_count, input_param, rises,
 };
-pub use instr::{Action, Arithmetic, DataInstr, Instr, LocalInstr, Priority};
+pub use instr::{Action, Arithmetic, DataInstr, Instr, LocalInstr, Priority, Sought};
 pub use main_shape::{has_main_shape, main_params};
 pub use memory::NoMemory;
 pub use opcode::{OPCODES, Opcode, form_at, opcode_at, opcode_in, word_of};

@@ -3,7 +3,7 @@
 ghost use Rattle.std.specs.Prelude.{◌≡◌, ◌==◌, slice_get};
 ghost use Rattle.std.specs.List.{find};
 ghost use Rattle.std.specs.Option.{option_and_then};
-ghost use Rattle.tw_code.specs.format.Table.{code_of, forms_of, has_opcode, opcode_at, opcode_in, opcode_of, word_of};
+ghost use Rattle.tw_code.specs.format.Table.{code_of, forms_of, has_opcode, opcode_at, opcode_in, opcode_of, since, word_of};
 
 use crate::form::Form;
 use crate::version::Version;
@@ -29,6 +29,7 @@ pub enum Opcode {
     JumpLess = 0x22,
     Repeat = 0x23,
     End = 0x24,
+    Last = 0x2b,
     New = 0x30,
     Store = 0x31,
     Get = 0x32,
@@ -51,18 +52,34 @@ pub enum Opcode {
     InsertValue = 0x60,
     GetValue = 0x61,
     AddValue = 0x62,
+    ByteAt = 0x70,
+    Slice = 0x71,
+    Find = 0x72,
+    Span = 0x73,
+    Until = 0x74,
+    MultiplyDivide = 0x75,
+    And = 0x76,
+    Or = 0x77,
+    Xor = 0x78,
+    ShiftLeft = 0x79,
+    ShiftRight = 0x7a,
+    WrappingMultiply = 0x7b,
+    WrappingAdd = 0x7c,
+    JumpTextLess = 0x7d,
 }
 
 /// All opcodes.
 #[rattlefmt::skip]
-pub const OPCODES: [Opcode; 39] = [
+pub const OPCODES: [Opcode; 54] = [
     Opcode::Int, Opcode::Text, Opcode::Copy, Opcode::Add, Opcode::Subtract, Opcode::Multiply, Opcode::Divide,
     Opcode::Remainder, Opcode::Concatenate, Opcode::Length, Opcode::Show, Opcode::ReadInt, Opcode::Jump,
-    Opcode::JumpEqual, Opcode::JumpLess, Opcode::Repeat, Opcode::End, Opcode::New, Opcode::Store, Opcode::Get,
-    Opcode::Insert, Opcode::Look, Opcode::Size, Opcode::SubscriptAt, Opcode::CopyRead, Opcode::CopyWrite,
-    Opcode::DropRead, Opcode::DropWrite, Opcode::Rule, Opcode::Put, Opcode::Ret, Opcode::InsertByText,
-    Opcode::LookByText, Opcode::SubscriptAtByText, Opcode::RuleComputed, Opcode::PutComputed,
-    Opcode::InsertValue, Opcode::GetValue, Opcode::AddValue,
+    Opcode::JumpEqual, Opcode::JumpLess, Opcode::Repeat, Opcode::End, Opcode::Last, Opcode::New, Opcode::Store,
+    Opcode::Get, Opcode::Insert, Opcode::Look, Opcode::Size, Opcode::SubscriptAt, Opcode::CopyRead,
+    Opcode::CopyWrite, Opcode::DropRead, Opcode::DropWrite, Opcode::Rule, Opcode::Put, Opcode::Ret,
+    Opcode::InsertByText, Opcode::LookByText, Opcode::SubscriptAtByText, Opcode::RuleComputed,
+    Opcode::PutComputed, Opcode::InsertValue, Opcode::GetValue, Opcode::AddValue, Opcode::ByteAt, Opcode::Slice,
+    Opcode::Find, Opcode::Span, Opcode::Until, Opcode::MultiplyDivide, Opcode::And, Opcode::Or, Opcode::Xor,
+    Opcode::ShiftLeft, Opcode::ShiftRight, Opcode::WrappingMultiply, Opcode::WrappingAdd, Opcode::JumpTextLess,
 ];
 
 impl Opcode {
@@ -73,16 +90,24 @@ impl Opcode {
         self as u8
     }
 
-    /// Returns whether a version has it.
+    /// Returns the first version that has it.
     #[rattlefmt::skip]
+    fn since(self) -> Version
+        ensures { result ≡ since self }
+    {
+        match self {
+            Opcode::InsertByText | Opcode::LookByText | Opcode::SubscriptAtByText | Opcode::RuleComputed | Opcode::PutComputed => Version::Two,
+            Opcode::InsertValue | Opcode::GetValue | Opcode::AddValue => Version::Four,
+            Opcode::Last | Opcode::ByteAt | Opcode::Slice | Opcode::Find | Opcode::Span | Opcode::Until | Opcode::MultiplyDivide | Opcode::And | Opcode::Or | Opcode::Xor | Opcode::ShiftLeft | Opcode::ShiftRight | Opcode::WrappingMultiply | Opcode::WrappingAdd | Opcode::JumpTextLess => Version::Five,
+            _ => Version::One,
+        }
+    }
+
+    /// Returns whether a version has it.
     pub fn is_in(self, version: Version) -> bool
         ensures { result ≡ has_opcode version self }
     {
-        match version {
-            Version::One => !matches!(self, Opcode::InsertByText | Opcode::LookByText | Opcode::SubscriptAtByText | Opcode::RuleComputed | Opcode::PutComputed | Opcode::InsertValue | Opcode::GetValue | Opcode::AddValue),
-            Version::Two => !matches!(self, Opcode::InsertValue | Opcode::GetValue | Opcode::AddValue),
-            Version::Four => true,
-        }
+        version.has_since(self.since())
     }
 
     /// Returns the forms of its operands, in the order of bytes and of assembly.
@@ -94,11 +119,11 @@ impl Opcode {
             Opcode::Int => &[Value, Number],
             Opcode::Text => &[Value, Literal],
             Opcode::Copy | Opcode::Length | Opcode::Show => &[Value, Value],
-            Opcode::Add | Opcode::Subtract | Opcode::Multiply | Opcode::Divide | Opcode::Remainder | Opcode::Concatenate => &[Value, Value, Value, Skip],
-            Opcode::ReadInt | Opcode::JumpEqual | Opcode::JumpLess => &[Value, Value, Skip],
+            Opcode::Add | Opcode::Subtract | Opcode::Multiply | Opcode::Divide | Opcode::Remainder | Opcode::Concatenate | Opcode::ByteAt | Opcode::And | Opcode::Or | Opcode::Xor | Opcode::ShiftLeft | Opcode::ShiftRight | Opcode::WrappingMultiply | Opcode::WrappingAdd => &[Value, Value, Value, Skip],
+            Opcode::ReadInt | Opcode::JumpEqual | Opcode::JumpLess | Opcode::JumpTextLess => &[Value, Value, Skip],
             Opcode::Jump => &[Skip],
             Opcode::Repeat => &[Iterations],
-            Opcode::End | Opcode::Ret => &[],
+            Opcode::End | Opcode::Last | Opcode::Ret => &[],
             Opcode::New => &[Right, Right, TypeOf],
             Opcode::Store => &[Right, Value],
             Opcode::Get | Opcode::Size => &[Value, Right],
@@ -111,6 +136,7 @@ impl Opcode {
             Opcode::RuleComputed | Opcode::PutComputed => &[Callee, Value, Target, Args],
             Opcode::InsertValue => &[Right, Value, Value, Skip],
             Opcode::AddValue => &[Right, Value, Value],
+            Opcode::Slice | Opcode::Find | Opcode::Span | Opcode::Until | Opcode::MultiplyDivide => &[Value, Value, Value, Value, Skip],
         }
     }
 }
@@ -154,6 +180,7 @@ pub fn word_of(opcode: Opcode) -> &'static str
         Opcode::JumpLess => "JLT",
         Opcode::Repeat => "REPEAT",
         Opcode::End => "END",
+        Opcode::Last => "LAST",
         Opcode::New => "NEW",
         Opcode::Store => "STORE",
         Opcode::Get => "GET",
@@ -176,6 +203,20 @@ pub fn word_of(opcode: Opcode) -> &'static str
         Opcode::InsertValue => "MINS",
         Opcode::GetValue => "MGET",
         Opcode::AddValue => "MADD",
+        Opcode::ByteAt => "BYTE",
+        Opcode::Slice => "SLICE",
+        Opcode::Find => "FIND",
+        Opcode::Span => "SPAN",
+        Opcode::Until => "UNTIL",
+        Opcode::MultiplyDivide => "MULDIV",
+        Opcode::And => "AND",
+        Opcode::Or => "OR",
+        Opcode::Xor => "XOR",
+        Opcode::ShiftLeft => "SHL",
+        Opcode::ShiftRight => "SHR",
+        Opcode::WrappingMultiply => "WMUL",
+        Opcode::WrappingAdd => "WADD",
+        Opcode::JumpTextLess => "JTLT",
     }
 }
 

@@ -4,7 +4,7 @@ ghost use Rattle.std.specs.Prelude.{◌≡◌};
 ghost use Rattle.tw_code.specs.format.Operands.{ArePlain, made_of, none, plain, with_operand};
 ghost use Rattle.tw_code.specs.format.Table.{forms_of};
 
-use crate::instr::{Arithmetic, DataInstr, Instr, LocalInstr};
+use crate::instr::{Arithmetic, DataInstr, Instr, LocalInstr, Sought};
 use crate::opcode::Opcode;
 use tw_types::{DataType, Scalar};
 
@@ -26,6 +26,7 @@ pub struct Operands {
     pub first: u8,
     pub second: u8,
     pub third: u8,
+    pub fourth: u8,
     pub number: i64,
     pub iterations: u16,
     pub skip: u16,
@@ -41,6 +42,7 @@ impl Operands {
             first: 0,
             second: 0,
             third: 0,
+            fourth: 0,
             number: 0,
             iterations: 0,
             skip: 0,
@@ -57,6 +59,7 @@ impl Operands {
                 first,
                 second: self.first,
                 third: self.second,
+                fourth: self.third,
                 ..self
             },
             PlainOperand::Number(number) => Operands { number, ..self },
@@ -73,7 +76,7 @@ pub fn make(opcode: Opcode, operands: Operands) -> Instr
     requires { ArePlain (forms_of opcode) }
     ensures { result ≡ made_of opcode operands }
 {
-    let Operands { first, second, third, number, iterations, skip, ty } = operands;
+    let Operands { first, second, third, fourth, number, iterations, skip, ty } = operands;
     match opcode {
         Opcode::Int => Instr::Local(LocalInstr::Int { to: first, value: number }),
         Opcode::Copy => Instr::Local(LocalInstr::Copy { to: first, from: second }),
@@ -91,6 +94,7 @@ pub fn make(opcode: Opcode, operands: Operands) -> Instr
         Opcode::JumpLess => Instr::Local(LocalInstr::JumpLess { left: first, right: second, skip }),
         Opcode::Repeat => Instr::Local(LocalInstr::Repeat { iterations }),
         Opcode::End => Instr::Local(LocalInstr::End),
+        Opcode::Last => Instr::Local(LocalInstr::Last),
         Opcode::New => Instr::Data(DataInstr::New { write: first, read: second, ty }),
         Opcode::Store => Instr::Data(DataInstr::Store { datum: first, from: second }),
         Opcode::Get => Instr::Data(DataInstr::Get { to: first, datum: second }),
@@ -109,6 +113,20 @@ pub fn make(opcode: Opcode, operands: Operands) -> Instr
         Opcode::InsertValue => Instr::Data(DataInstr::InsertValue { map: first, subscript: second, from: third, skip }),
         Opcode::GetValue => Instr::Data(DataInstr::GetValue { to: first, map: second, subscript: third, skip }),
         Opcode::AddValue => Instr::Data(DataInstr::AddValue { map: first, subscript: second, from: third }),
+        Opcode::ByteAt => Instr::Local(LocalInstr::ByteAt { to: first, from: second, place: third, skip }),
+        Opcode::Slice => Instr::Local(LocalInstr::Slice { to: first, from: second, start: third, end: fourth, skip }),
+        Opcode::Find => Instr::Local(LocalInstr::Seek { sought: Sought::Find, to: first, text: second, pattern: third, start: fourth, skip }),
+        Opcode::Span => Instr::Local(LocalInstr::Seek { sought: Sought::Span, to: first, text: second, pattern: third, start: fourth, skip }),
+        Opcode::Until => Instr::Local(LocalInstr::Seek { sought: Sought::Until, to: first, text: second, pattern: third, start: fourth, skip }),
+        Opcode::MultiplyDivide => Instr::Local(LocalInstr::MultiplyDivide { to: first, left: second, right: third, divisor: fourth, skip }),
+        Opcode::And => Instr::Local(LocalInstr::Compute { operation: Arithmetic::And, to: first, left: second, right: third, skip }),
+        Opcode::Or => Instr::Local(LocalInstr::Compute { operation: Arithmetic::Or, to: first, left: second, right: third, skip }),
+        Opcode::Xor => Instr::Local(LocalInstr::Compute { operation: Arithmetic::Xor, to: first, left: second, right: third, skip }),
+        Opcode::ShiftLeft => Instr::Local(LocalInstr::Compute { operation: Arithmetic::ShiftLeft, to: first, left: second, right: third, skip }),
+        Opcode::ShiftRight => Instr::Local(LocalInstr::Compute { operation: Arithmetic::ShiftRight, to: first, left: second, right: third, skip }),
+        Opcode::WrappingMultiply => Instr::Local(LocalInstr::Compute { operation: Arithmetic::WrappingMultiply, to: first, left: second, right: third, skip }),
+        Opcode::WrappingAdd => Instr::Local(LocalInstr::Compute { operation: Arithmetic::WrappingAdd, to: first, left: second, right: third, skip }),
+        Opcode::JumpTextLess => Instr::Local(LocalInstr::JumpTextLess { left: first, right: second, skip }),
         _ => unreachable!(),
     }
 }

@@ -5,9 +5,9 @@ ghost use Rattle.tw_code.specs.declared.opcode.Opcode.{Opcode};
 ghost use Rattle.tw_code.specs.declared.instr.Instr.TheVariants.{Local};
 ghost use Rattle.tw_code.specs.format.Program.{IsAction, IsDataInstr, IsInstr};
 ghost use Rattle.tw_code.specs.format.Sink.{AreOperands, seen};
-ghost use Rattle.tw_code.specs.format.Table.{Operand, action_operands, data_row, local_row, opcode_by, opcode_of_operation, opcode_of_priority, priority_operand, row};
+ghost use Rattle.tw_code.specs.format.Table.{Operand, action_operands, data_row, local_row, opcode_by, opcode_of_operation, opcode_of_priority, opcode_of_search, priority_operand, row};
 
-use crate::instr::{Action, Arithmetic, DataInstr, Instr, LocalInstr, Priority};
+use crate::instr::{Action, Arithmetic, DataInstr, Instr, LocalInstr, Priority, Sought};
 use crate::opcode::Opcode;
 use std::alloc::AllocError;
 use tw_types::{DataType, Scalar};
@@ -53,6 +53,24 @@ fn opcode_of_operation(operation: Arithmetic) -> Opcode
         Arithmetic::Multiply => Opcode::Multiply,
         Arithmetic::Divide => Opcode::Divide,
         Arithmetic::Remainder => Opcode::Remainder,
+        Arithmetic::And => Opcode::And,
+        Arithmetic::Or => Opcode::Or,
+        Arithmetic::Xor => Opcode::Xor,
+        Arithmetic::ShiftLeft => Opcode::ShiftLeft,
+        Arithmetic::ShiftRight => Opcode::ShiftRight,
+        Arithmetic::WrappingMultiply => Opcode::WrappingMultiply,
+        Arithmetic::WrappingAdd => Opcode::WrappingAdd,
+    }
+}
+
+/// Returns the opcode of a search in a text.
+fn opcode_of_search(sought: Sought) -> Opcode
+    ensures { result ≡ opcode_of_search sought }
+{
+    match sought {
+        Sought::Find => Opcode::Find,
+        Sought::Span => Opcode::Span,
+        Sought::Until => Opcode::Until,
     }
 }
 
@@ -76,6 +94,12 @@ fn put_local<S: Sink>(sink: &mut S, instr: &LocalInstr) -> Result<(), AllocError
         LocalInstr::JumpLess { left, right, skip } => sink.put(Opcode::JumpLess, &[Value(*left), Value(*right), Skip(*skip)]),
         LocalInstr::Repeat { iterations } => sink.put(Opcode::Repeat, &[Iterations(*iterations)]),
         LocalInstr::End => sink.put(Opcode::End, &[]),
+        LocalInstr::Last => sink.put(Opcode::Last, &[]),
+        LocalInstr::ByteAt { to, from, place, skip } => sink.put(Opcode::ByteAt, &[Value(*to), Value(*from), Value(*place), Skip(*skip)]),
+        LocalInstr::Slice { to, from, start, end, skip } => sink.put(Opcode::Slice, &[Value(*to), Value(*from), Value(*start), Value(*end), Skip(*skip)]),
+        LocalInstr::Seek { sought, to, text, pattern, start, skip } => sink.put(opcode_of_search(*sought), &[Value(*to), Value(*text), Value(*pattern), Value(*start), Skip(*skip)]),
+        LocalInstr::MultiplyDivide { to, left, right, divisor, skip } => sink.put(Opcode::MultiplyDivide, &[Value(*to), Value(*left), Value(*right), Value(*divisor), Skip(*skip)]),
+        LocalInstr::JumpTextLess { left, right, skip } => sink.put(Opcode::JumpTextLess, &[Value(*left), Value(*right), Skip(*skip)]),
     }
 }
 

@@ -75,9 +75,9 @@ module _ (program : List Procedure) (marks : Marks) (carried : IsCarried program
 
   move_marks : (spent : ℕ) (at to : Position) (i : LocalInstr) → IsAtPosition p spent at → slice_get p.code at.place ≡ Some (instr.Local i) → Moves p.registers (local_flow i) at to
       → (k : ℕ) → marks number at.place k ≡ true → marks number to.place k ≡ true
-  move_marks spent at to i s here_i m k marked = by (forward_or_back at.place (local_flow i) at.loops m.way (record { place = to.place; loops = to.loops }) m.goes_on)
+  move_marks spent at to i s here_i m k marked = by (forward_or_back at.place (local_flow i) at.loops m.way (record { place = to.place; loops = m.loops }) m.goes_on)
     where
-      by : (onward m.way at.place (local_flow i) ≡ Some to.place) ⊎ GoesBack (local_flow i) at.loops (record { place = to.place; loops = to.loops }) → marks number to.place k ≡ true
+      by : (onward m.way at.place (local_flow i) ≡ Some to.place) ⊎ GoesBack (local_flow i) at.loops (record { place = to.place; loops = m.loops }) → marks number to.place k ≡ true
       by (inl forward) = carried.later number at.place to.place k p (instr.Local i) m.way here here_i refl forward marked
       by (inr back) =
           let fits : LoopsFit (flows p.code) at.place (back.inner ∷ back.outer) = subst (λ (l : List Loop). LoopsFit (flows p.code) at.place l) back.loop (s.within accepts.budget.0 accepts.budget.1).fits in

@@ -9,7 +9,7 @@ ghost use Rattle.tw_code.specs.machine.Position.{with_value};
 ghost use Rattle.tw_frame.specs.Drafts.{MaySet};
 ghost use Rattle.tw_frame.specs.JobBuffers.{IsRun, IsRunOf, done_of};
 ghost use Rattle.tw_frame.specs.Jobs.{AreOf, IsCut, IsDone, IsJob, MayBeAt, position_of};
-ghost use Rattle.tw_frame.specs.Pace.{IsSeenJob, steps_of};
+ghost use Rattle.tw_frame.specs.Pace.{IsSeenIn, steps_of};
 
 use crate::context::Context;
 use crate::job_buffer::JobBuffer;
@@ -131,7 +131,7 @@ impl<'a> JobState<'a> {
         requires { MayBeAt self.now.program.program self.now.procedure self.now.position }
         ensures run { IfOk result (IsRun self.now.program.program self.now.procedure self.now.position after.new again.new) }
         ensures cut { IfErr result (λ cut. IsCut self.now.program.program self.now.procedure self.now.position cut.steps) }
-        ensures seen { IsSeenJob S.says stop.old stop.new (result_map_both steps_of (λ cut. cut.steps) result) }
+        ensures seen { IsSeenIn self.now.program.program self.now.procedure S.says stop.old stop.new (result_map_both steps_of (λ cut. cut.steps) result) }
     {
         run_in(
             alloc,
@@ -207,7 +207,7 @@ fn run_in<'a, S: StopSignal>(
     requires { IsJob verified.now.program procedure at.now.registers.types (position_of at.now) }
     ensures run { IfOk result (IsRun verified.now.program procedure (position_of at.now) after.new again.new) }
     ensures cut { IfErr result (λ cut. IsCut verified.now.program procedure (position_of at.now) cut.steps) }
-    ensures seen { IsSeenJob S.says stop.old stop.new (result_map_both steps_of (λ cut. cut.steps) result) }
+    ensures seen { IsSeenIn verified.now.program procedure S.says stop.old stop.new (result_map_both steps_of (λ cut. cut.steps) result) }
 {
     let p = procedure_of(verified, procedure);
     let procedure = usize::from(procedure);
@@ -222,6 +222,7 @@ fn run_in<'a, S: StopSignal>(
         p,
         verified.quick(procedure),
         verified.budget(procedure),
+        verified.has_slow(procedure),
         &mut after.registers,
         &mut after.loops,
         at.place,
@@ -266,13 +267,13 @@ impl<'a> Job<'a> {
         }
     }
 
-    /// Like `run`, but looks at a stop signal after 65,536 steps at the latest, and again. If it is raised, the job is dropped, and
-    /// the error says how far it was run.
+    /// Like `run`, but looks at a stop signal after 65,536 steps at the latest, and again; in a procedure with searches or READIs after
+    /// 5,120, of which at most 1,023 are such. If it is raised, the job is dropped, and the error says how far it was run.
     #[inline(always)]
     pub fn run_until<S: StopSignal>(self, alloc: Global, stop: &mut S) -> Result<Done<'a>, Cut>
         ensures before { IfOk result (λ done. done.before ≡ self.entry) }
         ensures cut { IfErr result (λ cut. IsCut self.entry.program.program self.entry.procedure self.entry.position cut.steps) }
-        ensures seen { IsSeenJob S.says stop.old stop.new (result_map_both (λ done. done.steps) (λ cut. cut.steps) result) }
+        ensures seen { IsSeenIn self.entry.program.program self.entry.procedure S.says stop.old stop.new (result_map_both (λ done. done.steps) (λ cut. cut.steps) result) }
     {
         let Job { mut job_buffer } = self;
         let went = match job_buffer.as_mut() {

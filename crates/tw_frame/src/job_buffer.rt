@@ -4,7 +4,7 @@ ghost use Rattle.std.specs.Prelude.{◌≡◌, IfErr, IfOk, false, true};
 ghost use Rattle.std.specs.Result.{result_map_both};
 ghost use Rattle.tw_frame.specs.JobBuffers.{IsRunOf, outcome_of};
 ghost use Rattle.tw_frame.specs.Jobs.{IsCut, MayBeAt, position_of};
-ghost use Rattle.tw_frame.specs.Pace.{IsSeenJob};
+ghost use Rattle.tw_frame.specs.Pace.{IsSeenIn};
 
 use crate::context::Context;
 use crate::job::{Cut, JobState, RunOutcome};
@@ -68,7 +68,7 @@ impl<'a> JobBuffer<'a> {
         ensures lent { self.new.lent ≡ self.old.lent }
         ensures run { IfOk result (λ _. IsRunOf self.new) }
         ensures cut { IfErr result (λ cut. IsCut self.old.lent.program.program self.old.lent.procedure self.old.lent.position cut.steps) }
-        ensures seen { IsSeenJob S.says stop.old stop.new (result_map_both (λ _. self.new.outcome.steps) (λ cut. cut.steps) result) }
+        ensures seen { IsSeenIn self.old.lent.program.program self.old.lent.procedure S.says stop.old stop.new (result_map_both (λ _. self.new.outcome.steps) (λ cut. cut.steps) result) }
     {
         let JobBuffer {
             lent,

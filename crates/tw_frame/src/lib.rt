@@ -16,6 +16,7 @@ mod rights;
 mod run;
 mod start;
 mod step;
+mod text_step;
 mod texts;
 
 pub use draft::Draft;

@@ -1,7 +1,7 @@
 //! The loops that a task has begun.
 
 ghost use Rattle.std.specs.Prelude.{◌≡◌, ◌<◌, ◌^◌, ◌∷◌, ◌+◌, [], length, Some, None, IsTrue, ◌↔◌};
-ghost use Rattle.tw_code.specs.machine.Position.{after_end};
+ghost use Rattle.tw_code.specs.machine.Position.{after_end, with_last};
 ghost use Rattle.tw_frame.specs.Innermost.{with_innermost};
 
 use std::marker::Model;
@@ -134,6 +134,13 @@ impl Loops {
             *innermost = self.innermost();
             place + 1
         }
+    }
+
+    /// Makes this iteration the last one of a running task's innermost loop, if one is begun.
+    pub(crate) fn last_iteration(&self, innermost: &mut LoopState)
+        ensures { with_innermost innermost.new self.now ≡ with_last (with_innermost innermost.old self.now) }
+    {
+        innermost.left = 1;
     }
 
     /// Returns whether two tasks have begun the same loops, with the same iterations left.

@@ -14,6 +14,17 @@ const NUMBERS: [&str; 6] = ["0", "1", "2", "-3", "7", "9223372036854775807"];
 
 const WORDS: [&str; 4] = ["\"\"", "\"7\"", "\"-12\"", "\"ab\\n\""];
 
+const OPERATIONS: [&str; 8] = [
+    "AND",
+    "OR",
+    "XOR",
+    "SHL",
+    "SHR",
+    "WMUL",
+    "WADD",
+    "MULDIV v0",
+];
+
 /// Returns a random value register of type int.
 pub fn int(seed: &mut u64) -> u8 {
     INTS[usize::from(draw(seed, 3)) % 3]
@@ -49,9 +60,32 @@ fn put_choice(code: &mut Code, seed: &mut u64) {
     put_int(code, seed);
 }
 
+/// Writes a random instruction on parts of texts that may skip the next one, and that one.
+fn put_part(code: &mut Code, seed: &mut u64) {
+    let (first, second) = (text(seed), text(seed));
+    let (start, end, to) = (int(seed), int(seed), int(seed));
+    match draw(seed, 6) {
+        0 => code.line("BYTE v# v# v#", &[to, first, start], &[]),
+        1 => code.line("SLICE v# v# v# v#", &[second, first, start, end], &[]),
+        2 => code.line("FIND v# v# v# v#", &[to, first, second, start], &[]),
+        3 => code.line("SPAN v# v# v# v#", &[to, first, second, start], &[]),
+        4 => code.line("UNTIL v# v# v# v#", &[to, first, second, start], &[]),
+        _ => code.line("JTLT v# v#", &[first, second], &[]),
+    }
+    code.put(" +1\n");
+    put_int(code, seed);
+}
+
+/// Writes a random operation of version 5 on ints.
+fn put_operation(code: &mut Code, seed: &mut u64) {
+    code.put(OPERATIONS[usize::from(draw(seed, 8)) % 8]);
+    code.line(" v# v# v#", &[int(seed), int(seed), int(seed)], &[]);
+    code.put(" +0\n");
+}
+
 /// Writes one or two random local instructions.
 pub fn put_local(code: &mut Code, seed: &mut u64) {
-    match draw(seed, 10) {
+    match draw(seed, 13) {
         0 | 1 => put_int(code, seed),
         2 => put_text(code, seed),
         3 => code.line("ADD v# v# v# +0\n", &[int(seed), int(seed), int(seed)], &[]),
@@ -64,6 +98,8 @@ pub fn put_local(code: &mut Code, seed: &mut u64) {
         ),
         7 => code.line("SHOW v# v#\n", &[text(seed), int(seed)], &[]),
         8 => code.line("LEN v# v#\n", &[int(seed), text(seed)], &[]),
+        9 | 10 => put_part(code, seed),
+        11 => put_operation(code, seed),
         _ => put_choice(code, seed),
     }
 }

@@ -115,7 +115,7 @@ pub fn next_program(alloc: Global, seed: &mut u64) -> Option<Drawn> {
     let main = Signature::next_main(seed);
     let signatures = next_signatures(alloc, seed, main).ok()?;
     let mut code = Code::new(alloc);
-    code.put("version 2\n");
+    code.put("version 5\n");
     let mut number: u8 = 0;
     for signature in &signatures {
         put_procedure(&mut code, seed, &signatures, number, signature);

@@ -1,7 +1,7 @@
 -- The innermost loop, which is the last that was begun.
 use Rattle.std.proofs.Common.{◌≡◌, ◌<◌, ◌≤◌, ◌+◌, ◌-◌, ℕ, zero, suc, List, [], ◌∷◌, ◌++◌, length, reverse, take, set, get_or, Some, refl, sym, ap, ◌∙◌, arith, length-append}
 use Rattle.std.proofs.lemmas.List.{reverse-append, take_at}
-use Rattle.tw_code.specs.machine.Position.{Loop, after_end, turned}
+use Rattle.tw_code.specs.machine.Position.{Loop, after_end, turned, with_last}
 
 -- a list that ends with this
 split : {A : Type 0} (xs : List A) (x : A) → 0 < length xs → x ≡ get_or xs (length xs - 1) x → (front : List A) × (xs ≡ front ++ x ∷ [])
@@ -36,19 +36,27 @@ module _ (place n : ℕ) (loops : List Loop) (l : Loop) (some : 0 < length loops
   at_last : n - 1 ≡ length parts.0
   at_last = omega (arith, count, ap length parts.1, length-append parts.0 (l ∷ []))
 
+  replaced : (new : Loop) → set loops (n - 1) new ≡ parts.0 ++ new ∷ []
+  replaced new = ap (λ (ls : List Loop). set ls (n - 1) new) parts.1 ∙ ap (λ (k : ℕ). set (parts.0 ++ l ∷ []) k new) at_last ∙ set_last parts.0 l new
+
   pub turn_again : 1 < l.left → Some (record { place = l.first; loops = reverse (set loops (n - 1) (record { first = l.first; left = l.left - 1 })) }) ≡ after_end place (reverse loops)
   turn_again h =
       let left : Loop = record { first = l.first; left = l.left - 1 } in
-      let cut : set loops (n - 1) left ≡ parts.0 ++ left ∷ [] = ap (λ (ls : List Loop). set ls (n - 1) left) parts.1 ∙ ap (λ (k : ℕ). set (parts.0 ++ l ∷ []) k left) at_last ∙ set_last parts.0 l left in
-      ap (λ (ls : List Loop). Some (record { place = l.first; loops = reverse ls })) cut
+      ap (λ (ls : List Loop). Some (record { place = l.first; loops = reverse ls })) (replaced left)
       ∙ ap (λ (ls : List Loop). Some (record { place = l.first; loops = ls })) (reverse-append parts.0 (left ∷ []))
       ∙ sym (ap Some (more place l.first l.left (reverse parts.0) h))
       ∙ sym inner_is
 
   pub turn_over : (now : Loop) (rest : List Loop) → rest ≡ take (n - 1) (set loops (n - 1) now) → l.left ≤ 1 → Some (record { place = place + 1; loops = reverse rest }) ≡ after_end place (reverse loops)
   turn_over now rest left h =
-      let same : set loops (n - 1) now ≡ parts.0 ++ now ∷ [] = ap (λ (ls : List Loop). set ls (n - 1) now) parts.1 ∙ ap (λ (k : ℕ). set (parts.0 ++ l ∷ []) k now) at_last ∙ set_last parts.0 l now in
-      let front : rest ≡ parts.0 = left ∙ ap (λ (ls : List Loop). take (n - 1) ls) same ∙ ap (λ (k : ℕ). take k (parts.0 ++ now ∷ [])) at_last ∙ take_at parts.0 (now ∷ []) _ refl in
+      let front : rest ≡ parts.0 = left ∙ ap (λ (ls : List Loop). take (n - 1) ls) (replaced now) ∙ ap (λ (k : ℕ). take k (parts.0 ++ now ∷ [])) at_last ∙ take_at parts.0 (now ∷ []) _ refl in
       ap (λ (ls : List Loop). Some (record { place = place + 1; loops = reverse ls })) front
       ∙ sym (ap Some (last place l.first l.left (reverse parts.0) h))
       ∙ sym inner_is
+
+  pub turn_last : reverse (set loops (n - 1) (record { first = l.first; left = 1 })) ≡ with_last (reverse loops)
+  turn_last =
+      let short : Loop = record { first = l.first; left = 1 } in
+      ap reverse (replaced short)
+      ∙ reverse-append parts.0 (short ∷ [])
+      ∙ sym (ap (λ (ls : List Loop). with_last (reverse ls)) parts.1 ∙ ap with_last (reverse-append parts.0 (l ∷ [])))

@@ -24,6 +24,7 @@ mod maps;
 mod notice_key;
 mod notices;
 mod on_data;
+mod on_texts;
 mod position;
 mod right_registers;
 mod rights;

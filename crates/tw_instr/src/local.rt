@@ -2,7 +2,7 @@
 
 ghost use Rattle.std.specs.Prelude.{◌≡◌, ◌<◌, ◌≤◌, ◌^◌, IfOk, MatchResult, if◌then◌else◌};
 ghost use Rattle.tw_types.specs.Outcome.{Went};
-ghost use Rattle.tw_code.specs.declared.instr.LocalInstr.TheVariants.{Int as INT, Text as TEXT, Copy as COPY, Compute as COMPUTE, Concatenate as CAT, Length as LEN, Show as SHOW, ReadInt as READI, JumpEqual as JEQ, JumpLess as JLT, End as END};
+ghost use Rattle.tw_code.specs.declared.instr.LocalInstr.TheVariants.{Int as INT, Copy as COPY, Compute as COMPUTE, MultiplyDivide as MULDIV, JumpEqual as JEQ, JumpLess as JLT, End as END};
 ghost use Rattle.tw_code.specs.machine.Local.{local_instr, same_value};
 ghost use Rattle.tw_code.specs.machine.Machine.{local_step, local_steps};
 ghost use Rattle.tw_code.specs.machine.Position.{at_goal, at_next_place, Position as Where};
@@ -10,13 +10,14 @@ ghost use Rattle.tw_instr.specs.Attempts.{Changes, IsStopped, Leaves, failing};
 
 use crate::code::instr_at;
 use crate::failure::Failure;
+use crate::on_texts;
 use crate::position::Position;
 use crate::stopped::Stopped;
-use crate::value_registers::{int_at, must_have_type, text_at, value_at};
+use crate::value_registers::{int_at, must_have_type, value_at};
 use std::alloc::{AllocError, Global};
-use tw_code::compute::{int_shown_as, joined, result_of, shown};
+use tw_code::compute::{result_of, scaled};
 use tw_code::{Arithmetic, Instr, LocalInstr};
-use tw_types::{Cause, Scalar, Text, Value};
+use tw_types::{Cause, Scalar, Value};
 
 /// Returns for JEQ whether two values are equal. Fails if their types differ.
 fn same_value(left: &Value, right: &Value) -> Result<bool, Cause>
@@ -38,17 +39,6 @@ fn int(position: &mut Position, to: u8, value: i64) -> Result<(), Cause>
 {
     must_have_type(position, to, Scalar::Int)?;
     position.put(to, Value::Int(value));
-    Ok(())
-}
-
-/// Executes TEXT at a position of the reference machine.
-fn text(alloc: Global, position: &mut Position, to: u8, text: &Text) -> Result<(), Failure>
-    requires { position.old.place < 2 ^ 63 }
-    ensures { Leaves (local_instr (TEXT to text.now) position.old) position.old result position.new }
-{
-    must_have_type(position, to, Scalar::Text)?;
-    let copy = text.try_clone(alloc)?;
-    position.put(to, Value::Text(copy));
     Ok(())
 }
 
@@ -86,64 +76,23 @@ fn compute_position(
     Ok(())
 }
 
-/// Executes CAT at a position of the reference machine.
-fn concatenate(
-    alloc: Global,
+/// Executes MULDIV at a position of the reference machine.
+fn multiply_divide(
     position: &mut Position,
     to: u8,
     left: u8,
     right: u8,
+    divisor: u8,
     skip: u16,
-) -> Result<(), Failure>
+) -> Result<(), Cause>
     requires { position.old.place < 2 ^ 63 }
-    ensures { Leaves (local_instr (CAT to left right skip) position.old) position.old result position.new }
-{
-    must_have_type(position, to, Scalar::Text)?;
-    let joined = joined(alloc, text_at(position, left)?, text_at(position, right)?)?;
-    match joined {
-        Some(text) => position.put(to, Value::Text(text)),
-        None => position.skip(skip),
-    }
-    Ok(())
-}
-
-/// Executes LEN at a position of the reference machine.
-fn length(position: &mut Position, to: u8, from: u8) -> Result<(), Cause>
-    requires { position.old.place < 2 ^ 63 }
-    ensures { Leaves (local_instr (LEN to from) position.old) position.old (failing result) position.new }
+    ensures { Leaves (local_instr (MULDIV to left right divisor skip) position.old) position.old (failing result) position.new }
 {
     must_have_type(position, to, Scalar::Int)?;
-    let length = text_at(position, from)?.as_str().len() as i64;
-    position.put(to, Value::Int(length));
-    Ok(())
-}
-
-/// Executes SHOW at a position of the reference machine.
-fn show(alloc: Global, position: &mut Position, to: u8, from: u8) -> Result<(), Failure>
-    requires { position.old.place < 2 ^ 63 }
-    ensures { Leaves (local_instr (SHOW to from) position.old) position.old result position.new }
-{
-    must_have_type(position, to, Scalar::Text)?;
-    let number = int_at(position, from)?;
-    let text = shown(alloc, number)?;
-    position.put(to, Value::Text(text));
-    Ok(())
-}
-
-/// Executes READI at a position of the reference machine.
-fn read_int(
-    alloc: Global,
-    position: &mut Position,
-    to: u8,
-    from: u8,
-    skip: u16,
-) -> Result<(), Failure>
-    requires { position.old.place < 2 ^ 63 }
-    ensures { Leaves (local_instr (READI to from skip) position.old) position.old result position.new }
-{
-    must_have_type(position, to, Scalar::Int)?;
-    let number = int_shown_as(alloc, text_at(position, from)?)?;
-    match number {
+    let left = int_at(position, left)?;
+    let right = int_at(position, right)?;
+    let divisor = int_at(position, divisor)?;
+    match scaled(left, right, divisor) {
         Some(number) => position.put(to, Value::Int(number)),
         None => position.skip(skip),
     }
@@ -151,7 +100,7 @@ fn read_int(
 }
 
 /// Moves a position of the reference machine beyond the next place if the condition holds, else to the next place.
-fn skip_if(position: &mut Position, condition: bool, skip: u16)
+pub(crate) fn skip_if(position: &mut Position, condition: bool, skip: u16)
     requires { position.old.place < 2 ^ 63 }
     ensures { position.new ≡ (if condition then at_goal position.old skip else at_next_place position.old) }
 {
@@ -194,43 +143,38 @@ fn end(position: &mut Position) -> Result<(), Cause>
     }
 }
 
-/// Executes any local instruction at a position of the reference machine.
+/// Executes any local instruction at a position of the reference machine, with one row for each.
+#[rattlefmt::skip]
 fn local_instr(alloc: Global, instr: &LocalInstr, position: &mut Position) -> Result<(), Failure>
     requires { position.old.place < 2 ^ 63 }
     ensures { Leaves (local_instr instr.now position.old) position.old result position.new }
 {
     match instr {
         LocalInstr::Int { to, value } => Ok(int(position, *to, *value)?),
-        LocalInstr::Text { to, text } => self::text(alloc, position, *to, text),
+        LocalInstr::Text { to, text } => on_texts::text(alloc, position, *to, text),
         LocalInstr::Copy { to, from } => copy(alloc, position, *to, *from),
-        LocalInstr::Compute {
-            operation,
-            to,
-            left,
-            right,
-            skip,
-        } => Ok(compute_position(position, *operation, *to, *left, *right, *skip)?),
-        LocalInstr::Concatenate {
-            to,
-            left,
-            right,
-            skip,
-        } => concatenate(alloc, position, *to, *left, *right, *skip),
-        LocalInstr::Length { to, from } => Ok(length(position, *to, *from)?),
-        LocalInstr::Show { to, from } => show(alloc, position, *to, *from),
-        LocalInstr::ReadInt { to, from, skip } => read_int(alloc, position, *to, *from, *skip),
+        LocalInstr::Compute { operation, to, left, right, skip } => Ok(compute_position(position, *operation, *to, *left, *right, *skip)?),
+        LocalInstr::MultiplyDivide { to, left, right, divisor, skip } => Ok(multiply_divide(position, *to, *left, *right, *divisor, *skip)?),
+        LocalInstr::Concatenate { to, left, right, skip } => on_texts::concatenate(alloc, position, *to, *left, *right, *skip),
+        LocalInstr::Length { to, from } => Ok(on_texts::length(position, *to, *from)?),
+        LocalInstr::Show { to, from } => on_texts::show(alloc, position, *to, *from),
+        LocalInstr::ReadInt { to, from, skip } => on_texts::read_int(alloc, position, *to, *from, *skip),
+        LocalInstr::ByteAt { to, from, place, skip } => Ok(on_texts::byte_at(position, *to, *from, *place, *skip)?),
+        LocalInstr::Slice { to, from, start, end, skip } => on_texts::slice(alloc, position, *to, *from, *start, *end, *skip),
+        LocalInstr::Seek { sought, to, text, pattern, start, skip } => Ok(on_texts::seek(position, *sought, *to, *text, *pattern, *start, *skip)?),
         LocalInstr::Jump { skip } => {
             position.skip(*skip);
             Ok(())
         }
-        LocalInstr::JumpEqual { left, right, skip } => {
-            Ok(jump_equal(position, *left, *right, *skip)?)
-        }
-        LocalInstr::JumpLess { left, right, skip } => {
-            Ok(jump_less(position, *left, *right, *skip)?)
-        }
+        LocalInstr::JumpEqual { left, right, skip } => Ok(jump_equal(position, *left, *right, *skip)?),
+        LocalInstr::JumpLess { left, right, skip } => Ok(jump_less(position, *left, *right, *skip)?),
+        LocalInstr::JumpTextLess { left, right, skip } => Ok(on_texts::jump_text_less(position, *left, *right, *skip)?),
         LocalInstr::Repeat { iterations } => Ok(position.begin_loop(*iterations)?),
         LocalInstr::End => Ok(end(position)?),
+        LocalInstr::Last => {
+            position.last_turn();
+            Ok(())
+        }
     }
 }
 

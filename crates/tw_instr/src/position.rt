@@ -2,7 +2,7 @@
 
 ghost use Rattle.std.specs.Prelude.{◌≡◌, ◌<◌, ◌^◌, ◌∷◌, ◌+◌, [], length, reverse, slice_get, slice_set, IfOk, OnOk, None, Some, true, false, OnErr};
 ghost use Rattle.std.specs.Option.{option_copied, option_map};
-ghost use Rattle.tw_code.specs.machine.Position.{at_next_place, at_goal, with_value, after_end};
+ghost use Rattle.tw_code.specs.machine.Position.{at_next_place, at_goal, with_value, after_end, with_last};
 
 use std::alloc::{AllocError, Global};
 use std::marker::Model;
@@ -126,6 +126,15 @@ impl Position {
         }
     }
 
+    /// Makes this iteration the last one of a position's innermost loop, if one is begun, and moves to the next place.
+    pub fn last_turn(&mut self)
+        requires { self.old.place < 2 ^ 63 }
+        ensures { self.new ≡ record self.old { place = self.old.place + 1; loops = with_last self.old.loops } }
+    {
+        last_turn_in(&mut self.loops);
+        self.place += 1;
+    }
+
     /// Copies a position: its place, values and loops.
     pub fn try_clone(&self, alloc: Global) -> Result<Position, AllocError>
         ensures { IfOk result (λ copy. copy ≡ self.now) }
@@ -152,6 +161,16 @@ fn end_turn_in(loops: &mut Vec<Loop>, place: usize) -> Option<usize>
         let _ended = loops.pop();
         Some(place + 1)
     }
+}
+
+/// Makes this iteration the last one of the innermost loop, if one is begun.
+fn last_turn_in(loops: &mut Vec<Loop>)
+    ensures { reverse loops.new.items ≡ with_last (reverse loops.old.items) }
+{
+    let Some(inner) = loops.last_mut() else {
+        return;
+    };
+    inner.left = 1;
 }
 
 /// Sets one of the value registers of a position.

@@ -12,7 +12,7 @@ use Rattle.tw_soundness.proofs.Moving.{asked, inside, instr_there, position_next
 use Rattle.tw_soundness.proofs.Registers.{Settles}
 use Rattle.tw_soundness.proofs.Steps.{Goes, keeps_mapped, goes_mapped}
 use Rattle.tw_soundness.proofs.TaskEvents.{Starts, fits_of, other_reads, other_writes}
-use Rattle.tw_soundness.proofs.Values.{AllYes, Moves, all_yes}
+use Rattle.tw_soundness.proofs.Values.{AllYes, Moves, all_yes, moves_by}
 use Rattle.tw_soundness.proofs.Whole.{GoesAfter, LeftSo}
 
 pub all_found : {A : Type 0} (P : A → Type 0) (xs : List A) (k : ℕ) (x : A) → AllByRecursion P xs → slice_get xs k ≡ Some x → P x
@@ -75,7 +75,7 @@ module _ (program : List Procedure) (typings : Typings) (accepts : (k : ℕ) (p 
 
     module _ (i : Instr) (at : slice_get p.code f.position.place ≡ Some i) where
       straight : Moves p.registers Straight f.position (at_next_place f.position)
-      straight = record { way = Completed; goes_on = refl; values = fits_place.values }
+      straight = moves_by Completed refl fits_place.values
 
       after_rule : (action : Action) → i ≡ instr.Rule action → GoesAfter program typings s held a f is p here action
       after_rule action e =

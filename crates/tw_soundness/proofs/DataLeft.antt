@@ -3,7 +3,7 @@ use Rattle.std.proofs.Common.{◌≡◌, ℕ, ◌+◌, ◌-◌, ◌<◌, ◌==�
 use Rattle.tw_soundness.proofs.MachineNames.{Closed, Completed, Contains, Maps, container_only, map_only, Content, Context, DataInstr, Datum, EmptyRegister, HasWriters, IsOfType, Mode, NestedScalar, Procedure, Ref, RightType, Scalar, Set, Typing, Unset, Val, Value, ValuesFit, Write, WrongRegister, after_data, and_parts, requires_data, data_flow, data_instr, datum_at, datum_of, eq-eqb, eqb-true, get, held, hits, hits_other, hits_same, is_closed, is_read, is_scalar, is_unset, is_write, may_drop_read, may_drop_write, may_store, members_of, ne_eqb, not-true, ok_or, one_write_less, option_and_then, option_flatten, over, passes, read_by, read_dropped, reads, right_at, same_scalar, scalar_itself, scalar_of, set_to, settled, store_after, subscribers_cleared, suits, write_by, writes, writes_scalar}
 use Rattle.tw_code.specs.declared.instr.DataInstr.TheVariants as on_data
 use Rattle.tw_soundness.proofs.Aging.{Aged}
-use Rattle.tw_soundness.proofs.Values.{AllYes, passed, Moves, declared_as, value_found}
+use Rattle.tw_soundness.proofs.Values.{AllYes, passed, Moves, declared_as, value_found, moves_by}
 use Rattle.tw_soundness.proofs.Registers.{Fits, Settles, At, at_right, aged_context, emptied, rights_set}
 use Rattle.tw_soundness.proofs.Steps.{Goes, goes, goes_must, goes_then}
 
@@ -35,7 +35,7 @@ module _ (p : Procedure) (typing : Typing) (c : Context) (r w : ℕ → ℕ) (fi
       goes (held c.rights d) _ _ h.id (ap (λ o. ok_or (option_flatten o) EmptyRegister) h.register)
       (goes_then (may_drop_read (datum_of c h.id)) _ _ (rw (h.live, kept) refl)
       (record {
-        moves = record { way = Completed; goes_on = refl; values = values };
+        moves = moves_by Completed refl values;
         settles = aged_context typing (slice_set typing d None) c _ r w h.id h.x (record h.x { reads = h.x.reads - 1 }) fits h.live
             (record { ty = refl; members = refl; closed = λ t. t; content = λ t. t; writers = λ t. t })
             (λ e ne. (let no_hit = hits_other e h.id (λ z. ne (sym z)) in let s = sum_r e in omega arith, let s = sum_w e in omega arith))
@@ -89,7 +89,7 @@ module _ (p : Procedure) (typing : Typing) (c : Context) (r w : ℕ → ℕ) (fi
       goes (held c.rights d) _ _ h.id (ap (λ o. ok_or (option_flatten o) EmptyRegister) h.register)
       (goes_then (may_drop_write (datum_of c h.id)) _ _ (rw (h.live, deep_x, kept) refl)
       (record {
-        moves = record { way = Completed; goes_on = refl; values = values };
+        moves = moves_by Completed refl values;
         settles = aged_context typing (slice_set typing d None) c _ r w h.id h.x (subscribers_cleared (one_write_less h.x)) fits h.live
             (notified_aged h.x (one_write_less h.x) (less_aged h.x deep_x (fits.store.contents h.id h.x h.live)))
             (λ e ne. (let s = sum_r e in omega arith, let no_hit = hits_other e h.id (λ z. ne (sym z)) in let s = sum_w e in omega arith))
@@ -137,7 +137,7 @@ module _ (p : Procedure) (typing : Typing) (c : Context) (r w : ℕ → ℕ) (fi
       (goes (held c.rights d) _ _ h.id (ap (λ o. ok_or (option_flatten o) EmptyRegister) h.register)
       (goes_then (may_store x (datum_of c h.id)) _ _ (rw (h.live, x_scalar, same, is_un, kept) refl)
       (record {
-        moves = record { way = Completed; goes_on = refl; values = values };
+        moves = moves_by Completed refl values;
         settles = aged_context typing (slice_set typing d None) c _ r w h.id h.x (subscribers_cleared (set_to x h.x)) fits h.live
             (notified_aged h.x (set_to x h.x) (record { ty = refl; members = ap members_of (sym unset.0); closed = λ z. refl; content = λ z. (x_scalar, of_x); writers = λ z. omega (arith, unset.1) }))
             (λ e ne. (let s = sum_r e in omega arith, let no_hit = hits_other e h.id (λ z. ne (sym z)) in let s = sum_w e in omega arith))

@@ -4,7 +4,7 @@ use Rattle.tw_soundness.proofs.MachineNames.{Completed, Contains, Maps, Content,
 use Rattle.tw_code.specs.declared.instr.DataInstr.TheVariants as on_data
 use Rattle.tw_soundness.proofs.DataLeft.{Leaves, read_no_write}
 use Rattle.tw_soundness.proofs.Aging.{Aged, later_put}
-use Rattle.tw_soundness.proofs.Values.{AllYes, passed}
+use Rattle.tw_soundness.proofs.Values.{AllYes, passed, moves_by}
 use Rattle.tw_soundness.proofs.Long.{free_there, empty_there}
 use Rattle.tw_soundness.proofs.Registers.{Fits, Settles, At, at_right, holds_undisturbed, later_undisturbed, later_store, rights_kept, over-set, rights_set}
 use Rattle.tw_soundness.proofs.Steps.{Goes, goes, goes_then}
@@ -59,7 +59,7 @@ module _ (p : Procedure) (typing : Typing) (c : Context) (r w : ℕ → ℕ) (fi
       (goes (held c.rights from) _ _ h.id (ap (λ o. ok_or (option_flatten o) EmptyRegister) h.register)
       (goes_then (may_be_read (datum_of c h.id)) _ _ (rw h.live refl)
       (record {
-        moves = record { way = Completed; goes_on = refl; values = values };
+        moves = moves_by Completed refl values;
         settles = rw there_is (put_context typing (slice_set typing to (Some q)) c _ r w h.id h.x (one_read_more h.x) fits h.live
             (record { ty = refl; members = refl; closed = λ t. t; content = λ t. t; writers = λ t. t })
             (λ e ne. let no_hit = hits_other e h.id (λ z. ne (sym z)) in (let s = sum_r e in omega arith, let s = sum_w e in omega arith))
@@ -99,7 +99,7 @@ module _ (p : Procedure) (typing : Typing) (c : Context) (r w : ℕ → ℕ) (fi
       (goes (held c.rights from) _ _ h.id (ap (λ o. ok_or (option_flatten o) EmptyRegister) h.register)
       (goes_then (may_copy_write (datum_of c h.id)) _ _ (rw (h.live, deep_x) refl)
       (record {
-        moves = record { way = Completed; goes_on = refl; values = values };
+        moves = moves_by Completed refl values;
         settles = rw there_is (put_context typing (slice_set typing to (Some q)) c _ r w h.id h.x (one_write_more h.x) fits h.live
             (more_aged h.x deep_x (fits.store.contents h.id h.x h.live) more)
             (λ e ne. let no_hit = hits_other e h.id (λ z. ne (sym z)) in (let s = sum_r e in omega arith, let s = sum_w e in omega arith))

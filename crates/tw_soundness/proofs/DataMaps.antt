@@ -17,7 +17,7 @@ use Rattle.tw_soundness.proofs.DataMade.{put_context}
 use Rattle.tw_soundness.proofs.DataReads.{held_goes, open_container}
 use Rattle.tw_soundness.proofs.Registers.{At, Fits, Settles, at_right}
 use Rattle.tw_soundness.proofs.Steps.{Goes, at_some, goes, goes_must, goes_then}
-use Rattle.tw_soundness.proofs.Values.{AllYes, declared_as, found_moves, int_there, passed, value_found}
+use Rattle.tw_soundness.proofs.Values.{AllYes, declared_as, found_moves, int_there, passed, value_found, moves_by}
 
 or_right : (a b : Bool) → b ≡ true → (a || b) ≡ true
 or_right true b e = refl
@@ -119,8 +119,8 @@ module _ (p : Procedure) (typing : Typing) (c : Context) (r w : ℕ → ℕ) (fi
       (left at.0 x.0 e (entry_at c.store h.id at.0))))))
     where
       left : (at x : Value) → is_map_of (scalar_of at) (scalar_of x) h.x.ty ≡ true → (o : Option Value) → Leaves p.registers (on_data.InsertValue d subscript from skip) typing c r w (after_put c h.id at skip (if_absent o x))
-      left at x e None = record { moves = record { way = Completed; goes_on = refl; values = values }; settles = put_settles d q h mapped at x mode e }
-      left at x e (Some old) = record { moves = record { way = Skipped; goes_on = refl; values = values }; settles = same_settles typing c (after_put c h.id at skip None) r w fits refl refl }
+      left at x e None = record { moves = moves_by Completed refl values; settles = put_settles d q h mapped at x mode e }
+      left at x e (Some old) = record { moves = moves_by Skipped refl values; settles = same_settles typing c (after_put c h.id at skip None) r w fits refl refl }
 
   pub insert_value_leaves : (d subscript from skip : ℕ) → AllYes (requires_data p.registers (on_data.InsertValue d subscript from skip) typing)
       → Goes (data_instr (on_data.InsertValue d subscript from skip) c) (Leaves p.registers (on_data.InsertValue d subscript from skip) typing c r w)
@@ -150,7 +150,7 @@ module _ (p : Procedure) (typing : Typing) (c : Context) (r w : ℕ → ℕ) (fi
       (left at.0 n.0 e (entry_at c.store h.id at.0))))))
     where
       added : (at : Value) (n : ℤ) → is_map_of (scalar_of at) scalar.Int h.x.ty ≡ true → Leaves p.registers (on_data.AddValue d subscript from) typing c r w (at_next_instr (with_store c (value_put c.store h.id at (value.Int n))))
-      added at n e = record { moves = record { way = Completed; goes_on = refl; values = values }; settles = put_settles d q h mapped at (value.Int n) mode e }
+      added at n e = record { moves = moves_by Completed refl values; settles = put_settles d q h mapped at (value.Int n) mode e }
 
       left : (at : Value) (n : ℤ) → is_map_of (scalar_of at) scalar.Int h.x.ty ≡ true → (o : Option Value) → Leaves p.registers (on_data.AddValue d subscript from) typing c r w (at_next_instr (with_store c (value_put c.store h.id at (sum_with o n))))
       left at n e None = added at n e

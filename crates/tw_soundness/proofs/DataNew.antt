@@ -5,7 +5,7 @@ use Rattle.std.specs.FinMap as fin
 use Rattle.tw_types.proofs.Subscripts.{no_entries, no_kinds}
 use Rattle.tw_code.specs.declared.instr.DataInstr.TheVariants as on_data
 use Rattle.tw_soundness.proofs.DataLeft.{Leaves}
-use Rattle.tw_soundness.proofs.Values.{AllYes}
+use Rattle.tw_soundness.proofs.Values.{AllYes, moves_by}
 use Rattle.tw_soundness.proofs.Long.{free_there, empty_there}
 use Rattle.tw_types.proofs.Elements.{get_set_other, no_items}
 use Rattle.tw_soundness.proofs.Registers.{Fits, Undisturbed, holds_undisturbed, rights_kept, over-set, rights_set}
@@ -110,7 +110,7 @@ module _ (p : Procedure) (typing : Typing) (c : Context) (r w : ℕ → ℕ) (fi
       (goes_then (must_be_empty c.rights read) _ _ (ap (λ o. must (is_none (option_flatten o)) WrongRegister) rr)
       (goes_then (must (not (write == read)) WrongRegister) _ _ (ap (λ b. must b WrongRegister) met.1.1.0)
       (record {
-        moves = record { way = Completed; goes_on = refl; values = values };
+        moves = moves_by Completed refl values;
         settles = record {
           others = others;
           fits = record {

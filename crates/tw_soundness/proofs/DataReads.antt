@@ -12,7 +12,7 @@ use Rattle.tw_soundness.proofs.Long.{empty_there, free_there}
 use Rattle.tw_soundness.proofs.Registers.{At, Fits, Settles, Undisturbed, at_right, over-set, rights_set}
 use Rattle.tw_types.proofs.Subscripts.{content_kind}
 use Rattle.tw_soundness.proofs.Steps.{Goes, at_some, goes, goes_must, goes_then}
-use Rattle.tw_soundness.proofs.Values.{AllYes, declared_as, found_moves, has_type, int_there, value_found, value_there, values_set, passed}
+use Rattle.tw_soundness.proofs.Values.{AllYes, declared_as, found_moves, has_type, int_there, value_found, value_there, values_set, passed, moves_by}
 
 -- a closed scalar has a value of its type
 closed_value : (x : Datum) → is_scalar x.ty ≡ true → IsOfType x.ty x.content → is_closed x ≡ true → (v : Value) × (value_in x.content ≡ Some v) × (scalar_of v ≡ x.ty.scalar)
@@ -75,7 +75,7 @@ module _ (p : Procedure) (typing : Typing) (c : Context) (r w : ℕ → ℕ) (fi
       (goes (held c.rights d) _ _ h.id (held_goes d q h)
       (goes_then (may_retrieve (datum_of c h.id)) _ _ may
       (goes (ok_or (store.value_at c.store h.id) UnsetDatum) _ _ v.0 (at_some (store.value_at c.store h.id) UnsetDatum v.0 there)
-      (record { moves = record { way = Completed; goes_on = refl; values = left.1 }; settles = left.0 })))))
+      (record { moves = moves_by Completed refl left.1; settles = left.0 })))))
 
   pub get_leaves : (to d : ℕ) → AllYes (requires_data p.registers (on_data.Get to d) typing) → Goes (data_instr (on_data.Get to d) c) (Leaves p.registers (on_data.Get to d) typing c r w)
   get_leaves to d met = by (right_at typing d) refl met.0 met.1.1.0
@@ -99,7 +99,7 @@ module _ (p : Procedure) (typing : Typing) (c : Context) (r w : ℕ → ℕ) (fi
       goes_then (must_have_type c.position to scalar.Int) _ _ (has_type p.registers c.position values to scalar.Int declared)
       (goes (held c.rights d) _ _ h.id (held_goes d q h)
       (goes_then (may_read_members (datum_of c h.id)) _ _ (members_read d q mode deep h)
-      (record { moves = record { way = Completed; goes_on = refl; values = left.1 }; settles = left.0 })))
+      (record { moves = moves_by Completed refl left.1; settles = left.0 })))
 
   pub size_leaves : (to d : ℕ) → AllYes (requires_data p.registers (on_data.Size to d) typing) → Goes (data_instr (on_data.Size to d) c) (Leaves p.registers (on_data.Size to d) typing c r w)
   size_leaves to d met =
@@ -163,12 +163,12 @@ module _ (p : Procedure) (typing : Typing) (c : Context) (r w : ℕ → ℕ) (fi
       (left at.0 deep (ap (λ (u : Scalar). is_container_by u q.ty) at.2 ∙ kind) (member_at c.store h.id at.0) (sym found)))))
     where
       left : (at : Subscript) → is_scalar q.ty ≡ false → is_container_by (scalar_of at) q.ty ≡ true → (o : Option ℕ) → get (members_in h.x.content) at ≡ o → Leaves p.registers (on_data.Insert by container subscript member skip) typing c r w (after_insert c h.id at g.id member skip o)
-      left at deep kind (Some other) e = record { moves = record { way = Skipped; goes_on = refl; values = values }; settles = same_settles typing c (after_insert c h.id at g.id member skip (Some other)) r w fits refl refl }
+      left at deep kind (Some other) e = record { moves = moves_by Skipped refl values; settles = same_settles typing c (after_insert c h.id at g.id member skip (Some other)) r w fits refl refl }
       left at deep kind None e =
           let done = insert_settles typing c r w fits container member q m h g mode deep reads element at kind e in
           let store_is : inserted c.store h.id at g.id ≡ record c.store { live = insert c.store.live h.id (with_member at g.id h.x) } = rw h.live refl in
           record {
-            moves = record { way = Completed; goes_on = refl; values = values };
+            moves = moves_by Completed refl values;
             settles = record {
               fits = subst (λ (s : Store). Fits (slice_set typing member None) (record (after_insert c h.id at g.id member skip None) { store = s }) r w) (sym store_is)
                   (record { balanced = done.fits.balanced; writers = done.fits.writers; store = done.fits.store; rights = done.fits.rights });
@@ -235,12 +235,12 @@ module _ (p : Procedure) (typing : Typing) (c : Context) (r w : ℕ → ℕ) (fi
             kept m y e = rw e refl
 
         left : (at : Subscript) (o : Option ℕ) → get (members_in h.x.content) at ≡ o → Leaves p.registers (on_data.Look by member d subscript skip) typing c r w (after_look c member skip o)
-        left at None e = record { moves = record { way = Skipped; goes_on = refl; values = values }; settles = same_settles typing c (after_look c member skip None) r w fits refl refl }
+        left at None e = record { moves = moves_by Skipped refl values; settles = same_settles typing c (after_look c member skip None) r w fits refl refl }
         left at (Some m) e =
             let y = member_there typing c r w fits h.id h.x at m h.live e in
             let read : a_member_read (right_at typing d) ≡ a_read y.0.ty = ap a_member_read there_is ∙ member_read q.ty y.0.ty (ap element_of (sym h.ty) ∙ y.2) in
             record {
-              moves = record { way = Completed; goes_on = refl; values = values };
+              moves = moves_by Completed refl values;
               settles = subst (λ o. Settles (slice_set typing member o) c r w (after_look c member skip (Some m))) (sym read) (look_settles member d skip m y.0 y.1 a b);
             }
 

@@ -1,6 +1,6 @@
 -- Where a task continues: in the loops that it has begun, within its budget, and with the typing of the place.
 use Rattle.std.proofs.Common.{◌≡◌, ℕ, zero, suc, ◌+◌, ◌<◌, ◌==◌, ◌⊎◌, inl, inr, List, [], ◌∷◌, length, slice_get, get_or, Some, None, refl, sym, ap, subst, ◌∙◌, arith, if◌then◌else◌}
-use Rattle.tw_soundness.proofs.MachineNames.{Accepts, AreBegun, Completed, Cursor, DataInstr, Instr, Loop, NotEnabled, Outcome, Position, Procedure, Skipped, IsAtPosition, Typing, after, requires_by_instr, requires_at, requires_params, data_flow, flow_of, flows, length-map, local_flow, local_of, local_step, local_steps, moved, onward, option_and_then, option_map, outcome_of, same_Some, slice_get-get_or, slice_get-map, slice_get_within, turned}
+use Rattle.tw_soundness.proofs.MachineNames.{Accepts, AreBegun, Completed, Cursor, DataInstr, Instr, Loop, NotEnabled, Outcome, Position, Procedure, Skipped, IsAtPosition, Typing, after, requires_by_instr, requires_at, requires_params, data_flow, flow_of, flows, length-map, local_flow, local_of, local_step, local_steps, moved, onward, option_and_then, option_map, outcome_of, same_Some, slice_get-get_or, slice_get-map, slice_get_within, turned, with_last}
 use Rattle.tw_code.specs.declared.flow.Flow.{Flow}
 use Rattle.tw_code.specs.declared.flow.Flow.TheVariants.{Straight, Branch, Jump, Begin, Close, Stop}
 use Rattle.tw_code.specs.declared.flow.Way.{Way}
@@ -10,11 +10,12 @@ use Rattle.tw_code.specs.declared.instr.Instr.TheVariants as instr
 use Rattle.tw_code.specs.machine.Local.{local_instr}
 use Rattle.tw_code.specs.accepting.Structure.{end_of}
 use Rattle.tw_code.specs.accepting.WellTyped.{IsEndOf}
-use Rattle.tw_budget.specs.Frames.{LoopsFit}
+use Rattle.tw_budget.specs.Frames.{IsWithinBudget, LoopsFit}
 use Rattle.tw_budget.proofs.FrameTheorems.{stays_within, end_goes_on}
 use Rattle.tw_budget.proofs.Places.{close_end}
+use Rattle.tw_budget.proofs.Shortened.{shortens_within}
 use Rattle.tw_soundness.proofs.Steps.{Happens, Keeps, goes_happens, happens_keeps, keeps_more, waits_keeps}
-use Rattle.tw_soundness.proofs.Values.{AllYes, HasLoop, Moves, all_yes, local_moves, yes_after}
+use Rattle.tw_soundness.proofs.Values.{AllYes, HasLoop, Moves, all_yes, left_too, local_moves, yes_after}
 
 -- ---- loops
 
@@ -38,6 +39,11 @@ begun_on code place Close (inner ∷ outer) Completed to at e b = ended inner.fi
 begun_on code place Close loops Skipped to at e b = cc
 begun_on code place Stop loops Completed to at e b = cc
 begun_on code place Stop loops Skipped to at e b = cc
+
+-- so was one in its last iteration
+begun_last : (code : List Flow) (loops : List Loop) → AreBegun code loops → AreBegun code (with_last loops)
+begun_last code [] b = b
+begun_last code (inner ∷ outer) b = b
 
 -- back to the first place of a loop
 pub record GoesBack (flow : Flow) (loops : List Loop) (to : Cursor) : Type 0 where
@@ -124,12 +130,14 @@ module _ (program : List Procedure) (typings : List Typing) (p : Procedure) (acc
   -- after a move a task has a right position, one instruction later
   pub position_next : (spent : ℕ) (at to : Position) (i : Instr) → IsAtPosition p spent at → slice_get p.code at.place ≡ Some i → Moves p.registers (flow_of i) at to → IsAtPosition p (spent + 1) to
   position_next spent at to i s here m =
-      let cursor : Cursor = record { place = to.place; loops = to.loops } in
+      let cursor : Cursor = record { place = to.place; loops = m.loops } in
       record {
         values = m.values;
-        begun = begun_on (flows p.code) at.place (flow_of i) at.loops m.way cursor (flow_there at.place i here) m.goes_on s.begun;
-        within = λ n b. stays_within (flows p.code) accepts.sound n spent at.place at.loops m.way cursor
-            (ap (option_and_then (moved m.way at.place at.loops)) (flow_there at.place i here) ∙ m.goes_on) (s.within n b);
+        begun = left_too (AreBegun (flows p.code)) m.loops to.loops m.left (begun_last (flows p.code) m.loops)
+            (begun_on (flows p.code) at.place (flow_of i) at.loops m.way cursor (flow_there at.place i here) m.goes_on s.begun);
+        within = λ n b. left_too (IsWithinBudget (flows p.code) n (spent + 1) to.place) m.loops to.loops m.left (shortens_within (flows p.code) accepts.sound n (spent + 1) to.place m.loops)
+            (stays_within (flows p.code) accepts.sound n spent at.place at.loops m.way cursor
+            (ap (option_and_then (moved m.way at.place at.loops)) (flow_there at.place i here) ∙ m.goes_on) (s.within n b));
       }
 
   -- the END that a loop's first place leads to
@@ -138,7 +146,7 @@ module _ (program : List Procedure) (typings : List Typing) (p : Procedure) (acc
 
   -- and the typing there is the one that the instruction leaves
   pub typing_on : (spent : ℕ) (at to : Position) (i : Instr) → IsAtPosition p spent at → slice_get p.code at.place ≡ Some i → (m : Moves p.registers (flow_of i) at to) → get_or typings to.place [] ≡ after program m.way i (get_or typings at.place [])
-  typing_on spent at to i s here m = by (forward_or_back at.place (flow_of i) at.loops m.way (record { place = to.place; loops = to.loops }) m.goes_on)
+  typing_on spent at to i s here m = by (forward_or_back at.place (flow_of i) at.loops m.way (record { place = to.place; loops = m.loops }) m.goes_on)
     where
       left : slice_get typings to.place ≡ Some (get_or typings to.place [])
       left = typing_there to.place (inside (spent + 1) to (position_next spent at to i s here m))
@@ -146,7 +154,7 @@ module _ (program : List Procedure) (typings : List Typing) (p : Procedure) (acc
       held : slice_get typings at.place ≡ Some (get_or typings at.place [])
       held = typing_there at.place (inside spent at s)
 
-      by : (onward m.way at.place (flow_of i) ≡ Some to.place) ⊎ GoesBack (flow_of i) at.loops (record { place = to.place; loops = to.loops }) → get_or typings to.place [] ≡ after program m.way i (get_or typings at.place [])
+      by : (onward m.way at.place (flow_of i) ≡ Some to.place) ⊎ GoesBack (flow_of i) at.loops (record { place = to.place; loops = m.loops }) → get_or typings to.place [] ≡ after program m.way i (get_or typings at.place [])
       by (inl forward) = accepts.typed.later at.place to.place i m.way (get_or typings at.place []) (get_or typings to.place []) here held forward left
       by (inr back) =
           let fits : LoopsFit (flows p.code) at.place (back.inner ∷ back.outer) = subst (λ (l : List Loop). LoopsFit (flows p.code) at.place l) back.loop (s.within accepts.budget.0 accepts.budget.1).fits in

@@ -7,7 +7,7 @@ use Rattle.std.specs.Str.{bytes_eq}
 use Rattle.tw_lexer.specs.Names.{before_colon}
 use Rattle.tw_code.specs.format.Table.{forms_of, opcode_in}
 use Rattle.tw_code.specs.declared.opcode.Opcode.{Opcode}
-use Rattle.tw_code.specs.declared.version.Version.TheVariants.{Four}
+use Rattle.tw_code.specs.format.Versions.{last_version}
 use Rattle.tw_symbols.specs.Meanings.{is_listed, with_constant, with_listed, with_register}
 use Rattle.tw_symbols.specs.LineExpansion.{expected_of, banks_of, begins, begins_first, expanded_body, names_after_constant, counted, has_colon, expanded_head, expanded_instruction, is_listed_word, is_names_line, names_after_let, expanded_line, list_name, made_one, made_word, makes, name_before, checked_name, number_in, number_of, only_names, register_of, expanded_registers, value_after, expanded_words}
 use Rattle.tw_symbols.specs.Expansion.{ended}
@@ -158,7 +158,7 @@ module _ (R : Names → Names → Type 0) (step : IsStep R) where
       (λ _. by_test (StepSaid names) (bytes_eq first (codes "let")) _ _ (λ _. only_step names front (names_after_let p names first ws) (let_step p names first ws))
       (λ _. by_test (StepSaid names) (bytes_eq first (codes "proc")) _ _ (λ t. head first ws refl t)
       (λ _. by_test (StepSaid names) (bytes_eq first (codes "regs")) _ _ (λ _. registers_step p names (front ++ first) (flat_map pieces ws))
-      (λ _. body_step p names (opcode_in Four first) (front ++ first) ws)))))
+      (λ _. body_step p names (opcode_in last_version first) (front ++ first) ws)))))
 
   pub taken_step : (p : Procedures) (number : ℕ) (names : Names) (front : List ℕ) (t : Line)
       → ((first : List ℕ) (others : List (List ℕ)) → line_words t ≡ first ∷ others → bytes_eq first (codes "proc") ≡ true → StepSaid names (expanded_head p number names (front ++ first) (flat_map pieces others)))

@@ -9,7 +9,7 @@ use Rattle.tw_lexer.specs.Digits.{digits_in}
 use Rattle.tw_code.specs.format.Table.{forms_of, opcode_in, opcode_of}
 use Rattle.tw_code.specs.declared.opcode.Opcode.{Opcode}
 use Rattle.tw_code.specs.declared.opcode.Opcode.TheVariants as opcode
-use Rattle.tw_code.specs.declared.version.Version.TheVariants.{Four}
+use Rattle.tw_code.specs.format.Versions.{last_version}
 use Rattle.tw_symbols.proofs.TextNames.{TokenError, Line, Names, Procedures, Rejection, Expanded, and_then, expected_of, at_number, ended, flat_map, expanded_head, is_name, is_names_line, known, line_rest, line_words, expanded_from, expanded_results, no_names, or_unread, pieces, procedures_of, expanded_if_read, reads_heads, expanded_taken, unread, with_line, with_lines, with_register, expanded_words}
 use Rattle.tw_symbols.specs.Meanings.{Head}
 use Rattle.tw_symbols.specs.LineExpansion.{expanded_line, banks_at, banks_of, expanded_body, callee, names_after_constant, expanded_instruction, is_empty, names_after_let, made_word, makes, named, only_names, expanded_registers, with_word, expanded_word}
@@ -56,45 +56,11 @@ abbrev IsCall : Opcode → Type 0
 IsCall o = (makes o ≡ 0) × ((a : List Bank) → (rest : List Expected) × (flat_map (expected_of a) (forms_of o) ≡ asked.Procedure ∷ rest))
 
 kind_of : (o : Opcode) → IsFree o ⊎ IsCall o
-kind_of opcode.Int = inl (λ a b. refl)
-kind_of opcode.Text = inl (λ a b. refl)
-kind_of opcode.Copy = inl (λ a b. refl)
-kind_of opcode.Add = inl (λ a b. refl)
-kind_of opcode.Subtract = inl (λ a b. refl)
-kind_of opcode.Multiply = inl (λ a b. refl)
-kind_of opcode.Divide = inl (λ a b. refl)
-kind_of opcode.Remainder = inl (λ a b. refl)
-kind_of opcode.Concatenate = inl (λ a b. refl)
-kind_of opcode.Length = inl (λ a b. refl)
-kind_of opcode.Show = inl (λ a b. refl)
-kind_of opcode.ReadInt = inl (λ a b. refl)
-kind_of opcode.Jump = inl (λ a b. refl)
-kind_of opcode.JumpEqual = inl (λ a b. refl)
-kind_of opcode.JumpLess = inl (λ a b. refl)
-kind_of opcode.Repeat = inl (λ a b. refl)
-kind_of opcode.End = inl (λ a b. refl)
-kind_of opcode.New = inl (λ a b. refl)
-kind_of opcode.Store = inl (λ a b. refl)
-kind_of opcode.Get = inl (λ a b. refl)
-kind_of opcode.Insert = inl (λ a b. refl)
-kind_of opcode.Look = inl (λ a b. refl)
-kind_of opcode.Size = inl (λ a b. refl)
-kind_of opcode.SubscriptAt = inl (λ a b. refl)
-kind_of opcode.CopyRead = inl (λ a b. refl)
-kind_of opcode.CopyWrite = inl (λ a b. refl)
-kind_of opcode.DropRead = inl (λ a b. refl)
-kind_of opcode.DropWrite = inl (λ a b. refl)
 kind_of opcode.Rule = inr (refl, λ a. (_, refl))
 kind_of opcode.Put = inr (refl, λ a. (_, refl))
-kind_of opcode.Ret = inl (λ a b. refl)
-kind_of opcode.InsertByText = inl (λ a b. refl)
-kind_of opcode.LookByText = inl (λ a b. refl)
-kind_of opcode.SubscriptAtByText = inl (λ a b. refl)
 kind_of opcode.RuleComputed = inr (refl, λ a. (_, refl))
 kind_of opcode.PutComputed = inr (refl, λ a. (_, refl))
-kind_of opcode.InsertValue = inl (λ a b. refl)
-kind_of opcode.GetValue = inl (λ a b. refl)
-kind_of opcode.AddValue = inl (λ a b. refl)
+kind_of o = inl (λ a b. refl)
 
 -- an instruction's first operand is a procedure, or no call is one
 call_of : (o : Opcode) → (is_call (forms_of o) ≡ false) ⊎ IsCall o
@@ -102,41 +68,7 @@ call_of opcode.Rule = inr (refl, λ a. (_, refl))
 call_of opcode.Put = inr (refl, λ a. (_, refl))
 call_of opcode.RuleComputed = inr (refl, λ a. (_, refl))
 call_of opcode.PutComputed = inr (refl, λ a. (_, refl))
-call_of opcode.Int = inl refl
-call_of opcode.Text = inl refl
-call_of opcode.Copy = inl refl
-call_of opcode.Add = inl refl
-call_of opcode.Subtract = inl refl
-call_of opcode.Multiply = inl refl
-call_of opcode.Divide = inl refl
-call_of opcode.Remainder = inl refl
-call_of opcode.Concatenate = inl refl
-call_of opcode.Length = inl refl
-call_of opcode.Show = inl refl
-call_of opcode.ReadInt = inl refl
-call_of opcode.Jump = inl refl
-call_of opcode.JumpEqual = inl refl
-call_of opcode.JumpLess = inl refl
-call_of opcode.Repeat = inl refl
-call_of opcode.End = inl refl
-call_of opcode.New = inl refl
-call_of opcode.Store = inl refl
-call_of opcode.Get = inl refl
-call_of opcode.Insert = inl refl
-call_of opcode.Look = inl refl
-call_of opcode.Size = inl refl
-call_of opcode.SubscriptAt = inl refl
-call_of opcode.CopyRead = inl refl
-call_of opcode.CopyWrite = inl refl
-call_of opcode.DropRead = inl refl
-call_of opcode.DropWrite = inl refl
-call_of opcode.Ret = inl refl
-call_of opcode.InsertByText = inl refl
-call_of opcode.LookByText = inl refl
-call_of opcode.SubscriptAtByText = inl refl
-call_of opcode.InsertValue = inl refl
-call_of opcode.GetValue = inl refl
-call_of opcode.AddValue = inl refl
+call_of o = inl refl
 
 cut : (k : ℕ) (f : List ℕ → List ℕ) (ws : List (List ℕ)) (E : List Expected) → (take k (map f (take k ws) ++ renamed_words f E (drop k ws)) ≡ map f (take k ws)) × (drop k (map f (take k ws) ++ renamed_words f E (drop k ws)) ≡ renamed_words f E (drop k ws))
 cut zero f ws E = (refl, refl)
@@ -256,19 +188,19 @@ module _ (f : List ℕ → List ℕ) (is : IsTextRenaming f) where
   body_kept p n front None ws more are said e = ap (λ (xs : List (List ℕ)). expanded_body (rp f is p) (rn f is n) None front xs) are ∙ nothing_kept n _ said e
   body_kept p n front (Some o) ws more are said e = instruction_kept p n o front (flat_map pieces ws) (flat_map pieces more) said are e
 
-  none_so_called : opcode_in Four (codes "names") ≡ None
+  none_so_called : opcode_in last_version (codes "names") ≡ None
   unfolding opcode_of
   none_so_called = refl
 
-  no_const : opcode_in Four (codes "const") ≡ None
+  no_const : opcode_in last_version (codes "const") ≡ None
   unfolding opcode_of
   no_const = refl
 
-  no_let : opcode_in Four (codes "let") ≡ None
+  no_let : opcode_in last_version (codes "let") ≡ None
   unfolding opcode_of
   no_let = refl
 
-  no_regs : opcode_in Four (codes "regs") ≡ None
+  no_regs : opcode_in last_version (codes "regs") ≡ None
   unfolding opcode_of
   no_regs = refl
 
@@ -291,7 +223,7 @@ module _ (f : List ℕ → List ℕ) (is : IsTextRenaming f) where
       (cond (bytes_eq first (codes "let")) (only_names front (names_after_let q m first xs))
       (cond (bytes_eq first (codes "proc")) (expanded_head q number m (front ++ first) (flat_map pieces xs))
       (cond (bytes_eq first (codes "regs")) (expanded_registers q m (front ++ first) (flat_map pieces xs))
-      (expanded_body q m (opcode_in Four first) (front ++ first) xs))))
+      (expanded_body q m (opcode_in last_version first) (front ++ first) xs))))
 
   line_kept : (p : Procedures) (number : ℕ) (n : Names) (front : List ℕ) (ws others : List (List ℕ)) → AreLineWords f p n front ws others → Goes (expanded_line p number n front ws) (expanded_line (rp f is p) number (rn f is n) front others)
   unfolding expanded_line
@@ -310,12 +242,12 @@ module _ (f : List ℕ → List ℕ) (is : IsTextRenaming f) where
       (λ k. let last = if_false _ _ (bytes_eq first (codes "proc")) other k in
       share Goes (bytes_eq first (codes "regs")) _ _ _ _
       (λ g said e. ap (expanded_registers (rp f is p) (rn f is n) (front ++ first)) (if_true _ _ (bytes_eq first (codes "regs")) last g) ∙ registers_kept f is p n (front ++ first) (flat_map pieces ws) said e)
-      (λ g. body_kept p n (front ++ first) (opcode_in Four first) ws more (if_false _ _ (bytes_eq first (codes "regs")) last g))))))))
+      (λ g. body_kept p n (front ++ first) (opcode_in last_version first) ws more (if_false _ _ (bytes_eq first (codes "regs")) last g))))))))
 
   -- ---- a line that isn't read
 
-  none_called : (name first : List ℕ) → opcode_in Four name ≡ None → bytes_eq first name ≡ true → opcode_in Four first ≡ None
-  none_called name first none e = ap (opcode_in Four) ((bytes_eq-Decides first name).0 e) ∙ none
+  none_called : (name first : List ℕ) → opcode_in last_version name ≡ None → bytes_eq first name ≡ true → opcode_in last_version first ≡ None
+  none_called name first none e = ap (opcode_in last_version) ((bytes_eq-Decides first name).0 e) ∙ none
 
   unknown_kept : (p : Procedures) (n : Names) (rest : List Expected) (ws : List (List ℕ)) → begins_unknown (rp f is p) (rn f is n) (renamed_words f (asked.Procedure ∷ rest) ws) ≡ begins_unknown p n ws
   unknown_kept p n rest [] = refl
@@ -345,31 +277,31 @@ module _ (f : List ℕ → List ℕ) (is : IsTextRenaming f) where
   open_kept p n front [] others are = ap (is_open_call (rp f is p) (rn f is n)) are
   open_kept p n front (first ∷ ws) others (more, same, are) = ap (is_open_call (rp f is p) (rn f is n)) same ∙ by (either_one first) refl are
     where
-      no_call : opcode_in Four first ≡ None → calls_unknown (rp f is p) (rn f is n) (opcode_in Four first) more ≡ calls_unknown p n (opcode_in Four first) ws
+      no_call : opcode_in last_version first ≡ None → calls_unknown (rp f is p) (rn f is n) (opcode_in last_version first) more ≡ calls_unknown p n (opcode_in last_version first) ws
       no_call none = ap (λ (o : Option Opcode). calls_unknown (rp f is p) (rn f is n) o more) none ∙ sym (ap (λ (o : Option Opcode). calls_unknown p n o ws) none)
 
       either_called : (s t : Bool) → (s || t) ≡ true → (s ≡ true) ⊎ (t ≡ true)
       either_called true t e = inl refl
       either_called false t e = inr e
 
-      assigned : (bytes_eq first (codes "const") ≡ true) ⊎ (bytes_eq first (codes "let") ≡ true) → calls_unknown (rp f is p) (rn f is n) (opcode_in Four first) more ≡ calls_unknown p n (opcode_in Four first) ws
+      assigned : (bytes_eq first (codes "const") ≡ true) ⊎ (bytes_eq first (codes "let") ≡ true) → calls_unknown (rp f is p) (rn f is n) (opcode_in last_version first) more ≡ calls_unknown p n (opcode_in last_version first) ws
       assigned (inl e) = no_call (none_called (codes "const") first no_const e)
       assigned (inr e) = no_call (none_called (codes "let") first no_let e)
 
-      body : (t : Bool) → bytes_eq first (codes "regs") ≡ t → Either t (flat_map pieces more ≡ map (renamed_listed f) (flat_map pieces ws)) (IsRenamedBody f p n (front ++ first) (opcode_in Four first) ws more)
-          → calls_unknown (rp f is p) (rn f is n) (opcode_in Four first) more ≡ calls_unknown p n (opcode_in Four first) ws
+      body : (t : Bool) → bytes_eq first (codes "regs") ≡ t → Either t (flat_map pieces more ≡ map (renamed_listed f) (flat_map pieces ws)) (IsRenamedBody f p n (front ++ first) (opcode_in last_version first) ws more)
+          → calls_unknown (rp f is p) (rn f is n) (opcode_in last_version first) more ≡ calls_unknown p n (opcode_in last_version first) ws
       body true e a = no_call (none_called (codes "regs") first no_regs e)
-      body false e a = call_kept p n (front ++ first) (opcode_in Four first) ws more a
+      body false e a = call_kept p n (front ++ first) (opcode_in last_version first) ws more a
 
       headed : (t : Bool) → bytes_eq first (codes "proc") ≡ t
-          → Either t (flat_map pieces more ≡ renamed_head f (flat_map pieces ws)) (Either (bytes_eq first (codes "regs")) (flat_map pieces more ≡ map (renamed_listed f) (flat_map pieces ws)) (IsRenamedBody f p n (front ++ first) (opcode_in Four first) ws more))
-          → calls_unknown (rp f is p) (rn f is n) (opcode_in Four first) more ≡ calls_unknown p n (opcode_in Four first) ws
+          → Either t (flat_map pieces more ≡ renamed_head f (flat_map pieces ws)) (Either (bytes_eq first (codes "regs")) (flat_map pieces more ≡ map (renamed_listed f) (flat_map pieces ws)) (IsRenamedBody f p n (front ++ first) (opcode_in last_version first) ws more))
+          → calls_unknown (rp f is p) (rn f is n) (opcode_in last_version first) more ≡ calls_unknown p n (opcode_in last_version first) ws
       headed true e a = no_call (none_called (codes "proc") first no_proc e)
       headed false e a = body (bytes_eq first (codes "regs")) refl a
 
       by : (t : Bool) → either_one first ≡ t
-          → Either t (more ≡ renamed_first f ws) (Either (bytes_eq first (codes "proc")) (flat_map pieces more ≡ renamed_head f (flat_map pieces ws)) (Either (bytes_eq first (codes "regs")) (flat_map pieces more ≡ map (renamed_listed f) (flat_map pieces ws)) (IsRenamedBody f p n (front ++ first) (opcode_in Four first) ws more)))
-          → calls_unknown (rp f is p) (rn f is n) (opcode_in Four first) more ≡ calls_unknown p n (opcode_in Four first) ws
+          → Either t (more ≡ renamed_first f ws) (Either (bytes_eq first (codes "proc")) (flat_map pieces more ≡ renamed_head f (flat_map pieces ws)) (Either (bytes_eq first (codes "regs")) (flat_map pieces more ≡ map (renamed_listed f) (flat_map pieces ws)) (IsRenamedBody f p n (front ++ first) (opcode_in last_version first) ws more)))
+          → calls_unknown (rp f is p) (rn f is n) (opcode_in last_version first) more ≡ calls_unknown p n (opcode_in last_version first) ws
       by true e a = assigned (either_called (bytes_eq first (codes "const")) (bytes_eq first (codes "let")) e)
       by false e a = headed (bytes_eq first (codes "proc")) refl a
 

@@ -8,7 +8,7 @@ use Rattle.std.specs.Str.{bytes_eq}
 use Rattle.tw_lexer.specs.Names.{before_colon}
 use Rattle.tw_code.specs.format.Table.{opcode_in, forms_of}
 use Rattle.tw_code.specs.declared.opcode.Opcode.{Opcode}
-use Rattle.tw_code.specs.declared.version.Version.TheVariants.{Four}
+use Rattle.tw_code.specs.format.Versions.{last_version}
 use Rattle.tw_symbols.specs.LineExpansion.{Expanded, expected_of, at_head, banks_of, begins, begins_first, followed_by, expanded_body, names_after_constant, counted, fitting, has_colon, expanded_head, expanded_instruction, is_listed_word, is_names_line, is_unnamed, names_after_let, expanded_line, number_of, list_name, names_after_list, made_one, expanded_results, made_word, makes, name_before, checked_name, named, number_in, only_names, parameters, procedure_name, register_of, expanded_registers, expands, value_after, value_types, with_word, expanded_word, expanded_words}
 use Rattle.tw_symbols.specs.declared.meaning.Expected.{Expected}
 use Rattle.tw_symbols.specs.declared.meaning.Expected.TheVariants as asked
@@ -286,4 +286,4 @@ module _ (Q : List ℕ → Type 0) (kept : IsKept Q) where
       (either (SaysKept Q front) (bytes_eq first (codes "let")) _ _ (only_more names front (names_after_let p names first ws) h (let_types p names first ws))
       (either (SaysKept Q front) (bytes_eq first (codes "proc")) _ _ (after_first front first _ k.0 (head_kept p number names (front ++ first) (flat_map pieces ws) (pieces_kept ws k.1)))
       (either (SaysKept Q front) (bytes_eq first (codes "regs")) _ _ (after_first front first _ k.0 (registers_kept p names (front ++ first) (flat_map pieces ws) h (pieces_kept ws k.1)))
-      (after_first front first _ k.0 (body_kept p names (opcode_in Four first) (front ++ first) ws h k.1))))))
+      (after_first front first _ k.0 (body_kept p names (opcode_in last_version first) (front ++ first) ws h k.1))))))

@@ -8,7 +8,7 @@ use Rattle.std.proofs.lemmas.Slice.Eq.{bytes_eq-Decides}
 use Rattle.tw_code.specs.declared.opcode.Opcode.{Opcode}
 use Rattle.tw_code.specs.declared.opcode.Opcode.TheVariants as opcode
 use Rattle.tw_code.specs.declared.opcode.TheConstants.{OPCODES}
-use Rattle.tw_code.specs.declared.version.Version.TheVariants.{Four}
+use Rattle.tw_code.specs.format.Versions.{last_version}
 use Rattle.tw_code.specs.format.Table.{if_had, opcode_in, opcode_of, word_of}
 use Rattle.tw_lexer.proofs.Colons.{before, found_before}
 use Rattle.tw_lexer.specs.Names.{before_colon}
@@ -57,9 +57,9 @@ none_called x [] = refl
 none_called x (o ∷ all) =
     otherwise (bytes_eq (word_of o) (x ++ 58 ∷ [])) (Some o) (find (λ o. bytes_eq (word_of o) (x ++ 58 ∷ [])) all) (not_called x (word_of o) (no_colon o)) ∙ none_called x all
 
-no_instruction : (x : List ℕ) → opcode_in Four (x ++ 58 ∷ []) ≡ None
+no_instruction : (x : List ℕ) → opcode_in last_version (x ++ 58 ∷ []) ≡ None
 unfolding opcode_of
-no_instruction x = ap (if_had Four) (none_called x OPCODES)
+no_instruction x = ap (if_had last_version) (none_called x OPCODES)
 
 label_says : (p : Procedures) (number : ℕ) (names : Names) (front x : List ℕ) → expanded_line p number names front ((x ++ 58 ∷ []) ∷ []) ≡ Ok (names, (front ++ (x ++ 58 ∷ [])) ++ [])
 unfolding expanded_line

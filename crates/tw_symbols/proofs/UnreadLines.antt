@@ -7,7 +7,7 @@ use Rattle.std.specs.Str.{bytes_eq}
 use Rattle.std.proofs.lemmas.Bool.Decides.{nat_tests}
 use Rattle.std.proofs.lemmas.Slice.Eq.{bytes_eq-Decides}
 use Rattle.tw_code.specs.declared.opcode.Opcode.{Opcode}
-use Rattle.tw_code.specs.declared.version.Version.TheVariants.{Four}
+use Rattle.tw_code.specs.format.Versions.{last_version}
 use Rattle.tw_code.specs.format.Table.{opcode_in, opcode_of}
 use Rattle.tw_symbols.proofs.EachLine.{line_of}
 use Rattle.tw_symbols.proofs.Loops.{AreGathered, no_procedures}
@@ -59,7 +59,7 @@ gathered_whole ls before others p (all, are, is) full parts =
       is ∙ sym (full_lines (procedures_of all) (1 + length all) rest.0 (subst (λ (q : Procedures). reads_heads q ≡ false) is full)) ∙ sym (lines_both no_procedures 1 all rest.0),
     )
 
-pub no_proc : opcode_in Four (codes "proc") ≡ None
+pub no_proc : opcode_in last_version (codes "proc") ≡ None
 unfolding opcode_of
 no_proc = refl
 
@@ -69,7 +69,7 @@ call_adds_none p q number n (first ∷ ws) calls = by (bytes_eq first (codes "pr
   where
     by : (t : Bool) → bytes_eq first (codes "proc") ≡ t → cond (t && reads_heads q) (with_head q number (flat_map pieces ws)) q ≡ q
     by true e =
-        let none : opcode_in Four first ≡ None = ap (opcode_in Four) ((bytes_eq-Decides first (codes "proc")).0 e) ∙ no_proc in
+        let none : opcode_in last_version first ≡ None = ap (opcode_in last_version) ((bytes_eq-Decides first (codes "proc")).0 e) ∙ no_proc in
         let closed : false ≡ true = sym (ap (λ (o : Option Opcode). calls_unknown p n o ws) none) ∙ calls in
         absurd cc
     by false e = refl

@@ -6,7 +6,7 @@ use Rattle.std.specs.Str.Lines.{lines}
 use Rattle.tw_lexer.specs.Digits.{digits_in}
 use Rattle.tw_code.specs.format.Table.{forms_of, opcode_in}
 use Rattle.tw_code.specs.declared.opcode.Opcode.{Opcode}
-use Rattle.tw_code.specs.declared.version.Version.TheVariants.{Four}
+use Rattle.tw_code.specs.format.Versions.{last_version}
 use Rattle.tw_symbols.specs.Lines.{AreTaken, Line, line_words, pieces}
 use Rattle.tw_symbols.specs.Meanings.{Head, Procedures, meaning}
 use Rattle.tw_symbols.specs.LineExpansion.{callee}
@@ -25,7 +25,7 @@ called_by procedures (Some o) words = if is_call (forms_of o) then first_called 
 -- returns the number of the procedure that an instruction of these words calls
 abbrev pub called_in : Procedures → List (List ℕ) → Option ℕ
 called_in procedures [] = None
-called_in procedures (first ∷ words) = called_by procedures (opcode_in Four first) words
+called_in procedures (first ∷ words) = called_by procedures (opcode_in last_version first) words
 
 -- returns the line at which the procedure of this number begins
 abbrev pub head_line : Procedures → Option ℕ → Option ℕ

@@ -12,7 +12,7 @@ use Rattle.tw_code.specs.declared.form.Form.{Form}
 use Rattle.tw_code.specs.declared.form.Form.TheVariants as form
 use Rattle.tw_code.specs.declared.opcode.Opcode.{Opcode}
 use Rattle.tw_code.specs.declared.opcode.Opcode.TheVariants as opcode
-use Rattle.tw_code.specs.declared.version.Version.TheVariants.{Four}
+use Rattle.tw_code.specs.format.Versions.{last_version}
 use Rattle.tw_symbols.specs.Lines.{begins_quoted, pieces}
 use Rattle.tw_symbols.specs.Meanings.{TokenError, Head, Names, Procedures, and_then, is_name, known, may_name, meaning, rejected_word, with_constant, with_listed, with_register}
 use Rattle.tw_symbols.specs.declared.meaning.Expected.{Expected}
@@ -313,4 +313,4 @@ expanded_line procedures number names front (first ∷ words) =
     if bytes_eq first (codes "let") then only_names front (names_after_let procedures names first words) else
     if bytes_eq first (codes "proc") then expanded_head procedures number names (front ++ first) (flat_map pieces words) else
     if bytes_eq first (codes "regs") then expanded_registers procedures names (front ++ first) (flat_map pieces words) else
-    expanded_body procedures names (opcode_in Four first) (front ++ first) words
+    expanded_body procedures names (opcode_in last_version first) (front ++ first) words

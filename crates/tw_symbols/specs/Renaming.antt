@@ -5,7 +5,7 @@ use Rattle.std.specs.Str.{bytes_eq}
 use Rattle.tw_lexer.specs.Names.{before_colon}
 use Rattle.tw_code.specs.format.Table.{forms_of, opcode_in}
 use Rattle.tw_code.specs.declared.opcode.Opcode.{Opcode}
-use Rattle.tw_code.specs.declared.version.Version.TheVariants.{Four}
+use Rattle.tw_code.specs.format.Versions.{last_version}
 use Rattle.tw_symbols.specs.Lines.{Line, line_rest, line_words, pieces}
 use Rattle.tw_symbols.specs.Meanings.{Names, Procedures, no_names}
 use Rattle.tw_symbols.specs.LineExpansion.{expected_of, bank_of_mode, banks_of, expanded_results, makes}
@@ -63,7 +63,7 @@ AreRenamed f procedures names front first words others =
     Either (bytes_eq first (codes "const") || bytes_eq first (codes "let")) (others ≡ renamed_first f words)
     (Either (bytes_eq first (codes "proc")) (flat_map pieces others ≡ renamed_head f (flat_map pieces words))
     (Either (bytes_eq first (codes "regs")) (flat_map pieces others ≡ map (renamed_listed f) (flat_map pieces words))
-    (IsRenamedBody f procedures names (front ++ first) (opcode_in Four first) words others)))
+    (IsRenamedBody f procedures names (front ++ first) (opcode_in last_version first) words others)))
 
 abbrev pub AreLineWords : (List ℕ → List ℕ) → Procedures → Names → List ℕ → List (List ℕ) → List (List ℕ) → Type 0
 AreLineWords f procedures names front [] others = others ≡ []

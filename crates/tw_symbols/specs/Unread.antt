@@ -7,7 +7,7 @@ use Rattle.tw_code.specs.format.Table.{forms_of, opcode_in}
 use Rattle.tw_code.specs.declared.form.Form.{Form}
 use Rattle.tw_code.specs.declared.form.Form.TheVariants as form
 use Rattle.tw_code.specs.declared.opcode.Opcode.{Opcode}
-use Rattle.tw_code.specs.declared.version.Version.TheVariants.{Four}
+use Rattle.tw_code.specs.format.Versions.{last_version}
 use Rattle.tw_symbols.specs.Lines.{pieces}
 use Rattle.tw_symbols.specs.Meanings.{Head, Names, Procedures, is_name, known}
 
@@ -37,7 +37,7 @@ calls_unknown procedures names (Some o) words = is_call (forms_of o) && begins_u
 -- returns whether these are the words of an instruction with a procedure whose name has no meaning
 abbrev pub is_open_call : Procedures → Names → List (List ℕ) → Bool
 is_open_call procedures names [] = false
-is_open_call procedures names (first ∷ words) = calls_unknown procedures names (opcode_in Four first) words
+is_open_call procedures names (first ∷ words) = calls_unknown procedures names (opcode_in last_version first) words
 
 -- returns the expansion of a line that isn't read: nothing, or an instruction that needs no name
 abbrev pub unread : Procedures → ℕ → Names → List (List ℕ) → Option (List ℕ)

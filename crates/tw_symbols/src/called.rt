@@ -53,7 +53,7 @@ fn called_in(
 {
     match words {
         [first, others @ ..] => {
-            let opcode = opcode_in(Version::Four, first);
+            let opcode = opcode_in(Version::LAST, first);
             called_by(alloc, procedures, opcode, others)
         }
         [] => Ok(None),

@@ -2,7 +2,7 @@
 
 ghost use Rattle.std.specs.Prelude.{◌≡◌, ◌++◌};
 ghost use Rattle.tw_code.specs.format.Table.{opcode_in};
-ghost use Rattle.tw_code.specs.declared.version.Version.TheVariants.{Four};
+ghost use Rattle.tw_code.specs.format.Versions.{last_version};
 ghost use Rattle.tw_symbols.specs.Answers.{IsExpanded};
 ghost use Rattle.std.specs.List.{flat_map};
 ghost use Rattle.tw_symbols.specs.Lines.{pieces};
@@ -36,10 +36,10 @@ fn put_body<'a>(
     first: &'a [u8],
     words: &[&'a [u8]],
 ) -> Result<(), Rejection<'a>>
-    ensures { IsExpanded result names.new out.new.items (expanded_body (seen_procedures procedures.now) (seen_names names.old) (opcode_in Four first.now) (out.old.items ++ first.now) (texts words.now)) }
+    ensures { IsExpanded result names.new out.new.items (expanded_body (seen_procedures procedures.now) (seen_names names.old) (opcode_in last_version first.now) (out.old.items ++ first.now) (texts words.now)) }
 {
     out.extend_from_slice(first)?;
-    match opcode_in(Version::Four, first) {
+    match opcode_in(Version::LAST, first) {
         Some(opcode) => {
             let pieces = pieces_of(alloc, words)?;
             put_instruction(alloc, procedures, names, out, opcode, &pieces)

@@ -76,7 +76,7 @@ fn is_open_call(
 {
     match words {
         [first, others @ ..] => {
-            let opcode = opcode_in(Version::Four, first);
+            let opcode = opcode_in(Version::LAST, first);
             calls_unknown(alloc, procedures, names, opcode, others)
         }
         [] => Ok(false),

@@ -39,12 +39,12 @@ plain (operand.Skip skip) = holds Skip skip
 plain (operand.TypeOf ty) = holds TypeOf ty
 
 abbrev pub none : Operands
-none = record { first = 0; second = 0; third = 0; number = pos 0; iterations = 0; skip = 0; ty = scalar_type Int }
+none = record { first = 0; second = 0; third = 0; fourth = 0; number = pos 0; iterations = 0; skip = 0; ty = scalar_type Int }
 
 -- returns the operands with one more before them
 abbrev pub with_operand : Operand → Operands → Operands
-with_operand (holds Value register) o = record o { first = register; second = o.first; third = o.second }
-with_operand (holds Right register) o = record o { first = register; second = o.first; third = o.second }
+with_operand (holds Value register) o = record o { first = register; second = o.first; third = o.second; fourth = o.third }
+with_operand (holds Right register) o = record o { first = register; second = o.first; third = o.second; fourth = o.third }
 with_operand (holds Number number) o = record o { number = number }
 with_operand (holds Iterations iterations) o = record o { iterations = iterations }
 with_operand (holds TypeOf ty) o = record o { ty = ty }
@@ -58,8 +58,8 @@ gathered (form ∷ forms) x = with_operand (holds form x.0) (gathered forms x.1)
 
 -- returns the operands after the first
 abbrev pub after_first : Form → Operands → Operands
-after_first Value o = record o { first = o.second; second = o.third }
-after_first Right o = record o { first = o.second; second = o.third }
+after_first Value o = record o { first = o.second; second = o.third; third = o.fourth }
+after_first Right o = record o { first = o.second; second = o.third; third = o.fourth }
 after_first form o = o
 
 -- returns the content of the first operand

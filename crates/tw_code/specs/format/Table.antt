@@ -1,7 +1,7 @@
 -- The table of instructions. Each opcode has a code, the forms of its operands, in the order of bytes and of assembly, and the
 -- instruction that they make. It also has the first version with it, and a name in assembly.
 -- Each instruction has an opcode and operands. The encoding of an operand in bytes is in `Spelling`, and in assembly in tw_asm's Parts.
-use Rattle.std.specs.Prelude.{ℕ, ℤ, Bool, true, false, List, [], ◌∷◌, Option, Some, None, codes, ◌==◌, if◌then◌else◌}
+use Rattle.std.specs.Prelude.{ℕ, ℤ, Bool, List, [], ◌∷◌, Option, Some, None, codes, ◌==◌, if◌then◌else◌}
 use Rattle.std.specs.List.{find}
 use Rattle.std.specs.Str.{bytes_eq}
 use Rattle.tw_code.specs.declared.form.Form.{Form}
@@ -17,11 +17,14 @@ use Rattle.tw_code.specs.declared.instr.LocalInstr.{LocalInstr}
 use Rattle.tw_code.specs.declared.instr.LocalInstr.TheVariants as local
 use Rattle.tw_code.specs.declared.instr.Priority.{Priority}
 use Rattle.tw_code.specs.declared.instr.Priority.TheVariants.{Constant, Computed}
+use Rattle.tw_code.specs.declared.instr.Sought.{Sought}
+use Rattle.tw_code.specs.declared.instr.Sought.TheVariants as sought
 use Rattle.tw_code.specs.declared.opcode.Opcode.{Opcode}
 use Rattle.tw_code.specs.declared.opcode.Opcode.TheVariants as opcode
 use Rattle.tw_code.specs.declared.opcode.TheConstants.{OPCODES}
 use Rattle.tw_code.specs.declared.version.Version.{Version}
-use Rattle.tw_code.specs.declared.version.Version.TheVariants.{One, Two, Four}
+use Rattle.tw_code.specs.declared.version.Version.TheVariants.{One, Two, Four, Five}
+use Rattle.tw_code.specs.format.Versions.{has_since}
 use Rattle.tw_types.specs.Nesting.{NestedScalar}
 use Rattle.tw_types.specs.declared.data_type.Scalar.{Scalar}
 use Rattle.tw_types.specs.declared.data_type.Scalar.TheVariants.{Int, Text}
@@ -76,6 +79,7 @@ row_of opcode.JumpEqual = a_row 0x21 (Value ∷ Value ∷ Skip ∷ []) (λ x. in
 row_of opcode.JumpLess = a_row 0x22 (Value ∷ Value ∷ Skip ∷ []) (λ x. instr.Local (local.JumpLess x.0 x.1.0 x.1.1.0))
 row_of opcode.Repeat = a_row 0x23 (Iterations ∷ []) (λ x. instr.Local (local.Repeat x.0))
 row_of opcode.End = a_row 0x24 [] (λ x. instr.Local local.End)
+row_of opcode.Last = a_row 0x2b [] (λ x. instr.Local local.Last)
 row_of opcode.New = a_row 0x30 (Right ∷ Right ∷ TypeOf ∷ []) (λ x. instr.Data (on_data.New x.0 x.1.0 x.1.1.0))
 row_of opcode.Store = a_row 0x31 (Right ∷ Value ∷ []) (λ x. instr.Data (on_data.Store x.0 x.1.0))
 row_of opcode.Get = a_row 0x32 (Value ∷ Right ∷ []) (λ x. instr.Data (on_data.Get x.0 x.1.0))
@@ -98,6 +102,20 @@ row_of opcode.PutComputed = a_row 0x54 (Callee ∷ Value ∷ Target ∷ Args ∷
 row_of opcode.InsertValue = a_row 0x60 (Right ∷ Value ∷ Value ∷ Skip ∷ []) (λ x. instr.Data (on_data.InsertValue x.0 x.1.0 x.1.1.0 x.1.1.1.0))
 row_of opcode.GetValue = a_row 0x61 (Value ∷ Right ∷ Value ∷ Skip ∷ []) (λ x. instr.Data (on_data.GetValue x.0 x.1.0 x.1.1.0 x.1.1.1.0))
 row_of opcode.AddValue = a_row 0x62 (Right ∷ Value ∷ Value ∷ []) (λ x. instr.Data (on_data.AddValue x.0 x.1.0 x.1.1.0))
+row_of opcode.ByteAt = a_row 0x70 (Value ∷ Value ∷ Value ∷ Skip ∷ []) (λ x. instr.Local (local.ByteAt x.0 x.1.0 x.1.1.0 x.1.1.1.0))
+row_of opcode.Slice = a_row 0x71 (Value ∷ Value ∷ Value ∷ Value ∷ Skip ∷ []) (λ x. instr.Local (local.Slice x.0 x.1.0 x.1.1.0 x.1.1.1.0 x.1.1.1.1.0))
+row_of opcode.Find = a_row 0x72 (Value ∷ Value ∷ Value ∷ Value ∷ Skip ∷ []) (λ x. instr.Local (local.Seek sought.Find x.0 x.1.0 x.1.1.0 x.1.1.1.0 x.1.1.1.1.0))
+row_of opcode.Span = a_row 0x73 (Value ∷ Value ∷ Value ∷ Value ∷ Skip ∷ []) (λ x. instr.Local (local.Seek sought.Span x.0 x.1.0 x.1.1.0 x.1.1.1.0 x.1.1.1.1.0))
+row_of opcode.Until = a_row 0x74 (Value ∷ Value ∷ Value ∷ Value ∷ Skip ∷ []) (λ x. instr.Local (local.Seek sought.Until x.0 x.1.0 x.1.1.0 x.1.1.1.0 x.1.1.1.1.0))
+row_of opcode.MultiplyDivide = a_row 0x75 (Value ∷ Value ∷ Value ∷ Value ∷ Skip ∷ []) (λ x. instr.Local (local.MultiplyDivide x.0 x.1.0 x.1.1.0 x.1.1.1.0 x.1.1.1.1.0))
+row_of opcode.And = a_row 0x76 (Value ∷ Value ∷ Value ∷ Skip ∷ []) (λ x. instr.Local (local.Compute operation.And x.0 x.1.0 x.1.1.0 x.1.1.1.0))
+row_of opcode.Or = a_row 0x77 (Value ∷ Value ∷ Value ∷ Skip ∷ []) (λ x. instr.Local (local.Compute operation.Or x.0 x.1.0 x.1.1.0 x.1.1.1.0))
+row_of opcode.Xor = a_row 0x78 (Value ∷ Value ∷ Value ∷ Skip ∷ []) (λ x. instr.Local (local.Compute operation.Xor x.0 x.1.0 x.1.1.0 x.1.1.1.0))
+row_of opcode.ShiftLeft = a_row 0x79 (Value ∷ Value ∷ Value ∷ Skip ∷ []) (λ x. instr.Local (local.Compute operation.ShiftLeft x.0 x.1.0 x.1.1.0 x.1.1.1.0))
+row_of opcode.ShiftRight = a_row 0x7a (Value ∷ Value ∷ Value ∷ Skip ∷ []) (λ x. instr.Local (local.Compute operation.ShiftRight x.0 x.1.0 x.1.1.0 x.1.1.1.0))
+row_of opcode.WrappingMultiply = a_row 0x7b (Value ∷ Value ∷ Value ∷ Skip ∷ []) (λ x. instr.Local (local.Compute operation.WrappingMultiply x.0 x.1.0 x.1.1.0 x.1.1.1.0))
+row_of opcode.WrappingAdd = a_row 0x7c (Value ∷ Value ∷ Value ∷ Skip ∷ []) (λ x. instr.Local (local.Compute operation.WrappingAdd x.0 x.1.0 x.1.1.0 x.1.1.1.0))
+row_of opcode.JumpTextLess = a_row 0x7d (Value ∷ Value ∷ Skip ∷ []) (λ x. instr.Local (local.JumpTextLess x.0 x.1.0 x.1.1.0))
 
 abbrev pub code_in : Row → ℕ
 code_in (a_row code forms make) = code
@@ -121,17 +139,22 @@ since opcode.PutComputed = Two
 since opcode.InsertValue = Four
 since opcode.GetValue = Four
 since opcode.AddValue = Four
+since opcode.Last = Five
+since opcode.ByteAt = Five
+since opcode.Slice = Five
+since opcode.Find = Five
+since opcode.Span = Five
+since opcode.Until = Five
+since opcode.MultiplyDivide = Five
+since opcode.And = Five
+since opcode.Or = Five
+since opcode.Xor = Five
+since opcode.ShiftLeft = Five
+since opcode.ShiftRight = Five
+since opcode.WrappingMultiply = Five
+since opcode.WrappingAdd = Five
+since opcode.JumpTextLess = Five
 since o = One
-
--- returns whether a version has the features of another: of itself or an earlier one
-abbrev pub has_since : Version → Version → Bool
-has_since One One = true
-has_since One Two = false
-has_since One Four = false
-has_since Two One = true
-has_since Two Two = true
-has_since Two Four = false
-has_since Four brought = true
 
 abbrev pub has_opcode : Version → Opcode → Bool
 has_opcode version o = has_since version (since o)
@@ -165,6 +188,7 @@ word_of opcode.JumpEqual = codes "JEQ"
 word_of opcode.JumpLess = codes "JLT"
 word_of opcode.Repeat = codes "REPEAT"
 word_of opcode.End = codes "END"
+word_of opcode.Last = codes "LAST"
 word_of opcode.New = codes "NEW"
 word_of opcode.Store = codes "STORE"
 word_of opcode.Get = codes "GET"
@@ -187,6 +211,20 @@ word_of opcode.PutComputed = codes "PUTV"
 word_of opcode.InsertValue = codes "MINS"
 word_of opcode.GetValue = codes "MGET"
 word_of opcode.AddValue = codes "MADD"
+word_of opcode.ByteAt = codes "BYTE"
+word_of opcode.Slice = codes "SLICE"
+word_of opcode.Find = codes "FIND"
+word_of opcode.Span = codes "SPAN"
+word_of opcode.Until = codes "UNTIL"
+word_of opcode.MultiplyDivide = codes "MULDIV"
+word_of opcode.And = codes "AND"
+word_of opcode.Or = codes "OR"
+word_of opcode.Xor = codes "XOR"
+word_of opcode.ShiftLeft = codes "SHL"
+word_of opcode.ShiftRight = codes "SHR"
+word_of opcode.WrappingMultiply = codes "WMUL"
+word_of opcode.WrappingAdd = codes "WADD"
+word_of opcode.JumpTextLess = codes "JTLT"
 
 unfoldable pub opcode_of : List ℕ → Option Opcode
 opcode_of name = find (λ o. bytes_eq (word_of o) name) OPCODES
@@ -203,6 +241,18 @@ opcode_of_operation operation.Subtract = opcode.Subtract
 opcode_of_operation operation.Multiply = opcode.Multiply
 opcode_of_operation operation.Divide = opcode.Divide
 opcode_of_operation operation.Remainder = opcode.Remainder
+opcode_of_operation operation.And = opcode.And
+opcode_of_operation operation.Or = opcode.Or
+opcode_of_operation operation.Xor = opcode.Xor
+opcode_of_operation operation.ShiftLeft = opcode.ShiftLeft
+opcode_of_operation operation.ShiftRight = opcode.ShiftRight
+opcode_of_operation operation.WrappingMultiply = opcode.WrappingMultiply
+opcode_of_operation operation.WrappingAdd = opcode.WrappingAdd
+
+abbrev pub opcode_of_search : Sought → Opcode
+opcode_of_search sought.Find = opcode.Find
+opcode_of_search sought.Span = opcode.Span
+opcode_of_search sought.Until = opcode.Until
 
 abbrev pub local_row : LocalInstr → Opcode × List Operand
 local_row (local.Int to value) = (opcode.Int, holds Value to ∷ holds Number value ∷ [])
@@ -218,6 +268,12 @@ local_row (local.JumpEqual left right skip) = (opcode.JumpEqual, holds Value lef
 local_row (local.JumpLess left right skip) = (opcode.JumpLess, holds Value left ∷ holds Value right ∷ holds Skip skip ∷ [])
 local_row (local.Repeat iterations) = (opcode.Repeat, holds Iterations iterations ∷ [])
 local_row local.End = (opcode.End, [])
+local_row local.Last = (opcode.Last, [])
+local_row (local.ByteAt to from place skip) = (opcode.ByteAt, holds Value to ∷ holds Value from ∷ holds Value place ∷ holds Skip skip ∷ [])
+local_row (local.Slice to from start end skip) = (opcode.Slice, holds Value to ∷ holds Value from ∷ holds Value start ∷ holds Value end ∷ holds Skip skip ∷ [])
+local_row (local.Seek sought to text pattern start skip) = (opcode_of_search sought, holds Value to ∷ holds Value text ∷ holds Value pattern ∷ holds Value start ∷ holds Skip skip ∷ [])
+local_row (local.MultiplyDivide to left right divisor skip) = (opcode.MultiplyDivide, holds Value to ∷ holds Value left ∷ holds Value right ∷ holds Value divisor ∷ holds Skip skip ∷ [])
+local_row (local.JumpTextLess left right skip) = (opcode.JumpTextLess, holds Value left ∷ holds Value right ∷ holds Skip skip ∷ [])
 
 -- returns one opcode for integers as subscripts, and another for texts
 abbrev pub opcode_by : Opcode → Opcode → Scalar → Opcode

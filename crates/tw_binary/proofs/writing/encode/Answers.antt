@@ -12,5 +12,5 @@ put_procedure-requires c =
 
 pub loop-procedure-preserved : goal.loop-procedure-preserved
 loop-procedure-preserved c =
-    wrote_item procedure_items c.procedures-procedures.result.now c.loop-procedure.procedure-index c.procedure-item.result (0x54 ∷ 0x57 ∷ 0x42 ∷ c.code_of_version-version.result ∷ length c.procedures-procedures.result.now ∷ []) _ _ c.loop-procedure-test.true c.procedure-item.is c.loop-procedure.invariant
+    wrote_item procedure_items c.procedures-procedures.result.now c.loop-procedure.procedure-index c.procedure-item.result (0x54 ∷ 0x57 ∷ 0x42 ∷ c.number-version.result ∷ length c.procedures-procedures.result.now ∷ []) _ _ c.loop-procedure-test.true c.procedure-item.is c.loop-procedure.invariant
     c.in_ok-put_procedure.ensures

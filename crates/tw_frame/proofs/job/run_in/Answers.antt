@@ -5,9 +5,11 @@ use Rattle.tw_code.specs.machine.Position.{Position}
 use Rattle.tw_frame.specs.declared.context.Context.{Context}
 use Rattle.tw_frame.specs.Banks.{HasText}
 use Rattle.tw_frame.specs.Jobs.{position_of}
+use Rattle.tw_frame.specs.Pace.{IsSeen, IsSeenCut}
 use Rattle.tw_frame.specs.Ready.{IsReached}
+use Rattle.tw_verify.specs.Searching.{has_slow}
 use Rattle.tw_frame.specs.Positions.{position_at}
-use Rattle.tw_frame.proofs.Lending.{done_before, done_run, known, ready, short_before, there}
+use Rattle.tw_frame.proofs.Lending.{done_before, done_run, found_slow, known, ready, short_before, there}
 use Rattle.tw_frame.proofs.Pacing.{nothing, unseen}
 use Rattle.tw_frame.proofs.Running.{is_below}
 use Rattle.tw_frame.proofs.job.run_in.Goals as goal
@@ -93,12 +95,29 @@ returns-in-Err-clause-cut g c =
     let below = is_below c.procedure_of-p.result.now c.quick.result.now c.budget.result (ready c.args.verified.now c.args.procedure c.args.at.now.registers.types (position_of c.args.at.now) c.procedure_of-p.result.now k c.from-procedure.result c.from-procedure.ensures c.quick.result.now c.budget.result c.quick.ensures c.budget.ensures.is) (position_of c.args.at.now) steps came.0 reached in
     record { p = c.procedure_of-p.result.now; here = k.here; at = came.0; reached = reached; few = omega (arith, below, c.budget.ensures.within) }
 
+pub has_slow-requires : goal.has_slow-requires
+has_slow-requires g c =
+    let k = known c.args.verified.now c.args.procedure c.args.at.now.registers.types (position_of c.args.at.now) c.requires c.procedure_of-p.result.now c.procedure_of-p.ensures.is c.procedure_of-p.ensures.accepted in
+    omega (arith, c.from-procedure.ensures, k.in_program)
+
 pub returns-then-not-is_local-clause-seen : goal.returns-then-not-is_local-clause-seen
-returns-then-not-is_local-clause-seen g c = unseen g.S.StopSignal.says c.args.stop.now
+returns-then-not-is_local-clause-seen g c = λ p here. unseen g.S.StopSignal.says (has_slow p.code) c.args.stop.now
 
 pub returns-in_default-clause-seen : goal.returns-in_default-clause-seen
-returns-in_default-clause-seen g c = unseen g.S.StopSignal.says c.args.stop.now
+returns-in_default-clause-seen g c = λ p here. unseen g.S.StopSignal.says (has_slow p.code) c.args.stop.now
 
 pub returns-in_default-copy_from-clause-seen : goal.returns-in_default-copy_from-clause-seen
-returns-in_default-copy_from-clause-seen g c =
-    nothing g.S.StopSignal.says c.args.stop.now c.run_watched-watched.new.stop c.in-Ok-watched.loop_exit.steps c.in-Ok-watched.ensures.seen
+returns-in_default-copy_from-clause-seen g c = λ p here.
+    let is = found_slow c.args.verified.now c.args.procedure p here c.from-procedure.result c.from-procedure.ensures c.has_slow.result c.has_slow.ensures in
+    nothing g.S.StopSignal.says (has_slow p.code) c.args.stop.now c.run_watched-watched.new.stop c.in-Ok-watched.loop_exit.steps
+    (subst (λ b. IsSeen b g.S.StopSignal.says c.args.stop.now c.run_watched-watched.new.stop c.in-Ok-watched.loop_exit.steps) is c.in-Ok-watched.ensures.seen)
+
+pub returns-clause-seen : goal.returns-clause-seen
+returns-clause-seen g c = λ p here.
+    let is = found_slow c.args.verified.now c.args.procedure p here c.from-procedure.result c.from-procedure.ensures c.has_slow.result c.has_slow.ensures in
+    subst (λ b. IsSeen b g.S.StopSignal.says c.args.stop.now c.run_watched-watched.new.stop c.in-Ok-watched.loop_exit.steps) is c.in-Ok-watched.ensures.seen
+
+pub returns-in-Err-clause-seen : goal.returns-in-Err-clause-seen
+returns-in-Err-clause-seen g c = λ p here.
+    let is = found_slow c.args.verified.now c.args.procedure p here c.from-procedure.result c.from-procedure.ensures c.has_slow.result c.has_slow.ensures in
+    subst (λ b. IsSeenCut b g.S.StopSignal.says c.args.stop.now c.run_watched-watched.new.stop c.in-Err.cut.steps) is c.in-Err.ensures.seen
