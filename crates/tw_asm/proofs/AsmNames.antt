@@ -24,7 +24,8 @@ pub use Rattle.tw_code.specs.declared.instr.Instr.{Instr}
 pub use Rattle.tw_code.specs.declared.opcode.Opcode.{Opcode}
 pub use Rattle.tw_code.specs.declared.procedure.Procedure.{Procedure}
 pub use Rattle.tw_code.specs.declared.version.Version.{Version}
-pub use Rattle.tw_code.specs.declared.version.Version.TheVariants.{One, Two, Four}
+pub use Rattle.tw_code.specs.declared.version.Version.TheVariants.{One, Two, Four, Five}
+pub use Rattle.tw_code.specs.format.Versions.{has_maps, last_version, version_by, version_number}
 pub use Rattle.tw_code.specs.format.Program.{IsInstr, IsInstrOf, IsList, IsMapOf, IsOperand, IsOperandOf, IsParam, IsParamOf, IsProcedure, IsProcedureOf, IsProgramOf, IsRegister, IsSkip, IsSubscriptOf, IsTarget, IsTypeOf, IsTypeUnderOf, IsVersioned, IsWithin, Versioned}
 pub use Rattle.tw_code.specs.format.Table.{Contents, Operand, forms_of, has_opcode, holds, if_had, priority_operand, row, word_of, opcode_in}
 pub use Rattle.tw_lexer.proofs.Once.{blank_no_word, broken_here, broken_no_line, first_word_once, line_blank, line_once}
@@ -41,11 +42,11 @@ pub use Rattle.tw_asm.specs.Fault.{AfterHead, AfterVersion, Begins, GoalFault, H
 pub use Rattle.tw_asm.specs.Parts.{Literal, Name, Natural, Number, Part, Right, Skip, Target, TypeOf, Value, container_word, head_parts, instr_parts, kind_word, leaf_words, map_word, mode_word, operand_parts, param_parts, register_part, registers_parts, scalar_word, skip_among, skip_of, sum_word, version_parts}
 pub use Rattle.tw_asm.specs.Seen.{IsRead, NoName, OnlyName, Read, bytes_of, with_skip}
 pub use Rattle.tw_asm.specs.Spelling.{AreCode, SkipsTo, HaveWords, Placed, EncodeProcedures, EncodesProcedure, EncodesProgram, EncodesVersion}
-pub use Rattle.tw_asm.specs.Statement.{AnyName, AnyShortName, Code, Goals, HasForm, HasInstr, HasOperand, HasParam, HasType, HaveForm, Head, IsExpected, IsInLimits, IsInName, IsInstrWord, IsLabelWord, IsLetter, IsName, IsShortName, IsTypeOfMode, IsVersionNumber, Label, NamesLabel, OfVersion, Registers, EncodesInLimits, EncodeParts, Encodes, EncodesPart, EncodesWith, Statement, statement_parts, version_by, version_number}
+pub use Rattle.tw_asm.specs.Statement.{AnyName, AnyShortName, Code, Goals, HasForm, HasInstr, HasOperand, HasParam, HasType, HaveForm, Head, IsExpected, IsInLimits, IsInName, IsInstrWord, IsLabelWord, IsLetter, IsName, IsShortName, IsTypeOfMode, IsVersionNumber, Label, NamesLabel, OfVersion, Registers, EncodesInLimits, EncodeParts, Encodes, EncodesPart, EncodesWith, Statement, statement_parts}
 pub use Rattle.tw_asm.specs.Written.{goal_word, line_of, part_words}
 pub use Rattle.tw_asm.specs.reading.Lines.{Line, LineContent, around, before, code_read, contained, draft_in, each, each_from, few, joined, label_in, line_in, mapped, params_from, put_first, type_from, type_in, typed, version_known, whole_type, with_type}
 pub use Rattle.tw_lexer.specs.Names.{before_colon, is_name}
-pub use Rattle.tw_asm.specs.reading.Operands.{Goal, at_label, both, container_in, further, is_sum, literal_in, map_in, mode_in, name_in, natural_in, number_in, register_in, scalar_in, target_in, text_container}
+pub use Rattle.tw_asm.specs.reading.Operands.{Goal, at_label, both, container_in, further, is_sum, literal_in, map_in, map_word_in, mode_in, name_in, natural_in, number_in, register_in, scalar_in, target_in, text_container}
 pub use Rattle.tw_lexer.specs.Digits.{as_is, digits_in, signed_in}
 pub use Rattle.tw_asm.specs.reading.Progress.{AreClosed, AreFinished, AreNotRead, AreTextRead, AtStart, HeadRead, VersionRead, Drafted, HasSections, IsEmptyAt, IsGoalOf, IsLimit, IsLimitLine, IsMemory, IsNotClosed, IsNotFinished, LineRead, LinesRead, Place, Progress, Section, Stopped, TakenLine, TakenStatement, Within, WordsRead, begun, drafts_at, ended, labels_at, line_step, outset, progress_from, section_numbers, seen_draft, seen_label, seen_reading, seen_section, seen_stage, situation_of, stage_of, step}
 pub use Rattle.tw_asm.specs.words.Lines.{spaced_all, operand_words, spaced}

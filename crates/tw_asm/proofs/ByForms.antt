@@ -125,10 +125,9 @@ drafts version o ws allowed =
     ∙ sym (by_row version (table.row_of o) ws)
 
 module _ (version : Version) (o : Opcode) (ws : List Word) (allowed : ArePlain (forms_of o)) where
-  pub drafts_one : (x : Operands × Option (List ℕ)) → gathered_in version (forms_of o) ws ≡ Ok x → (i : Instr) → i ≡ made_of o x.0 → Ok (i, x.1) ≡ draft_in version o ws
-  drafts_one x is i made =
-      ap (λ (j : Instr). Ok (j, x.1)) made
-      ∙ sym (ap (λ (r : Result (Operands × Option (List ℕ)) TokenError). as_is (made_from o) r) is)
+  pub drafts_one : (x : Operands × Option (List ℕ)) → gathered_in version (forms_of o) ws ≡ Ok x → Ok (made_of o x.0, x.1) ≡ draft_in version o ws
+  drafts_one x is =
+      sym (ap (λ (r : Result (Operands × Option (List ℕ)) TokenError). as_is (made_from o) r) is)
       ∙ drafts version o ws allowed
 
   pub drafts_none : (e : TokenError) → gathered_in version (forms_of o) ws ≡ Err e → Err e ≡ draft_in version o ws

@@ -1,7 +1,7 @@
 -- The text of a program denotes it.
 use Rattle.std.proofs.Common.{◌≡◌, ◌≢◌, ◌==◌, ◌≤◌, ◌<◌, ℕ, zero, suc, ◌+◌, Bool, true, false, List, [], ◌∷◌, ◌++◌, length, get_or, map, codes, Option, Some, None, refl, sym, ap, subst, ◌∙◌, append_assoc, append-nil, arith}
 use Rattle.std.specs.Prelude.{IsUtf8, decimal, slice_index_or}
-use Rattle.tw_asm.proofs.AsmNames.{AllByRecursion, AllPairs, AreCode, Bare, Code, Contains, Four, Goals, SkipsTo, HaveWords, Head, Instr, IsInstrOf, IsLine, IsProcedure, IsProcedureOf, IsVersioned, Label, OfVersion, One, Placed, Procedure, Registers, EncodeProcedures, EncodesProcedure, EncodesProgram, EncodesVersion, Statement, Two, Version, Versioned, Word, code_lines, concat, disassembly, eqb-true, flat_map, goal_word, join_with_byte, label_at, label_line, label_places, line_of, lines, nat_tests, option_and_then, procedure_lines, skip_of, version_line}
+use Rattle.tw_asm.proofs.AsmNames.{AllByRecursion, AllPairs, AreCode, Bare, Code, Contains, Four, Goals, SkipsTo, HaveWords, Head, Instr, IsInstrOf, IsLine, IsProcedure, IsProcedureOf, IsVersioned, Label, OfVersion, One, Placed, Procedure, Registers, EncodeProcedures, EncodesProcedure, EncodesProgram, EncodesVersion, Statement, Two, Version, Versioned, Word, code_lines, concat, disassembly, eqb-true, flat_map, goal_word, join_with_byte, label_at, label_line, label_places, line_of, lines, nat_tests, option_and_then, procedure_lines, skip_of, version_line, Five, version_number}
 use Rattle.std.proofs.lemmas.List.Elements.{Contains-append_left, Contains-append_right}
 use Rattle.std.proofs.lemmas.Str.{IsUtf8-append, IsUtf8-nil}
 use Rattle.tw_code.proofs.Widening.{instr_widened, widened}
@@ -241,22 +241,21 @@ record IsFrontWritten (version : Version) (text : List ℕ) : Type 0 where
   pub spells : EncodesVersion version words
   pub writes : Writes text words
 
+numbered_version : (version : Version) → IsFrontWritten version (line_of (goal_word None) (OfVersion (version_number version)))
+numbered_version version =
+    let number = version_number version in
+    let l = version_written One (SkipsTo [] 0) (goal_word None) number (number_within version) in
+    record {
+      words = l.words ∷ [];
+      spells = EncodesVersion.said version l.words l.spells;
+      writes = writes_line (SkipsTo [] 0) (OfVersion number) (bare_line (goal_word None) (OfVersion number)) l;
+    }
+
 written_version : (version : Version) → IsFrontWritten version (version_line version)
 written_version One = record { words = []; spells = EncodesVersion.unsaid; writes = writes_nothing }
-written_version Two =
-    let l = version_written One (SkipsTo [] 0) (goal_word None) 2 (number_within Two) in
-    record {
-      words = l.words ∷ [];
-      spells = EncodesVersion.said Two l.words l.spells;
-      writes = writes_line (SkipsTo [] 0) (OfVersion 2) (bare_line (goal_word None) (OfVersion 2)) l;
-    }
-written_version Four =
-    let l = version_written One (SkipsTo [] 0) (goal_word None) 4 (number_within Four) in
-    record {
-      words = l.words ∷ [];
-      spells = EncodesVersion.said Four l.words l.spells;
-      writes = writes_line (SkipsTo [] 0) (OfVersion 4) (bare_line (goal_word None) (OfVersion 4)) l;
-    }
+written_version Two = numbered_version Two
+written_version Four = numbered_version Four
+written_version Five = numbered_version Five
 
 record IsProgramWritten (program : Versioned) : Type 0 where
   pub front : List (List Word)

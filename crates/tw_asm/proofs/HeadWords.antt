@@ -1,6 +1,6 @@
 -- Procedures' heads: the words are read as a statement that they denote, or they denote none.
 use Rattle.std.proofs.Common.{◌≡◌, ℕ, List, [], ◌∷◌, ◌++◌, length, map, codes, None, Result, Ok, Err, refl, sym, ap, subst, ◌∙◌}
-use Rattle.tw_asm.proofs.AsmNames.{AllByRecursion, AnyName, AnyShortName, Bare, Closed, Code, TokenError, Form, Four, Goals, HasParam, HasType, Head, IsInLimits, IsList, IsParam, IsTypeOfMode, IsTypeUnderOf, Kind, Label, Limit, Mode, Name, Natural, NestedScalar, NoName, OfVersion, Param, Ref, Registers, EncodeParts, Encodes, Statement, Val, Version, Word, Write, as_is, both, flat_map, is_scalar, kind_word, mode_word, param_parts, register_part}
+use Rattle.tw_asm.proofs.AsmNames.{AllByRecursion, AnyName, AnyShortName, Bare, Closed, Code, TokenError, Form, Four, Goals, HasParam, HasType, Head, IsInLimits, IsList, IsParam, IsTypeOfMode, IsTypeUnderOf, Kind, Label, Limit, Mode, Name, Natural, NestedScalar, NoName, OfVersion, Param, Ref, Registers, EncodeParts, Encodes, Statement, Val, Version, Word, Write, as_is, both, flat_map, is_scalar, kind_word, mode_word, param_parts, register_part, last_version}
 use Rattle.tw_asm.proofs.Answered.{Judged, first_is, none_some, proc_is_none}
 use Rattle.tw_asm.proofs.OperandWords.{Free, kind_read}
 use Rattle.tw_asm.proofs.ParamWords.{AreParams, IsShallowParam, one_params, param_words, params_read}
@@ -38,7 +38,7 @@ params_within : (version : Version) (ps : List Param) → AllByRecursion (HasPar
 params_within version [] f m = tt
 params_within version (p ∷ ps) f m = (by p.mode p.ty f.0.0 f.0.1 m.0, params_within version ps f.1 m.1)
   where
-    by : (mode : Mode) (ty : NestedScalar) → IsTypeOfMode mode (is_scalar ty) → HasType version ty → IsShallow ty → IsTypeUnderOf Four mode ty
+    by : (mode : Mode) (ty : NestedScalar) → IsTypeOfMode mode (is_scalar ty) → HasType version ty → IsShallow ty → IsTypeUnderOf last_version mode ty
     by Val ty f has m = f
     by Closed ty f has m = (m, any_type version ty has)
     by Ref ty f has m = (m, any_type version ty has)

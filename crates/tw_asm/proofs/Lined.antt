@@ -1,6 +1,6 @@
 -- Reading the operands of a line, whatever the instruction.
 use Rattle.std.proofs.Common.{◌≡◌, ℕ, ◌≤◌, List, [], ◌∷◌, ◌++◌, length, map, codes, Option, Some, None, inl, inr, refl, sym, ap, subst, ◌∙◌, arith, append-nil}
-use Rattle.tw_asm.proofs.AsmNames.{AllByRecursion, Bare, Four, Goals, HasType, IsList, IsName, IsRegister, IsSkip, IsTypeOf, Natural, NoName, OnlyName, Part, Skip, EncodeParts, EncodesPart, EncodesWith, TypeOf, Word, at_label, further, natural_in}
+use Rattle.tw_asm.proofs.AsmNames.{AllByRecursion, Bare, Four, Goals, HasType, IsList, IsName, IsRegister, IsSkip, IsTypeOf, Natural, NoName, OnlyName, Part, Skip, EncodeParts, EncodesPart, EncodesWith, TypeOf, Word, at_label, further, natural_in, last_version}
 use Rattle.tw_asm.proofs.Names.{HasGoal, MayGoal, goal_read, no_letter}
 use Rattle.tw_asm.proofs.OperandWords.{Has, IsFine, May, natural_read, operand_read, part_of}
 use Rattle.tw_lexer.proofs.Readings.{Reads}
@@ -60,7 +60,7 @@ parts_of never x = []
 abbrev pub MayParts : (l : Line) → LineContent l → Type 0
 MayParts nothing x = Unit {0}
 MayParts goal x = IsSkip x.skip × Unit {0}
-MayParts (type version) x = IsTypeOf Four x × Unit {0}
+MayParts (type version) x = IsTypeOf last_version x × Unit {0}
 MayParts args x = IsList 0 8 IsRegister x × Unit {0}
 MayParts (more o l) x = May o x.0 × MayParts l x.1
 MayParts never x = Unit {0}

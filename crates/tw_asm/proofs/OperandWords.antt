@@ -1,6 +1,6 @@
 -- Reading single words.
 use Rattle.std.proofs.Common.{◌≡◌, ◌==◌, ℕ, ◌≤◌, Bool, true, false, cond, List, [], ◌∷◌, length, codes, Option, Some, None, Ok, Err, refl, sym, ap, subst, ◌∙◌, arith}
-use Rattle.tw_asm.proofs.AsmNames.{Bare, Closed, FitsSigned, Form, Four, IsIn64, IsInRange, IsRegister, IsSubscriptOf, IsTarget, IsUtf8, IsWithin, Limit, Literal, Natural, NoName, Number, One, Part, Quoted, Ref, Right, Scalar, EncodesDigits, EncodesNumber, EncodesPart, EncodesWith, Target, Two, Val, Value, Version, Word, Write, as_is, bytes_eq, bytes_eq-Decides, container_in, container_word, digits_in, eqb-true, is_sum, kind_word, literal_in, ltb-true, map_in, map_word, mode_in, mode_word, nat_lt, nat_tests, natural_in, number_in, register_in, scalar_in, scalar_word, signed_in, sum_word, target_in, text_container, w64}
+use Rattle.tw_asm.proofs.AsmNames.{Bare, Closed, FitsSigned, Form, Four, IsIn64, IsInRange, IsRegister, IsSubscriptOf, IsTarget, IsUtf8, IsWithin, Limit, Literal, Natural, NoName, Number, One, Part, Quoted, Ref, Right, Scalar, EncodesDigits, EncodesNumber, EncodesPart, EncodesWith, Target, Two, Val, Value, Version, Word, Write, as_is, bytes_eq, bytes_eq-Decides, container_in, container_word, digits_in, eqb-true, is_sum, kind_word, literal_in, ltb-true, map_in, map_word, mode_in, mode_word, nat_lt, nat_tests, natural_in, number_in, register_in, scalar_in, scalar_word, signed_in, sum_word, target_in, text_container, w64, Five, has_maps, map_word_in}
 use Rattle.tw_lexer.proofs.Readings.{digits_read, signed_read, Reads, carried}
 use Rattle.tw_asm.proofs.Readings.{likewise}
 use Rattle.tw_asm.proofs.TypeWords.{other_bytes}
@@ -194,32 +194,35 @@ container_read version (Bare text) = each (bytes_eq text (codes "cont")) (bytes_
     each false true isnt is One = only_cont isnt
     each false true isnt is Two = ((same_bytes text (codes "tcont") is, tt), tt)
     each false true isnt is Four = ((same_bytes text (codes "tcont") is, tt), tt)
+    each false true isnt is Five = ((same_bytes text (codes "tcont") is, tt), tt)
     each false false isnt other v = λ by h. none isnt other by h.0
 
 -- holds for the word of a map, in a version with maps
 abbrev pub IsMapWordOf : Version → Word → Scalar → Type 0
-IsMapWordOf version w by = (w ≡ Bare (map_word by)) × (version ≡ Four)
+IsMapWordOf version w by = (w ≡ Bare (map_word by)) × (has_maps version ≡ true)
 
 pub map_read : (version : Version) (w : Word) → Reads (IsMapWordOf version w) Free (map_in version w)
-map_read One w = λ by h. older h.1
+map_read version w = in_version (has_maps version)
   where
-    older : One ≡ Four → ⊥
-    older e = cc
-map_read Two w = λ by h. older h.1
-  where
-    older : Two ≡ Four → ⊥
-    older e = cc
-map_read Four (Quoted text) = λ by h. quoted_apart text (map_word by) h.0
-map_read Four (Bare text) = each (bytes_eq text (codes "map")) (bytes_eq text (codes "tmap")) refl refl
-  where
-    none : bytes_eq text (codes "map") ≡ false → bytes_eq text (codes "tmap") ≡ false → (by : Scalar) → Bare text ≡ Bare (map_word by) → ⊥
-    none isnt other scalar.Int e = other_bytes text (codes "map") isnt e
-    none isnt other scalar.Text e = other_bytes text (codes "tmap") other e
+    word_read : (v : Word) → Reads (λ by. (v ≡ Bare (map_word by)) × (true ≡ true)) Free (map_word_in v)
+    word_read (Quoted text) = λ by h. quoted_apart text (map_word by) h.0
+    word_read (Bare text) = each (bytes_eq text (codes "map")) (bytes_eq text (codes "tmap")) refl refl
+      where
+        none : bytes_eq text (codes "map") ≡ false → bytes_eq text (codes "tmap") ≡ false → (by : Scalar) → Bare text ≡ Bare (map_word by) → ⊥
+        none isnt other scalar.Int e = other_bytes text (codes "map") isnt e
+        none isnt other scalar.Text e = other_bytes text (codes "tmap") other e
 
-    each : (i t : Bool) → bytes_eq text (codes "map") ≡ i → bytes_eq text (codes "tmap") ≡ t → Reads (IsMapWordOf Four (Bare text)) Free (cond i (Ok scalar.Int) (cond t (Ok scalar.Text) (Err Form)))
-    each true t is other = ((same_bytes text (codes "map") is, refl), tt)
-    each false true isnt is = ((same_bytes text (codes "tmap") is, refl), tt)
-    each false false isnt other = λ by h. none isnt other by h.0
+        each : (i t : Bool) → bytes_eq text (codes "map") ≡ i → bytes_eq text (codes "tmap") ≡ t → Reads (λ by. (Bare text ≡ Bare (map_word by)) × (true ≡ true)) Free (cond i (Ok scalar.Int) (cond t (Ok scalar.Text) (Err Form)))
+        each true t is other = ((same_bytes text (codes "map") is, refl), tt)
+        each false true isnt is = ((same_bytes text (codes "tmap") is, refl), tt)
+        each false false isnt other = λ by h. none isnt other by h.0
+
+    older : false ≡ true → ⊥
+    older e = cc
+
+    in_version : (has : Bool) → Reads (λ by. (w ≡ Bare (map_word by)) × (has ≡ true)) Free (cond has (map_word_in w) (Err Form))
+    in_version true = word_read w
+    in_version false = λ by h. older h.1
 
 pub sum_is : (w : Word) → is_sum w ≡ true → w ≡ Bare (sum_word scalar.Int)
 sum_is (Bare text) e = same_bytes text (codes "sum") e

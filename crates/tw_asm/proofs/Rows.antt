@@ -6,6 +6,8 @@ use Rattle.tw_code.specs.declared.form.Form.{Form}
 use Rattle.tw_code.specs.declared.form.Form.TheVariants as form
 use Rattle.tw_code.specs.declared.instr.Arithmetic.{Arithmetic}
 use Rattle.tw_code.specs.declared.instr.Arithmetic.TheVariants.{Add}
+use Rattle.tw_code.specs.declared.instr.Sought.{Sought}
+use Rattle.tw_code.specs.declared.instr.Sought.TheVariants as sought
 use Rattle.tw_code.specs.declared.instr.DataInstr.{DataInstr}
 use Rattle.tw_code.specs.declared.instr.DataInstr.TheVariants as on_data
 use Rattle.tw_code.specs.declared.instr.Instr.TheVariants as instr
@@ -237,8 +239,13 @@ compute_row : (operation : Arithmetic) (to left right skip : ℕ) → IsRow (ins
 compute_row Add to left right skip = record { parts = refl; known = refl; class = refl; sorts = refl; made = refl; reskipped = λ skip. refl; last = refl }
 compute_row operation to left right skip = record { parts = refl; known = refl; class = refl; sorts = refl; made = refl; reskipped = λ skip. refl; last = refl }
 
+seek_row : (kind : Sought) (to text pattern start skip : ℕ) → IsRow (instr.Local (local.Seek kind to text pattern start skip))
+seek_row sought.Find to text pattern start skip = record { parts = refl; known = refl; class = refl; sorts = refl; made = refl; reskipped = λ skip. refl; last = refl }
+seek_row kind to text pattern start skip = record { parts = refl; known = refl; class = refl; sorts = refl; made = refl; reskipped = λ skip. refl; last = refl }
+
 local_row : (i : LocalInstr) → IsRow (instr.Local i)
 local_row (local.Compute operation to left right skip) = compute_row operation to left right skip
+local_row (local.Seek kind to text pattern start skip) = seek_row kind to text pattern start skip
 local_row i = record { parts = refl; known = refl; class = refl; sorts = refl; made = refl; reskipped = λ skip. refl; last = refl }
 
 data_row : (i : DataInstr) → IsRow (instr.Data i)

@@ -128,21 +128,22 @@ version_judged version w (Err Limit) h = (
       h.1 k.0 (subst (EncodesWith [] k.0) (sym k.2.1) k.2.2) (subst IsInLimits k.1 say.1),
 )
 
--- from 1 to 4, but not 3
-known_read : (w : Word) (r : Result ℕ TokenError) → Reads (λ n. EncodesWith [] n (w ∷ [])) (IsWithin 1 4) r → Reads (λ n. EncodesWith [] n (w ∷ [])) IsVersionNumber (version_known r)
+-- from 1 to 5, but not 3
+known_read : (w : Word) (r : Result ℕ TokenError) → Reads (λ n. EncodesWith [] n (w ∷ [])) (IsWithin 1 5) r → Reads (λ n. EncodesWith [] n (w ∷ [])) IsVersionNumber (version_known r)
 known_read w (Ok n) h = by (n == 3) refl
   where
-    number : (n : ℕ) → IsWithin 1 4 n → (n == 3) ≡ false → IsVersionNumber n
+    number : (n : ℕ) → IsWithin 1 5 n → (n == 3) ≡ false → IsVersionNumber n
     number zero k e = absurd (omega (arith, k.0))
     number (suc zero) k e = inl (omega arith, omega arith)
     number (suc (suc zero)) k e = inl (omega arith, omega arith)
     number (suc (suc (suc zero))) k e = absurd cc
-    number (suc (suc (suc (suc zero)))) k e = inr refl
-    number (suc (suc (suc (suc (suc n))))) k e = absurd (omega (arith, k.1))
+    number (suc (suc (suc (suc zero)))) k e = inr (omega arith, omega arith)
+    number (suc (suc (suc (suc (suc zero))))) k e = inr (omega arith, omega arith)
+    number (suc (suc (suc (suc (suc (suc n)))))) k e = absurd (omega (arith, k.1))
 
     no_third : (k : ℕ) → k ≡ 3 → IsVersionNumber k → ⊥
     no_third k e (inl m) = omega (arith, e, m.1)
-    no_third k e (inr m) = omega (arith, e, m)
+    no_third k e (inr m) = omega (arith, e, m.0)
 
     by : (t : Bool) → (n == 3) ≡ t → Reads (λ n. EncodesWith [] n (w ∷ [])) IsVersionNumber (if t then Err Limit else Ok n)
     by true e = ((n, h.0), λ k s m. no_third k ((digits_same [] k n (w ∷ []) (w ∷ []) [] [] s h.0 refl).0 ∙ eqb-true n 3 e) m)
@@ -150,9 +151,9 @@ known_read w (Ok n) h = by (n == 3) refl
 known_read w (Err Form) h = h
 known_read w (Err Limit) h = (h.0, λ n s m. h.1 n s (small n m))
   where
-    small : (n : ℕ) → IsVersionNumber n → IsWithin 1 4 n
+    small : (n : ℕ) → IsVersionNumber n → IsWithin 1 5 n
     small n (inl m) = (m.0, omega (arith, m.1))
-    small n (inr m) = (omega (arith, m), omega (arith, m))
+    small n (inr m) = (omega (arith, m.0), m.1)
 
 no_one : (w : Word) → [] ≡ w ∷ [] → ⊥
 no_one w e = cc
@@ -162,7 +163,7 @@ no_more v w x ws e = cc
 
 pub version_answered : (version : Version) (ws : List Word) → Judged version (version_in ws) (Bare (codes "version") ∷ ws)
 version_answered version [] = λ form. let k = is_version version AnyName [] form.0 form.1 in no_one k.2.0 k.2.1
-version_answered version (w ∷ []) = version_judged version w (version_known (natural_in 1 4 w)) (known_read w (natural_in 1 4 w) (natural_read 1 4 w))
+version_answered version (w ∷ []) = version_judged version w (version_known (natural_in 1 5 w)) (known_read w (natural_in 1 5 w) (natural_read 1 5 w))
 version_answered version (w ∷ x ∷ ws) = λ form. let k = is_version version AnyName (w ∷ x ∷ ws) form.0 form.1 in no_more k.2.0 w x ws k.2.1
 
 -- ---- labels

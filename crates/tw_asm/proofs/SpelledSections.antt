@@ -1,6 +1,6 @@
 -- The procedures that are read, and the words that denote them.
 use Rattle.std.proofs.Common.{true, ◌≡◌, ◌≢◌, ℕ, suc, ◌+◌, ◌<◌, ◌≤◌, List, [], ◌∷◌, ◌++◌, length, map, Option, Some, None, inl, inr, refl, sym, subst, ap, ◌∙◌, append_assoc, arith}
-use Rattle.tw_asm.proofs.AsmNames.{AllByRecursion, AllPairs, AnyShortName, AreCode, AtStart, Bare, HeadRead, VersionRead, Code, Contains, Drafted, Four, Goals, SkipsTo, HasInstr, HasSections, HaveWords, Head, Instr, IsGoalOf, IsInLimits, IsInstr, IsInstrOf, IsLine, IsOperand, IsProcedureOf, IsProgramOf, IsRead, IsWhole, Kind, Label, LinesRead, MayFollow, NoName, OfVersion, One, Opcode, Operand, Param, Place, Placed, Procedure, Progress, Read, Registers, Scalar, Section, EncodeProcedures, Encodes, EncodesProcedure, EncodesProgram, EncodesVersion, Statement, Version, Within, Word, append-nil, begun, ended, get_or_default, has_opcode, holds, length-append, line_step, lines, map-append, outset, progress_from, row, situation_of, step, version_by, with_skip}
+use Rattle.tw_asm.proofs.AsmNames.{AllByRecursion, AllPairs, AnyShortName, AreCode, AtStart, Bare, HeadRead, VersionRead, Code, Contains, Drafted, Four, Goals, SkipsTo, HasInstr, HasSections, HaveWords, Head, Instr, IsGoalOf, IsInLimits, IsInstr, IsInstrOf, IsLine, IsOperand, IsProcedureOf, IsProgramOf, IsRead, IsWhole, Kind, Label, LinesRead, MayFollow, NoName, OfVersion, One, Opcode, Operand, Param, Place, Placed, Procedure, Progress, Read, Registers, Scalar, Section, EncodeProcedures, Encodes, EncodesProcedure, EncodesProgram, EncodesVersion, Statement, Version, Within, Word, append-nil, begun, ended, get_or_default, has_opcode, holds, length-append, line_step, lines, map-append, outset, progress_from, row, situation_of, step, version_by, with_skip, last_version}
 use Rattle.std.proofs.lemmas.List.Quantifiers.{all_pairs_push}
 use Rattle.tw_code.specs.declared.form.Form.TheVariants as form
 use Rattle.tw_asm.specs.reading.Goals.{AreLinkedCode, AreLinkedProcedures, HasLabelsWithin, IsLinkedProcedure, IsLinkedTo, goals_in}
@@ -82,7 +82,7 @@ operands_fit skip (o ∷ os) f l = (l.0, operands_fit skip os f l.1)
 
 skip_fits : (skip : ℕ) (i : Instr) → skip ≤ 65535 → IsInstr i → IsInstr (with_skip skip i)
 skip_fits skip i f l =
-    subst (λ (r : Opcode × List Operand). (has_opcode Four r.0 ≡ true) × AllByRecursion IsOperand r.1) (sym (others skip i)) (l.0, operands_fit skip (row i).1 f l.1)
+    subst (λ (r : Opcode × List Operand). (has_opcode last_version r.0 ≡ true) × AllByRecursion IsOperand r.1) (sym (others skip i)) (l.0, operands_fit skip (row i).1 f l.1)
 
 linked_fits : (all : List Placed) (place : ℕ) (draft : Instr) (goal : Option (List ℕ)) (i : Instr) → IsInstr draft → IsLinkedTo all place goal draft i → IsInstr i
 linked_fits all place draft None i f l = subst IsInstr (sym l) f

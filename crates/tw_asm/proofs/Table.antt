@@ -4,6 +4,8 @@ use Rattle.tw_asm.proofs.AsmNames.{Goal, HasInstr, Instr, Int, IsInstr, Name, Na
 use Rattle.tw_code.specs.declared.form.Form.TheVariants as form
 use Rattle.tw_code.specs.declared.instr.Arithmetic.{Arithmetic}
 use Rattle.tw_code.specs.declared.instr.Arithmetic.TheVariants.{Add}
+use Rattle.tw_code.specs.declared.instr.Sought.{Sought}
+use Rattle.tw_code.specs.declared.instr.Sought.TheVariants as sought
 use Rattle.tw_code.specs.declared.instr.DataInstr.{DataInstr}
 use Rattle.tw_code.specs.declared.instr.DataInstr.TheVariants as on_data
 use Rattle.tw_code.specs.declared.instr.Instr.TheVariants as instr
@@ -105,8 +107,13 @@ compute_made : (version : Version) (operation : Arithmetic) (to first_from secon
 compute_made version Add to first_from second_from skip = refl
 compute_made version operation to first_from second_from skip = refl
 
+seek_made : (version : Version) (kind : Sought) (to text pattern start skip : ℕ) → IsMadeSo version (instr.Local (local.Seek kind to text pattern start skip))
+seek_made version sought.Find to text pattern start skip = refl
+seek_made version kind to text pattern start skip = refl
+
 local_made : (version : Version) (i : LocalInstr) → IsMadeSo version (instr.Local i)
 local_made version (local.Compute operation to first_from second_from skip) = compute_made version operation to first_from second_from skip
+local_made version (local.Seek kind to text pattern start skip) = seek_made version kind to text pattern start skip
 local_made version i = refl
 
 data_made : (version : Version) (i : DataInstr) → IsMadeSo version (instr.Data i)

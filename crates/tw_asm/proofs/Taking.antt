@@ -8,6 +8,10 @@ use Rattle.tw_asm.specs.declared.statement.First.TheVariants as first
 use Rattle.tw_asm.specs.Seen.{IsRead, Read, seen}
 use Rattle.tw_asm.specs.declared.fault.FaultNo.TheVariants as fault
 use Rattle.tw_asm.specs.reading.Expected.{IsExpectedBy, expectation}
+use Rattle.tw_asm.specs.reading.Progress.{IsFlawFault}
+use Rattle.tw_asm.specs.LineAnswers.{IsFlawed}
+use Rattle.tw_lexer.specs.declared.numbers.TokenError.{TokenError}
+use Rattle.tw_lexer.specs.declared.numbers.TokenError.TheVariants as flaw
 use Rattle.tw_asm.proofs.Begins.{first_of_words, front_of, line_begins}
 use Rattle.tw_asm.proofs.Stages.{head_body, progress, start_body, version_body}
 use Rattle.tw_asm.proofs.Steps.{read_says}
@@ -70,6 +74,11 @@ limit_fault number at p line w others expected l b m form none (inr h) =
     subst (LineFault number (situation_of p) line fault.Limit) (sym h.1)
     (limit expected (begins (situation_of p) line w f.0 expected f.1 b m) (w ∷ others, l, form) (λ e x. h.0 e (is_empty p.place x.0 x.1))
     (λ statement ws k say. none statement (subst (EncodesInLimits p.version statement) (line_once ws (w ∷ others) line k l) say)))
+
+pub flaw_fault : (number : ℕ) (p : Progress) (line : List ℕ) (w : Word) (others : List Word) (expected : First) (e : TokenError) (f : AsmFault) → IsLine (w ∷ others) line → IsExpectedBy p.version w expected → MayBegin (stage_of p.place) expected
+    → IsFlawed p.version e (w ∷ others) → IsFlawFault p expected number e f → LineFault number (situation_of p) line f.no f.line
+flaw_fault number p line w others expected flaw.Form f l b m here is = rw (is.0, is.1) (form_fault number (situation_of p) line w others expected l b m here)
+flaw_fault number p line w others expected flaw.Limit f l b m here is = rw is.0 (limit_fault number f.line p line w others expected l b m here.0 here.1 is.1)
 
 -- the statement has the kind that the first word shows
 expected_by : (version : Version) (w v : Word) (bytes : List ℕ) (a b : First) → w ≡ Bare bytes → IsExpectedBy version w a → IsExpected version b bytes → a ≡ b

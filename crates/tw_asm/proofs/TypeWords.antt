@@ -1,6 +1,6 @@
 -- The words of types: each has one meaning.
 use Rattle.std.proofs.Common.{◌≡◌, ℕ, false, true, List, [], ◌∷◌, ◌++◌, map, codes, refl, sym, ap, ◌∙◌}
-use Rattle.tw_asm.proofs.AsmNames.{Bare, Closed, Four, Int, IsMapOf, MapKind, Mode, NestedScalar, NoMap, One, Ref, Scalar, Sums, Text, Two, Val, Values, Version, Word, Write, bytes_eq, bytes_eq-Decides, container_word, leaf_words, map_word, mode_word, scalar_word, sum_word}
+use Rattle.tw_asm.proofs.AsmNames.{Bare, Closed, Four, Int, IsMapOf, MapKind, Mode, NestedScalar, NoMap, One, Ref, Scalar, Sums, Text, Two, Val, Values, Version, Word, Write, bytes_eq, bytes_eq-Decides, container_word, leaf_words, map_word, mode_word, scalar_word, sum_word, Five, has_maps}
 
 pub other_bytes : (text word : List ℕ) → bytes_eq text word ≡ false → Bare text ≡ Bare word → ⊥
 other_bytes text word isnt e = no (sym isnt ∙ (bytes_eq-Decides text word).1 (inner e))
@@ -215,23 +215,28 @@ some_words (c ∷ cs) kind s x e = cc
 
 -- ---- the versions of maps
 
-pub map_since : (version : Version) (s by : Scalar) → IsMapOf version s (Values by) → version ≡ Four
+pub map_since : (version : Version) (s by : Scalar) → IsMapOf version s (Values by) → has_maps version ≡ true
 map_since One s by h = absurd h
 map_since Two s by h = absurd h
 map_since Four s by h = refl
+map_since Five s by h = refl
 
-pub sums_since : (version : Version) (s by : Scalar) → IsMapOf version s (Sums by) → (version ≡ Four) × (s ≡ Int)
+pub sums_since : (version : Version) (s by : Scalar) → IsMapOf version s (Sums by) → (has_maps version ≡ true) × (s ≡ Int)
 sums_since One s by h = absurd h
 sums_since Two s by h = absurd h
 sums_since Four Int by h = (refl, refl)
 sums_since Four Text by h = absurd h
+sums_since Five Int by h = (refl, refl)
+sums_since Five Text by h = absurd h
 
-pub has_map : (version : Version) (s by : Scalar) → version ≡ Four → IsMapOf version s (Values by)
+pub has_map : (version : Version) (s by : Scalar) → has_maps version ≡ true → IsMapOf version s (Values by)
 has_map One s by e = absurd cc
 has_map Two s by e = absurd cc
 has_map Four s by e = tt
+has_map Five s by e = tt
 
-pub has_sums_of : (version : Version) (by : Scalar) → version ≡ Four → IsMapOf version Int (Sums by)
+pub has_sums_of : (version : Version) (by : Scalar) → has_maps version ≡ true → IsMapOf version Int (Sums by)
 has_sums_of One by e = absurd cc
 has_sums_of Two by e = absurd cc
 has_sums_of Four by e = tt
+has_sums_of Five by e = tt

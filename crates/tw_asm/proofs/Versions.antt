@@ -1,6 +1,6 @@
 -- The instructions and types of each version, within the limits.
 use Rattle.std.proofs.Common.{◌≡◌, ℕ, zero, suc, ◌≤◌, true, List, [], ◌∷◌, inl, inr, refl, sym, subst, arith}
-use Rattle.tw_asm.proofs.AsmNames.{AllByRecursion, Closed, Four, HasInstr, HasOperand, HasParam, HasType, Instr, Int, IsInstr, IsInstrOf, IsMapOf, IsOperand, IsOperandOf, IsParam, IsParamOf, IsSubscriptOf, IsTypeOfMode, IsTypeUnderOf, IsVersionNumber, IsWithin, MapKind, Mode, NestedScalar, NoMap, One, Operand, Param, Ref, Scalar, Sums, Text, Two, Val, Values, Version, Write, depth_of, holds, is_scalar, row, version_by, version_number}
+use Rattle.tw_asm.proofs.AsmNames.{AllByRecursion, Closed, Four, HasInstr, HasOperand, HasParam, HasType, Instr, Int, IsInstr, IsInstrOf, IsMapOf, IsOperand, IsOperandOf, IsParam, IsParamOf, IsSubscriptOf, IsTypeOfMode, IsTypeUnderOf, IsVersionNumber, IsWithin, MapKind, Mode, NestedScalar, NoMap, One, Operand, Param, Ref, Scalar, Sums, Text, Two, Val, Values, Version, Write, depth_of, holds, is_scalar, row, version_by, version_number, Five, last_version}
 use Rattle.tw_code.specs.declared.form.Form.TheVariants as form
 
 -- ---- numbers
@@ -9,6 +9,7 @@ pub number_back : (version : Version) → version_by (version_number version) �
 number_back One = refl
 number_back Two = refl
 number_back Four = refl
+number_back Five = refl
 
 pub by_number : (n : ℕ) → IsVersionNumber n → version_number (version_by n) ≡ n
 by_number n (inl h) = early n h
@@ -18,28 +19,40 @@ by_number n (inl h) = early n h
     early (suc zero) h = refl
     early (suc (suc zero)) h = refl
     early (suc (suc (suc n))) h = absurd (omega (arith, h.1))
-by_number n (inr h) = subst (λ (k : ℕ). version_number (version_by k) ≡ k) (sym h) refl
+by_number n (inr h) = late n h
+  where
+    late : (n : ℕ) → IsWithin 4 5 n → version_number (version_by n) ≡ n
+    late zero h = absurd (omega (arith, h.0))
+    late (suc zero) h = absurd (omega (arith, h.0))
+    late (suc (suc zero)) h = absurd (omega (arith, h.0))
+    late (suc (suc (suc zero))) h = absurd (omega (arith, h.0))
+    late (suc (suc (suc (suc zero)))) h = refl
+    late (suc (suc (suc (suc (suc zero))))) h = refl
+    late (suc (suc (suc (suc (suc (suc n)))))) h = absurd (omega (arith, h.1))
 
 pub number_within : (version : Version) → IsVersionNumber (version_number version)
 number_within One = inl (omega arith, omega arith)
 number_within Two = inl (omega arith, omega arith)
-number_within Four = inr refl
+number_within Four = inr (omega arith, omega arith)
+number_within Five = inr (omega arith, omega arith)
 
--- ---- version 4 has all types
+-- ---- version 5 has all types
 
-any_containers : (containers : List Scalar) → AllByRecursion (IsSubscriptOf Four) containers
+any_containers : (containers : List Scalar) → AllByRecursion (IsSubscriptOf last_version) containers
 any_containers [] = tt
 any_containers (Int ∷ inner) = (tt, any_containers inner)
 any_containers (Text ∷ inner) = (tt, any_containers inner)
 
-any_map : (version : Version) (scalar : Scalar) (kind : MapKind) → IsMapOf version scalar kind → IsMapOf Four scalar kind
+any_map : (version : Version) (scalar : Scalar) (kind : MapKind) → IsMapOf version scalar kind → IsMapOf last_version scalar kind
 any_map version scalar NoMap h = tt
 any_map version scalar (Values by) h = tt
 any_map One scalar (Sums by) h = absurd h
 any_map Two scalar (Sums by) h = absurd h
-any_map Four scalar (Sums by) h = h
+any_map Four Int (Sums by) h = tt
+any_map Four Text (Sums by) h = absurd h
+any_map Five scalar (Sums by) h = h
 
-pub any_type : (version : Version) (ty : NestedScalar) → HasType version ty → HasType Four ty
+pub any_type : (version : Version) (ty : NestedScalar) → HasType version ty → HasType last_version ty
 any_type version ty h = (any_containers ty.containers, any_map version ty.scalar ty.map h.1)
 
 -- ---- instructions
@@ -69,7 +82,7 @@ had version i h = (h.0, had_operands version (row i).1 h.1)
 
 -- ---- parameters
 
-type_narrowed : (version : Version) (mode : Mode) (ty : NestedScalar) → HasType version ty → IsTypeUnderOf Four mode ty → IsTypeUnderOf version mode ty
+type_narrowed : (version : Version) (mode : Mode) (ty : NestedScalar) → HasType version ty → IsTypeUnderOf last_version mode ty → IsTypeUnderOf version mode ty
 type_narrowed version Val ty has h = h
 type_narrowed version Closed ty has h = (h.0, has)
 type_narrowed version Ref ty has h = (h.0, has)
@@ -100,7 +113,7 @@ had_params version (param ∷ params) h = (had_param version param.mode param.ty
 -- ---- depths
 
 -- a type that is allowed with a mode is at most 3 deep
-pub under_shallow : (mode : Mode) (ty : NestedScalar) → IsTypeUnderOf Four mode ty → depth_of ty ≤ 3
+pub under_shallow : (mode : Mode) (ty : NestedScalar) → IsTypeUnderOf last_version mode ty → depth_of ty ≤ 3
 under_shallow Val ty h = flat ty.containers ty.map ty.scalar h
   where
     flat : (containers : List Scalar) (kind : MapKind) (scalar : Scalar) → is_scalar (record { containers = containers; scalar = scalar; map = kind }) ≡ true

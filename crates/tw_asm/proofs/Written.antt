@@ -338,7 +338,8 @@ statement_in : (version : Version) (s : Statement) → HasForm version s → IsI
 statement_in version (OfVersion number) form h = (clear_word (codes "version") refl, (few h, tt))
   where
     few : IsVersionNumber number → number ≤ 65535
-    few high = omega arith
+    few (inl low) = omega (arith, low.1)
+    few (inr high) = omega (arith, high.1)
 statement_in version (Head kind params) form h = (clear_word (codes "proc") refl, (kind_clear kind, params_in params))
 statement_in version (Registers registers) form h = (clear_word (codes "regs") refl, registers_in registers)
 statement_in version (Label name) form h = (label_clear name form, tt)

@@ -5,7 +5,8 @@ use Rattle.std.specs.List.{flat_map, position}
 use Rattle.tw_code.specs.declared.instr.Instr.{Instr}
 use Rattle.tw_code.specs.declared.procedure.Procedure.{Procedure}
 use Rattle.tw_code.specs.declared.version.Version.{Version}
-use Rattle.tw_code.specs.declared.version.Version.TheVariants.{One, Two, Four}
+use Rattle.tw_code.specs.declared.version.Version.TheVariants.{One}
+use Rattle.tw_code.specs.format.Versions.{version_number}
 use Rattle.tw_code.specs.format.Program.{Versioned}
 use Rattle.tw_asm.specs.Parts.{skip_of}
 use Rattle.tw_asm.specs.Statement.{OfVersion, Head, Registers, Label, Code}
@@ -56,8 +57,7 @@ procedure_lines p =
 -- returns the line of the version; the first version has none
 abbrev pub version_line : Version → List ℕ
 version_line One = []
-version_line Two = line_of (goal_word None) (OfVersion 2)
-version_line Four = line_of (goal_word None) (OfVersion 4)
+version_line version = line_of (goal_word None) (OfVersion (version_number version))
 
 abbrev pub disassembly : Versioned → List ℕ
 disassembly program = version_line program.version ++ flat_map procedure_lines program.procedures

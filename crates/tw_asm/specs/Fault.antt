@@ -12,7 +12,8 @@ use Rattle.std.specs.Str.Lines.{lines}
 use Rattle.tw_lexer.specs.Words.{Bare, IsFirstWord, IsLine, Word}
 use Rattle.tw_asm.specs.declared.statement.First.{First}
 use Rattle.tw_asm.specs.declared.statement.First.TheVariants as first
-use Rattle.tw_asm.specs.Statement.{Statement, OfVersion, Head, Registers, Label, Code, HaveForm, IsExpected, NamesLabel, EncodesInLimits, version_by}
+use Rattle.tw_asm.specs.Statement.{Statement, OfVersion, Head, Registers, Label, Code, HaveForm, IsExpected, NamesLabel, EncodesInLimits}
+use Rattle.tw_code.specs.format.Versions.{version_by}
 use Rattle.tw_asm.specs.declared.fault.FaultNo.{FaultNo}
 use Rattle.tw_asm.specs.declared.fault.FaultNo.TheVariants as fault
 

@@ -11,7 +11,8 @@ use Rattle.tw_code.specs.declared.version.Version.{Version}
 use Rattle.tw_lexer.specs.Words.{Word}
 use Rattle.tw_asm.specs.declared.statement.Statement as statements
 use Rattle.tw_asm.specs.declared.statement.Statement.TheVariants as statement
-use Rattle.tw_asm.specs.Statement.{Statement, OfVersion, Head, Registers, Label, Code, Goals, Encodes, IsInLimits, IsShortName, NamesLabel, version_number}
+use Rattle.tw_asm.specs.Statement.{Statement, OfVersion, Head, Registers, Label, Code, Goals, Encodes, IsInLimits, IsShortName, NamesLabel}
+use Rattle.tw_code.specs.format.Versions.{version_number}
 
 -- a statement, and the label that it names, if it is an instruction
 pub record Read : Type 0 where
@@ -53,6 +54,11 @@ local_with_skip skip (local.ReadInt to from old) = local.ReadInt to from skip
 local_with_skip skip (local.Jump old) = local.Jump skip
 local_with_skip skip (local.JumpEqual left right old) = local.JumpEqual left right skip
 local_with_skip skip (local.JumpLess left right old) = local.JumpLess left right skip
+local_with_skip skip (local.ByteAt to from place old) = local.ByteAt to from place skip
+local_with_skip skip (local.Slice to from start end old) = local.Slice to from start end skip
+local_with_skip skip (local.Seek sought to text pattern start old) = local.Seek sought to text pattern start skip
+local_with_skip skip (local.MultiplyDivide to left right divisor old) = local.MultiplyDivide to left right divisor skip
+local_with_skip skip (local.JumpTextLess left right old) = local.JumpTextLess left right skip
 local_with_skip skip i = i
 
 abbrev pub data_with_skip : ℕ → DataInstr → DataInstr

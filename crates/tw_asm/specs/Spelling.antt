@@ -8,7 +8,8 @@ use Rattle.tw_code.specs.declared.version.Version.{Version}
 use Rattle.tw_code.specs.declared.version.Version.TheVariants.{One}
 use Rattle.tw_code.specs.format.Program.{IsVersioned, Versioned}
 use Rattle.tw_lexer.specs.Words.{Word, IsLine}
-use Rattle.tw_asm.specs.Statement.{Code, Goals, Head, IsInLimits, Label, OfVersion, Registers, Encodes, version_number}
+use Rattle.tw_asm.specs.Statement.{Code, Goals, Head, IsInLimits, Label, OfVersion, Registers, Encodes}
+use Rattle.tw_code.specs.format.Versions.{version_number}
 
 -- the words of each line that has any
 pub data HaveWords : List (List ℕ) → List (List Word) → Type 0 where

@@ -12,7 +12,7 @@ use Rattle.tw_types.specs.declared.param.Param.{Param}
 use Rattle.tw_code.specs.declared.form.Form.TheVariants as form
 use Rattle.tw_code.specs.declared.instr.Instr.{Instr}
 use Rattle.tw_code.specs.declared.version.Version.{Version}
-use Rattle.tw_code.specs.declared.version.Version.TheVariants.{One, Two, Four}
+pub use Rattle.tw_code.specs.format.Versions.{version_by, version_number}
 use Rattle.tw_code.specs.format.Program.{IsInstr, IsList, IsMapOf, IsParam, IsSubscriptOf, IsWithin}
 use Rattle.tw_code.specs.format.Table.{Operand, has_opcode, holds, row}
 use Rattle.tw_lexer.specs.Number.{EncodesDigits, EncodesNumber}
@@ -23,17 +23,9 @@ use Rattle.tw_asm.specs.Parts.{Part, Name, Value, Right, Number, Natural, Litera
 
 -- ---- versions by their numbers
 
-abbrev pub version_number : Version → ℕ
-version_number One = 1
-version_number Two = 2
-version_number Four = 4
-
-abbrev pub version_by : ℕ → Version
-version_by number = if number == 4 then Four else if number == 2 then Two else One
-
--- holds for 1, 2 and 4
+-- holds for 1, 2, 4 and 5
 abbrev pub IsVersionNumber : ℕ → Type 0
-IsVersionNumber number = IsWithin 1 2 number ⊎ (number ≡ 4)
+IsVersionNumber number = IsWithin 1 2 number ⊎ IsWithin 4 5 number
 
 -- ---- statements
 

@@ -8,6 +8,7 @@ ghost use Rattle.tw_asm.specs.declared.statement.First.TheVariants as expected;
 ghost use Rattle.tw_asm.specs.reading.Progress.{LabelAdded, TakenStatement, WithDraft, WithLabel, seen_draft, seen_label, seen_reading, seen_section, seen_stage, stage_of};
 
 use crate::fault::{AsmFault, FaultNo};
+use crate::flaw::Due;
 use crate::reading::{Labels, Reading, Section, Stage, UnlinkedLine};
 use crate::statement::Unlinked;
 use tw_code::Procedure;
@@ -23,7 +24,7 @@ fn add_label<'a>(
 {
     match labels.insert(name, place)? {
         None => Ok(()),
-        Some(_) => Err(AsmFault::new(FaultNo::LabelTwice, number)),
+        Some(_) => Err(AsmFault::new(FaultNo::LabelTwice, number, 1, Due::NewLabel)),
     }
 }
 
@@ -40,7 +41,7 @@ fn with_draft<'a>(section: &mut Section<'a>, line: UnlinkedLine<'a>) -> Result<(
     ensures { WithDraft (seen_section section.old) (seen_section section.new) (seen_draft line.entry) result }
 {
     if section.drafts.len() >= usize::from(Procedure::MAX_CODE) {
-        return Err(AsmFault::new(FaultNo::Limit, line.number));
+        return Err(AsmFault::new(FaultNo::Limit, line.number, 0, Due::Instructions));
     }
     section.drafts.push(line)?;
     Ok(())
@@ -55,7 +56,7 @@ pub(crate) fn take_label<'a>(
     ensures { MayBegin (stage_of (seen_stage reading.entry.stage)) expected.Body → TakenStatement (seen_reading reading.entry) number (record { statement = Label name.now; goal = None }) result }
 {
     let Stage::InBody(section) = &mut reading.stage else {
-        return Err(AsmFault::new(FaultNo::Word, number));
+        return Err(AsmFault::new(FaultNo::Word, number, 1, Due::Nothing));
     };
     with_label(section, number, name)?;
     Ok(reading)
@@ -70,7 +71,7 @@ pub(crate) fn take_draft<'a>(
     ensures { MayBegin (stage_of (seen_stage reading.entry.stage)) expected.Body → TakenStatement (seen_reading reading.entry) number (record { statement = Code draft.entry.instr; goal = bytes_of draft.entry.goal }) result }
 {
     let Stage::InBody(section) = &mut reading.stage else {
-        return Err(AsmFault::new(FaultNo::Word, number));
+        return Err(AsmFault::new(FaultNo::Word, number, 1, Due::Nothing));
     };
     with_draft(section, UnlinkedLine { draft, number })?;
     Ok(reading)

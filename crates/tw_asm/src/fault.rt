@@ -4,6 +4,7 @@ ghost use Rattle.std.specs.Prelude.{◌≡◌};
 ghost use Rattle.tw_asm.specs.Fault.{fault_number};
 ghost use Rattle.tw_asm.specs.declared.fault.FaultNo.TheVariants.{NoMemory};
 
+use crate::flaw::Due;
 use std::alloc::{AllocError, AllocFailed};
 use thiserror::Error;
 
@@ -43,15 +44,23 @@ impl FaultNo {
 pub struct AsmFault {
     pub no: FaultNo,
     pub line: usize,
+    /// The number of the word at which the line stops, from 1, or 0 if it is at none.
+    pub word: usize,
+    pub due: Due,
 }
 
 impl AsmFault {
     /// Makes a fault of a line.
-    pub(crate) fn new(no: FaultNo, line: usize) -> AsmFault
+    pub(crate) fn new(no: FaultNo, line: usize, word: usize, due: Due) -> AsmFault
         ensures no { result.no ≡ no }
         ensures line { result.line ≡ line }
     {
-        AsmFault { no, line }
+        AsmFault {
+            no,
+            line,
+            word,
+            due,
+        }
     }
 
     /// Makes the fault of an allocation that failed.
@@ -62,6 +71,8 @@ impl AsmFault {
         AsmFault {
             no: FaultNo::NoMemory,
             line: 0,
+            word: 0,
+            due: Due::Nothing,
         }
     }
 }
@@ -69,7 +80,7 @@ impl AsmFault {
 impl From<AllocError> for AsmFault {
     ghost use Rattle.tw_asm.specs.declared.fault.FaultNo.TheVariants.{NoMemory};
 
-    ghost from_gives = { λ _ f. f ≡ record { no = NoMemory; line = 0 } };
+    ghost from_gives = { λ _ f. (f.no ≡ NoMemory) × (f.line ≡ 0) };
 
     /// Returns the fault of a text for a failed allocation.
     fn from(_e: AllocError) -> AsmFault {
@@ -80,7 +91,7 @@ impl From<AllocError> for AsmFault {
 impl<T: Drop> From<AllocFailed<T>> for AsmFault {
     ghost use Rattle.tw_asm.specs.declared.fault.FaultNo.TheVariants.{NoMemory};
 
-    ghost from_gives = { λ _ f. f ≡ record { no = NoMemory; line = 0 } };
+    ghost from_gives = { λ _ f. (f.no ≡ NoMemory) × (f.line ≡ 0) };
 
     /// Drops what wasn't added, and returns the fault of a text for a failed allocation.
     fn from(_e: AllocFailed<T>) -> AsmFault {

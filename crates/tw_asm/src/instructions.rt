@@ -6,17 +6,19 @@ ghost use Rattle.tw_code.specs.declared.instr.Instr.TheVariants as instr;
 ghost use Rattle.tw_code.specs.declared.instr.LocalInstr.TheVariants as local;
 ghost use Rattle.tw_code.specs.declared.instr.Priority.TheVariants.{Computed, Constant};
 ghost use Rattle.tw_code.specs.declared.version.Version.{Version};
-ghost use Rattle.tw_code.specs.format.Operands.{ArePlain, plain};
+ghost use Rattle.tw_code.specs.format.Operands.{ArePlain, made_of, plain};
 ghost use Rattle.tw_code.specs.format.Table.{forms_of};
 ghost use Rattle.tw_asm.specs.reading.ByForms.{IsOfOneWord, gathered_in, of_goal, of_type, with_one, word_in};
 ghost use Rattle.tw_asm.specs.reading.Operands.{both};
 ghost use Rattle.tw_asm.specs.reading.Lines.{Gives, args, draft_in, drafted, goal, line_in, literal, more, natural, nothing, number, target, type_in, value};
 ghost use Rattle.tw_lexer.specs.Digits.{as_is};
 
+use crate::flaw::{Due, Flaw, at, both_at};
 use crate::gathering::{args_of, type_of};
 use crate::operands::*;
 use crate::rejection::Rejection;
 use crate::statement::Unlinked;
+use crate::stops::{args_stop, early, stop_of};
 use std::alloc::Global;
 use std::marker::Model;
 use tw_code::{
@@ -31,10 +33,21 @@ fn value_and_literal(alloc: Global, words: &[Word<'_>]) -> Result<(u8, (Text, ()
 {
     match words {
         [first, text, others @ ..] => {
-            let text = literal_of(alloc, text)?;
-            Ok(both_of(value_of(first), both_of(text, nothing_of(others)))?)
+            let text = at(literal_of(alloc, text)?, 3, Due::Operand(Form::Literal));
+            let first = at(value_of(first), 2, Due::Operand(Form::Value));
+            Ok(both_at(first, both_at(text, nothing_of(others, 4)))?)
         }
-        _ => Err(Rejection::Flawed(TokenError::Form)),
+        _ => Err(Rejection::Flawed(early(Opcode::Text.forms(), words, 2))),
+    }
+}
+
+/// Adds to the error of arguments its place.
+fn located(args: Result<Items<u8>, TokenError>, words: &[Word<'_>]) -> Result<Items<u8>, Flaw>
+    ensures { result ≡ args }
+{
+    match args {
+        Ok(args) => Ok(args),
+        Err(error) => Err(args_stop(words, error, 5)),
     }
 }
 
@@ -47,14 +60,13 @@ fn action_parts(
 {
     match words {
         [procedure, priority, target, args @ ..] => {
-            let args = args_of(alloc, args)?;
-            let front = byte_of(0, 255, procedure);
-            Ok(both_of(
-                front,
-                both_of(number_of(priority), both_of(target_of(target), args)),
-            )?)
+            let args = located(args_of(alloc, args)?, args);
+            let front = at(byte_of(0, 255, procedure), 2, Due::Operand(Form::Callee));
+            let priority = at(number_of(priority), 3, Due::Operand(Form::Number));
+            let target = at(target_of(target), 4, Due::Operand(Form::Target));
+            Ok(both_at(front, both_at(priority, both_at(target, args)))?)
         }
-        _ => Err(Rejection::Flawed(TokenError::Form)),
+        _ => Err(Rejection::Flawed(early(Opcode::Rule.forms(), words, 2))),
     }
 }
 
@@ -67,14 +79,13 @@ fn computed_parts(
 {
     match words {
         [procedure, priority, target, args @ ..] => {
-            let args = args_of(alloc, args)?;
-            let front = byte_of(0, 255, procedure);
-            Ok(both_of(
-                front,
-                both_of(value_of(priority), both_of(target_of(target), args)),
-            )?)
+            let args = located(args_of(alloc, args)?, args);
+            let front = at(byte_of(0, 255, procedure), 2, Due::Operand(Form::Callee));
+            let priority = at(value_of(priority), 3, Due::Operand(Form::Value));
+            let target = at(target_of(target), 4, Due::Operand(Form::Target));
+            Ok(both_at(front, both_at(priority, both_at(target, args)))?)
         }
-        _ => Err(Rejection::Flawed(TokenError::Form)),
+        _ => Err(Rejection::Flawed(early(Opcode::RuleComputed.forms(), words, 2))),
     }
 }
 
@@ -146,17 +157,17 @@ fn operand_of(form: Form, word: &Word<'_>) -> Result<PlainOperand, TokenError>
 }
 
 /// Checks that there are no more words.
-fn nothing_of(words: &[Word<'_>]) -> Result<(), TokenError>
+fn nothing_of(words: &[Word<'_>], number: usize) -> Result<(), Flaw>
     ensures { result ≡ line_in nothing (map seen_word words.now) }
 {
     match words {
         [] => Ok(()),
-        _ => Err(TokenError::Form),
+        _ => Err(Flaw::form(number, Due::End)),
     }
 }
 
 /// Checks that there are no operands.
-fn no_operands<'a>(words: &[Word<'a>]) -> Result<Gathered<'a>, TokenError>
+fn no_operands<'a>(words: &[Word<'a>], number: usize) -> Result<Gathered<'a>, Flaw>
     ensures { (version : Version) → result ≡ gathered_in version [] (map seen_word words.now) }
 {
     match words {
@@ -164,49 +175,64 @@ fn no_operands<'a>(words: &[Word<'a>]) -> Result<Gathered<'a>, TokenError>
             operands: Operands::none(),
             label: None,
         }),
-        _ => Err(TokenError::Form),
+        _ => Err(Flaw::form(number, Due::End)),
     }
 }
 
 /// Reads a goal, the last operand.
-fn only_goal<'a>(words: &[Word<'a>]) -> Result<Gathered<'a>, TokenError>
+fn only_goal<'a>(words: &[Word<'a>], number: usize) -> Result<Gathered<'a>, Flaw>
     ensures { result ≡ as_is of_goal (line_in goal (map seen_word words.now)) }
 {
     match words {
         [word] => {
-            let Goal { skip, label } = goal_of(word)?;
+            let Goal { skip, label } = at(goal_of(word), number, Due::Operand(Form::Skip))?;
             Ok(Gathered {
                 operands: Operands::none().after(PlainOperand::Skip(skip)),
                 label,
             })
         }
-        _ => Err(TokenError::Form),
+        _ => Err(early(&[Form::Skip], words, number)),
     }
 }
 
 /// Reads a type, the last operand.
-fn only_type<'a>(version: Version, words: &[Word<'a>]) -> Result<Gathered<'a>, TokenError>
+fn only_type<'a>(version: Version, words: &[Word<'a>], number: usize) -> Result<Gathered<'a>, Flaw>
     ensures { result ≡ as_is of_type (type_in version (map seen_word words.now)) }
 {
-    let ty = type_of(version, words)?;
-    Ok(Gathered {
-        operands: Operands::none().after(PlainOperand::TypeOf(ty)),
-        label: None,
-    })
+    match type_of(version, words) {
+        Ok(ty) => Ok(Gathered {
+            operands: Operands::none().after(PlainOperand::TypeOf(ty)),
+            label: None,
+        }),
+        Err(error) => {
+            Err(stop_of(
+                version,
+                words,
+                error,
+                number,
+                Due::Operand(Form::TypeOf),
+                Due::End,
+            ))
+        }
+    }
 }
 
 /// Puts an operand before others.
 fn with_first<'a>(
-    first: Result<PlainOperand, TokenError>,
-    others: Result<Gathered<'a>, TokenError>,
-) -> Result<Gathered<'a>, TokenError>
+    first: Result<PlainOperand, Flaw>,
+    others: Result<Gathered<'a>, Flaw>,
+) -> Result<Gathered<'a>, Flaw>
     ensures { result ≡ as_is with_one (both (as_is plain first) others.entry) }
 {
-    match both_of(first, others) {
-        Ok((first, Gathered { operands, label })) => Ok(Gathered {
-            operands: operands.after(first),
-            label,
-        }),
+    match both_at(first, others) {
+        Ok(both) => {
+            let (first, others) = both;
+            let Gathered { operands, label } = others;
+            Ok(Gathered {
+                operands: operands.after(first),
+                label,
+            })
+        }
         Err(flaw) => Err(flaw),
     }
 }
@@ -216,20 +242,24 @@ fn operands_of<'a>(
     version: Version,
     forms: &[Form],
     words: &[Word<'a>],
-) -> Result<Gathered<'a>, TokenError>
+    number: usize,
+) -> Result<Gathered<'a>, Flaw>
     requires { ArePlain forms.now }
     ensures { result ≡ gathered_in version forms.now (map seen_word words.now) }
 {
     match forms {
-        [] => no_operands(words),
+        [] => no_operands(words, number),
         [form, others @ ..] => match form {
-            Form::Skip => only_goal(words),
-            Form::TypeOf => only_type(version, words),
+            Form::Skip => only_goal(words, number),
+            Form::TypeOf => only_type(version, words, number),
             _ => match words {
-                [] => Err(TokenError::Form),
+                [] => Err(Flaw::form(number, Due::Operand(*form))),
                 [word, rest @ ..] => {
-                    let first = operand_of(*form, word);
-                    with_first(first, operands_of(version, others, rest))
+                    let first = at(operand_of(*form, word), number, Due::Operand(*form));
+                    with_first(
+                        first,
+                        operands_of(version, others, rest, number.saturating_add(1)),
+                    )
                 }
             },
         },
@@ -238,20 +268,26 @@ fn operands_of<'a>(
 
 // ---- all instructions
 
+/// Makes the instruction with these operands, in a line that has so many words.
+fn unlinked<'a>(opcode: Opcode, gathered: Gathered<'a>, last: usize) -> Unlinked<'a>
+    requires { ArePlain (forms_of opcode) }
+    ensures { drafted result ≡ (made_of opcode gathered.entry.0, gathered.entry.1) }
+{
+    let Gathered { operands, label } = gathered;
+    Unlinked {
+        instr: make(opcode, operands),
+        goal: label,
+        last,
+    }
+}
+
 /// Reads an instruction without text and arguments.
-fn plain_of<'a>(
-    version: Version,
-    opcode: Opcode,
-    words: &[Word<'a>],
-) -> Result<Unlinked<'a>, TokenError>
+fn plain_of<'a>(version: Version, opcode: Opcode, words: &[Word<'a>]) -> Result<Unlinked<'a>, Flaw>
     requires { ArePlain (forms_of opcode) }
     ensures { as_is drafted result ≡ draft_in version opcode (map seen_word words.now) }
 {
-    match operands_of(version, opcode.forms(), words) {
-        Ok(Gathered { operands, label }) => Ok(Unlinked {
-            instr: make(opcode, operands),
-            goal: label,
-        }),
+    match operands_of(version, opcode.forms(), words, 2) {
+        Ok(gathered) => Ok(unlinked(opcode, gathered, words.len().saturating_add(1))),
         Err(flaw) => Err(flaw),
     }
 }
@@ -273,5 +309,9 @@ pub fn draft_of<'a>(
         Opcode::PutComputed => Instr::Put(with_computed_priority(computed_parts(alloc, words)?)),
         _ => return Ok(plain_of(version, opcode, words)?),
     };
-    Ok(Unlinked { instr, goal: None })
+    Ok(Unlinked {
+        instr,
+        goal: None,
+        last: 0,
+    })
 }

@@ -6,6 +6,7 @@ ghost use Rattle.tw_asm.specs.reading.Goals.{AreLinkedCode, AreLinkedProcedures,
 ghost use Rattle.tw_asm.specs.reading.Progress.{IsMemory, seen_draft, seen_label, seen_section};
 
 use crate::fault::{AsmFault, FaultNo};
+use crate::flaw::Due;
 use crate::reading::{Labels, Section, UnlinkedLine};
 use crate::skip::with_skip;
 use std::alloc::Global;
@@ -30,6 +31,14 @@ fn skip_to(labels: &Labels<'_>, place: usize, name: &[u8]) -> Result<u16, FaultN
     }
 }
 
+/// Returns what is due in place of a label that has this fault.
+fn label_due(no: FaultNo) -> Due {
+    match no {
+        FaultNo::LabelNotForward => Due::LaterLabel,
+        _ => Due::Label,
+    }
+}
+
 /// Links an instruction at a place: replaces its goal, if that is a label, by a skip.
 fn link_instr(labels: &Labels<'_>, place: usize, line: UnlinkedLine<'_>) -> Result<Instr, AsmFault>
     requires { AreWithin (map seen_label labels.now.entries) }
@@ -40,7 +49,7 @@ fn link_instr(labels: &Labels<'_>, place: usize, line: UnlinkedLine<'_>) -> Resu
         None => Ok(draft.instr),
         Some(name) => match skip_to(labels, place, name) {
             Ok(skip) => Ok(with_skip(draft.instr, skip)),
-            Err(no) => Err(AsmFault::new(no, number)),
+            Err(no) => Err(AsmFault::new(no, number, draft.last, label_due(no))),
         },
     }
 }

@@ -2,10 +2,9 @@
 
 ghost use Rattle.std.specs.Prelude.{◌≡◌, ◌≤◌, IfOk};
 ghost use Rattle.tw_lexer.specs.Words.{Bare};
-ghost use Rattle.tw_code.specs.declared.version.Version.TheVariants.{Four};
 ghost use Rattle.tw_lexer.specs.Seen.{seen as seen_word};
 ghost use Rattle.tw_lexer.specs.Digits.{as_is, digits_in, signed_in};
-ghost use Rattle.tw_asm.specs.reading.Operands.{both, natural_in, register_in, number_in, literal_in, name_in, target_in, goal_in, scalar_in, text_container, container_in, is_sum, map_in, mode_in};
+ghost use Rattle.tw_asm.specs.reading.Operands.{both, natural_in, register_in, number_in, literal_in, name_in, target_in, goal_in, scalar_in, text_container, container_in, is_sum, map_in, map_word_in, mode_in};
 
 use std::alloc::{AllocError, Global};
 use std::marker::Model;
@@ -255,7 +254,7 @@ fn text_container(version: Version) -> Result<Scalar, TokenError>
 {
     match version {
         Version::One => Err(TokenError::Form),
-        Version::Two | Version::Four => Ok(Scalar::Text),
+        _ => Ok(Scalar::Text),
     }
 }
 
@@ -284,7 +283,7 @@ pub fn container_of(version: Version, word: &Word<'_>) -> Result<Scalar, TokenEr
 
 /// Reads a map's word that isn't quoted.
 fn map_word_in(text: &[u8]) -> Result<Scalar, TokenError>
-    ensures { result ≡ map_in Four (Bare text.now) }
+    ensures { result ≡ map_word_in (Bare text.now) }
 {
     if text == b"map".as_slice() {
         Ok(Scalar::Int)
@@ -295,13 +294,13 @@ fn map_word_in(text: &[u8]) -> Result<Scalar, TokenError>
     }
 }
 
-/// Reads a map's word, `map` or `tmap`, and returns the type of its subscripts. Only version 4 has maps.
+/// Reads a map's word, `map` or `tmap`, and returns the type of its subscripts. Version 4 and later ones have maps.
 pub fn map_of(version: Version, word: &Word<'_>) -> Result<Scalar, TokenError>
     ensures { result ≡ map_in version (seen_word word.now) }
 {
     match version {
         Version::One | Version::Two => Err(TokenError::Form),
-        Version::Four => match word {
+        _ => match word {
             Word::Bare(text) => map_word_in(text),
             Word::Quoted(_) => Err(TokenError::Form),
         },

@@ -5,37 +5,28 @@ ghost use Rattle.tw_lexer.specs.Seen.{seen as seen_word};
 ghost use Rattle.tw_lexer.specs.Words.{Bare};
 ghost use Rattle.tw_asm.specs.Seen.{seen};
 ghost use Rattle.tw_asm.specs.LineAnswers.{Answers};
-ghost use Rattle.tw_asm.specs.Statement.{version_by};
 ghost use Rattle.tw_asm.specs.reading.Operands.{natural_in};
 ghost use Rattle.tw_asm.specs.reading.Lines.{Gives, body_in, head_in, label_line, registers_in, statement_in, version_in, version_known};
 ghost use Rattle.tw_code.specs.format.Table.{opcode_in};
 
+use crate::flaw::{Due, Flaw, at, both_at};
 use crate::gathering::scalars_of;
 use crate::heads::{kind_of, params_of};
 use crate::instructions::draft_of;
-use crate::operands::{both_of, byte_of, name_of};
+use crate::operands::{byte_of, name_of};
 use crate::rejection::Rejection;
 use crate::statement::Statement;
+use crate::stops::{registers_stop, stop_of};
 use std::alloc::Global;
 use tw_code::{Opcode, Version, opcode_in};
 use tw_lexer::{TokenError, Word, before_colon};
-
-/// Returns the version with this number, 1, 2 or 4.
-fn version_by(number: u8) -> Version
-    ensures { result ≡ version_by number }
-{
-    match number {
-        4 => Version::Four,
-        2 => Version::Two,
-        _ => Version::One,
-    }
-}
+use tw_types::{Items, Param};
 
 /// Reads the number of a version. There is no version 3.
-pub fn version_number(word: &Word<'_>) -> Result<u8, TokenError>
-    ensures { result ≡ version_known (natural_in 1 4 (seen_word word.now)) }
+fn version_number(word: &Word<'_>) -> Result<u8, TokenError>
+    ensures { result ≡ version_known (natural_in 1 5 (seen_word word.now)) }
 {
-    match byte_of(1, 4, word) {
+    match byte_of(1, 5, word) {
         Ok(3) => Err(TokenError::Limit),
         read => read,
     }
@@ -47,10 +38,28 @@ fn version_of<'a>(words: &[Word<'_>]) -> Result<Statement<'a>, Rejection>
 {
     match words {
         [word] => {
-            let number = version_number(word)?;
-            Ok(Statement::Version(version_by(number)))
+            let number = at(version_number(word), 2, Due::Version)?;
+            Ok(Statement::Version(Version::by(u64::from(number))))
         }
-        _ => Err(Rejection::Flawed(TokenError::Form)),
+        [] => Err(Rejection::Flawed(Flaw::form(2, Due::Version))),
+        [word, ..] => match version_number(word) {
+            Err(TokenError::Form) => Err(Rejection::Flawed(Flaw::form(2, Due::Version))),
+            _ => Err(Rejection::Flawed(Flaw::form(3, Due::End))),
+        },
+    }
+}
+
+/// Adds to the error of parameters its place.
+fn located(
+    params: Result<Items<Param>, TokenError>,
+    version: Version,
+    words: &[Word<'_>],
+) -> Result<Items<Param>, Flaw>
+    ensures { result ≡ params }
+{
+    match params {
+        Ok(params) => Ok(params),
+        Err(error) => Err(stop_of(version, words, error, 3, Due::Param, Due::Param)),
     }
 }
 
@@ -63,10 +72,10 @@ fn head_of<'a>(
     ensures { Gives seen result (head_in version (map seen_word words.now)) }
 {
     match words {
-        [] => Err(Rejection::Flawed(TokenError::Form)),
-        [kind, params @ ..] => {
-            let params = params_of(alloc, version, params)?;
-            let (kind, params) = both_of(kind_of(kind), params)?;
+        [] => Err(Rejection::Flawed(Flaw::form(2, Due::Kind))),
+        [kind, words @ ..] => {
+            let params = located(params_of(alloc, version, words)?, version, words);
+            let (kind, params) = both_at(at(kind_of(kind), 2, Due::Kind), params)?;
             Ok(Statement::Head { kind, params })
         }
     }
@@ -76,8 +85,10 @@ fn head_of<'a>(
 fn registers_of<'a>(alloc: Global, words: &[Word<'_>]) -> Result<Statement<'a>, Rejection>
     ensures { Gives seen result (registers_in (map seen_word words.now)) }
 {
-    let registers = scalars_of(alloc, words)?;
-    Ok(Statement::Registers(registers?))
+    match scalars_of(alloc, words)? {
+        Ok(registers) => Ok(Statement::Registers(registers)),
+        Err(error) => Err(Rejection::Flawed(registers_stop(words, error, 2))),
+    }
 }
 
 /// Reads a label, which is a line of one word.
@@ -85,11 +96,11 @@ fn label_of<'a>(word: &'a [u8], others: &[Word<'_>]) -> Result<Statement<'a>, Re
     ensures { Gives seen result (label_line word.entry.now (map seen_word others.now)) }
 {
     if !others.is_empty() {
-        return Err(Rejection::Flawed(TokenError::Form));
+        return Err(Rejection::Flawed(Flaw::form(2, Due::End)));
     }
     match before_colon(word) {
-        Some(name) => Ok(Statement::Label(name_of(name)?)),
-        None => Err(Rejection::Flawed(TokenError::Form)),
+        Some(name) => Ok(Statement::Label(at(name_of(name), 1, Due::Name)?)),
+        None => Err(Rejection::Flawed(Flaw::form(1, Due::Nothing))),
     }
 }
 
@@ -149,10 +160,10 @@ fn read_of<'a>(
     ensures { Gives seen result (statement_in version (map seen_word words.now)) }
 {
     match words {
-        [] => Err(Rejection::Flawed(TokenError::Form)),
+        [] => Err(Rejection::Flawed(Flaw::form(1, Due::Nothing))),
         [first, others @ ..] => match first {
             Word::Bare(word) => words_read(alloc, version, word, others),
-            Word::Quoted(_) => Err(Rejection::Flawed(TokenError::Form)),
+            Word::Quoted(_) => Err(Rejection::Flawed(Flaw::form(1, Due::Nothing))),
         },
     }
 }

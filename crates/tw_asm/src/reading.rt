@@ -1,18 +1,20 @@
 //! Reads the lines of a text, one by one. Goals aren't resolved yet.
 
-ghost use Rattle.std.specs.Prelude.{◌≡◌, ◌↔◌, IsTrue, MatchOption, MatchResult, None, map};
+ghost use Rattle.std.specs.Prelude.{◌≡◌, ◌⊎◌, ◌↔◌, IsTrue, MatchOption, MatchResult, None, map};
 ghost use Rattle.tw_asm.specs.Fault.{MayBegin};
-ghost use Rattle.tw_asm.specs.reading.Progress.{AreClosed, AreFinished, AreNotRead, VersionRead, HasSections, IsEmptyAt, IsNotClosed, IsNotFinished, LinesAreRead, TakenLine, TakenStatement, WordsRead, IsLimitLine, seen_reading, seen_section, seen_stage, stage_of};
+ghost use Rattle.tw_asm.specs.reading.Progress.{AreClosed, AreFinished, AreNotRead, VersionRead, HasSections, IsEmptyAt, IsFlawFault, IsNotClosed, IsNotFinished, LinesAreRead, TakenLine, TakenStatement, WordsRead, IsLimitLine, IsMemory, seen_reading, seen_section, seen_stage, stage_of};
 ghost use Rattle.tw_asm.specs.reading.Expected.{IsExpectedBy, expectation};
 ghost use Rattle.tw_lexer.specs.Seen.{seen as seen_word};
 ghost use Rattle.tw_asm.specs.Seen.{seen as seen_statement};
 ghost use Rattle.tw_asm.specs.Statement.{Head, Registers};
 ghost use Rattle.tw_asm.specs.declared.statement.First.TheVariants as expected;
 ghost use Rattle.tw_asm.specs.declared.statement.First.{First};
+ghost use Rattle.tw_asm.specs.declared.fault.FaultNo.TheVariants as fault;
 
 use crate::bodies::{take_draft, take_label};
 use crate::fault::{AsmFault, FaultNo};
 use crate::first::{first_of, is_plainly_blank};
+use crate::flaw::{Due, Flaw};
 use crate::read::statement_of;
 use crate::rejection::Rejection;
 use crate::statement::{First, Statement, Unlinked};
@@ -119,6 +121,64 @@ fn limit_line(reading: &Reading<'_>, first: First, number: usize) -> usize
     }
 }
 
+/// Returns what may begin a line.
+fn begin_due(reading: &Reading<'_>) -> Due {
+    match reading.stage {
+        Stage::Start => Due::Start,
+        Stage::AfterVersion => Due::Head,
+        Stage::AfterHead { .. } => Due::Registers,
+        Stage::InBody(_) => Due::Body(reading.version),
+    }
+}
+
+/// Returns the fault of a line that is broken after these words: where they stop being a statement, or at the break.
+fn broken_fault(
+    alloc: Global,
+    version: Version,
+    mut words: Vec<Word<'_>>,
+    number: usize,
+) -> AsmFault
+    ensures { IsMemory result ⊎ ((result.no ≡ fault.Operand) × (result.line ≡ number)) }
+{
+    // No statement has a word like that, so that its words stop there at the latest.
+    if words.push(Word::Bare(b"\"")).is_err() {
+        return AsmFault::memory();
+    }
+    match statement_of(alloc, version, &words) {
+        Ok(_) => AsmFault::new(FaultNo::Operand, number, words.len(), Due::End),
+        Err(Rejection::NoMemory) => AsmFault::memory(),
+        Err(Rejection::Flawed(flaw)) => AsmFault::new(
+            FaultNo::Operand,
+            number,
+            flaw.word,
+            flaw.due,
+        ),
+    }
+}
+
+/// Returns the fault of a limit: that of this line, or of the empty procedure that it would end.
+fn limit_fault(reading: &Reading<'_>, first: First, number: usize, flaw: Flaw) -> AsmFault
+    ensures no { result.no ≡ fault.Limit }
+    ensures line { IsLimitLine (seen_reading reading.now) first number result.line }
+{
+    let line = limit_line(reading, first, number);
+    if line == number {
+        AsmFault::new(FaultNo::Limit, line, flaw.word, flaw.due)
+    } else {
+        AsmFault::new(FaultNo::Limit, line, 0, Due::Instruction)
+    }
+}
+
+/// Returns the fault of a line whose words have this error.
+fn flaw_fault(reading: &Reading<'_>, first: First, number: usize, flaw: Flaw) -> AsmFault
+    ensures { IsFlawFault (seen_reading reading.now) first number flaw result }
+{
+    match flaw.error {
+        TokenError::Form => AsmFault::new(FaultNo::Operand, number, flaw.word, flaw.due),
+        TokenError::Limit => limit_fault(reading, first, number, flaw),
+    }
+}
+
 /// Reads the statement of a line, or `None` if the line has no word.
 fn read_words<'a>(
     alloc: Global,
@@ -133,22 +193,19 @@ fn read_words<'a>(
         return if read.whole {
             Ok(None)
         } else {
-            Err(AsmFault::new(FaultNo::Word, number))
+            Err(AsmFault::new(FaultNo::Word, number, 1, begin_due(reading)))
         };
     };
     let Some(expected) = expected_of(reading.version, word, &reading.stage) else {
-        return Err(AsmFault::new(FaultNo::Word, number));
+        return Err(AsmFault::new(FaultNo::Word, number, 1, begin_due(reading)));
     };
     if !read.whole {
-        return Err(AsmFault::new(FaultNo::Operand, number));
+        return Err(broken_fault(alloc, reading.version, read.words, number));
     }
     match statement_of(alloc, reading.version, &read.words) {
         Ok(statement) => Ok(Some(statement)),
         Err(Rejection::NoMemory) => Err(AsmFault::memory()),
-        Err(Rejection::Flawed(TokenError::Form)) => Err(AsmFault::new(FaultNo::Operand, number)),
-        Err(Rejection::Flawed(TokenError::Limit)) => {
-            Err(AsmFault::new(FaultNo::Limit, limit_line(reading, expected, number)))
-        }
+        Err(Rejection::Flawed(flaw)) => Err(flaw_fault(reading, expected, number, flaw)),
     }
 }
 
@@ -162,7 +219,7 @@ fn close<'a>(
 {
     if let Stage::InBody(section) = stage {
         if section.drafts.is_empty() {
-            return Err(AsmFault::new(FaultNo::Limit, head_line));
+            return Err(AsmFault::new(FaultNo::Limit, head_line, 0, Due::Instruction));
         }
         sections.push(section)?;
     }
@@ -198,7 +255,7 @@ fn take_head<'a>(
     } = reading;
     let sections = close(sections, head_line, stage)?;
     if sections.len() >= usize::from(Program::MAX_PROCEDURES) {
-        return Err(AsmFault::new(FaultNo::Limit, number));
+        return Err(AsmFault::new(FaultNo::Limit, number, 0, Due::Procedures));
     }
     Ok(Reading {
         hash,
@@ -226,7 +283,7 @@ fn take_registers<'a>(
         stage,
     } = reading;
     let Stage::AfterHead { kind, params } = stage else {
-        return Err(AsmFault::new(FaultNo::Word, number));
+        return Err(AsmFault::new(FaultNo::Word, number, 1, Due::Nothing));
     };
     let section = Section {
         kind,
@@ -315,8 +372,18 @@ fn finish<'a>(reading: Reading<'a>) -> Result<Vec<Section<'a>>, AsmFault>
         ..
     } = reading;
     match stage {
-        Stage::Start | Stage::AfterVersion => Err(AsmFault::new(FaultNo::Limit, 1)),
-        Stage::AfterHead { .. } => Err(AsmFault::new(FaultNo::Limit, head_line)),
+        Stage::Start | Stage::AfterVersion => Err(AsmFault::new(
+            FaultNo::Limit,
+            1,
+            0,
+            Due::Procedure,
+        )),
+        Stage::AfterHead { .. } => Err(AsmFault::new(
+            FaultNo::Limit,
+            head_line,
+            0,
+            Due::Instruction,
+        )),
         Stage::InBody(section) => close(sections, head_line, Stage::InBody(section)),
     }
 }

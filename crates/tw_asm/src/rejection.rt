@@ -3,13 +3,13 @@
 ghost use Rattle.std.specs.Prelude.{◌≡◌};
 ghost use Rattle.tw_asm.specs.declared.rejection.Rejection.TheVariants.{NoMemory, Flawed};
 
+use crate::flaw::Flaw;
 use std::alloc::{AllocError, AllocFailed};
-use tw_lexer::TokenError;
 
 /// The reason why no statement is read: the words have an error, or an allocation failed.
-#[derive(Clone, Copy)]
+#[derive(Drop)]
 pub enum Rejection {
-    Flawed(TokenError),
+    Flawed(Flaw),
     NoMemory,
 }
 
@@ -31,11 +31,11 @@ impl<T: Drop> From<AllocFailed<T>> for Rejection {
     }
 }
 
-impl From<TokenError> for Rejection {
+impl From<Flaw> for Rejection {
     ghost from_gives = { λ flaw rejection. rejection ≡ Flawed flaw };
 
     /// Returns the rejection of a line with a wrong word.
-    fn from(flaw: TokenError) -> Rejection {
+    fn from(flaw: Flaw) -> Rejection {
         Rejection::Flawed(flaw)
     }
 }

@@ -19,6 +19,11 @@ fn local_with_skip(instr: LocalInstr, skip: u16) -> LocalInstr
         LocalInstr::Jump { .. } => LocalInstr::Jump { skip },
         LocalInstr::JumpEqual { left, right, .. } => LocalInstr::JumpEqual { left, right, skip },
         LocalInstr::JumpLess { left, right, .. } => LocalInstr::JumpLess { left, right, skip },
+        LocalInstr::ByteAt { to, from, place, .. } => LocalInstr::ByteAt { to, from, place, skip },
+        LocalInstr::Slice { to, from, start, end, .. } => LocalInstr::Slice { to, from, start, end, skip },
+        LocalInstr::Seek { sought, to, text, pattern, start, .. } => LocalInstr::Seek { sought, to, text, pattern, start, skip },
+        LocalInstr::MultiplyDivide { to, left, right, divisor, .. } => LocalInstr::MultiplyDivide { to, left, right, divisor, skip },
+        LocalInstr::JumpTextLess { left, right, .. } => LocalInstr::JumpTextLess { left, right, skip },
         without => without,
     }
 }

@@ -8,6 +8,8 @@ use tw_types::{Items, Kind, Param, Scalar};
 pub struct Unlinked<'a> {
     pub instr: Instr,
     pub goal: Option<&'a [u8]>,
+    /// The number of the line's last word, which the goal is.
+    pub last: usize,
 }
 
 /// The statement of a line.

@@ -111,9 +111,9 @@ fn put_name(out: &mut Vec<u8>, name: &str) -> Result<(), AllocError>
     put_both(out, " ", name)
 }
 
-/// Writes a type: its containers from the outermost on, then its leaf.
+/// Writes a type: its containers from the outermost on, then its leaf; a space before each word.
 #[tactic(auto, using(crate::proofs::Lines::spaced_more))]
-fn put_type(out: &mut Vec<u8>, ty: DataType) -> Result<(), AllocError>
+pub fn put_type(out: &mut Vec<u8>, ty: DataType) -> Result<(), AllocError>
     ensures { OnOk result (out.new.items ≡ out.old.items ++ spaced_all (part_words (goal_word None) (type_part ty))) }
 {
     match ty.element() {
@@ -145,7 +145,7 @@ fn put_scalar(out: &mut Vec<u8>, scalar: Scalar) -> Result<(), AllocError>
     put_name(out, scalar_word(scalar))
 }
 
-/// Adds a parameter: its mode and its type.
+/// Adds a parameter: its mode and its type; a space before each word.
 #[tactic(auto, using(crate::proofs::Lines::spaced_param))]
 pub fn put_param(out: &mut Vec<u8>, param: Param) -> Result<(), AllocError>
     ensures { OnOk result (out.new.items ≡ out.old.items ++ spaced_all (flat_map (part_words (goal_word None)) (param_parts param))) }
@@ -328,12 +328,8 @@ pub fn put_version(alloc: Global, out: &mut Vec<u8>, version: Version) -> Result
 {
     match version {
         Version::One => Ok(()),
-        Version::Two => {
-            put_numbered(alloc, out, "version ", 2)?;
-            put(out, "\n")
-        }
-        Version::Four => {
-            put_numbered(alloc, out, "version ", 4)?;
+        _ => {
+            put_numbered(alloc, out, "version ", usize::from(version.number()))?;
             put(out, "\n")
         }
     }

@@ -1,17 +1,9 @@
--- The first line that begins a procedure, and lines up to one.
-use Rattle.std.proofs.Common.{◌≡◌, ◌+◌, ◌-◌, ℕ, suc, true, false, List, [], ◌∷◌, ◌++◌, length, take, Option, Some, None, refl, sym, ap, subst, ◌∙◌, arith}
-use Rattle.std.proofs.lemmas.List.{take_at}
-use Rattle.tw_diagnostics.proofs.ReasonNames.{AllByRecursion, Code, Head, Label, HasStatement, HaveStatements, OfVersion, Registers, ParserState, Statement, after_line, at_start, lines, situation, situation_from}
+-- The first line that begins a procedure.
+use Rattle.std.proofs.Common.{◌≡◌, ◌+◌, ℕ, suc, true, false, List, [], ◌∷◌, ◌++◌, length, Option, Some, None, refl, sym, ap, subst, ◌∙◌, arith}
+use Rattle.tw_diagnostics.proofs.RoleNames.{AllByRecursion, Code, HasStatement, HaveStatements, Head, Label, OfVersion, ParserState, Registers, Statement, after_line, at_start, lines, situation, situation_from}
 use Rattle.tw_diagnostics.specs.LineRole.{HasNoHead, IsFirstHead, is_head, statement_role}
-use Rattle.tw_diagnostics.specs.declared.parser_state.LineRole.{LineRole}
+use Rattle.tw_diagnostics.specs.declared.role.LineRole.{LineRole}
 use Rattle.tw_diagnostics.proofs.Saying.{split_last}
-
-untrue : true ≡ false → ⊥
-untrue e = cc
-
--- the lines before the one with this number
-pub lines_before : (ls before others : List (List ℕ)) (number : ℕ) → ls ≡ before ++ others → number ≡ length before + 1 → take (number - 1) ls ≡ before
-lines_before ls before others number parts count = ap (take (number - 1)) parts ∙ take_at before others (number - 1) (omega (arith, count))
 
 -- ---- lines before one
 

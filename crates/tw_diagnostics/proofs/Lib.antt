@@ -1,28 +1,3 @@
-pub mod Asking
-pub mod Assigning
-pub mod Breaking
-pub mod Bringing
-pub mod Classes
-pub mod Differing
-pub mod Emptying
-pub mod Fewness
-pub mod Forms
-pub mod Getting
-pub mod GoingOn
 pub mod Heads
-pub mod Labelling
-pub mod Limiting
-pub mod Lines
-pub mod LoopEnds
-pub mod Matched
-pub mod Judging
-pub mod ParamsGo
-pub mod Reasoning
 pub mod Saying
-pub mod LastWords
-pub mod Starting
-pub mod Stopping
-pub mod FirstUnmet
-pub mod Types
-pub mod Whys
-mod ReasonNames
+mod RoleNames

@@ -1,39 +1,30 @@
 -- A line's first word decides the line's role.
 use Rattle.std.proofs.Common.{◌≡◌, ◌≢◌, ◌+◌, ℕ, suc, Bool, true, false, List, [], ◌∷◌, ◌++◌, length, map, codes, Option, Some, None, refl, sym, ap, subst, ◌∙◌, arith}
-use Rattle.tw_diagnostics.proofs.ReasonNames.{AnyShortName, Bare, Code, Head, IsLine, IsRead, Label, HasStatement, HaveStatements, OfVersion, Quoted, Registers, EncodesInLimits, ParserState, EncodeParts, Encodes, Statement, Version, Word, after_line, at_start, before_colon, broken_no_line, bytes_eq, flat_map, line_once, opcode_in, seen, situation, situation_from, version_by}
+use Rattle.tw_diagnostics.proofs.RoleNames.{AnyShortName, Bare, Code, Encodes, EncodesInLimits, HasStatement, HaveStatements, Head, IsLine, IsRead, Label, OfVersion, ParserState, Quoted, Registers, Statement, Version, Word, after_line, at_start, before_colon, broken_no_line, bytes_eq, flat_map, line_once, opcode_in, seen, situation, situation_from}
 use Rattle.std.proofs.lemmas.Slice.Eq.{bytes_eq-Decides}
 use Rattle.tw_code.specs.declared.opcode.Opcode.{Opcode}
-use Rattle.tw_asm.specs.Statement.{IsVersionNumber}
 use Rattle.tw_code.specs.format.Table.{row, word_of}
-use Rattle.tw_lexer.specs.Number.{EncodesDigits}
 use Rattle.tw_lexer.specs.declared.word.Word as words
 use Rattle.tw_asm.specs.Parts.{Name, Natural, kind_word, operand_parts, param_parts, register_part}
 use Rattle.tw_asm.proofs.Answered.{first_is, none_some, proc_is_none, regs_is_none, version_is_none}
 use Rattle.tw_asm.proofs.Sayings.{code_first, no_label}
 use Rattle.tw_asm.proofs.Spelled.{bare_is}
 use Rattle.tw_asm.proofs.Table.{found_back, no_colon}
-use Rattle.tw_diagnostics.specs.LineRole.{advanced, statement_role, situation_of}
-use Rattle.tw_diagnostics.specs.declared.parser_state.LineRole.{LineRole}
-use Rattle.tw_diagnostics.specs.declared.parser_state.LineRole.TheVariants as says
-use Rattle.tw_diagnostics.specs.declared.parser_state.ParserState as declared
+use Rattle.tw_diagnostics.specs.LineRole.{statement_role}
+use Rattle.tw_diagnostics.specs.declared.role.LineRole.{LineRole}
+use Rattle.tw_diagnostics.specs.declared.role.LineRole.TheVariants as says
 
 -- ---- the first word of a statement
 
 abbrev pub IsFirst : Version → Statement → Word → List Word → Type 0
-IsFirst version (OfVersion number) w ws = (w ≡ Bare (codes "version")) × ((text : List ℕ) × EncodesDigits number text × (ws ≡ Bare text ∷ [])) × IsVersionNumber number
+IsFirst version (OfVersion number) w ws = w ≡ Bare (codes "version")
 IsFirst version (Head kind params) w ws = w ≡ Bare (codes "proc")
 IsFirst version (Registers registers) w ws = w ≡ Bare (codes "regs")
 IsFirst version (Label name) w ws = w ≡ Bare (name ++ codes ":")
 IsFirst version (Code i) w ws = (word : List ℕ) × (o : Opcode) × (w ≡ Bare word) × (opcode_in version word ≡ Some o)
 
-one_number : (number : ℕ) (ws : List Word) → EncodeParts AnyShortName (Natural number ∷ []) ws → (text : List ℕ) × EncodesDigits number text × (ws ≡ Bare text ∷ [])
-one_number number ws (first, others, cut, (digits, spells, is), none) =
-    (digits, spells, cut ∙ ap (λ (f : List Word). f ++ others) is ∙ ap (λ (o : List Word). Bare digits ∷ o) none)
-
 pub first_said : (version : Version) (statement : Statement) (w : Word) (ws : List Word) → EncodesInLimits version statement (w ∷ ws) → IsFirst version statement w ws
-first_said version (OfVersion number) w ws say =
-    let h = first_is AnyShortName (codes "version") (Natural number ∷ []) w ws say.0.parts in
-    (h.0, one_number number ws h.1, say.1)
+first_said version (OfVersion number) w ws say = (first_is AnyShortName (codes "version") (Natural number ∷ []) w ws say.0.parts).0
 first_said version (Head kind params) w ws say = (first_is AnyShortName (codes "proc") (Name (kind_word kind) ∷ flat_map param_parts params) w ws say.0.parts).0
 first_said version (Registers registers) w ws say = (first_is AnyShortName (codes "regs") (map register_part registers) w ws say.0.parts).0
 first_said version (Label name) w ws say = (first_is AnyShortName (name ++ codes ":") [] w ws say.0.parts).0
@@ -65,11 +56,11 @@ no_code : {Z : Type 0} (version : Version) (first other : List ℕ) (i : (word :
 no_code version first other (word, o, is, found) e none = absurd (none_some o (sym none ∙ (ap (opcode_in version) (sym e ∙ bare_is first word is) ∙ found)))
 
 module _ (version : Version) (first : List ℕ) (ws : List Word) where
-  pub version_role : (v : Version) → first ≡ codes "version" → ((number : ℕ) (text : List ℕ) → ws ≡ Bare text ∷ [] → EncodesDigits number text → IsVersionNumber number → v ≡ version_by number) → SaysRole version first ws (says.Version v)
-  version_role v e is statement say = by statement (first_said version statement (Bare first) ws say)
+  pub version_role : first ≡ codes "version" → SaysRole version first ws says.Version
+  version_role e statement say = by statement (first_said version statement (Bare first) ws say)
     where
-      by : (s : Statement) → IsFirst version s (Bare first) ws → says.Version v ≡ statement_role (Some s)
-      by (OfVersion number) f = ap says.Version (is number f.1.0 f.1.2 f.1.1 f.2)
+      by : (s : Statement) → IsFirst version s (Bare first) ws → says.Version ≡ statement_role (Some s)
+      by (OfVersion number) f = refl
       by (Head kind params) f = absurd (apart (codes "version") (codes "proc") refl (sym e ∙ bare_is first (codes "proc") f))
       by (Registers registers) f = absurd (apart (codes "version") (codes "regs") refl (sym e ∙ bare_is first (codes "regs") f))
       by (Label name) f = absurd (no_label (codes "version") name refl (sym e ∙ bare_is first (name ++ codes ":") f))
@@ -79,7 +70,7 @@ module _ (version : Version) (first : List ℕ) (ws : List Word) where
   head_role e statement say = by statement (first_said version statement (Bare first) ws say)
     where
       by : (s : Statement) → IsFirst version s (Bare first) ws → says.Head ≡ statement_role (Some s)
-      by (OfVersion number) f = absurd (apart (codes "proc") (codes "version") refl (sym e ∙ bare_is first (codes "version") f.0))
+      by (OfVersion number) f = absurd (apart (codes "proc") (codes "version") refl (sym e ∙ bare_is first (codes "version") f))
       by (Head kind params) f = refl
       by (Registers registers) f = absurd (apart (codes "proc") (codes "regs") refl (sym e ∙ bare_is first (codes "regs") f))
       by (Label name) f = absurd (no_label (codes "proc") name refl (sym e ∙ bare_is first (name ++ codes ":") f))
@@ -89,7 +80,7 @@ module _ (version : Version) (first : List ℕ) (ws : List Word) where
   registers_role e statement say = by statement (first_said version statement (Bare first) ws say)
     where
       by : (s : Statement) → IsFirst version s (Bare first) ws → says.Registers ≡ statement_role (Some s)
-      by (OfVersion number) f = absurd (apart (codes "regs") (codes "version") refl (sym e ∙ bare_is first (codes "version") f.0))
+      by (OfVersion number) f = absurd (apart (codes "regs") (codes "version") refl (sym e ∙ bare_is first (codes "version") f))
       by (Head kind params) f = absurd (apart (codes "regs") (codes "proc") refl (sym e ∙ bare_is first (codes "proc") f))
       by (Registers registers) f = refl
       by (Label name) f = absurd (no_label (codes "regs") name refl (sym e ∙ bare_is first (name ++ codes ":") f))
@@ -99,7 +90,7 @@ module _ (version : Version) (first : List ℕ) (ws : List Word) where
   label_role front e statement say = by statement (first_said version statement (Bare first) ws say)
     where
       by : (s : Statement) → IsFirst version s (Bare first) ws → says.Label ≡ statement_role (Some s)
-      by (OfVersion number) f = absurd (no_label (codes "version") front refl (sym (bare_is first (codes "version") f.0) ∙ e))
+      by (OfVersion number) f = absurd (no_label (codes "version") front refl (sym (bare_is first (codes "version") f) ∙ e))
       by (Head kind params) f = absurd (no_label (codes "proc") front refl (sym (bare_is first (codes "proc") f) ∙ e))
       by (Registers registers) f = absurd (no_label (codes "regs") front refl (sym (bare_is first (codes "regs") f) ∙ e))
       by (Label name) f = refl
@@ -111,7 +102,7 @@ module _ (version : Version) (first : List ℕ) (ws : List Word) where
   code_role no_version no_head no_registers no_colon' statement say = by statement (first_said version statement (Bare first) ws say)
     where
       by : (s : Statement) → IsFirst version s (Bare first) ws → says.Code ≡ statement_role (Some s)
-      by (OfVersion number) f = absurd (no_version (bare_is first (codes "version") f.0))
+      by (OfVersion number) f = absurd (no_version (bare_is first (codes "version") f))
       by (Head kind params) f = absurd (no_head (bare_is first (codes "proc") f))
       by (Registers registers) f = absurd (no_registers (bare_is first (codes "regs") f))
       by (Label name) f = absurd (no_colon' name (bare_is first (name ++ codes ":") f))
@@ -133,15 +124,7 @@ role_of_line ws whole line role read nothing says s None is = nothing (nothing_s
 role_of_line ws whole line role read nothing says s (Some statement) ((vs, is, say), may) =
     says s.version statement (subst (λ (us : List Word). EncodesInLimits s.version statement us) (sym (words_are (map seen ws) vs whole line read is)) say)
 
--- ---- the parser's state, line by line
-
-pub advanced_is : (number : ℕ) (s : ParserState) (said : Option Statement) (line : List ℕ) → HasStatement s line said → advanced (situation_of s) (statement_role said) ≡ situation_of (after_line number said s)
-advanced_is number s None line says = refl
-advanced_is number s (Some (OfVersion version)) line says = refl
-advanced_is number s (Some (Head kind params)) line says = refl
-advanced_is number s (Some (Registers registers)) line says = refl
-advanced_is number s (Some (Label name)) line says = refl
-advanced_is number s (Some (Code i)) line says = refl
+-- ---- line by line
 
 -- what the lines up to the last one say, and what it says there
 pub record SplitLast (number : ℕ) (s : ParserState) (ls : List (List ℕ)) (line : List ℕ) (said : List (Option Statement)) : Type 0 where
@@ -170,18 +153,3 @@ split_last number s (l ∷ ls) line (x ∷ said) h =
       says = more.says;
       leads = more.leads ∙ ap (λ (n : ℕ). after_line n more.last (situation_from (number + 1) (after_line number x s) more.before)) e;
     }
-
--- holds if this is the parser's state after these lines, whatever they say that can follow
-abbrev pub IsReached : List (List ℕ) → declared.ParserState → Type 0
-IsReached ls now = (said : List (Option Statement)) → HaveStatements 1 at_start ls said → now ≡ situation_of (situation said)
-
-pub state_after_line : (ls : List (List ℕ)) (line : List ℕ) (now next : declared.ParserState) (role : LineRole) → IsReached ls now → ((s : ParserState) (said : Option Statement) → HasStatement s line said → role ≡ statement_role said) → next ≡ advanced now role
-    → IsReached (ls ++ (line ∷ [])) next
-state_after_line ls line now next role before prints is said say =
-    let split = split_last 1 at_start ls line said say in
-    let here = before split.before split.say in
-    is
-    ∙ ap (λ (x : declared.ParserState). advanced x role) here
-    ∙ ap (advanced (situation_of (situation split.before))) (prints (situation split.before) split.last split.says)
-    ∙ advanced_is (1 + length split.before) (situation split.before) split.last line split.says
-    ∙ ap situation_of (sym split.leads)

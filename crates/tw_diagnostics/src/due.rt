@@ -1,35 +1,10 @@
-//! Words that may come next in a line.
+//! Texts for what was due at a word, and for its limits.
 
-ghost use Rattle.std.specs.Prelude.{◌≡◌};
-ghost use Rattle.tw_diagnostics.specs.DueWords.{due_limit, due_text, limit_of, operand_limit, operand_text};
-
+use tw_asm::Due;
 use tw_code::Form;
 
-/// A kind of words that may come next in a line.
-#[derive(Clone, Copy, PartialEq, Eq)]
-pub enum Due {
-    /// An operand of this form.
-    Operand(Form),
-    /// The number of a version.
-    Version,
-    /// The kind of a procedure.
-    Kind,
-    /// A parameter, by its mode.
-    Param,
-    /// The rest of a right parameter's type.
-    ParamType,
-    /// The type of a map's values.
-    Values,
-    /// The type of a parameter that is a value.
-    ParamScalar,
-    /// The type of a value register.
-    Register,
-}
-
-/// Returns the words by which a diagnostic names the operand that may come next.
-fn operand_text(form: Form) -> &'static str
-    ensures { result.now ≡ operand_text form }
-{
+/// Returns the words by which a diagnostic names the operand that was due.
+fn operand_text(form: Form) -> &'static str {
     match form {
         Form::Value => "a value register",
         Form::Right => "a right register",
@@ -45,9 +20,7 @@ fn operand_text(form: Form) -> &'static str
 }
 
 /// Returns the words by which a diagnostic names the limit of an operand.
-fn operand_limit(form: Form) -> &'static str
-    ensures { result.now ≡ operand_limit form }
-{
+fn operand_limit(form: Form) -> &'static str {
     match form {
         Form::Value => "v0 to v15",
         Form::Right => "d0 to d15",
@@ -62,43 +35,47 @@ fn operand_limit(form: Form) -> &'static str
     }
 }
 
-impl Due {
-    /// Returns the words by which a diagnostic names what may come next.
-    pub(crate) fn text(self) -> &'static str
-        ensures { result.now ≡ due_text self }
-    {
-        match self {
-            Due::Operand(form) => operand_text(form),
-            Due::Version => "a version's number",
-            Due::Kind => "control or leaf",
-            Due::Param => "a mode (val, closed, ref or write)",
-            Due::ParamType => "a type",
-            Due::Values => "int, text or sum",
-            Due::ParamScalar | Due::Register => "int or text",
-        }
-    }
-
-    /// Returns the words by which a diagnostic names the limit of how much of this there may be.
-    pub(crate) fn limit(self) -> &'static str
-        ensures { result.now ≡ due_limit self }
-    {
-        match self {
-            Due::Operand(form) => operand_limit(form),
-            Due::Version => "1, 2 or 4",
-            Due::Kind | Due::Values | Due::ParamScalar => "one word",
-            Due::Param => "8 parameters",
-            Due::ParamType => "3 containers",
-            Due::Register => "16 registers",
-        }
+/// Returns the words by which a diagnostic names what was due.
+pub(crate) fn due_text(due: Due) -> &'static str {
+    match due {
+        Due::Start => "proc or version",
+        Due::Head => "proc",
+        Due::Registers => "regs",
+        Due::Body(_) => "proc, a label or an instruction",
+        Due::Operand(form) => operand_text(form),
+        Due::Version => "a version's number",
+        Due::Kind => "control or leaf",
+        Due::Param => "a mode (val, closed, ref or write)",
+        Due::ParamType => "a type",
+        Due::Values => "int, text or sum",
+        Due::ParamScalar | Due::Register => "int or text",
+        Due::Label => "a label of this procedure",
+        Due::NewLabel => "a new label",
+        Due::LaterLabel => "a label after this line",
+        _ => "the end of the line",
     }
 }
 
-/// Returns the words for the limit of a word, by what may come there. If nothing may, the limit is one statement.
-pub(crate) fn limit_of(due: Option<Due>) -> &'static str
-    ensures { result.now ≡ limit_of due }
-{
+/// Returns the words by which a diagnostic names the limit of a word.
+pub(crate) fn limit_of(due: Due) -> &'static str {
     match due {
-        Some(due) => due.limit(),
-        None => "one statement",
+        Due::Operand(form) => operand_limit(form),
+        Due::Version => "1, 2, 4 or 5",
+        Due::Param => "8 parameters",
+        Due::ParamType => "3 containers",
+        Due::Register => "16 registers",
+        Due::Name => "64 bytes",
+        _ => "one word",
+    }
+}
+
+/// Returns what a procedure or a text needs, or has too many of, if a limit is at no word.
+pub(crate) fn whole_limit(due: Due) -> Option<&'static str> {
+    match due {
+        Due::Instruction => Some("the procedure has no instruction"),
+        Due::Procedures => Some("64 procedures come before it"),
+        Due::Instructions => Some("4096 instructions come before it"),
+        Due::Procedure => Some("the text has no procedure"),
+        _ => None,
     }
 }

@@ -1,9 +1,10 @@
 -- The only place of a name in a line, and its word.
-use Rattle.std.proofs.Common.{◌≡◌, ◌<◌, ◌+◌, ◌-◌, ℕ, false, true, List, Option, Some, None, MatchOption, arith, below_more, length, refl, sym, ap, ◌∙◌}
+use Rattle.std.proofs.Common.{◌≡◌, ◌<◌, ◌≤◌, ◌+◌, ◌-◌, ℕ, false, true, List, [], ◌∷◌, ◌++◌, Option, Some, None, MatchOption, arith, below_more, length, refl, sym, ap, ◌∙◌}
 use Rattle.std.specs.List.{list_any}
 use Rattle.std.specs.Option.{is_some}
-use Rattle.tw_lexer.proofs.Once.{differ, first_word_once}
-use Rattle.tw_lexer.specs.Words.{IsFirstWord, Word}
+use Rattle.std.proofs.lemmas.List.{length-append}
+use Rattle.tw_lexer.proofs.Once.{differ, first_word_once, first_words_more, word_here}
+use Rattle.tw_lexer.specs.Words.{AreFirstWords, IsFirstWord, IsWord, Word}
 use Rattle.tw_source.specs.NamePlace.{IsOnly, is_at, parts_names}
 
 -- ---- at the indices before one
@@ -51,3 +52,28 @@ pub ends_later : (line after next : List ℕ) (index : ℕ) (word : Word) → Is
 ends_later line after next index word first low other rest is =
     let same : length next ≡ length rest = ap length (first_word_once word other after next rest first is).1 in
     omega (arith, low, same)
+
+-- holds if this many words are first in the line, and this follows them
+abbrev pub Passed : List ℕ → List ℕ → ℕ → Type 0
+Passed line rest before = (words : List Word) × AreFirstWords words line rest × (before ≡ length words)
+
+pub one_passed : (word : Word) (line rest after : List ℕ) (before : ℕ) → Passed line rest before → IsFirstWord word rest after → Passed line after (before + 1)
+one_passed word line rest after before (words, are, count) first =
+    (words ++ word ∷ [], first_words_more words word line rest after are first, ap (λ (n : ℕ). n + 1) count ∙ sym (length-append words (word ∷ [])))
+
+word_some : (word : Word) (text : List ℕ) → IsWord word text → 1 ≤ length text
+word_some word [] is = absurd ((word_here word [] [] is).1 tt)
+word_some word (b ∷ text) is = omega arith
+
+rest_shorter : (word : Word) (line after : List ℕ) → IsFirstWord word line after → length after < length line
+rest_shorter word line after first =
+    let whole = ap length first.parts ∙ length-append first.gap (first.text ++ after) in
+    let part = length-append first.text after in
+    let some = word_some word first.text first.is_word in
+    omega (arith, whole, part, some)
+
+pub first_room : (word : Word) (line after : List ℕ) → IsFirstWord word line after → 1 + length after ≤ length line
+first_room word line after first = let less = rest_shorter word line after first in omega (arith, less)
+
+pub one_room : (word : Word) (line rest after : List ℕ) (before : ℕ) → before + length rest ≤ length line → IsFirstWord word rest after → (before + 1) + length after ≤ length line
+one_room word line rest after before room first = let less = rest_shorter word rest after first in omega (arith, less, room)

@@ -1,9 +1,8 @@
--- Programs and inputs that are read, and their errors. Replies are in Reply, errors in Failure, their words in FaultyText and NamePlace, lines of a text in Text.
+-- Programs and inputs that are read, and their errors. Replies are in Reply, errors in Failure, the place of a name in NamePlace, lines of a text in Text.
 -- Program has the program that is read, Inputs the inputs.
 pub mod Input
 pub mod Reply
 pub mod Failure
-pub mod FaultyText
 pub mod NamePlace
 pub mod Program
 pub mod Text

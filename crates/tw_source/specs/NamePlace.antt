@@ -1,8 +1,8 @@
 -- The place of a name in a line of a text.
-use Rattle.std.specs.Prelude.{◌≡◌, ◌⊎◌, ◌==◌, ◌<◌, ◌≤◌, ◌+◌, ◌-◌, ◌&&◌, ◌||◌, ℕ, Bool, false, true, List, Option, None, Some, drop, get_or, if◌then◌else◌, length, nat_eq, nat_le, slice_get, take}
+use Rattle.std.specs.Prelude.{◌≡◌, ◌⊎◌, ◌==◌, ◌<◌, ◌≤◌, ◌+◌, ◌-◌, ◌&&◌, ◌||◌, ℕ, Bool, false, true, List, Option, None, Some, count_by, drop, get_or, if◌then◌else◌, length, nat_eq, nat_le, slice_get, take}
 use Rattle.std.specs.List.{before_first, list_any, starts_with}
 use Rattle.std.specs.Str.Lines.{lines}
-use Rattle.tw_diagnostics.specs.Stops.{column_after}
+use Rattle.tw_lexer.specs.Shown.{begins_character}
 use Rattle.tw_lexer.specs.Words.{AreFirstWords, IsFirstWord, Word, is_parting}
 use Rattle.tw_symbols.specs.Lines.{is_sign}
 
@@ -40,6 +40,10 @@ abbrev pub without_comment : List ℕ → List ℕ
 without_comment line = if list_any (λ b. b == 34) line then line else before_first (λ b. b == 59) line
 
 -- ---- its word and its column
+
+-- returns the column after these bytes, counted in characters from 1
+abbrev pub column_after : List ℕ → ℕ
+column_after front = count_by begins_character front + 1
 
 -- holds if the word of this number, from 1, is the first one that doesn't end before this index or at it
 pub record IsWordAt (line : List ℕ) (index number : ℕ) : Type 0 where

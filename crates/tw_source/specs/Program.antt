@@ -9,16 +9,15 @@ use Rattle.tw_asm.specs.Spelling.{EncodesProgram}
 use Rattle.tw_binary.specs.Fault as fault
 use Rattle.tw_code.specs.format.Program.{Versioned}
 use Rattle.tw_binary.specs.Reading.{program_of}
-use Rattle.tw_diagnostics.specs.declared.diagnostic.Reason.{Reason}
 use Rattle.tw_order.specs.declared.order.Source.{Source}
 use Rattle.tw_order.specs.declared.order.Source.TheVariants.{Hex, Assembly}
 use Rattle.tw_symbols.specs.Answers.{name_number, seen_rejection}
 use Rattle.tw_symbols.specs.Expansion.{ExpandsTo, HasNames, IsFirstRejection}
 use Rattle.tw_source.specs.Failure.{coded, failed_with, fault_failure}
-use Rattle.tw_source.specs.FaultyText.{IsReasonIn, fault_word, plain_in}
 use Rattle.tw_source.specs.Input.{digits_in}
 use Rattle.tw_source.specs.NamePlace.{IsNamePlace}
 use Rattle.tw_source.specs.Reply.{Reply, reply}
+use Rattle.tw_source.specs.Source.{plain_or}
 use Rattle.tw_source.specs.Text.{RepliesByUtf8}
 use Rattle.tw_source.specs.declared.close.Close.TheVariants.{Success}
 use Rattle.tw_source.specs.declared.faulty_text.FaultyText.{FaultyText}
@@ -37,6 +36,10 @@ TextHasProgram text program = (plain : List ℕ) × ExpandsTo text plain × Enco
 abbrev pub IsExpansion : List ℕ → Option (String Global) → Type 0
 IsExpansion text None = ExpandsTo text text × (HasNames (lines text) → ⊥)
 IsExpansion text (Some plain) = ExpandsTo text (string_bytes plain) × HasNames (lines text)
+
+-- returns the text in which a fault is: the expanded text, which of a text without names is that itself
+abbrev pub plain_in : FaultyText → List ℕ
+plain_in f = plain_or f.text.now f.plain
 
 -- hold for what is kept of a text that encodes no program: its expansion has this first fault, or this is its first name error
 abbrev pub IsFaulty : List ℕ → FaultyText → Type 0
@@ -65,12 +68,12 @@ HasNoProgram Assembly input (Text f) = IsUtf8 input × IsFaulty input f
 HasNoProgram Assembly input (Named f) = IsUtf8 input × IsUnexpanded input f
 HasNoProgram Assembly input NoMemory = ⊥
 
--- holds for the error, with the word of a text at which it is
+-- holds for the error, with a line of a text and some word and column in it
 abbrev pub IsFailure : NoProgram → Failure → Type 0
 IsFailure NotHex failure = failure ≡ coded 72 1 position.Nowhere
 IsFailure NotUtf8 failure = failure ≡ coded 72 3 position.Nowhere
 IsFailure (Bytes f) failure = failure ≡ coded 70 (fault.fault_number f.no) (position.Byte f.offset)
-IsFailure (Text f) failure = (r : Reason) × IsReasonIn f r × (failure ≡ fault_failure f.fault.no f.fault.line (fault_word f r))
+IsFailure (Text f) failure = (at : ℕ × ℕ) × (failure ≡ fault_failure f.fault.no f.fault.line at)
 IsFailure (Named f) failure =
     (at : ℕ × ℕ) × IsNamePlace f.text.now f.error.line f.error.word.now at × (failure ≡ coded 78 (name_number f.error.no) (position.Line f.error.line at.0 at.1))
 IsFailure NoMemory failure = ⊥

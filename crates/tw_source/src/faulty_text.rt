@@ -1,22 +1,22 @@
 //! Assembly texts with a fault: the error's word, and what is printed of it.
 
-ghost use Rattle.std.specs.Prelude.{◌≡◌, ◌-◌, IfOk, slice_get};
-ghost use Rattle.std.specs.Str.Lines.{lines};
+ghost use Rattle.std.specs.Prelude.{◌≡◌, IfOk};
 ghost use Rattle.tw_source.specs.Failure.{fault_failure as fault_failure_is};
-ghost use Rattle.tw_source.specs.FaultyText.{fault_word, is_same_line as is_same_line_is, is_written, plain_in};
 ghost use Rattle.tw_source.specs.Program.{IsFailure, PrintsNone};
 ghost use Rattle.tw_source.specs.Reply.{reply};
 ghost use Rattle.tw_source.specs.declared.program.NoProgram.TheVariants.{Text};
 ghost use Rattle.tw_visible.specs.Visible.{HidesNothing};
 
 use crate::failure::{Failure, Position};
+use crate::first_words::first_word;
 use crate::name_hint::put_head;
 use crate::reply::{Reply, detailed_reply};
 use crate::source::plain_or;
-use crate::usual_words::{first_word, put_usual};
 use std::alloc::{AllocError, Global};
 use tw_asm::{AsmFault, FaultNo};
-use tw_diagnostics::{Reason, error_word, put_shown_line, put_text_diagnostic, text_reason};
+use tw_diagnostics::{
+    Reason, error_word, put_shown_line, put_text_diagnostic, put_usual, text_reason,
+};
 use tw_lexer::{line_numbered, put};
 use tw_visible::visible_bytes;
 
@@ -31,30 +31,21 @@ pub struct FaultyText<'a> {
 }
 
 /// Returns whether both texts have a line with this number, and the same one.
-fn is_same_line(text: &str, plain: &str, number: usize) -> bool
-    ensures { result ≡ is_same_line_is (slice_get (lines text.now) (number - 1)) (slice_get (lines plain.now) (number - 1)) }
-{
-    match line_numbered(text, number) {
-        Some(line) => match line_numbered(plain, number) {
-            Some(other) => line == other,
-            None => false,
-        },
-        None => false,
+fn is_same_line(text: &str, plain: &str, number: usize) -> bool {
+    match (line_numbered(text, number), line_numbered(plain, number)) {
+        (Some(line), Some(other)) => line == other,
+        _ => false,
     }
 }
 
 impl FaultyText<'_> {
     /// Returns the text in which the fault is.
-    fn plain(&self) -> &str
-        ensures { result.now ≡ plain_in self.now }
-    {
+    fn plain(&self) -> &str {
         plain_or(self.text, &self.plain)
     }
 
     /// Returns whether the fault's line is written as it is expanded.
-    fn is_written(&self) -> bool
-        ensures { result ≡ is_written self.now }
-    {
+    fn is_written(&self) -> bool {
         match &self.plain {
             Some(plain) => is_same_line(self.text, plain.as_str(), self.fault.line),
             None => true,
@@ -70,9 +61,7 @@ impl FaultyText<'_> {
     }
 
     /// Returns the word of the fault, and its column; zeros if it is at none, or its line isn't written as it is expanded.
-    fn word(&self, reason: &Reason<'_>) -> (usize, usize)
-        ensures { result ≡ fault_word self.now reason.now }
-    {
+    fn word(&self, reason: &Reason<'_>) -> (usize, usize) {
         if self.is_written() {
             error_word(reason)
         } else {

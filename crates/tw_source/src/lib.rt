@@ -6,6 +6,7 @@ mod digits;
 mod examples;
 mod failure;
 mod faulty_text;
+mod first_words;
 mod inputs;
 mod name_hint;
 mod name_place;
@@ -14,7 +15,6 @@ mod program;
 mod reply;
 mod source;
 mod text_lines;
-mod usual_words;
 
 pub use close::Close;
 pub use digits::is_gap;

@@ -2,9 +2,8 @@
 
 ghost use Rattle.std.specs.Prelude.{◌≡◌, ◌==◌, ◌≤◌, ℕ, IfOk, IsUtf8, List, MatchOption, length, take};
 ghost use Rattle.std.specs.List.{before_first, list_any};
-ghost use Rattle.tw_diagnostics.specs.Stops.{column_after};
 ghost use Rattle.tw_lexer.specs.Words.{IsFirstWord, Word as AWord};
-ghost use Rattle.tw_source.specs.NamePlace.{IsNamePlace, IsOnly, IsPlaceIn, IsWordAt, begins_at, ends_at, ends_name, is_at, parts_names, without_comment};
+ghost use Rattle.tw_source.specs.NamePlace.{IsNamePlace, IsOnly, IsPlaceIn, IsWordAt, begins_at, column_after, ends_at, ends_name, is_at, parts_names, without_comment};
 
 use std::alloc::{AllocError, Global};
 use tw_lexer::{Next, begins_character, line_numbered, next_word};

@@ -8,10 +8,10 @@ ghost use Rattle.tw_visible.specs.Visible.{HidesNothing};
 
 use crate::close::Close;
 use crate::failure::{Failure, Position};
+use crate::first_words::first_word;
 use crate::name_hint::{is_argument, put_head, put_name_hint};
 use crate::name_place::text_place;
 use crate::reply::{Reply, detailed_reply, fixed_reply, not_utf8_reply};
-use crate::usual_words::first_word;
 use std::alloc::{AllocError, Global};
 use tw_diagnostics::put_shown_line;
 use tw_lexer::{put, put_both, put_shortened};

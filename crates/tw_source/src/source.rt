@@ -13,7 +13,7 @@ ghost use Rattle.tw_visible.specs.Visible.{HidesNothing};
 use crate::text_lines::TextLines;
 use std::alloc::{AllocError, Global};
 use tw_asm::LineNumbers;
-use tw_diagnostics::{head_line, put_main_diagnostic, put_program_diagnostic};
+use tw_diagnostics::{head_line, rejection_text, shape_text};
 use tw_lexer::{line_numbered, put, put_numbered, put_shortened};
 use tw_symbols::{Symbols, put_with_name};
 use tw_verify::{Refused, VerifyError};
@@ -194,15 +194,14 @@ fn put_diagnostic(
     number: usize,
     refused: &Refused,
 ) -> Result<(), AllocError> {
-    let mut reason = Vec::new(alloc);
-    put_program_diagnostic(alloc, &mut reason, &source.lines, refused)?;
+    let reason = rejection_text(alloc, &source.lines, refused)?;
     put_with_name(alloc, out, source.text, number, &reason)
 }
 
 /// Adds what is wrong with main's shape.
 fn put_main_reason(alloc: Global, out: &mut Vec<u8>, refused: &Refused) -> Result<(), AllocError> {
     match refused.program.procedures().first() {
-        Some(main) => put_main_diagnostic(alloc, out, main),
+        Some(main) => out.extend_from_slice(&shape_text(alloc, main)?),
         None => Ok(()),
     }
 }

@@ -122,7 +122,7 @@ letter_of : (why : NoProgram) (v : SourceVerdict) → IsUnreadable why v → v.v
 letter_of NotHex v (f, same, is) = has_letter v 72 refl (ap (λ (x : SourceVerdict). x.verdict.letter) (is ∙ ap failure_in_numbers same))
 letter_of NotUtf8 v (f, same, is) = has_letter v 72 refl (ap (λ (x : SourceVerdict). x.verdict.letter) (is ∙ ap failure_in_numbers same))
 letter_of (Bytes x) v (f, same, is) = has_letter v 70 refl (ap (λ (x : SourceVerdict). x.verdict.letter) (is ∙ ap failure_in_numbers same))
-letter_of (Text x) v (f, (at, word, same), is) = has_letter v 65 refl (ap (λ (x : SourceVerdict). x.verdict.letter) (is ∙ ap failure_in_numbers same))
+letter_of (Text x) v (f, (at, same), is) = has_letter v 65 refl (ap (λ (x : SourceVerdict). x.verdict.letter) (is ∙ ap failure_in_numbers same))
 letter_of (Named x) v (f, (at, place, same), is) = has_letter v 78 refl (ap (λ (x : SourceVerdict). x.verdict.letter) (is ∙ ap failure_in_numbers same))
 letter_of NoMemory v (f, same, is) = absurd same
 

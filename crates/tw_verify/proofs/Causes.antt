@@ -1,8 +1,6 @@
 -- The lowest code at a place, and its origin.
 use Rattle.std.proofs.Common.{◌≡◌, ℕ, suc, ◌≤◌, ◌⊎◌, inl, inr, Bool, true, false, Option, Some, None, refl, sym, ap, ◌∙◌, arith}
-use Rattle.tw_verify.proofs.VerifierNames.{if◌then◌else◌, leb-false, leb-true, lowest_at, lowest_of, nat_lt, option_map, same_Some, verify_error_code}
-use Rattle.std.specs.Bool.{then_some}
-use Rattle.tw_verify.specs.declared.rejection.VerifyError.{VerifyError}
+use Rattle.tw_verify.proofs.VerifierNames.{if◌then◌else◌, leb-false, leb-true, lowest_at, lowest_of, nat_lt, same_Some}
 
 -- ---- the lower of two
 
@@ -41,11 +39,6 @@ if_not false k h = refl
 
 if_so : (b : Bool) (k : ℕ) → b ≡ true → (if b then Some k else None) ≡ Some k
 if_so b k e = ap (λ (t : Bool). if t then Some k else None) e
-
--- an error that is returned if a test holds
-pub then_number : (b : Bool) (rejection : VerifyError) → option_map verify_error_code (then_some b rejection) ≡ (if b then Some (verify_error_code rejection) else None)
-then_number true rejection = refl
-then_number false rejection = refl
 
 -- ---- the lowest number at a place
 

@@ -1,12 +1,11 @@
 -- Accepted programs have no first error.
 use Rattle.std.proofs.Common.{◌≡◌, ◌≢◌, ℕ, ◌+◌, ◌<◌, ◌≤◌, ◌⊎◌, inl, inr, true, false, List, [], ◌∷◌, ◌++◌, length, length-append, take, get_or, Option, Some, None, refl, sym, ap, ◌∙◌, subst, arith}
-use Rattle.tw_verify.proofs.VerifierNames.{AreFindings, AreTyped, Findings, IfFault, IsAccepted, IsAcceptedProcedure, IsFirstRejection, IsProcedureRejection, IsRejection, IsSomeAnd, IsTyped, Procedure, flows, is_memory, rejection_of, same_Some, slice_get, slice_get-get_or, slice_get_within, verify_error_code}
+use Rattle.tw_verify.proofs.VerifierNames.{AreFindings, AreTyped, Findings, IfFault, IsAccepted, IsAcceptedProcedure, IsFirstRejection, IsProcedureRejection, IsRejection, IsSomeAnd, IsTyped, Procedure, is_memory, rejection_of, same_Some, slice_get, slice_get-get_or, slice_get_within, verify_error_code}
 use Rattle.tw_code.specs.accepting.MainShape.{has_main_shape}
-use Rattle.tw_code.specs.accepting.Walk.{IsBudget, greatest_budget}
+use Rattle.tw_code.specs.accepting.Walk.{greatest_budget}
 use Rattle.tw_verify.specs.declared.rejection.VerifyError.{VerifyError}
 use Rattle.tw_verify.specs.declared.rejection.VerifyError.TheVariants as rejection
 use Rattle.tw_verify.specs.declared.fault.Fault.{Fault}
-use Rattle.tw_verify.specs.Quick.{AreQuick}
 use Rattle.tw_verify.proofs.Lists.{get_none, get_pushed}
 use Rattle.tw_verify.proofs.Typings.{well_typed_front}
 
@@ -14,7 +13,7 @@ use Rattle.tw_verify.proofs.Typings.{well_typed_front}
 
 pub accepted_one : (program : List Procedure) (all : List Findings) (to k : ℕ) (p : Procedure) → AreTyped program all to → k < to → slice_get program k ≡ Some p → IsAcceptedProcedure program p
 accepted_one program all to k p t below at =
-    let blank : Findings = record { typings = []; budget = 0; quick = [] } in
+    let blank : Findings = record { typings = []; budget = 0; quick = []; slow = false } in
     let own = get_or all k blank in
     let a = t.each k p own at (slice_get-get_or all k blank (omega (arith, t.long))) in
     record { structured = a.structured; typable = (own.typings, a.well_typed); budget = (own.budget, a.budget, a.within) }
@@ -25,13 +24,14 @@ accepted program all t = record {
   each = λ k p at. accepted_one program all (length program) k p t.each (slice_get_within program k p at) at;
 }
 
--- the budget in a procedure's findings is its budget
-pub budget_of : (program : List Procedure) (all : List Findings) (k : ℕ) (own : Findings) → AreTyped program all (length program) → k < length program → slice_get all k ≡ Some own → IsSomeAnd (slice_get program k) (λ p. IsBudget (flows p.code) own.budget)
-budget_of program all k own t inside at = by (slice_get program k) refl
+-- a procedure has what its findings say of it
+pub found_of : (P : Procedure → Type 0) (program : List Procedure) (all : List Findings) (k : ℕ) (own : Findings) → ((p : Procedure) → AreFindings program p own → P p)
+    → AreTyped program all (length program) → k < length program → slice_get all k ≡ Some own → IsSomeAnd (slice_get program k) P
+found_of P program all k own says t inside at = by (slice_get program k) refl
   where
-    by : (o : Option Procedure) → slice_get program k ≡ o → IsSomeAnd o (λ p. IsBudget (flows p.code) own.budget)
+    by : (o : Option Procedure) → slice_get program k ≡ o → IsSomeAnd o P
     by None none = absurd (omega (arith, get_none program k none))
-    by (Some p) here = (t.each k p own here at).budget
+    by (Some p) here = says p (t.each k p own here at)
 
 pub budget_within : (program : List Procedure) (all : List Findings) (k : ℕ) (own : Findings) → AreTyped program all (length program) → k < length program → slice_get all k ≡ Some own → own.budget ≤ greatest_budget
 budget_within program all k own t inside at = by (slice_get program k) refl
@@ -39,14 +39,6 @@ budget_within program all k own t inside at = by (slice_get program k) refl
     by : (o : Option Procedure) → slice_get program k ≡ o → own.budget ≤ greatest_budget
     by None none = absurd (omega (arith, get_none program k none))
     by (Some p) here = (t.each k p own here at).within
-
--- and its code in eight bytes an instruction
-pub quick_of : (program : List Procedure) (all : List Findings) (k : ℕ) (own : Findings) → AreTyped program all (length program) → k < length program → slice_get all k ≡ Some own → IsSomeAnd (slice_get program k) (λ p. AreQuick p.registers own.quick p.code)
-quick_of program all k own t inside at = by (slice_get program k) refl
-  where
-    by : (o : Option Procedure) → slice_get program k ≡ o → IsSomeAnd o (λ p. AreQuick p.registers own.quick p.code)
-    by None none = absurd (omega (arith, get_none program k none))
-    by (Some p) here = (t.each k p own here at).all_quick
 
 -- ---- and aren't refused
 

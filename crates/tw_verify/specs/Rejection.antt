@@ -6,21 +6,21 @@ use Rattle.tw_verify.specs.declared.rejection.VerifyError.TheVariants.{Undeclare
 
 -- returns the code without the letter V
 abbrev pub verify_error_code : VerifyError → ℕ
-verify_error_code UndeclaredValue = 1
-verify_error_code WrongValueType = 2
-verify_error_code RightNotEmpty = 3
-verify_error_code WrongRight = 4
+verify_error_code (UndeclaredValue unmet) = 1
+verify_error_code (WrongValueType unmet) = 2
+verify_error_code (RightNotEmpty unmet) = 3
+verify_error_code (WrongRight unmet) = 4
 verify_error_code SkipLeavesBlock = 5
 verify_error_code Unmatched = 6
 verify_error_code TypingsDiffer = 7
 verify_error_code TypingChanged = 8
 verify_error_code Unreached = 9
-verify_error_code RightLeft = 10
+verify_error_code (RightLeft unmet) = 10
 verify_error_code MisplacedRet = 11
 verify_error_code UnknownProcedure = 12
 verify_error_code ArgumentCount = 13
 verify_error_code ActionInLeaf = 14
-verify_error_code ScalarWrite = 15
+verify_error_code (ScalarWrite unmet) = 15
 verify_error_code MainShape = 16
 verify_error_code BudgetTooLarge = 17
 verify_error_code NoMemory = 18

@@ -10,30 +10,33 @@ ghost use Rattle.tw_code.specs.accepting.Typing.{requires_args, requires_callee,
 ghost use Rattle.tw_verify.specs.Rejection.{verify_error_code};
 
 use crate::questions::{beside, lowest, value_rejection};
-use crate::rejection::VerifyError;
+use crate::rejection::{Unmet, VerifyError};
 use crate::typing::Typing;
 use tw_code::{Action, Priority, Procedure};
 use tw_types::{Kind, Param, Scalar};
 
-/// Checks one argument: a value of the parameter's type, or a right that suits the parameter.
+/// Checks one argument: a value of the parameter's type, or a right that suits the parameter. Those before it have left the rights `left` of the
+/// typing.
 fn argument_rejection(
     waits: bool,
     registers: &[Scalar],
     param: Param,
     arg: u8,
     typing: &Typing,
+    left: &Typing,
 ) -> Option<VerifyError>
     requires { IsRegister arg }
     ensures { option_map verify_error_code result
-        ≡ rejection_in (requires_args waits registers.now (param ∷ []) (arg ∷ []) typing.now) }
+        ≡ rejection_in (requires_args waits registers.now (param ∷ []) (arg ∷ []) left.now) }
 {
     if param.mode.is_val() {
         return value_rejection(registers, arg, param.ty.scalar());
     }
-    let fits = typing
+    let fits = left
         .right_at(arg)
         .is_some_and(|right| right.right_fits_param(waits, param));
-    (!fits).then_some(VerifyError::WrongRight)
+    let unmet = Unmet::argument(waits, param, arg, typing, left);
+    (!fits).then_some(VerifyError::WrongRight(unmet))
 }
 
 /// Checks the arguments in order. A right leaves its register, so the register is empty if it is named again.
@@ -51,7 +54,7 @@ fn arguments_rejection(
     let mut rejection = None;
     let mut left = *typing;
     for (param, arg) in params.iter().zip(args) {
-        let own = argument_rejection(waits, registers, *param, *arg, &left);
+        let own = argument_rejection(waits, registers, *param, *arg, typing, &left);
         rejection = lowest(rejection, own);
         left = left.without(*param, *arg);
     }

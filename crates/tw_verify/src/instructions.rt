@@ -1,24 +1,38 @@
 //! The checks of each instruction, on a typing and on the declared value registers.
 
-ghost use Rattle.std.specs.Prelude.{◌≡◌, ◌<◌, [], true, slice_get};
+ghost use Rattle.std.specs.Prelude.{◌≡◌, true, slice_get};
 ghost use Rattle.std.specs.Option.{option_map, option_map_or};
 ghost use Rattle.tw_types.specs.DataType.{same_scalar};
-ghost use Rattle.tw_code.specs.format.Program.{IsDataInstr, IsInstr};
+ghost use Rattle.tw_code.specs.format.Program.{IsInstr};
 ghost use Rattle.tw_code.specs.accepting.Question.{rejection_in};
-ghost use Rattle.tw_code.specs.accepting.Typing.{requires_local, requires_data, requires_by_instr, requires_params, requires_at};
+ghost use Rattle.tw_code.specs.accepting.Typing.{requires_local, requires_by_instr, requires_params, requires_at};
 ghost use Rattle.tw_verify.specs.Rejection.{verify_error_code};
 
 use crate::arguments::action_rejection;
+use crate::on_data::data_rejection;
 use crate::questions::{
-    alike_rejection, beside, both_rejection, container_write_rejection, empty_pair_rejection,
-    entry_rejection, is_member_read, lowest, members_by_rejection, members_rejection,
-    read_rejection, subscripts_by_rejection, value_of_rejection, value_rejection, values_rejection,
-    writes_container_by,
+    alike_rejection, both_rejection, byte_rejection, first_rejection, lowest, part_rejection,
+    search_rejection, value_rejection, values_rejection,
 };
-use crate::rejection::VerifyError;
-use crate::typing::{RightType, Typing};
-use tw_code::{DataInstr, Instr, LocalInstr, Procedure};
+use crate::rejection::{Unmet, VerifyError};
+use crate::typing::Typing;
+use tw_code::{Instr, LocalInstr, Procedure};
 use tw_types::Scalar;
+
+/// Checks the registers of MULDIV: four integers.
+fn scaling_rejection(
+    registers: &[Scalar],
+    to: u8,
+    left: u8,
+    right: u8,
+    divisor: u8,
+) -> Option<VerifyError>
+    ensures { option_map verify_error_code result
+        ≡ rejection_in (requires_local registers.now (LocalInstr.MultiplyDivide to left right divisor 0)) }
+{
+    let others = values_rejection(registers, left, right, divisor, Scalar::Int);
+    first_rejection(registers, to, Scalar::Int, others)
+}
 
 /// Checks a local instruction, with one line for each.
 fn local_rejection(registers: &[Scalar], instr: &LocalInstr) -> Option<VerifyError>
@@ -34,6 +48,13 @@ fn local_rejection(registers: &[Scalar], instr: &LocalInstr) -> Option<VerifyErr
             right,
             ..
         } => values_rejection(registers, *to, *left, *right, Scalar::Int),
+        LocalInstr::MultiplyDivide {
+            to,
+            left,
+            right,
+            divisor,
+            ..
+        } => scaling_rejection(registers, *to, *left, *right, *divisor),
         LocalInstr::Concatenate {
             to,
             left,
@@ -54,6 +75,26 @@ fn local_rejection(registers: &[Scalar], instr: &LocalInstr) -> Option<VerifyErr
             *from,
             Scalar::Int,
         ),
+        LocalInstr::ByteAt {
+            to,
+            from,
+            place,
+            ..
+        } => byte_rejection(registers, *to, *from, *place),
+        LocalInstr::Slice {
+            to,
+            from,
+            start,
+            end,
+            ..
+        } => part_rejection(registers, *to, *from, *start, *end),
+        LocalInstr::Seek {
+            to,
+            text,
+            pattern,
+            start,
+            ..
+        } => search_rejection(registers, *to, *text, *pattern, *start),
         LocalInstr::JumpEqual { left, right, .. } => alike_rejection(registers, *left, *right),
         LocalInstr::JumpLess { left, right, .. } => both_rejection(
             registers,
@@ -62,234 +103,15 @@ fn local_rejection(registers: &[Scalar], instr: &LocalInstr) -> Option<VerifyErr
             *right,
             Scalar::Int,
         ),
-        LocalInstr::Jump { .. } | LocalInstr::Repeat { .. } | LocalInstr::End => None,
-    }
-}
-
-/// Checks STORE: a write right on a scalar, and a value of its type.
-fn store_rejection(
-    registers: &[Scalar],
-    typing: &Typing,
-    datum: u8,
-    from: u8,
-) -> Option<VerifyError>
-    requires { datum < 16 }
-    ensures { option_map verify_error_code result
-        ≡ rejection_in (requires_data registers.now (DataInstr.Store datum from) typing.now) }
-{
-    let right = typing.right_at(datum);
-    let fits = right.is_some_and(RightType::writes_scalar);
-    value_of_rejection(registers, from, &right, fits)
-}
-
-/// Checks GET: a `closed` right on a scalar, and a register of its type.
-fn get_rejection(registers: &[Scalar], typing: &Typing, to: u8, datum: u8) -> Option<VerifyError>
-    requires { datum < 16 }
-    ensures { option_map verify_error_code result
-        ≡ rejection_in (requires_data registers.now (DataInstr.Get to datum) typing.now) }
-{
-    let right = typing.right_at(datum);
-    let fits = right.is_some_and(RightType::reads_closed_scalar);
-    value_of_rejection(registers, to, &right, fits)
-}
-
-/// Checks INS: a write right on a container, a read right on a datum of its element type, and a subscript of its type.
-fn insert_rejection(
-    registers: &[Scalar],
-    typing: &Typing,
-    by: Scalar,
-    container: u8,
-    subscript: u8,
-    member: u8,
-) -> Option<VerifyError>
-    requires container { container < 16 }
-    requires member { member < 16 }
-    ensures { option_map verify_error_code result
-        ≡ rejection_in (requires_data registers.now (DataInstr.Insert by container subscript member 0) typing.now) }
-{
-    let others = value_rejection(registers, subscript, by);
-    let fits = is_member_read(typing, container, member);
-    let others = beside(fits, VerifyError::WrongRight, others);
-    let writes = writes_container_by(typing, container, by);
-    beside(writes, VerifyError::WrongRight, others)
-}
-
-/// Checks LOOK: an empty register for the member, a `closed` right on a container, and a subscript of its type.
-fn look_rejection(
-    registers: &[Scalar],
-    typing: &Typing,
-    by: Scalar,
-    member: u8,
-    container: u8,
-    subscript: u8,
-) -> Option<VerifyError>
-    requires member { member < 16 }
-    requires container { container < 16 }
-    ensures { option_map verify_error_code result
-        ≡ rejection_in (requires_data registers.now (DataInstr.Look by member container subscript 0) typing.now) }
-{
-    let others = value_rejection(registers, subscript, by);
-    let others = members_by_rejection(typing, container, by, others);
-    beside(typing.is_free(member), VerifyError::RightNotEmpty, others)
-}
-
-/// Checks SUBAT: a register of the subscripts' type, a `closed` right on a container with such subscripts, and an integer.
-fn subscript_rejection(
-    registers: &[Scalar],
-    typing: &Typing,
-    by: Scalar,
-    to: u8,
-    container: u8,
-    index: u8,
-) -> Option<VerifyError>
-    requires { container < 16 }
-    ensures { option_map verify_error_code result
-        ≡ rejection_in (requires_data registers.now (DataInstr.SubscriptAt by to container index 0) typing.now) }
-{
-    let others = both_rejection(registers, to, by, index, Scalar::Int);
-    subscripts_by_rejection(typing, container, by, others)
-}
-
-/// Checks MINS: a write right on a map, but none of sums, and registers of the types of its subscripts and values.
-fn insert_value_rejection(
-    registers: &[Scalar],
-    typing: &Typing,
-    map: u8,
-    subscript: u8,
-    from: u8,
-) -> Option<VerifyError>
-    requires { map < 16 }
-    ensures { option_map verify_error_code result
-        ≡ rejection_in (requires_data registers.now (DataInstr.InsertValue map subscript from 0) typing.now) }
-{
-    let right = typing.right_at(map);
-    let fits = right.is_some_and(RightType::writes_map);
-    entry_rejection(registers, subscript, from, &right, fits)
-}
-
-/// Checks MADD: a write right on a map of sums, an integer, and a register of the type of its subscripts.
-fn add_value_rejection(
-    registers: &[Scalar],
-    typing: &Typing,
-    map: u8,
-    subscript: u8,
-    from: u8,
-) -> Option<VerifyError>
-    requires { map < 16 }
-    ensures { option_map verify_error_code result
-        ≡ rejection_in (requires_data registers.now (DataInstr.AddValue map subscript from) typing.now) }
-{
-    let right = typing.right_at(map);
-    let fits = right.is_some_and(RightType::writes_sums);
-    entry_rejection(registers, subscript, from, &right, fits)
-}
-
-/// Checks MGET: a `closed` right on a map, and registers of the types of its subscripts and values.
-fn get_value_rejection(
-    registers: &[Scalar],
-    typing: &Typing,
-    to: u8,
-    map: u8,
-    subscript: u8,
-) -> Option<VerifyError>
-    requires { map < 16 }
-    ensures { option_map verify_error_code result
-        ≡ rejection_in (requires_data registers.now (DataInstr.GetValue to map subscript 0) typing.now) }
-{
-    let right = typing.right_at(map);
-    let fits = right.is_some_and(RightType::reads_closed_map);
-    entry_rejection(registers, subscript, to, &right, fits)
-}
-
-/// Checks SIZE: an integer register, and a `closed` right on a container or a map.
-fn size_rejection(
-    registers: &[Scalar],
-    typing: &Typing,
-    to: u8,
-    container: u8,
-) -> Option<VerifyError>
-    requires { container < 16 }
-    ensures { option_map verify_error_code result
-        ≡ rejection_in (requires_data registers.now (DataInstr.Size to container) typing.now) }
-{
-    let others = value_rejection(registers, to, Scalar::Int);
-    members_rejection(typing, container, others)
-}
-
-/// Checks DUPR: an empty register for the copy, and a read right.
-fn copy_read_rejection(typing: &Typing, to: u8, from: u8) -> Option<VerifyError>
-    requires to { to < 16 }
-    requires from { from < 16 }
-    ensures { option_map verify_error_code result
-        ≡ rejection_in (requires_data [] (DataInstr.CopyRead to from) typing.now) }
-{
-    let others = read_rejection(typing, from);
-    beside(typing.is_free(to), VerifyError::RightNotEmpty, others)
-}
-
-/// Checks DUPW: an empty register for the copy, and a write right on a container.
-fn copy_write_rejection(typing: &Typing, to: u8, from: u8) -> Option<VerifyError>
-    requires to { to < 16 }
-    requires from { from < 16 }
-    ensures { option_map verify_error_code result
-        ≡ rejection_in (requires_data [] (DataInstr.CopyWrite to from) typing.now) }
-{
-    let others = container_write_rejection(typing, from);
-    beside(typing.is_free(to), VerifyError::RightNotEmpty, others)
-}
-
-/// Checks an instruction on data at a typing, with one case for each.
-fn data_rejection(registers: &[Scalar], instr: DataInstr, typing: &Typing) -> Option<VerifyError>
-    requires { IsDataInstr instr }
-    ensures { option_map verify_error_code result ≡ rejection_in (requires_data registers.now instr typing.now) }
-{
-    match instr {
-        DataInstr::New { write, read, .. } => empty_pair_rejection(typing, write, read),
-        DataInstr::Store { datum, from } => store_rejection(registers, typing, datum, from),
-        DataInstr::Get { to, datum } => get_rejection(registers, typing, to, datum),
-        DataInstr::Insert {
-            by,
-            container,
-            subscript,
-            member,
-            ..
-        } => insert_rejection(registers, typing, by, container, subscript, member),
-        DataInstr::Look {
-            by,
-            member,
-            container,
-            subscript,
-            ..
-        } => look_rejection(registers, typing, by, member, container, subscript),
-        DataInstr::Size { to, container } => size_rejection(registers, typing, to, container),
-        DataInstr::SubscriptAt {
-            by,
-            to,
-            container,
-            index,
-            ..
-        } => subscript_rejection(registers, typing, by, to, container, index),
-        DataInstr::InsertValue {
-            map,
-            subscript,
-            from,
-            ..
-        } => insert_value_rejection(registers, typing, map, subscript, from),
-        DataInstr::AddValue {
-            map,
-            subscript,
-            from,
-        } => add_value_rejection(registers, typing, map, subscript, from),
-        DataInstr::GetValue {
-            to,
-            map,
-            subscript,
-            ..
-        } => get_value_rejection(registers, typing, to, map, subscript),
-        DataInstr::CopyRead { to, from } => copy_read_rejection(typing, to, from),
-        DataInstr::CopyWrite { to, from } => copy_write_rejection(typing, to, from),
-        DataInstr::DropRead { right } => read_rejection(typing, right),
-        DataInstr::DropWrite { right } => container_write_rejection(typing, right),
+        LocalInstr::JumpTextLess { left, right, .. } => both_rejection(
+            registers,
+            *left,
+            Scalar::Text,
+            *right,
+            Scalar::Text,
+        ),
+        LocalInstr::Jump { .. } | LocalInstr::Repeat { .. } | LocalInstr::End | LocalInstr::Last =>
+            { None }
     }
 }
 
@@ -310,7 +132,10 @@ fn instr_rejection(
         Instr::Data(instr) => data_rejection(registers, *instr, typing),
         Instr::Rule(action) => action_rejection(true, procedures, procedure, action, typing),
         Instr::Put(action) => action_rejection(false, procedures, procedure, action, typing),
-        Instr::Ret => (!typing.is_empty()).then_some(VerifyError::RightLeft),
+        Instr::Ret => {
+            let unmet = Unmet::filled(typing, typing.first_filled());
+            (!typing.is_empty()).then_some(VerifyError::RightLeft(unmet))
+        }
     }
 }
 
@@ -339,9 +164,9 @@ fn params_rejection(procedure: &Procedure) -> Option<VerifyError>
         }
     }
     if given > registers.len() {
-        Some(VerifyError::UndeclaredValue)
+        Some(VerifyError::UndeclaredValue(Unmet::param(procedure, true)))
     } else {
-        (!fits).then_some(VerifyError::WrongValueType)
+        (!fits).then_some(VerifyError::WrongValueType(Unmet::param(procedure, false)))
     }
 }
 

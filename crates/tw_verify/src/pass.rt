@@ -24,6 +24,7 @@ use crate::questions::lowest;
 use crate::quick::all_quick;
 use crate::reached::{Reached, first_rows, row_at, send_both};
 use crate::rejection::VerifyError;
+use crate::searching::has_slow;
 use crate::structure::ask_structure;
 use crate::typing::Typing;
 use std::alloc::{AllocError, Global};
@@ -77,9 +78,17 @@ fn typing_rejection(
 {
     let own = place_rejection(procedures, procedure, place, instr, &reached.typing);
     // V07
-    let differs = reached.differs.then_some(VerifyError::TypingsDiffer);
+    let differs = if reached.differs {
+        Some(VerifyError::TypingsDiffer)
+    } else {
+        None
+    };
     // V08
-    let changed = changed.then_some(VerifyError::TypingChanged);
+    let changed = if changed {
+        Some(VerifyError::TypingChanged)
+    } else {
+        None
+    };
     lowest(lowest(own, differs), changed)
 }
 
@@ -178,7 +187,7 @@ pub(crate) fn procedure_findings(
     ask_structure(code, &loops)?;
     let typings = match typing_pass(alloc, procedures, procedure, &loops)? {
         Pass::Through(typings) => typings,
-        Pass::Stopped(_, fault) => return Err(fault),
+        Pass::Stopped(_typings, fault) => return Err(fault),
     };
     let budget = budget(alloc, procedure)?;
     let quick = all_quick(alloc, procedure.registers.as_slice(), code)?;
@@ -186,5 +195,6 @@ pub(crate) fn procedure_findings(
         typings,
         budget,
         quick: Items::from(quick),
+        slow: has_slow(code),
     })
 }

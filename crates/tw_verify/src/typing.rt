@@ -237,6 +237,18 @@ impl Typing {
         self.right_at(register).is_none()
     }
 
+    /// Returns the number of the first register in which a typing has a right; 0 if it has none.
+    pub(crate) fn first_filled(&self) -> u8
+        ensures { result < 16 }
+    {
+        for register in 0..16u8 {
+            if !self.is_free(register) {
+                return register;
+            }
+        }
+        0
+    }
+
     /// Returns whether a typing has no right in any register.
     pub fn is_empty(&self) -> bool
         ensures { result ≡ list_all is_none self.now }

@@ -8,6 +8,7 @@ use Rattle.tw_code.specs.declared.opcode.Opcode.{Opcode}
 use Rattle.tw_code.specs.declared.version.Version.{Version}
 use Rattle.tw_code.specs.format.Table as table
 use Rattle.tw_code.specs.format.Table.{Contents, a_row, opcode_in}
+use Rattle.tw_code.specs.format.Versions.{version_by, version_number}
 use Rattle.tw_lexer.specs.Words.{Word, Bare, Quoted}
 use Rattle.tw_asm.specs.Parts.{kind_word}
 use Rattle.tw_asm.specs.Seen.{Read, bytes_of}
@@ -270,7 +271,7 @@ draft_in version o ws = draft_by (row_of version o) ws
 -- ---- statements
 
 abbrev pub version_read : ℕ → Read
-version_read n = record { statement = said.OfVersion (said.version_number (said.version_by n)); goal = None }
+version_read n = record { statement = said.OfVersion (version_number (version_by n)); goal = None }
 
 -- returns the number of a version; there is no version 3
 abbrev pub version_known : Result ℕ TokenError → Result ℕ TokenError
@@ -279,7 +280,7 @@ version_known (Err e) = Err e
 
 abbrev pub version_in : List Word → Result Read TokenError
 version_in [] = Err Form
-version_in (w ∷ []) = as_is version_read (version_known (natural_in 1 4 w))
+version_in (w ∷ []) = as_is version_read (version_known (natural_in 1 5 w))
 version_in (w ∷ x ∷ ws) = Err Form
 
 abbrev pub kind_in : Word → Result Kind TokenError

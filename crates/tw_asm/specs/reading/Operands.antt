@@ -1,8 +1,8 @@
 -- Reading one word, or its error.
-use Rattle.std.specs.Prelude.{ℕ, ℤ, List, [], ◌∷◌, length, codes, Option, Some, None, Result, Ok, Err, nat_lt, ◌==◌, if◌then◌else◌, Bool, false}
+use Rattle.std.specs.Prelude.{ℕ, ℤ, List, [], ◌∷◌, length, codes, Option, Some, None, Result, Ok, Err, nat_lt, ◌==◌, if◌then◌else◌, Bool, false, true}
 use Rattle.std.specs.Str.{bytes_eq}
 use Rattle.tw_code.specs.declared.version.Version.{Version}
-use Rattle.tw_code.specs.declared.version.Version.TheVariants.{One, Two, Four}
+use Rattle.tw_code.specs.format.Versions.{has_maps, has_texts}
 use Rattle.tw_lexer.specs.Words.{Word, Bare, Quoted}
 use Rattle.tw_lexer.specs.Digits.{as_is, digits_in, signed_in}
 use Rattle.tw_lexer.specs.Names.{is_name}
@@ -75,9 +75,7 @@ scalar_in (Quoted text) = Err Form
 
 -- returns the type text, unless the version is 1, which has no container with text subscripts
 abbrev pub text_container : Version → Result Scalar TokenError
-text_container One = Err Form
-text_container Two = Ok scalar.Text
-text_container Four = Ok scalar.Text
+text_container version = if has_texts version then Ok scalar.Text else Err Form
 
 -- reads the word of a container, as the type of its subscripts
 abbrev pub container_in : Version → Word → Result Scalar TokenError
@@ -88,14 +86,16 @@ container_in version (Bare text) =
 container_in version (Quoted text) = Err Form
 
 -- reads the word of a map, as the type of its subscripts
-abbrev pub map_in : Version → Word → Result Scalar TokenError
-map_in One w = Err Form
-map_in Two w = Err Form
-map_in Four (Bare text) =
+abbrev pub map_word_in : Word → Result Scalar TokenError
+map_word_in (Bare text) =
     if bytes_eq text (map_word scalar.Int) then Ok scalar.Int else
     if bytes_eq text (map_word scalar.Text) then Ok scalar.Text else
     Err Form
-map_in Four (Quoted text) = Err Form
+map_word_in (Quoted text) = Err Form
+
+-- the same, in a version with maps
+abbrev pub map_in : Version → Word → Result Scalar TokenError
+map_in version w = if has_maps version then map_word_in w else Err Form
 
 -- returns whether it is the word of a map's sums
 abbrev pub is_sum : Word → Bool

@@ -10,11 +10,14 @@ use Rattle.tw_code.specs.declared.instr.Instr.{Instr}
 use Rattle.tw_code.specs.declared.version.Version.{Version}
 use Rattle.tw_code.specs.declared.version.Version.TheVariants.{One}
 use Rattle.tw_lexer.specs.Words.{IsLine, Word}
+use Rattle.tw_lexer.specs.declared.numbers.TokenError.{TokenError}
+use Rattle.tw_lexer.specs.declared.numbers.TokenError.TheVariants as flaw
 use Rattle.tw_asm.specs.declared.statement.First.{First}
 use Rattle.tw_asm.specs.declared.statement.First.TheVariants as first
 use Rattle.tw_asm.specs.declared.statement.Statement as statements
 use Rattle.tw_asm.specs.Seen.{Read, IsRead, bytes_of, seen}
-use Rattle.tw_asm.specs.Statement.{Statement, OfVersion, Head, Registers, Label, Code, version_by}
+use Rattle.tw_asm.specs.Statement.{Statement, OfVersion, Head, Registers, Label, Code}
+use Rattle.tw_code.specs.format.Versions.{version_by}
 use Rattle.tw_asm.specs.declared.fault.AsmFault.{AsmFault}
 use Rattle.tw_asm.specs.declared.fault.FaultNo.TheVariants as fault
 use Rattle.tw_asm.specs.declared.reading.UnlinkedLine as draft_lines
@@ -188,6 +191,11 @@ IsEmptyAt (Within section) = length section.drafts ≡ 0
 -- holds if a limit is reported at this line: that of the head of an empty procedure, which another head would end, or else the line itself
 abbrev pub IsLimitLine : Progress → First → ℕ → ℕ → Type 0
 IsLimitLine p expected number at = ((expected ≡ first.Head) × IsEmptyAt p.place × (at ≡ p.head_line)) ⊎ ((expected ≡ first.Head → IsEmptyAt p.place → ⊥) × (at ≡ number))
+
+-- holds for the fault of a line that begins so, and whose words have this error
+abbrev pub IsFlawFault : Progress → First → ℕ → TokenError → AsmFault → Type 0
+IsFlawFault p expected number flaw.Form f = (f.no ≡ fault.Operand) × (f.line ≡ number)
+IsFlawFault p expected number flaw.Limit f = (f.no ≡ fault.Limit) × IsLimitLine p expected number f.line
 
 -- holds if this is the statement of the line, if any, and it is allowed at this stage; or its fault
 abbrev pub WordsRead : Progress → ℕ → List ℕ → Result (Option statements.Statement) AsmFault → Type 0

@@ -1,4 +1,6 @@
-use Rattle.std.proofs.Common.{◌∙◌, map, sym}
+use Rattle.std.proofs.Common.{◌∙◌, ap, map, sym}
+use Rattle.tw_code.specs.format.Operands.{plain}
+use Rattle.tw_lexer.specs.Digits.{as_is}
 use Rattle.tw_lexer.specs.Seen.{seen as seen_word}
 use Rattle.tw_code.proofs.TableRows.{split}
 use Rattle.tw_asm.proofs.ByForms.{goal_last, no_forms, no_word_left, none_read, one_read, type_last, words_split}
@@ -19,11 +21,11 @@ returns-in-TypeOf t c =
 
 pub returns-in-empty-words : goal.returns-in-empty-words
 returns-in-empty-words t c =
-    sym (none_read c.args.version _ _ c.args.forms.now (split c.args.forms.now _ c.in-len1-up.len_at_least) c.requires c.in_default.not-Skip c.in_default.not-TypeOf
-    (map seen_word c.args.words.now) (no_word_left seen_word c.args.words.now c.in-empty-words.len_below))
+    rw c.form.ensures (sym (none_read c.args.version _ _ c.args.forms.now (split c.args.forms.now _ c.in-len1-up.len_at_least) c.requires c.in_default.not-Skip c.in_default.not-TypeOf
+    (map seen_word c.args.words.now) (no_word_left seen_word c.args.words.now c.in-empty-words.len_below)))
 
 pub returns-in-len1-up-words : goal.returns-in-len1-up-words
 returns-in-len1-up-words t c =
     one_read c.args.version _ _ c.args.forms.now (split c.args.forms.now _ c.in-len1-up.len_at_least) c.requires c.in_default.not-Skip c.in_default.not-TypeOf
     _ _ (map seen_word c.args.words.now) (words_split seen_word c.args.words.now c.word-item.result c.in-len1-up-words.len_at_least c.word-item.is)
-    _ c.operand_of-first.ensures _ _ c.operands_of.ensures c.with_first.ensures
+    c.at-first.result (ap (as_is plain) c.at-first.ensures ∙ c.operand_of.ensures) _ _ c.operands_of.ensures c.with_first.ensures

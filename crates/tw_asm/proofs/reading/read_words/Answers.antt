@@ -1,11 +1,10 @@
-use Rattle.std.proofs.Common.{◌∙◌, ℕ, List, map, Err, inr, subst, ap}
+use Rattle.std.proofs.Common.{◌∙◌, ℕ, List, map, Err, inl, inr, subst, ap}
 use Rattle.tw_asm.proofs.AsmNames.{IsBrokenLine, IsLine, IsLineRead, Word, seen as seen_word, seen_reading, seen_stage, situation_of, slice_get, stage_of}
-use Rattle.tw_lexer.specs.declared.numbers.TokenError.TheVariants as flaw
 use Rattle.tw_asm.specs.declared.rejection.Rejection.{Rejection}
 use Rattle.tw_asm.specs.declared.rejection.Rejection.TheVariants as rejection
 use Rattle.tw_asm.specs.Seen.{IsRead, seen}
 use Rattle.tw_asm.specs.LineAnswers.{Answers}
-use Rattle.tw_asm.proofs.Taking.{a_first, any_word_fault, broken_fault, broken_operand, form_fault, limit_fault, may_follow, no_first}
+use Rattle.tw_asm.proofs.Taking.{a_first, any_word_fault, broken_fault, broken_operand, flaw_fault, may_follow, no_first}
 use Rattle.tw_asm.proofs.reading.read_words.Goals as goal
 use Rattle.tw_asm.proofs.reading.read_words.Goals.{then-read, else-read}
 
@@ -32,8 +31,11 @@ returns-then-not-read c =
     let all = subst (λ (b : List ℕ). IsLineRead (map seen_word c.in_ok-read.read.words.items) c.in_ok-read.read.whole b) c.as_bytes.ensures.value c.in_ok-read.ensures in
     let first = a_first c.in_ok-read.read.words.items c.in-Some.word.now (c.in-Some.ensures.value ∙ ap (λ xs. slice_get xs 0) c.deref.ensures.value) in
     let words = ap (map seen_word) first.1 in
-    inr (rw (c.new-then-not-read.ensures.no, c.new-then-not-read.ensures.line) (broken_operand c.args.number (situation_of (seen_reading c.args.reading.now)) c.args.line.now (seen_word c.in-Some.word.now) (map seen_word first.0) c.in-Some-expected_of.expected
-    (subst (λ (ws : List Word). IsBrokenLine ws c.args.line.now) words (rw c.if-not-read.true at all)) c.in-Some-expected_of.ensures.0 c.in-Some-expected_of.ensures.1))
+    elim (c.broken_fault.ensures) [
+      | inl memory ↦ inl memory
+      | inr at ↦ inr (rw (at.0, at.1) (broken_operand c.args.number (situation_of (seen_reading c.args.reading.now)) c.args.line.now (seen_word c.in-Some.word.now) (map seen_word first.0) c.in-Some-expected_of.expected
+          (subst (λ (ws : List Word). IsBrokenLine ws c.args.line.now) words (rw c.if-not-read.true at all)) c.in-Some-expected_of.ensures.0 c.in-Some-expected_of.ensures.1))
+    ]
 
 pub returns-in-Ok : goal.returns-in-Ok
 returns-in-Ok c =
@@ -46,22 +48,12 @@ returns-in-Ok c =
           (subst (IsRead c.args.reading.now.version (seen c.in-Ok.statement)) words read) c.in-Some-expected_of.ensures.0 c.in-Some-expected_of.ensures.1,
     )
 
-pub returns-in-Err-Flawed-Form : goal.returns-in-Err-Flawed-Form
-returns-in-Err-Flawed-Form c =
-    let all = subst (λ (b : List ℕ). IsLineRead (map seen_word c.in_ok-read.read.words.items) c.in_ok-read.read.whole b) c.as_bytes.ensures.value c.in_ok-read.ensures in
-    let first = a_first c.in_ok-read.read.words.items c.in-Some.word.now (c.in-Some.ensures.value ∙ ap (λ xs. slice_get xs 0) c.deref.ensures.value) in
-    let words = ap (map seen_word) first.1 in
-    let flawed = subst (λ (r : Rejection). Answers c.args.reading.now.version (Err r) (map seen_word c.deref-2.result.now)) (c.in-Err-Flawed-Form.field-0-is ∙ ap rejection.Flawed c.in-Err-Flawed-Form.field-0-0-is) c.in-Err-Flawed-Form.ensures in
-    let here = subst (λ (ws : List Word). Answers c.args.reading.now.version (Err (rejection.Flawed flaw.Form)) ws) (ap (map seen_word) c.deref-2.ensures.value ∙ words) flawed in
-    inr (rw (c.new-in-Err-Flawed-Form.ensures.no, c.new-in-Err-Flawed-Form.ensures.line) (form_fault c.args.number (situation_of (seen_reading c.args.reading.now)) c.args.line.now (seen_word c.in-Some.word.now) (map seen_word first.0) c.in-Some-expected_of.expected
-    (subst (λ (ws : List Word). IsLine ws c.args.line.now) words (rw c.if-not-read.false at all)) c.in-Some-expected_of.ensures.0 c.in-Some-expected_of.ensures.1 here))
-
 pub returns : goal.returns
 returns c =
     let all = subst (λ (b : List ℕ). IsLineRead (map seen_word c.in_ok-read.read.words.items) c.in_ok-read.read.whole b) c.as_bytes.ensures.value c.in_ok-read.ensures in
     let first = a_first c.in_ok-read.read.words.items c.in-Some.word.now (c.in-Some.ensures.value ∙ ap (λ xs. slice_get xs 0) c.deref.ensures.value) in
     let words = ap (map seen_word) first.1 in
-    let flawed = subst (λ (r : Rejection). Answers c.args.reading.now.version (Err r) (map seen_word c.deref-2.result.now)) (c.in-Err-Flawed-Limit.field-0-is ∙ ap rejection.Flawed c.in-Err-Flawed-Limit.field-0-0-is) c.in-Err-Flawed-Limit.ensures in
-    let here = subst (λ (ws : List Word). Answers c.args.reading.now.version (Err (rejection.Flawed flaw.Limit)) ws) (ap (map seen_word) c.deref-2.ensures.value ∙ words) flawed in
-    inr (rw (c.new-in-Err-Flawed-Limit.ensures.no, c.new-in-Err-Flawed-Limit.ensures.line) (limit_fault c.args.number c.limit_line.result (seen_reading c.args.reading.now) c.args.line.now (seen_word c.in-Some.word.now) (map seen_word first.0) c.in-Some-expected_of.expected
-    (subst (λ (ws : List Word). IsLine ws c.args.line.now) words (rw c.if-not-read.false at all)) c.in-Some-expected_of.ensures.0 c.in-Some-expected_of.ensures.1 here.0 here.1 c.limit_line.ensures))
+    let flawed = subst (λ (r : Rejection). Answers c.args.reading.now.version (Err r) (map seen_word c.deref-2.result.now)) c.in-Err-Flawed.field-0-is c.in-Err-Flawed.ensures in
+    let here = subst (λ (ws : List Word). Answers c.args.reading.now.version (Err (rejection.Flawed c.in-Err-Flawed.flaw)) ws) (ap (map seen_word) c.deref-2.ensures.value ∙ words) flawed in
+    inr (flaw_fault c.args.number (seen_reading c.args.reading.now) c.args.line.now (seen_word c.in-Some.word.now) (map seen_word first.0) c.in-Some-expected_of.expected c.in-Err-Flawed.flaw c.flaw_fault.result
+    (subst (λ (ws : List Word). IsLine ws c.args.line.now) words (rw c.if-not-read.false at all)) c.in-Some-expected_of.ensures.0 c.in-Some-expected_of.ensures.1 here c.flaw_fault.ensures)

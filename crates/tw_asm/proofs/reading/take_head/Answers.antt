@@ -11,7 +11,7 @@ returns-in_err-sections c = λ m.
 pub returns-then-len-from : goal.returns-then-len-from
 returns-then-len-from c = λ m.
     let many : 64 ≤ length (map seen_section c.in_ok-sections.sections.items) = omega (arith, length-map c.in_ok-sections.sections.items seen_section, c.in_ok-sections.sections.ok) in
-    too_many_heads (seen_reading c.args.reading) c.args.number c.args.kind c.args.params _ (map seen_section c.in_ok-sections.sections.items) m c.in_ok-sections.ensures many c.new.ensures.no c.new.ensures.line
+    too_many_heads (seen_reading c.args.reading) c.args.number c.args.kind c.args.params c.new.result (map seen_section c.in_ok-sections.sections.items) m c.in_ok-sections.ensures many c.new.ensures.no c.new.ensures.line
 
 pub returns : goal.returns
 returns c = λ m.

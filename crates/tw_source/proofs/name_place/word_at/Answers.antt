@@ -1,8 +1,7 @@
 use Rattle.std.proofs.Common.{◌+◌, ℕ, List, ap, arith}
-use Rattle.tw_diagnostics.proofs.LastWords.{first_room, one_passed, one_room}
 use Rattle.tw_lexer.proofs.Texts.{rest_utf8}
 use Rattle.tw_lexer.specs.Words.{IsFirstWord, Word}
-use Rattle.tw_source.proofs.NamePlaces.{ends_later}
+use Rattle.tw_source.proofs.NamePlaces.{ends_later, first_room, one_passed, one_room}
 use Rattle.tw_source.proofs.name_place.word_at.Goals as goal
 
 pub returns-in-None : goal.returns-in-None

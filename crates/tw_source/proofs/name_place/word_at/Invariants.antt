@@ -1,5 +1,5 @@
 use Rattle.std.proofs.Common.{◌+◌, ◌≤◌, length, IsUtf8}
-use Rattle.tw_diagnostics.proofs.LastWords.{Passed}
+use Rattle.tw_source.proofs.NamePlaces.{Passed}
 use Rattle.tw_source.proofs.name_place.word_at.Given as goal
 
 abbrev pub invariant-loop-after : goal.invariant-loop-after

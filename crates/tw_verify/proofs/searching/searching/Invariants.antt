@@ -1,0 +1,10 @@
+use Rattle.std.proofs.Common.{◌≡◌, ◌+◌, ◌≤◌, drop}
+use Rattle.tw_verify.specs.Searching.{searching}
+use Rattle.tw_verify.proofs.searching.searching.Given as goal
+
+-- those so far, and of those that are left
+abbrev pub invariant-loop-procedure : goal.invariant-loop-procedure
+invariant-loop-procedure l = record {
+  counted : searching l.procedures ≡ l.count + searching (drop l.procedure-index l.procedures);
+  few : l.count ≤ l.procedure-index;
+}
