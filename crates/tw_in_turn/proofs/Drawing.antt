@@ -9,7 +9,8 @@ use Rattle.tw_pool.specs.declared.answer.Turn.{Turn}
 use Rattle.tw_pool.specs.declared.answer.Turn.TheVariants.{Idle, Over, Run}
 use Rattle.tw_pool.specs.PoolView.{PoolView}
 use Rattle.tw_in_turn.specs.Drawn.{place_for}
-use Rattle.tw_in_turn.specs.InTurn.{Continues, IsAfter, IsDrawn, IsIdle, IsMove, actor_from}
+use Rattle.tw_pool.specs.Work.{IsIdle}
+use Rattle.tw_in_turn.specs.InTurn.{Continues, IsAfter, IsDrawn, IsMove, actor_from}
 use Rattle.tw_in_turn.specs.Rounds.{Ends, MayTurn}
 use Rattle.tw_in_turn.specs.declared.rounds.End.{End}
 use Rattle.tw_in_turn.specs.declared.rounds.End.TheVariants as end

@@ -1,5 +1,5 @@
 -- The result of a step in which an actor submits what it has.
-use Rattle.std.proofs.Common.{◌≡◌, ◌≢◌, ◌==◌, ◌+◌, ◌≤◌, ◌⊎◌, ℕ, zero, suc, Bool, true, false, not, if◌then◌else◌, List, [], ◌∷◌, ◌++◌, length, length-append, Option, Some, None, refl, sym, ap, subst, ◌∙◌, arith, inl, inr, option_map, append-nil}
+use Rattle.std.proofs.Common.{◌≡◌, ◌≢◌, ◌==◌, ◌+◌, ◌≤◌, ◌⊎◌, ℕ, zero, suc, Bool, true, false, not, if◌then◌else◌, List, [], ◌∷◌, ◌++◌, length, length-append, Option, Some, None, IfSome, refl, sym, ap, subst, ◌∙◌, arith, inl, inr, option_map, append-nil}
 use Rattle.std.proofs.lemmas.Bool.{and_parts, eq-eqb, eqb-true}
 use Rattle.std.specs.FinMap.{get}
 use Rattle.std.specs.Option.{option_or}
@@ -23,6 +23,7 @@ use Rattle.tw_pool.specs.declared.answer.Closing.TheVariants.{Limit, Stopped}
 use Rattle.tw_pool.specs.declared.answer.Turn.{Turn}
 use Rattle.tw_pool.specs.declared.answer.Turn.TheVariants.{Over, Foreign, Owed, NoMemory, Run, Ended, Went, Idle}
 use Rattle.tw_pool.specs.Actors.{events_of}
+use Rattle.tw_pool.specs.Kept.{IsOwedBy}
 use Rattle.tw_pool.specs.PoolView.{PoolView, HasState, with_events}
 use Rattle.tw_pool.specs.Turns.{Answers, TurnsFree, IsTurn, Issues, Makes, TakesBack, Turns, TurnsUnless, closing_at, closing_of, instr_after, is_last, issued_to, steps_of}
 use Rattle.tw_pool.proofs.Counting.{AreBy, others_same}
@@ -30,7 +31,8 @@ use Rattle.tw_pool.proofs.Lines.{whose_due}
 use Rattle.tw_host.specs.Sees.{IsAnswerOf, IsDoneOf}
 use Rattle.tw_host.proofs.Owning.{is_answer_of}
 use Rattle.tw_host.proofs.Turning as turning
-use Rattle.tw_in_turn.specs.InTurn.{IsReachedWith, Continues, Has, HasDone, HasEnded, IsAfter, IsIdle, IsOver, IsWorkOf}
+use Rattle.tw_pool.specs.Work.{IsIdle}
+use Rattle.tw_in_turn.specs.InTurn.{IsReachedWith, Continues, Has, HasDone, HasEnded, IsAfter, IsMove, IsOver, IsWorkOf}
 use Rattle.tw_in_turn.specs.declared.rounds.End.{End as Stop}
 use Rattle.tw_in_turn.specs.Rounds.{ContinuesOrEnds, IsGrown, IsTurned, Keeps}
 use Rattle.tw_in_turn.proofs.Frames as frames
@@ -157,6 +159,33 @@ without_frame p s actor none = no_frame p (length (events_of actor p.history)) a
 
 pub issued_none : (p : PoolView) (s : State) (actor : Actor) → get s.frames actor ≡ None → issued_to p s actor ≡ None
 issued_none p s actor none = ap (option_map (job_by p (length (events_of actor p.history)) actor)) none
+
+-- what an actor has is of the job that is issued to it
+job_is : (job : Option JobView) (done : DoneView) → HasDone job (Some done) → job ≡ Some done.before
+job_is None done has = let no_done : Some done ≡ None = has in cc
+job_is (Some job) done has = ap Some (sym has.own)
+
+pub owed_if : (p : PoolView) (actor : Actor) (given : Option DoneView) → Has p actor given → IfSome given (λ done. IsOwedBy p actor done)
+owed_if p actor None has = tt
+owed_if p actor (Some done) has = λ s at. job_is (issued_to p s actor) done (has s at)
+
+-- the step of an idle actor
+pub idle_move : (p : PoolView) (actor : Actor) → IsIdle p actor → IsMove p actor Idle p
+idle_move p actor still = record {
+  given = None;
+  has = λ s at. subst (λ (o : Option JobView). HasDone o None) (sym (issued_none p s actor (free_at s at))) refl;
+  turn = record {
+    state = still.state;
+    has_state = still.has_state;
+    events = [];
+    is = subst (λ (c : Option Closing). TurnsUnless c p still.state actor None Idle []) (sym still.runs_on)
+        (subst (λ (job : Option JobView). Turns p still.state actor job None Idle []) (sym (issued_none p still.state actor still.free)) (inr (still.none_due, (refl, refl))));
+    appended = sym (ap (λ (h : List Event). record p { history = h }) (append-nil p.history));
+  };
+}
+  where
+    free_at : (s : State) → HasState p s → get s.frames actor ≡ None
+    free_at s at = ap (λ (t : State). get t.frames actor) (same_went s still.state (sym at ∙ still.has_state)) ∙ still.free
 
 -- results that issue no job
 abbrev pub Rests : Turn → Type 0

@@ -1,6 +1,6 @@
 -- Rounds: each actor makes a step by its index, and some event is due while the run isn't over.
-use Rattle.std.proofs.Common.{◌≡◌, ◌≢◌, ◌<◌, ◌≤◌, ◌+◌, ◌-◌, ◌*◌, ◌⊎◌, ◌==◌, ℕ, suc, Bool, true, false, nat_lt, if◌then◌else◌, List, length, Option, Some, None, refl, sym, ap, subst, ◌∙◌, add-one, arith, get_or, set, inl, inr}
-use Rattle.std.proofs.lemmas.Bool.{cases_eq, ltb-true, ltb-false}
+use Rattle.std.proofs.Common.{◌≡◌, ◌≢◌, ◌<◌, ◌≤◌, ◌+◌, ◌-◌, ◌*◌, ◌⊎◌, ◌==◌, ℕ, zero, suc, Bool, true, false, nat_lt, if◌then◌else◌, List, length, Option, Some, None, refl, sym, ap, subst, ◌∙◌, add-one, arith, get_or, set, inl, inr}
+use Rattle.std.proofs.lemmas.Bool.{cases_eq, cases_lt, ltb-true, ltb-false}
 use Rattle.std.proofs.lemmas.Bool.Decides.{nat_tests}
 use Rattle.std.proofs.lemmas.List.{get_or-set_same, get_or-set_other, length-set}
 use Rattle.std.proofs.lemmas.Nat.{mod-mul-add}
@@ -21,11 +21,14 @@ use Rattle.tw_code.proofs.Next.{SomeDue, some_due}
 use Rattle.tw_frame.specs.Jobs.{DoneView}
 use Rattle.tw_pool.specs.declared.answer.Closing.TheVariants.{Limit, Stopped}
 use Rattle.tw_pool.specs.declared.answer.Turn.{Turn}
+use Rattle.tw_pool.specs.declared.answer.Turn.TheVariants.{Idle}
 use Rattle.tw_pool.specs.PoolView.{PoolView}
 use Rattle.tw_pool.specs.Turns.{closing_of}
-use Rattle.tw_in_turn.specs.InTurn.{Continues, IsAfter, IsIdle, IsMove, actor_after}
+use Rattle.tw_pool.specs.Work.{AreIdle, IsIdle}
+use Rattle.tw_in_turn.specs.InTurn.{Continues, IsAfter, IsMove, actor_after}
 use Rattle.tw_in_turn.specs.Stopping.{IsReachedAfter}
 use Rattle.tw_in_turn.specs.Rounds.{AreKept, IsGrown, Keeps, MayTurn}
+use Rattle.tw_in_turn.proofs.Moving.{idle_move}
 
 -- ---- actors by their index
 
@@ -139,15 +142,24 @@ the_last first now new layout rounds index answer Answers is low after move ends
   refl,
 )
 
--- looks for so many steps
-pub in_all : (turns before all now had count more : ℕ) → turns + all ≤ before + now + more → before + now ≤ had + count → turns + all ≤ had + (count + more)
-in_all turns before all now had count more low enough = omega (arith, low, enough)
-
-pub enough : (rounds actors index all had count : ℕ) → index ≡ actors → index + all ≤ had + count → (rounds + 1) * actors + all ≤ rounds * actors + had + count
-enough rounds actors index all had count is low = by ((rounds + 1) * actors) (rounds * actors) (ap (λ k. k * actors) (add-one rounds) ∙ suc-mul rounds actors)
+-- steps of idle actors
+pub passed : (first now : PoolView) (layout : ActorCounts) (rounds from index : ℕ) → now.layout ≡ layout → from ≤ index → index ≤ actor_count layout → AreIdle now from index
+    → IsAfter None first (rounds * actor_count layout + from) now → IsAfter None first (rounds * actor_count layout + index) now
+passed first now layout rounds from index is low within idle after =
+    let all : from + (index - from) ≡ index = omega (arith, low) in
+    subst (λ n. IsAfter None first (rounds * actor_count layout + n) now) all (by (index - from) (omega (arith, all)))
   where
-    by : (next before : ℕ) → next ≡ before + actors → next + all ≤ before + had + count
-    by next before sum = omega (arith, sum, is, low)
+    by : (k : ℕ) → from + k ≤ index → IsAfter None first (rounds * actor_count layout + (from + k)) now
+    by zero inside = let none : from ≡ from + zero = omega arith in subst (λ n. IsAfter None first (rounds * actor_count layout + n) now) none after
+    by (suc k) inside =
+        let actor : actor_at now.layout (from + k) ≡ actor_at layout (from + k) = ap (λ (l : ActorCounts). actor_at l (from + k)) is in
+        let move = idle_move now (actor_at layout (from + k)) (subst (IsIdle now) actor (idle (from + k) (omega arith) (omega (arith, inside)))) in
+        let next : from + k + 1 ≡ from + suc k = omega arith in
+        subst (λ n. IsAfter None first (rounds * actor_count layout + n) now) next (one_more first now now layout rounds (from + k) Idle is (omega (arith, inside, within)) (by k (omega (arith, inside))) move tt)
+
+-- looks for all rounds
+pub in_all : (all now had count more : ℕ) → all ≤ now + more + 1 → now ≤ had + count → all ≤ had + (count + more) + 1
+in_all all now had count more low enough = omega (arith, low, enough)
 
 -- all of a round
 pub whole_round : (first new : PoolView) (rounds count index : ℕ) → index ≡ count → IsAfter None first (rounds * count + index) new → IsAfter None first ((rounds + 1) * count) new
@@ -158,6 +170,13 @@ whole_round first new rounds count index is after = subst (λ n. IsAfter None fi
 -- in a round there is an event more, or these actors were idle
 abbrev pub MoreOrIdle : PoolView → PoolView → ℕ → Type 0
 MoreOrIdle first now index = (length first.history < length now.history) ⊎ ((now ≡ first) × ((k : ℕ) → k < index → IsIdle now (actor_at now.layout k)))
+
+pub none_idle : (p : PoolView) → MoreOrIdle p p 0
+none_idle p = inr (refl, λ k low. let no_one : ⊥ = omega (arith, low) in absurd no_one)
+
+pub still_idle : (first now : PoolView) (from index : ℕ) → AreIdle now from index → MoreOrIdle first now from → MoreOrIdle first now index
+still_idle first now from index idle (inl more) = inl more
+still_idle first now from index idle (inr same) = inr (same.0, λ k low. elim (cases_lt k from) as (λ _. IsIdle now (actor_at now.layout k)) [ inl less ↦ same.1 k less | inr more ↦ idle k (omega (arith, more)) low ])
 
 -- a turn made an event, or its actor was idle
 abbrev pub OneMore : PoolView → PoolView → Actor → Type 0

@@ -27,7 +27,8 @@ use Rattle.tw_pool.specs.History.{HistoryView}
 use Rattle.tw_pool.specs.PoolView.{PoolView, oldest_notice, with_events}
 use Rattle.tw_pool.specs.Turns.{TurnsFree, Issues, Makes, TakesBack, Turns, TurnsUnless, IsOldest, closing_at, instr_after, is_last, issued_to, steps_of}
 use Rattle.tw_in_turn.specs.Drawn.{place_for}
-use Rattle.tw_in_turn.specs.InTurn.{IsReachedWith, Continues, HasDone, IsAfter, IsDrawn, IsIdle, IsLeft, IsMove, IsNext, IsOver, IsWorkOf, actor_from}
+use Rattle.tw_pool.specs.Work.{IsIdle}
+use Rattle.tw_in_turn.specs.InTurn.{IsReachedWith, Continues, HasDone, IsAfter, IsDrawn, IsLeft, IsMove, IsNext, IsOver, IsWorkOf, actor_from}
 use Rattle.tw_in_turn.specs.Same.{AreSameFinals}
 use Rattle.tw_in_turn.specs.declared.run.InTurnResult.TheVariants as left
 

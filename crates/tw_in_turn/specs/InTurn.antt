@@ -1,12 +1,9 @@
 -- A run in one thread. Its actors make steps one after the other: engines, servers, workers, again and again, or in an order that a seed
 -- decides. A job that an actor is issued is run at once, and its `Done` is submitted with the actor's next step.
 use Rattle.std.specs.Prelude.{◌≡◌, ◌<◌, ◌≤◌, ◌+◌, ◌%◌, ℕ, zero, suc, Bool, true, false, length, Option, Some, None}
-use Rattle.std.specs.FinMap.{get}
 use Rattle.tw_types.specs.declared.actor.Actor.{Actor}
-use Rattle.tw_types.specs.declared.event.Event.{Event}
 use Rattle.tw_types.specs.Actor.{actor_at, actor_count}
 use Rattle.tw_types.specs.Layout.{ActorCounts}
-use Rattle.tw_code.specs.machine.Due.{IsDueFree}
 use Rattle.tw_code.specs.machine.State.{State}
 use Rattle.tw_soundness.specs.EndsWell.{EndsWell}
 use Rattle.tw_frame.specs.Jobs.{DoneView, IsDone, JobView}
@@ -17,20 +14,13 @@ use Rattle.tw_pool.specs.declared.answer.Turn.TheVariants.{Over, Foreign, Owed, 
 use Rattle.tw_pool.specs.Ends.{FinalView, IsClosedPool}
 use Rattle.tw_pool.specs.History.{HistoryView}
 use Rattle.tw_pool.specs.PoolView.{PoolView, HasState}
-use Rattle.tw_pool.specs.Turns.{IsTurn, closing_at, issued_to}
+use Rattle.tw_pool.specs.Turns.{IsTurn, issued_to}
+use Rattle.tw_pool.specs.Work.{IsIdle}
 use Rattle.tw_in_turn.specs.Drawn.{place_for}
 use Rattle.tw_in_turn.specs.declared.run.InTurnResult.{InTurnResult}
 use Rattle.tw_in_turn.specs.declared.run.InTurnResult.TheVariants as left
 
 -- ---- the order of steps
-
--- the actor has nothing to do there, and the run isn't over
-pub record IsIdle (p : PoolView) (actor : Actor) : Type 0 where
-  pub state : State
-  pub has_state : HasState p state
-  pub free : get state.frames actor ≡ None
-  pub none_due : (due : Event) → IsDueFree p.layout actor state due → ⊥
-  pub runs_on : closing_at p state ≡ None
 
 -- returns the actor that makes the step after so many, round by round
 abbrev pub actor_after : ActorCounts → ℕ → Actor

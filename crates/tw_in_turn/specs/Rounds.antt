@@ -13,7 +13,8 @@ use Rattle.tw_in_turn.specs.declared.rounds.End.{End}
 use Rattle.tw_in_turn.specs.declared.rounds.End.TheVariants.{Over, NoMemory, Stopped}
 use Rattle.tw_stop.specs.Looks.{looks, noes}
 use Rattle.tw_in_turn.specs.Stopping.{IsReachedAfter, MayExecute, looks_within}
-use Rattle.tw_in_turn.specs.InTurn.{Continues, Has, IsAfter, IsIdle, IsMove, IsOver, IsOutOfMemory}
+use Rattle.tw_pool.specs.Work.{IsIdle}
+use Rattle.tw_in_turn.specs.InTurn.{Continues, Has, IsAfter, IsMove, IsOver, IsOutOfMemory}
 
 -- holds for the reason why no step follows this result, in the pool after it; a stop cuts off the job that was issued
 abbrev pub Ends : End → PoolView → Turn → Type 0
@@ -53,15 +54,15 @@ answers_in (Some Over) count = noes count
 answers_in (Some NoMemory) count = noes count
 answers_in (Some (Stopped cut)) count = looks count true
 
--- holds for the looks in a step of an actor, from the result that it kept to the one that it keeps
+-- holds for the looks in a step of an actor, from the result that it kept to the one that it keeps; there is one more before it
 abbrev pub IsWatched : (List Bool → Type 0) → PoolView → Option DoneView → PoolView → Option DoneView → Option End → Type 0
 IsWatched Looks old given new kept end =
-    (count : ℕ) × Looks (answers_in end count) × (looks_within new.history + owed kept ≤ looks_within old.history + owed given + count)
+    (count : ℕ) × Looks (answers_in end count) × (looks_within new.history + owed kept ≤ looks_within old.history + owed given + count + 1)
 
 -- looks with such answers, and steps up to this pool, after which no step follows for this reason
 abbrev pub EndsBy : (List Bool → Type 0) → Option ℕ → PoolView → List (Option DoneView) → End → PoolView → Type 0
 EndsBy Looks seed first kept end p =
-    (turns : ℕ) × (count : ℕ) × (turns + looks_within p.history ≤ looks_at first kept + count) × Looks (looks count (is_stop end)) × EndsAfter seed first turns end p
+    (turns : ℕ) × (count : ℕ) × (looks_within p.history ≤ looks_at first kept + count + 1) × Looks (looks count (is_stop end)) × EndsAfter seed first turns end p
 
 -- ---- results that are kept
 
@@ -113,12 +114,12 @@ pub record CompletesRound (seed : Option ℕ) (rounds : ℕ) (old new : PoolView
   pub kept_is : AreKept new kept
   pub after : (first : PoolView) → IsAfter seed first (turns_in seed old.layout rounds) old → IsAfter seed first (turns_in seed old.layout (rounds + 1)) new
 
--- holds for the result of a round after so many, with a look before each of its steps at least, and those while tasks ran
+-- holds for the result of a round after so many, with a look for each of its events at least, and those while tasks ran
 abbrev pub IsRoundResult : (List Bool → Type 0) → Option ℕ → ℕ → PoolView → List (Option DoneView) → PoolView → List (Option DoneView) → Option End → Type 0
 IsRoundResult Looks seed rounds old had new kept None =
-    CompletesRound seed rounds old new kept × (count : ℕ) × Looks (noes count) × (turns_in seed old.layout (rounds + 1) + looks_at new kept ≤ turns_in seed old.layout rounds + looks_at old had + count)
+    CompletesRound seed rounds old new kept × (count : ℕ) × Looks (noes count) × (looks_at new kept ≤ looks_at old had + count)
 IsRoundResult Looks seed rounds old had new kept (Some end) =
-    (turns : ℕ) × (count : ℕ) × Looks (looks count (is_stop end)) × (turns + looks_within new.history ≤ turns_in seed old.layout rounds + looks_at old had + count)
+    (turns : ℕ) × (count : ℕ) × Looks (looks count (is_stop end)) × (looks_within new.history ≤ looks_at old had + count + 1)
     × ((first : PoolView) → IsAfter seed first (turns_in seed old.layout rounds) old → EndsAfter seed first turns end new)
 
 -- a pool before its first event, with this number of actors

@@ -1,4 +1,4 @@
--- A run in one thread that looks at a signal before each step and while a task runs, and stops at the first look that says yes.
+-- A run in one thread that looks at a signal before each step that may make an event and while a task runs, and stops at the first look that says yes.
 use Rattle.std.specs.Prelude.{◌≡◌, ◌≤◌, ◌+◌, ◌/◌, ℕ, zero, suc, Bool, true, false, List, Option, sum_by}
 use Rattle.tw_stop.specs.Looks.{looks}
 use Rattle.tw_types.specs.declared.event.Event.{Event}
@@ -29,17 +29,17 @@ cut_of (Stopped final history cut) = cut
 abbrev pub executed_in : StoppableResult → ℕ
 executed_in left = instructions_in (events_of left) + cut_of left
 
--- ---- looks while a task runs
+-- ---- looks at the signal
 
--- returns how many looks there are at least while a task makes an event: one for each 65,536 local instructions
+-- returns how many looks there are at least for an event: one before its step, and for local steps one for each 65,536 while the task runs
 abbrev pub looks_in : Event → ℕ
-looks_in (Take actor) = 0
+looks_in (Take actor) = 1
 looks_in (Local actor steps) = steps / 65536
-looks_in (Call actor) = 0
-looks_in (End actor) = 0
-looks_in (Ask engine rule parameter) = 0
-looks_in (Deliver server datum rule parameter) = 0
-looks_in (Release engine rule) = 0
+looks_in (Call actor) = 1
+looks_in (End actor) = 1
+looks_in (Ask engine rule parameter) = 1
+looks_in (Deliver server datum rule parameter) = 1
+looks_in (Release engine rule) = 1
 
 abbrev pub looks_within : List Event → ℕ
 looks_within events = sum_by looks_in events
@@ -68,11 +68,11 @@ IsLeftAfter seed first turns (Ended (left.Over final history)) = (p : PoolView) 
 IsLeftAfter seed first turns (Ended (left.NoMemory final history)) = (p : PoolView) × IsReachedAfter seed first turns IsOutOfMemory p × IsLeftIn first p final history
 IsLeftAfter seed first turns (Stopped final history cut) = (p : PoolView) × IsAfter seed first turns p × IsLeftIn first p final history × MayExecute p cut
 
--- Holds for a finished run whose looks had these answers: at least one before each step, and those while tasks ran. All say no but the last
--- one, which says whether the run was stopped. If a task was cut off, the step that issued its job is the last one.
+-- Holds for a finished run whose looks had these answers: at least one for each event that isn't local, and those while tasks ran. All say no
+-- but the last one, which says whether the run was stopped. If a task was cut off, the step that issued its job is the last one.
 abbrev pub IsLeftBy : Option ℕ → PoolView → List Bool → StoppableResult → Type 0
 IsLeftBy seed first answers left =
-    (turns : ℕ) × (count : ℕ) × (turns + looks_within (events_of left) ≤ count) × (answers ≡ looks count (is_stopped left)) × IsLeftAfter seed first turns left
+    (turns : ℕ) × (count : ℕ) × (looks_within (events_of left) ≤ count + 1) × (answers ≡ looks count (is_stopped left)) × IsLeftAfter seed first turns left
 
 -- holds for a finished run without its looks: it ended, or it was stopped after so many steps, if that may be
 abbrev pub IsLeftIf : Bool → Option ℕ → PoolView → StoppableResult → Type 0

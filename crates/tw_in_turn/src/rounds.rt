@@ -38,7 +38,7 @@ fn turn_one<'a, S: StopSignal>(
     ensures turned { IsTurned pool.old actor pool.new kept.new result }
     ensures watched { IsWatched (Looked S.says stop.old stop.new) pool.old kept.old pool.new kept.new result }
 {
-    match pool.turn(alloc, actor, kept.take()) {
+    match pool.turn_owed(alloc, actor, kept.take()) {
         Turn::Run(job) => {
             let done = match job.run_until(alloc, stop) {
                 Ok(done) => done,
@@ -58,7 +58,8 @@ fn turn_one<'a, S: StopSignal>(
     }
 }
 
-/// Makes one step for each actor, in their order. Looks at the stop signal before each, and while a task runs.
+/// Makes one step for each actor, in their order. Passes over idle ones, and looks at the stop signal before each other, and while a task
+/// runs.
 fn turn_round<'a, S: StopSignal>(
     alloc: Global,
     pool: &mut Pool<'a>,
@@ -71,7 +72,8 @@ fn turn_round<'a, S: StopSignal>(
     ensures grown { IsGrown pool.old pool.new }
 {
     let layout = pool.layout();
-    for index in 0..layout.actor_count() {
+    let mut from = 0;
+    while let Some(index) = pool.next_busy(from) {
         if stop.is_raised() {
             return Some(End::Stopped(0));
         }
@@ -79,12 +81,13 @@ fn turn_round<'a, S: StopSignal>(
         if let Some(end) = turn_one(alloc, pool, actor, &mut kept[index], stop) {
             return Some(end);
         }
+        from = index + 1;
     }
     None
 }
 
 /// Makes the step of the first actor that isn't idle, from the place on that the seed draws for it, after so many steps. Looks at the
-/// stop signal before each actor.
+/// stop signal before each that may not be.
 fn turn_drawn<'a, S: StopSignal>(
     alloc: Global,
     pool: &mut Pool<'a>,
@@ -103,11 +106,15 @@ fn turn_drawn<'a, S: StopSignal>(
     let first = place_for(seed, steps as u64, count);
     let events = pool.history().len();
     for skipped in 0..count {
+        let index = (first + skipped) % count;
+        let actor = layout.actor_at(index);
+        if pool.is_idle(actor) {
+            continue;
+        }
         if stop.is_raised() {
             return Some(End::Stopped(0));
         }
-        let index = (first + skipped) % count;
-        if let Some(end) = turn_one(alloc, pool, layout.actor_at(index), &mut kept[index], stop) {
+        if let Some(end) = turn_one(alloc, pool, actor, &mut kept[index], stop) {
             return Some(end);
         }
         if events < pool.history().len() {

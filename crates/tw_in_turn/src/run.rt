@@ -68,8 +68,8 @@ fn nothing_kept<'a>(alloc: Global, count: usize) -> Result<Vec<Option<Done<'a>>>
 }
 
 /// Runs a program in this thread: engines, then servers, then workers make one step each, again and again, until the run is
-/// over. A seed decides another order of the steps, the same in each run. Looks at a stop signal before each step, and while a task runs:
-/// once in 65,536 of its local instructions. Stops the run if it is raised.
+/// over. A seed decides another order of the steps, the same in each run. Looks at a stop signal before each step that may make an event,
+/// and while a task runs: once in 65,536 of its local instructions. Stops the run if it is raised.
 pub fn run_until<S: StopSignal>(
     alloc: Global,
     verified: &Verified,

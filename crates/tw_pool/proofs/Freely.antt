@@ -125,18 +125,21 @@ module _ (verified : TypedProgram) (inputs : List Input) (layout : ActorCounts) 
 
   -- ---- a server
 
+  pub deliver_none : (server : ℕ) → queue_at old.store.queues server ≡ [] → (due : Event) → IsDueFree w.layout (Server server) state due → ⊥
+  deliver_none server empty due d = none_there d.notice (sym (h.parts.queued.all d.notice) ∙ d.waits) (own d.notice d.own)
+    where
+      own : (n : Notice) → server_of w.layout.servers n.datum ≡ server → server_of (length old.store.queues) n.datum ≡ server
+      own n e = ap (λ k. server_of k n.datum) (h.parts.servers ∙ ap (λ (x : PoolView). x.layout.servers) seen) ∙ e
+
+      none_there : (n : Notice) → is_among n (queue_at old.store.queues (server_of (length old.store.queues) n.datum)) ≡ true → server_of (length old.store.queues) n.datum ≡ server → ⊥
+      none_there n has at = let no : false ≡ true = sym (ap (λ q. is_among n q) (ap (queue_at old.store.queues) at ∙ empty)) ∙ has in cc
+
   module _ (server : ℕ) (low : server < w.layout.servers) (room : length w.history < w.limit) (free : IsFree w (Server server)) where
     low_here : server < layout.servers
     low_here = subst (λ (x : PoolView). server < x.layout.servers) (sym seen) low
 
     pub deliver_idle : queue_at old.store.queues server ≡ [] → TurnsFree w state (Server server) Idle []
-    deliver_idle empty = inr ((λ due d. none_there d.notice (sym (h.parts.queued.all d.notice) ∙ d.waits) (own d.notice d.own)), (refl, refl))
-      where
-        own : (n : Notice) → server_of w.layout.servers n.datum ≡ server → server_of (length old.store.queues) n.datum ≡ server
-        own n e = ap (λ k. server_of k n.datum) (h.parts.servers ∙ ap (λ (x : PoolView). x.layout.servers) seen) ∙ e
-
-        none_there : (n : Notice) → is_among n (queue_at old.store.queues (server_of (length old.store.queues) n.datum)) ≡ true → server_of (length old.store.queues) n.datum ≡ server → ⊥
-        none_there n has at = let no : false ≡ true = sym (ap (λ q. is_among n q) (ap (queue_at old.store.queues) at ∙ empty)) ∙ has in cc
+    deliver_idle empty = inr (deliver_none server empty, (refl, refl))
 
     module _ (n : Notice) (new : Parts) (makes : Makes verified layout (Deliver server n.datum n.rule n.parameter) old new) where
       goes : Succeeds verified layout (Deliver server n.datum n.rule n.parameter) old h.notices new

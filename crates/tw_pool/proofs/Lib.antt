@@ -10,3 +10,4 @@ mod Freely
 mod Handing
 mod Turning
 mod Working
+mod Idling

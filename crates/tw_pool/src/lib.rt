@@ -5,6 +5,7 @@ mod answer;
 mod ends;
 mod events;
 mod history;
+mod idle;
 mod open;
 mod pending;
 mod pool;

@@ -149,6 +149,23 @@ impl<'a> Pool<'a> {
         self.history.has_room_for_one()
     }
 
+    /// Completes the job that is issued to the actor, of which the result is. Makes no comparison.
+    pub(crate) fn complete(&mut self, alloc: Global, actor: Actor, done: Done<'a>) -> Turn<'a>
+        requires actor { is_in self.old.layout actor ≡ true }
+        requires room { length self.old.history < self.old.limit }
+        requires owed { IsOwedBy self.old actor done }
+        requires program { done.before.program ≡ self.old.program }
+        ensures { IsTurnBy (λ s. Turns self.old s actor (issued_to self.old s actor) (Some done.entry)) self.old result self.new }
+    {
+        if done.short() {
+            return self.continue_task(actor, done);
+        }
+        if self.is_last(&done) {
+            return self.stop_at_limit(actor, done);
+        }
+        self.execute_next(alloc, actor, done)
+    }
+
     /// Completes the job that is issued to the actor. Returns a result as foreign if no job is issued to the actor, or another one.
     pub(crate) fn submit(&mut self, alloc: Global, actor: Actor, done: Done<'a>) -> Turn<'a>
         requires actor { is_in self.old.layout actor ≡ true }
@@ -162,12 +179,6 @@ impl<'a> Pool<'a> {
         if !frame.is_current(done.before()) {
             return Turn::Foreign(done);
         }
-        if done.short() {
-            return self.continue_task(actor, done);
-        }
-        if self.is_last(&done) {
-            return self.stop_at_limit(actor, done);
-        }
-        self.execute_next(alloc, actor, done)
+        self.complete(alloc, actor, done)
     }
 }

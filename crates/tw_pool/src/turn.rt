@@ -6,6 +6,7 @@ ghost use Rattle.tw_types.specs.Actor.{is_in};
 ghost use Rattle.tw_code.specs.machine.Ending.{ending};
 ghost use Rattle.tw_code.specs.machine.State.{State};
 ghost use Rattle.tw_pool_state.specs.RunningTasks.{HasSlot};
+ghost use Rattle.tw_pool.specs.Kept.{IsOwedBy};
 ghost use Rattle.tw_pool.specs.PoolView.{HasState};
 ghost use Rattle.tw_pool.specs.Turns.{IsTurn, closing_at, closing_of};
 
@@ -27,7 +28,7 @@ fn closing_of(ending: Ending) -> Closing
 }
 
 /// Returns whether the actor has a task in the pool. Its job is then always issued.
-fn has_task(parts: &Parts<'_>, actor: Actor) -> bool
+pub(crate) fn has_task(parts: &Parts<'_>, actor: Actor) -> bool
     requires { HasSlot actor }
     ensures { MatchBool result (IsSome (get parts.now.running_tasks.tasks actor)) (get parts.now.running_tasks.tasks actor ≡ None) }
 {
@@ -77,6 +78,28 @@ impl<'a> Pool<'a> {
         }
         match given {
             Some(done) => self.submit(alloc, actor, done),
+            None => {
+                if has_task(&self.parts, actor) {
+                    Turn::Owed
+                } else {
+                    self.schedule(alloc, actor)
+                }
+            }
+        }
+    }
+
+    /// Like `turn`, with a result of the job that is issued to the actor, or none. Doesn't compare it with that job.
+    pub fn turn_owed(&mut self, alloc: Global, actor: Actor, given: Option<Done<'a>>) -> Turn<'a>
+        requires actor { is_in self.old.layout actor ≡ true }
+        requires owed { IfSome given (λ d. IsOwedBy self.old actor d) }
+        requires program { IfSome given (λ d. d.before.program ≡ self.old.program) }
+        ensures { IsTurn self.old actor given.entry result self.new }
+    {
+        if let Some(closing) = self.closing() {
+            return Turn::Over(closing);
+        }
+        match given {
+            Some(done) => self.complete(alloc, actor, done),
             None => {
                 if has_task(&self.parts, actor) {
                     Turn::Owed

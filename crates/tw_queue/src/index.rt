@@ -1,6 +1,6 @@
 //! The order of waiting tasks: a rank (priority, number, slot) for each.
 
-ghost use Rattle.std.specs.Prelude.{◌≡◌, ℕ, [], IfNone, IfOk, IfSome, IsOk, OnErr, OnOk, false, true};
+ghost use Rattle.std.specs.Prelude.{◌≡◌, ℕ, [], IfNone, IfOk, IfSome, IsOk, None, OnErr, OnOk, false, true};
 ghost use Rattle.tw_types.specs.declared.actor.Kind.{Kind};
 ghost use Rattle.tw_queue.specs.RankIndex.{ranks_of, has_room_for, IsRankBest, IsRankAdded, IsRankRemoved, KeepsRoom};
 ghost use Rattle.tw_queue.specs.Queues.{IsTarget, queue_of};
@@ -99,6 +99,18 @@ impl RankIndex {
         match kind {
             Kind::Control => self.control.has_untargeted(),
             Kind::Leaf => self.leaf.has_untargeted(),
+        }
+    }
+
+    /// Returns whether the index has a rank among tasks that the actor may take.
+    #[inline(always)]
+    pub fn has_any(&self, actor: Actor) -> bool
+        ensures { result ≡ false → IsRankBest actor (ranks_of self.now) None }
+    {
+        match actor {
+            Actor::Engine(number) => self.control.has_any(number),
+            Actor::Worker(number) => self.leaf.has_any(number),
+            Actor::Server(_) => false,
         }
     }
 }

@@ -146,6 +146,14 @@ impl TaskQueues {
         Some(task)
     }
 
+    /// Returns whether a task is in the pool's queues that the actor may take.
+    #[inline(always)]
+    pub fn has_any(&self, actor: Actor) -> bool
+        ensures { result ≡ false → best actor self.now.tasks ≡ None }
+    {
+        self.index.has_any(actor)
+    }
+
     /// Returns whether a task waits that only this actor may take.
     pub fn has_targeted(&self, actor: Actor) -> bool
         ensures { result ≡ false → IsNoTarget actor self.now.tasks }

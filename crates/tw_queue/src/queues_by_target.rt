@@ -1,6 +1,6 @@
 //! The ranks of the tasks of one kind.
 
-ghost use Rattle.std.specs.Prelude.{◌≡◌, ◌<◌, ◌≤◌, [], IsOk, IfOk, IfSome, IfNone, OnOk, OnErr, replicate, false, true};
+ghost use Rattle.std.specs.Prelude.{◌≡◌, ◌<◌, ◌≤◌, [], IsOk, IfOk, IfSome, IfNone, None, OnOk, OnErr, replicate, false, true};
 ghost use Rattle.tw_queue.specs.QueuesByTarget.{ranks_at, AreRoomsKept, IsPushed, IsFirstAt, IsBestQueue, IsBest, IsTaken};
 ghost use Rattle.tw_queue.specs.Queues.{queue_of, room_at};
 
@@ -87,6 +87,27 @@ impl QueuesByTarget {
         let (index, _) = self.best_queue(number)?;
         let queue = &mut self.queues[index];
         queue.pop()
+    }
+
+    /// Returns whether one of the two run queues from which an actor of this number takes has a rank.
+    #[inline(always)]
+    pub fn has_any(&self, number: u8) -> bool
+        ensures { result ≡ false → IsBest number (ranks_at self.now.queues) None }
+    {
+        self.has_at(QueuesByTarget::ANY) || self.has_at(usize::from(number))
+    }
+
+    /// Returns whether the run queue at an index has a rank.
+    #[inline(always)]
+    fn has_at(&self, index: usize) -> bool
+        ensures { result ≡ false → ranks_at self.now.queues index ≡ [] }
+    {
+        if index < self.queues.len() {
+            let queue = &self.queues[index];
+            !queue.is_empty()
+        } else {
+            false
+        }
     }
 
     /// Returns whether the run queue of this target has a rank.

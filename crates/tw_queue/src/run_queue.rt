@@ -75,6 +75,14 @@ impl RunQueue {
         Ok(())
     }
 
+    /// Returns whether a run queue has no rank.
+    #[inline(always)]
+    pub fn is_empty(&self) -> bool
+        ensures { result ≡ true → self.now.ranks ≡ [] }
+    {
+        self.run.is_empty() && self.rest.is_empty()
+    }
+
     /// Returns the first rank of a run queue: the greatest.
     pub fn first(&self) -> Option<Rank>
         ensures { IsFirst self.now.ranks result }

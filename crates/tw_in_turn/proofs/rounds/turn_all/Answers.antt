@@ -1,4 +1,4 @@
-use Rattle.std.proofs.Common.{◌≡◌, ◌≤◌, ◌+◌, ℕ, Option, Some, None, arith, refl, subst, sym}
+use Rattle.std.proofs.Common.{◌≡◌, ◌+◌, ℕ, Option, Some, None, arith, refl, subst, sym}
 use Rattle.std.proofs.Math.Nat.{zero-mul}
 use Rattle.tw_types.specs.Actor.{actor_count}
 use Rattle.tw_types.specs.Layout.{ActorCounts}
@@ -21,7 +21,7 @@ loop-rounds-init g c = record {
   kept_is = c.requires.kept;
   after = subst (λ n. IsAfter c.args.seed c.args.pool.now n c.args.pool.now) (sym (none_yet c.args.seed c.args.pool.now.layout)) refl;
   many = omega arith;
-  looked = (0, refl, (let none = none_yet c.args.seed c.args.pool.now.layout in omega (arith, none)));
+  looked = (0, refl, omega arith);
 }
 
 pub turn_next-requires-clause-may : goal.turn_next-requires-clause-may
@@ -38,8 +38,7 @@ returns-in-Some-clause-ends g c =
     let seen = inv.looked in (
       round.0,
       seen.0 + round.1,
-      rounding.in_all round.0 (turns_in seed first.layout c.loop-rounds.rounds) (looks_within c.turn_next.new.pool.history) (looks_at now c.loop-rounds.kept) (looks_at first c.args.kept.now) seen.0 round.1
-          (subst (λ (l : ActorCounts). round.0 + looks_within c.turn_next.new.pool.history ≤ turns_in seed l c.loop-rounds.rounds + looks_at now c.loop-rounds.kept + round.1) same round.3) seen.2,
+      rounding.in_all (looks_within c.turn_next.new.pool.history) (looks_at now c.loop-rounds.kept) (looks_at first c.args.kept.now) seen.0 round.1 round.3 seen.2,
       more_looks g.S.StopSignal.says c.args.stop.now c.loop-rounds.stop c.turn_next.new.stop seen.0 round.1 (is_stop c.in-Some.end) seen.1 round.2,
       round.4 first (subst (λ (l : ActorCounts). IsAfter seed first (turns_in seed l c.loop-rounds.rounds) now) (sym same) inv.after),
     )
@@ -66,8 +65,7 @@ loop-rounds-preserved g c =
           let seen = inv.looked in (
             seen.0 + around.1,
             more_noes g.S.StopSignal.says c.args.stop.now c.loop-rounds.stop c.turn_next.new.stop seen.0 around.1 seen.1 around.2,
-            rounding.in_all (turns_in seed first.layout (c.loop-rounds.rounds + 1)) (turns_in seed first.layout c.loop-rounds.rounds) (looks_at new c.turn_next.new.kept) (looks_at now c.loop-rounds.kept) (looks_at first c.args.kept.now) seen.0 around.1
-                (subst (λ (l : ActorCounts). turns_in seed l (c.loop-rounds.rounds + 1) + looks_at new c.turn_next.new.kept ≤ turns_in seed l c.loop-rounds.rounds + looks_at now c.loop-rounds.kept + around.1) same around.3) seen.2,
+            omega (arith, around.3, seen.2),
           );
     }
 

@@ -10,5 +10,5 @@ invariant-loop-rounds g l = record {
   kept_is : AreKept l.pool l.kept;
   after : IsAfter l.fn.seed l.fn.pool (turns_in l.fn.seed l.fn.pool.layout l.rounds) l.pool;
   many : l.rounds ≤ length l.pool.history;
-  looked : (count : ℕ) × Looked g.S.StopSignal.says l.fn.stop l.stop (noes count) × (turns_in l.fn.seed l.fn.pool.layout l.rounds + looks_at l.pool l.kept ≤ looks_at l.fn.pool l.fn.kept + count);
+  looked : (count : ℕ) × Looked g.S.StopSignal.says l.fn.stop l.stop (noes count) × (looks_at l.pool l.kept ≤ looks_at l.fn.pool l.fn.kept + count);
 }

@@ -5,7 +5,8 @@ use Rattle.tw_frame.specs.Jobs.{DoneView}
 use Rattle.tw_stop.specs.Looks.{Looked}
 use Rattle.tw_stop.proofs.Looking.{last_look}
 use Rattle.tw_pool.specs.PoolView.{PoolView}
-use Rattle.tw_in_turn.specs.InTurn.{IsAfter, IsIdle}
+use Rattle.tw_pool.specs.Work.{IsIdle}
+use Rattle.tw_in_turn.specs.InTurn.{IsAfter}
 use Rattle.tw_in_turn.specs.Rounds.{IsTurned, IsWatched, Keeps, MayTurn, looks_at}
 use Rattle.tw_in_turn.specs.Stopping.{looks_within}
 use Rattle.tw_in_turn.specs.declared.rounds.End.{End}
@@ -21,11 +22,11 @@ returns-in-Some-clause-round g c =
     let now = c.loop-skipped.pool in
     let inv = c.loop-skipped.invariant in
     let new = c.turn_one.new.pool in
-    let actor = c.actor_at.result in
+    let actor = c.actor_at-actor.result in
     let t = c.in-Some.ensures.turned in
     let end = c.in-Some.end in
     let same = c.layout-layout.ensures ∙ sym (ap (λ (p : PoolView). p.layout) inv.same) in
-    let low = drawing.index_inside c.args.seed c.args.steps now c.layout-layout.result c.actor_count-count.result c.place_for-first.result c.loop-skipped.skipped actor same c.actor_count-count.ensures.is c.place_for-first.ensures.place c.actor_at.ensures.is c.place_for-first.ensures.inside in
+    let low = drawing.index_inside c.args.seed c.args.steps now c.layout-layout.result c.actor_count-count.result c.place_for-first.result c.loop-skipped.skipped actor same c.actor_count-count.ensures.is c.place_for-first.ensures.place c.actor_at-actor.ensures.is c.place_for-first.ensures.inside in
     let Says = g.S.StopSignal.says in
     let denied : Says c.loop-skipped.stop false c.is_raised.new.self = subst (λ b. Says c.loop-skipped.stop b c.is_raised.new.self) c.if-is_raised.false c.is_raised.ensures in
     let seen = inv.looked in
@@ -34,7 +35,7 @@ returns-in-Some-clause-round g c =
       with_last end c.args.steps,
       with_last end (seen.0 + watched.0),
       watching.last_looks Says c.args.stop.now c.loop-skipped.stop c.is_raised.new.self c.turn_one.new.stop seen.0 watched.0 seen.1 denied end watched.1,
-      watching.drawn_last end c.args.steps (looks_within new.history) (looks_at c.args.pool.now c.args.kept.now) (seen.0 + watched.0) (omega (arith, seen.2, more)),
+      watching.last_enough end (looks_within new.history) (looks_at c.args.pool.now c.args.kept.now) (seen.0 + watched.0) (omega (arith, seen.2, more)),
       λ start after. ends_after (Some c.args.seed) start c.args.steps end new (
         record {
           turns = c.args.steps;
@@ -42,7 +43,7 @@ returns-in-Some-clause-round g c =
           after = subst (λ (p : PoolView). IsAfter (Some c.args.seed) start c.args.steps p) (sym inv.same) after;
           actor = actor;
           next = drawing.drawn_at c.args.seed c.args.steps now c.layout-layout.result c.actor_count-count.result c.place_for-first.result c.loop-skipped.skipped actor same c.actor_count-count.ensures.is
-              c.place_for-first.ensures.place c.actor_at.ensures.is inv.idle (drawing.busy_at_end end now new actor t.answer t.move t.comes);
+              c.place_for-first.ensures.place c.actor_at-actor.ensures.is inv.idle (drawing.busy_at_end end now new actor t.answer t.move t.comes);
           answer = t.answer;
           last = t.move;
           is = t.comes;
@@ -60,7 +61,7 @@ returns-then-is_raised-clause-round g c =
       c.args.steps,
       seen.0,
       last_look Says c.args.stop.now c.loop-skipped.stop c.is_raised.new.self seen.0 true seen.1 yes,
-      omega (arith, seen.2),
+      watching.without_kept c.loop-skipped.pool c.loop-skipped.kept (looks_at c.args.pool.now c.args.kept.now) seen.0 seen.2,
       λ start after. (subst (λ (p : PoolView). IsAfter (Some c.args.seed) start c.args.steps p) (sym inv.same) after, tt),
     )
 
@@ -70,7 +71,7 @@ returns-then-events-len-clause-round g c =
     let now = c.loop-skipped.pool in
     let inv = c.loop-skipped.invariant in
     let new = c.turn_one.new.pool in
-    let actor = c.actor_at.result in
+    let actor = c.actor_at-actor.result in
     let t = subst (λ (o : Option End). IsTurned now actor new c.turn_one.new.kept o) c.in_default.is c.turn_one.ensures.turned in
     let same = c.layout-layout.ensures ∙ sym (ap (λ (p : PoolView). p.layout) inv.same) in
     let many = c.actor_count-count.ensures.is in
@@ -79,9 +80,9 @@ returns-then-events-len-clause-round g c =
     let after : c.len.result ≡ length new.history = c.len.ensures ∙ ap (λ es. length es) c.history-in-loop-skipped.ensures.events in
     let more : length first.history < length new.history = omega (arith, before, after, c.if-events-len.true) in
     let more_now : length now.history < length new.history = subst (λ (p : PoolView). length p.history < length new.history) (sym inv.same) more in
-    let actor_now = drawing.at_index c.args.seed c.args.steps now c.layout-layout.result c.actor_count-count.result c.place_for-first.result c.loop-skipped.skipped actor same many at_place c.actor_at.ensures.is in
-    let low = drawing.index_inside c.args.seed c.args.steps now c.layout-layout.result c.actor_count-count.result c.place_for-first.result c.loop-skipped.skipped actor same many at_place c.actor_at.ensures.is c.place_for-first.ensures.inside in
-    let drawn = drawing.drawn_at c.args.seed c.args.steps now c.layout-layout.result c.actor_count-count.result c.place_for-first.result c.loop-skipped.skipped actor same many at_place c.actor_at.ensures.is inv.idle
+    let actor_now = drawing.at_index c.args.seed c.args.steps now c.layout-layout.result c.actor_count-count.result c.place_for-first.result c.loop-skipped.skipped actor same many at_place c.actor_at-actor.ensures.is in
+    let low = drawing.index_inside c.args.seed c.args.steps now c.layout-layout.result c.actor_count-count.result c.place_for-first.result c.loop-skipped.skipped actor same many at_place c.actor_at-actor.ensures.is c.place_for-first.ensures.inside in
+    let drawn = drawing.drawn_at c.args.seed c.args.steps now c.layout-layout.result c.actor_count-count.result c.place_for-first.result c.loop-skipped.skipped actor same many at_place c.actor_at-actor.ensures.is inv.idle
     (drawing.busy_if_more now new actor t.answer t.move more_now) in
     let Says = g.S.StopSignal.says in
     let denied : Says c.loop-skipped.stop false c.is_raised.new.self = subst (λ b. Says c.loop-skipped.stop b c.is_raised.new.self) c.if-is_raised.false c.is_raised.ensures in
@@ -106,7 +107,7 @@ loop-skipped-preserved g c =
     let now = c.loop-skipped.pool in
     let inv = c.loop-skipped.invariant in
     let new = c.turn_one.new.pool in
-    let actor = c.actor_at.result in
+    let actor = c.actor_at-actor.result in
     let t = subst (λ (o : Option End). IsTurned now actor new c.turn_one.new.kept o) c.in_default.is c.turn_one.ensures.turned in
     let same = c.layout-layout.ensures ∙ sym (ap (λ (p : PoolView). p.layout) inv.same) in
     let many = c.actor_count-count.ensures.is in
@@ -115,9 +116,9 @@ loop-skipped-preserved g c =
     let after : c.len.result ≡ length new.history = c.len.ensures ∙ ap (λ es. length es) c.history-in-loop-skipped.ensures.events in
     let earlier : length now.history ≡ length first.history = ap (λ (p : PoolView). length p.history) inv.same in
     let still = drawing.only_idle now new actor (t.more t.comes.0) (omega (arith, before, after, earlier, c.if-events-len.false)) in
-    let actor_now = drawing.at_index c.args.seed c.args.steps now c.layout-layout.result c.actor_count-count.result c.place_for-first.result c.loop-skipped.skipped actor same many at_place c.actor_at.ensures.is in
-    let low = drawing.index_inside c.args.seed c.args.steps now c.layout-layout.result c.actor_count-count.result c.place_for-first.result c.loop-skipped.skipped actor same many at_place c.actor_at.ensures.is c.place_for-first.ensures.inside in
-    let from = drawing.from_first c.args.seed c.args.steps now c.layout-layout.result c.actor_count-count.result c.place_for-first.result c.loop-skipped.skipped actor same many at_place c.actor_at.ensures.is in
+    let actor_now = drawing.at_index c.args.seed c.args.steps now c.layout-layout.result c.actor_count-count.result c.place_for-first.result c.loop-skipped.skipped actor same many at_place c.actor_at-actor.ensures.is in
+    let low = drawing.index_inside c.args.seed c.args.steps now c.layout-layout.result c.actor_count-count.result c.place_for-first.result c.loop-skipped.skipped actor same many at_place c.actor_at-actor.ensures.is c.place_for-first.ensures.inside in
+    let from = drawing.from_first c.args.seed c.args.steps now c.layout-layout.result c.actor_count-count.result c.place_for-first.result c.loop-skipped.skipped actor same many at_place c.actor_at-actor.ensures.is in
     let Says = g.S.StopSignal.says in
     let denied : Says c.loop-skipped.stop false c.is_raised.new.self = subst (λ b. Says c.loop-skipped.stop b c.is_raised.new.self) c.if-is_raised.false c.is_raised.ensures in
     let seen = inv.looked in
@@ -134,6 +135,19 @@ loop-skipped-preserved g c =
         watching.more_noes_again Says c.args.stop.now c.loop-skipped.stop c.is_raised.new.self c.turn_one.new.stop seen.0 watched.0 seen.1 denied watched.1,
         omega (arith, seen.2, again),
       );
+    }
+
+pub loop-skipped-preserved-then-is_idle : goal.loop-skipped-preserved-then-is_idle
+loop-skipped-preserved-then-is_idle g c =
+    let now = c.loop-skipped.pool in
+    let inv = c.loop-skipped.invariant in
+    let same = c.layout-layout.ensures ∙ sym (ap (λ (p : PoolView). p.layout) inv.same) in
+    let from = drawing.from_first c.args.seed c.args.steps now c.layout-layout.result c.actor_count-count.result c.place_for-first.result c.loop-skipped.skipped c.actor_at-actor.result same c.actor_count-count.ensures.is c.place_for-first.ensures.place c.actor_at-actor.ensures.is in
+    record {
+      same = inv.same;
+      kept_is = inv.kept_is;
+      idle = drawing.idle_again now now c.place_for-first.result c.loop-skipped.skipped refl inv.idle (subst (λ (a : Actor). IsIdle now a) from (c.if-is_idle.ensures refl));
+      looked = inv.looked;
     }
 
 pub unreachable-requires : goal.unreachable-requires

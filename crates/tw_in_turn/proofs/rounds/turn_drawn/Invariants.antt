@@ -1,6 +1,7 @@
 use Rattle.std.proofs.Common.{◌≡◌, ◌<◌, ◌≤◌, ◌+◌, ℕ}
 use Rattle.tw_stop.specs.Looks.{Looked, noes}
-use Rattle.tw_in_turn.specs.InTurn.{IsIdle, actor_from}
+use Rattle.tw_pool.specs.Work.{IsIdle}
+use Rattle.tw_in_turn.specs.InTurn.{actor_from}
 use Rattle.tw_in_turn.specs.Rounds.{AreKept, looks_at}
 use Rattle.tw_in_turn.proofs.rounds.turn_drawn.Given as goal
 

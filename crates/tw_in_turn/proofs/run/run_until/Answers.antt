@@ -22,7 +22,7 @@ pub returns-in-Over-clause-left : goal.returns-in-Over-clause-left
 returns-in-Over-clause-left g c =
     let p = c.turn_all-end.new.pool in
     let ends = c.in-Over.ensures.ends in
-    let watched = all_looks c.in_ok-pool.pool p c.as_mut_slice.result.now c.shut-outcome-2.result.1 ends.0 ends.1 (ap (λ (q : PoolView). q.history) c.in_ok-pool.ensures.opened) (ap all_owed c.as_mut_slice.ensures.value ∙ c.in-Ok.ensures.nothing) c.shut-outcome-2.ensures.left.events ends.2 in
+    let watched = all_looks c.in_ok-pool.pool p c.as_mut_slice.result.now c.shut-outcome-2.result.1 ends.1 (ap (λ (q : PoolView). q.history) c.in_ok-pool.ensures.opened) (ap all_owed c.as_mut_slice.ensures.value ∙ c.in-Ok.ensures.nothing) c.shut-outcome-2.ensures.left.events ends.2 in
     let left = left_over c.in_ok-pool.pool (opened c.args.verified.now c.args.inputs.now c.args.layout c.args.limit) p c.shut-outcome-2.result.0 c.shut-outcome-2.result.1 c.in_ok-pool.ensures.opened c.args.seed ends.0 refl ends.4 c.turn_all-end.ensures.grown c.shut-outcome-2.ensures.left c.shut-outcome-2.ensures.ends_well in
     (looks ends.1 false, ends.3, (ends.0, ends.1, watched, refl, left))
 
@@ -31,7 +31,7 @@ returns-in-NoMemory-clause-left g c =
     let p = c.turn_all-end.new.pool in
     let first = opened c.args.verified.now c.args.inputs.now c.args.layout c.args.limit in
     let ends = c.in-NoMemory.ensures.ends in
-    let watched = all_looks c.in_ok-pool.pool p c.as_mut_slice.result.now c.shut-outcome-2.result.1 ends.0 ends.1 (ap (λ (q : PoolView). q.history) c.in_ok-pool.ensures.opened) (ap all_owed c.as_mut_slice.ensures.value ∙ c.in-Ok.ensures.nothing) c.shut-outcome-2.ensures.left.events ends.2 in
+    let watched = all_looks c.in_ok-pool.pool p c.as_mut_slice.result.now c.shut-outcome-2.result.1 ends.1 (ap (λ (q : PoolView). q.history) c.in_ok-pool.ensures.opened) (ap all_owed c.as_mut_slice.ensures.value ∙ c.in-Ok.ensures.nothing) c.shut-outcome-2.ensures.left.events ends.2 in
     let comes = subst (λ (q : PoolView). IsReachedAfter c.args.seed q ends.0 IsOutOfMemory p) c.in_ok-pool.ensures.opened ends.4 in
     let left = left_in c.in_ok-pool.pool first p c.shut-outcome-2.result.0 c.shut-outcome-2.result.1 c.in_ok-pool.ensures.opened c.turn_all-end.ensures.grown c.shut-outcome-2.ensures.left c.shut-outcome-2.ensures.ends_well in
     (looks ends.1 false, ends.3, (ends.0, ends.1, watched, refl, (p, comes, left)))
@@ -41,7 +41,7 @@ returns-clause-left g c =
     let p = c.turn_all-end.new.pool in
     let first = opened c.args.verified.now c.args.inputs.now c.args.layout c.args.limit in
     let ends = c.in-Stopped.ensures.ends in
-    let watched = all_looks c.in_ok-pool.pool p c.as_mut_slice.result.now c.shut-outcome-2.result.1 ends.0 ends.1 (ap (λ (q : PoolView). q.history) c.in_ok-pool.ensures.opened) (ap all_owed c.as_mut_slice.ensures.value ∙ c.in-Ok.ensures.nothing) c.shut-outcome-2.ensures.left.events ends.2 in
+    let watched = all_looks c.in_ok-pool.pool p c.as_mut_slice.result.now c.shut-outcome-2.result.1 ends.1 (ap (λ (q : PoolView). q.history) c.in_ok-pool.ensures.opened) (ap all_owed c.as_mut_slice.ensures.value ∙ c.in-Ok.ensures.nothing) c.shut-outcome-2.ensures.left.events ends.2 in
     let after = subst (λ (q : PoolView). IsAfter c.args.seed q ends.0 p) c.in_ok-pool.ensures.opened ends.4.0 in
     let left = left_in c.in_ok-pool.pool first p c.shut-outcome-2.result.0 c.shut-outcome-2.result.1 c.in_ok-pool.ensures.opened c.turn_all-end.ensures.grown c.shut-outcome-2.ensures.left c.shut-outcome-2.ensures.ends_well in
     (looks ends.1 true, ends.3, (ends.0, ends.1, watched, refl, (p, after, left, ends.4.1)))
