@@ -1,5 +1,5 @@
 -- The events that a seat gets from a batch.
-use Rattle.std.proofs.Common.{◌≡◌, ◌+◌, ◌*◌, ◌<◌, ◌≤◌, ℕ, zero, suc, Bool, true, false, not, refl, sym, ap, subst, ◌∙◌, arith, List, [], ◌∷◌, ◌++◌, append_assoc, length, length-append, slice_get, Option, Some, None, Result, Ok, Err, drop, ◌⊎◌, inl, inr}
+use Rattle.std.proofs.Common.{◌≡◌, ◌+◌, ◌*◌, ◌<◌, ◌≤◌, ℕ, zero, suc, Bool, true, false, not, refl, sym, ap, subst, ◌∙◌, arith, List, [], ◌∷◌, ◌++◌, append_assoc, length, length-append, slice_get, Option, Some, None, IfSome, Result, Ok, Err, drop, ◌⊎◌, inl, inr}
 use Rattle.std.specs.Prelude.{IsSomeAnd, is_some}
 use Rattle.std.proofs.lemmas.List.{drop_at}
 use Rattle.std.proofs.lemmas.List.Elements.{filter-append}
@@ -28,12 +28,14 @@ use Rattle.tw_verify.specs.Typed.{TypedProgram, typings_of}
 use Rattle.tw_pool.specs.declared.answer.Turn.{Turn}
 use Rattle.tw_pool.specs.declared.answer.Turn.TheVariants as turn
 use Rattle.tw_pool.specs.Actors.{events_of, same_actor}
+use Rattle.tw_pool.specs.Kept.{IsOwedBy}
 use Rattle.tw_pool.specs.PoolView.{PoolView, with_events}
 use Rattle.tw_pool.specs.Turns.{IsTurn}
 use Rattle.tw_host.specs.Holds.{SeesTurns, AreTurns, HasNextResult, IsBrief, RunsHere, SomeTurns, SeesUpTo, IsAtStop, few_instructions}
 use Rattle.tw_host.specs.Run.{Run, run_of}
 use Rattle.tw_host.specs.Sees.{IsAnswerOf, IsDoneOf, SomeTurn, Sees, TurnsOrNot}
 use Rattle.tw_host.specs.declared.locked.Strange.{Strange}
+use Rattle.tw_host.proofs.Owning.{owed_after}
 use Rattle.tw_host.proofs.Turning as turning
 
 -- ---- a job whose next instruction isn't local
@@ -112,6 +114,19 @@ next_done program (turn.Run job) next is on = subst (λ (o : Option DoneView). I
 next_done program turn.Ended next is on = subst (λ (o : Option DoneView). IsDoneOf program o) (sym on) tt
 next_done program turn.Went next is on = subst (λ (o : Option DoneView). IsDoneOf program o) (sym on) tt
 next_done program turn.Idle next is on = absurd on
+
+pub next_owed : (old new : PoolView) (actor : Actor) (given : Option DoneView) (answer : Turn) (next : Option DoneView) → IsTurn old actor given answer new → IsDoneOf old.program given → HasNextResult answer next → IfSome next (λ done. IsOwedBy new actor done)
+next_owed old new actor given answer next t d on = by answer refl on
+  where
+    by : (a : Turn) → answer ≡ a → HasNextResult a next → IfSome next (λ done. IsOwedBy new actor done)
+    by (turn.Over closing) is on = absurd on
+    by (turn.Foreign done) is on = absurd on
+    by turn.Owed is on = absurd on
+    by (turn.NoMemory given) is on = absurd on
+    by (turn.Run job) is on = subst (λ (o : Option DoneView). IfSome o (λ done. IsOwedBy new actor done)) (sym on.1.1) (owed_after old new actor given answer t d job is on.1.0 on.1.2)
+    by turn.Ended is on = subst (λ (o : Option DoneView). IfSome o (λ done. IsOwedBy new actor done)) (sym on) tt
+    by turn.Went is on = subst (λ (o : Option DoneView). IfSome o (λ done. IsOwedBy new actor done)) (sym on) tt
+    by turn.Idle is on = absurd on
 
 -- the events that several steps append
 pub record Adds (old new : PoolView) (actor : Actor) (answer : Turn) (count : ℕ) : Type 0 where

@@ -41,8 +41,14 @@ abbrev pub IsOther : List SeatEvents → Actor → List Event → List Event →
 IsOther seats actor list history =
     (Contains seats (seen_by actor list) × (list ≢ events_of actor history)) ⊎ (NoneOf actor (map (λ s. s.actor) seats) × (list ≡ []))
 
-pub record IsDiffering (layout : ActorCounts) (seats : List SeatEvents) (actor : Actor) (list : List Event) (history : HistoryView) : Type 0 where
-  pub of_layout : is_in layout actor ≡ true
+-- A pool of the run was closed, but the seat of this actor doesn't fit its events.
+pub record IsDiffering (run : Run) (seats : List SeatEvents) (actor : Actor) (list : List Event) (history : HistoryView) : Type 0 where
+  pub pool : PoolView
+  pub of_run : run_of pool ≡ run
+  pub within : length pool.history ≤ run.limit
+  pub final : FinalView
+  pub shut : IsClosedPool pool final history
+  pub of_layout : is_in run.layout actor ≡ true
   pub other : IsOther seats actor list history.events
   pub together : Together seats history.events
 
@@ -58,4 +64,4 @@ IsDifference seats (Differs actor list history) = Contains seats (seen_by actor 
 -- holds for the result of closing a run with these seats
 abbrev pub Closes : Run → List SeatEvents → Closed → Type 0
 Closes run seats (Ended history final by_seat) = IsEnded run seats (map (λ v. v.items) by_seat.items) final history
-Closes run seats (Differs actor list history) = IsDiffering run.layout seats actor list.items history
+Closes run seats (Differs actor list history) = IsDiffering run seats actor list.items history

@@ -119,7 +119,7 @@ fn next_result<'a>(alloc: Global, answer: Turn<'a>) -> Result<Option<Done<'a>>, 
 }
 
 /// Makes at most `most` turns of an actor under the host's lock. Ends earlier with a job that isn't to be run under the lock, or
-/// with a result that has no next turn.
+/// with a result that has no next turn. Only the first turn compares its result with the issued job.
 pub(crate) fn take_turns<'a>(
     pool: &mut Pool<'a>,
     alloc: Global,
@@ -132,16 +132,15 @@ pub(crate) fn take_turns<'a>(
     requires program { IsDoneOf pool.old.program given }
     ensures { (before : List ATurn) × (length before < most) × AreTurns pool.old actor given.entry before result pool.new }
 {
-    let mut given = given;
+    let mut answer = pool.turn(alloc, actor, given);
     for made in 1..most {
-        let answer = pool.turn(alloc, actor, given.take());
         if made >= ENOUGH_TURNS && has_ended(&answer) {
             return answer;
         }
         match next_result(alloc, answer) {
-            Ok(next) => given = next,
-            Err(answer) => return answer,
+            Ok(next) => answer = pool.turn_owed(alloc, actor, next),
+            Err(last) => return last,
         }
     }
-    pool.turn(alloc, actor, given)
+    answer
 }

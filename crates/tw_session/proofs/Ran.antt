@@ -20,7 +20,9 @@ use Rattle.tw_pool.specs.Turns.{closing_of}
 use Rattle.tw_pool.specs.Openings.{opened}
 use Rattle.tw_pool.specs.PoolView.{PoolView}
 use Rattle.tw_host.specs.declared.close.Closed.{Closed}
+use Rattle.tw_host.specs.Ends.{Closes}
 use Rattle.tw_host.specs.Run.{Run, run_of}
+use Rattle.tw_host.specs.Seats.{SeatEvents}
 use Rattle.tw_order.specs.declared.runs.RunOrder.{RunOrder}
 use Rattle.tw_run_output.specs.Ends.{IsReportAs, end_report}
 use Rattle.tw_run_output.specs.Json.{IsEndLine, members_of, run_line}
@@ -115,11 +117,13 @@ replied_close (Ok r) text program order closed h = inl h
 replied_close (Err e) text program order closed h = tt
 
 -- with threads, the reply to a closed run is one of `run`
-pub closed_run : {E : Type 0} (made : Result MadeReply E) (text : Option (List ℕ)) (program : List Procedure) (order : RunOrder) (closed : Closed) → order.options.in_turn ≡ false
-    → IfOk made (λ r. RepliesByClose text program order closed (reply r.text.items r.close)) → IfOk made (λ r. RepliesByRun text program order (reply r.text.items r.close))
-closed_run (Ok r) text program order closed threads (inl h) = inl h
-closed_run (Ok r) text program order closed threads (inr h) = inr (threads, h.1)
-closed_run (Err e) text program order closed threads h = tt
+pub closed_run : {E : Type 0} (made : Result MadeReply E) (text : Option (List ℕ)) (verified : TypedProgram) (order : RunOrder) (closed : Closed) → order.options.in_turn ≡ false
+    → ((seats : List SeatEvents) × Closes (run_as verified order) seats closed)
+    → IfOk made (λ r. RepliesByClose text verified.program order closed (reply r.text.items r.close)) → IfOk made (λ r. RepliesByRun text verified.program order (reply r.text.items r.close))
+closed_run (Ok r) text verified order closed threads closes (inl h) = inl h
+closed_run (Ok r) text verified order closed threads (seats, closes) (inr h) =
+    inr (threads, record { verified = verified; is = refl; seats = seats; closed = closed; closes = closes; unfinished = h.0 }, h.1)
+closed_run (Err e) text verified order closed threads closes h = tt
 
 -- with threads nothing more is required
 pub in_threads : (program : List Procedure) (order : RunOrder) (history : List Event) → order.options.in_turn ≡ false → IsOrdered order.options.in_turn program order history

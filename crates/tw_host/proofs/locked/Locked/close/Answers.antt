@@ -62,6 +62,11 @@ returns g c =
     let lists = c.settle_seats-by_seat.ensures.lists ∙ ap (map (λ s. s.events.items)) back in
     let layout = c.layout.ensures ∙ ap (λ r. r.layout) inv.of_run in
     record {
+      pool = c.self.inside.pool;
+      of_run = inv.of_run;
+      within = inv.within;
+      final = c.shut-outcome.result.0;
+      shut = shut;
       of_layout = ap (λ l. is_in l actor) (sym layout) ∙ c.in-Some.ensures.layout;
       other = either_way (IsOther (map (λ s. seen_by s.actor s.events.items) items) actor list c.shut-outcome.result.1.events) c.in-Some.seat c.in-Some.ensures.found c.list_of_place.ensures
           (λ none empty. inr (lacking (λ s. s.actor) (λ s. s.events.items) items seats moved actor none, empty))
