@@ -12,7 +12,7 @@ pub(crate) const BYTES: [Explanation; 9] = [
         mending: "make the bytes by `tw asm`" },
     Explanation { number: "F02",
         meaning: "the bytes are of another version",
-        asked: "01, 02 or 04 after the first three bytes",
+        asked: "01, 02, 04 or 05 after the first three bytes",
         mistake: "a byte was left out or added before it",
         mending: "make the bytes by `tw asm`" },
     Explanation { number: "F03",

@@ -105,7 +105,7 @@ const SESSION: [Explanation; 12] = [
 const ASSEMBLY: [Explanation; 7] = [
     Explanation { number: "A01",
         meaning: "a line's first word is unknown or misplaced",
-        asked: "`version 2`, `version 4` or `proc` first, `regs` next after each `proc`, and then labels, instructions or the next `proc`",
+        asked: "`version 2`, `version 4`, `version 5` or `proc` first, `regs` next after each `proc`, and then labels, instructions or the next `proc`",
         mistake: "an instruction in small letters or of a later version, a comment after # or //, no `regs` line, `const` or `let` in a text whose first line isn't `names`, `names` if `tw asm` is called without --names, or a byte order mark before the first word",
         mending: "write instructions in capitals, the version first, comments after ; and a `regs` line after each `proc`; save the file without a byte order mark" },
     Explanation { number: "A02",
@@ -130,7 +130,7 @@ const ASSEMBLY: [Explanation; 7] = [
         mending: "write loops with REPEAT and END" },
     Explanation { number: "A06",
         meaning: "a number, a count, a nesting, a name or a text is past its limit, there is no such version, or a procedure has no instruction",
-        asked: "v0 to v15, d0 to d15, at most 8 parameters, 16 registers, 4,096 instructions, 64 procedures, 3 containers, version 1, 2 or 4",
+        asked: "v0 to v15, d0 to d15, at most 8 parameters, 16 registers, 4,096 instructions, 64 procedures, 3 containers, version 1, 2, 4 or 5",
         mistake: "a procedure that is still empty, REPEAT 0 or REPEAT past 1000, or a number past 64 bits",
         mending: "end each procedure with RET, and keep to the limit" },
     Explanation { number: "A07",

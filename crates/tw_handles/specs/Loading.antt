@@ -1,8 +1,7 @@
 -- The contents of a handle, and loading a program.
 use Rattle.std.specs.Prelude.{◌≡◌, ◌≢◌, ◌⊎◌, ◌<◌, ◌≤◌, ◌∷◌, ℕ, List, [], length, unwrap_or, Option, Some, None, slice_get}
 use Rattle.std.specs.Arc.{arc_value}
-use Rattle.tw_code.specs.declared.version.Version.{Version}
-use Rattle.tw_code.specs.declared.version.Version.TheVariants.{One, Two, Four}
+use Rattle.tw_code.specs.format.Versions.{version_number}
 use Rattle.tw_in_turn.specs.declared.run.StoppableResult.{StoppableResult}
 use Rattle.tw_types.specs.declared.input.Input.{Input}
 use Rattle.tw_verdict.specs.Source.{HasSource, IsSourceError, without_line}
@@ -56,11 +55,6 @@ finished_in (Some (Container container)) = None
 finished_in (Some (Report run)) = Some run
 finished_in (Some (Stop flag)) = None
 finished_in (Some (Text text)) = None
-
-abbrev pub version_number : Version → ℕ
-version_number One = 1
-version_number Two = 2
-version_number Four = 4
 
 -- the handle holds the program, or an allocation failed
 abbrev pub IsKept : TypedProgram → SourceVerdict → Option Held → Option Held → SourceVerdict → Type 0

@@ -2,7 +2,7 @@
 
 ghost use Rattle.std.specs.Prelude.{◌≡◌, IfOk, Some};
 ghost use Rattle.tw_handles.specs.Codes.{loading_code};
-ghost use Rattle.tw_handles.specs.Loading.{IsKept, IsLoading, IsSourceLoaded, IsVerified, IsWithinLength, program_in, verdict_at as verdict_at_is, verdict_numbers, version_number};
+ghost use Rattle.tw_handles.specs.Loading.{IsKept, IsLoading, IsSourceLoaded, IsVerified, IsWithinLength, program_in, verdict_at as verdict_at_is, verdict_numbers};
 ghost use Rattle.tw_handles.specs.Numbers.{filled};
 ghost use Rattle.tw_verdict.specs.Format.{format_of as format_is};
 
@@ -13,7 +13,6 @@ use crate::numbers::put;
 use crate::running::option_at;
 use std::alloc::{AllocError, Global};
 use std::sync::Arc;
-use tw_code::Version;
 use tw_verdict::{Format, SourceVerdict, Verdict, format_of, read_source, verdict_of};
 use tw_verify::Verified;
 
@@ -22,17 +21,6 @@ const USUAL_MOST: u64 = 16_777_216;
 
 /// The highest version of the language, if the caller says none: the last one when the options of a load had no version.
 const USUAL_NEWEST: u64 = 4;
-
-/// Returns the number of a program's version.
-fn version_of(verified: &Verified) -> u64
-    ensures { result ≡ version_number verified.now.version }
-{
-    match verified.program().version() {
-        Version::One => 1,
-        Version::Two => 2,
-        Version::Four => 4,
-    }
-}
 
 /// Puts an accepted program into a handle.
 fn handle_of(alloc: Global, verified: Verified) -> Result<Handle, AllocError>
@@ -74,7 +62,7 @@ fn load(
 {
     let (found, reading) = read_source(alloc, format, source);
     match found {
-        Some(verified) if version_of(&verified) <= newest => {
+        Some(verified) if u64::from(verified.program().version().number()) <= newest => {
             keep(alloc, verified, reading, program)
         }
         Some(_) => verdict_at(b'F', 2, 3),

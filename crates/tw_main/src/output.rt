@@ -16,8 +16,8 @@ pub struct Output<W> {
     writer: W,
     /// The way in which hidden characters are replaced; none is in a report for a file or a pipe.
     kind: Option<Kind>,
-    /// Whether the stream's reader is gone.
-    pub is_unread: bool,
+    /// Why the last write failed, if it did.
+    pub failure: Option<ErrorKind>,
 }
 
 impl<W: Write> Output<W> {
@@ -27,7 +27,7 @@ impl<W: Write> Output<W> {
             alloc,
             writer,
             kind,
-            is_unread: false,
+            failure: None,
         }
     }
 
@@ -51,7 +51,7 @@ impl<W: Write> Write for Output<W> {
         match self.put(text) {
             Ok(()) => Ok(text.len()),
             Err(error) => {
-                self.is_unread |= error.kind() == ErrorKind::BrokenPipe;
+                self.failure = Some(error.kind());
                 Err(error)
             }
         }

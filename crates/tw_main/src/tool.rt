@@ -115,7 +115,7 @@ impl<'a, H: AllocGlobal + Files + Threads + Wait + Clock + Sync> Tool<'a, H> {
         let _printed = print_hints(self.rt.alloc(), &stderr, &answered);
     }
 
-    /// Ends the command after a session. Hints are printed, unless nobody reads the output.
+    /// Ends the command after a session. Hints are printed, unless nobody reads the output. If memory was short for what is printed, that is the answer.
     fn ended(
         &self,
         words: &[String],
@@ -125,11 +125,17 @@ impl<'a, H: AllocGlobal + Files + Threads + Wait + Clock + Sync> Tool<'a, H> {
         reads_input: bool,
         output: &Output<Stdout>,
     ) -> Exit {
-        if output.is_unread {
-            return Exit::Abandoned;
+        match output.failure {
+            Some(ErrorKind::BrokenPipe) => Exit::Abandoned,
+            Some(ErrorKind::OutOfMemory) => {
+                let mut stdout = self.streams.stdout;
+                Exit::Session(without_words(ErrorKind::OutOfMemory, &mut stdout))
+            }
+            _ => {
+                self.advise(words, status, is_each, misnamed, reads_input);
+                Exit::Session(status)
+            }
         }
-        self.advise(words, status, is_each, misnamed, reads_input);
-        Exit::Session(status)
     }
 
     /// Returns the observer of runs that prints their progress.

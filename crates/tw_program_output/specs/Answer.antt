@@ -21,6 +21,7 @@ use Rattle.tw_order.specs.declared.check.EventOrder.{EventOrder}
 use Rattle.tw_order.specs.declared.check.EventOrder.TheVariants.{Ignored, Checked}
 use Rattle.tw_order.specs.declared.form.Places.{Places}
 use Rattle.tw_order.specs.declared.form.Places.TheVariants.{Hidden, Shown}
+use Rattle.tw_verify.specs.Searching.{searching}
 use Rattle.tw_program_output.specs.declared.answer.CheckAnswer.{CheckAnswer}
 use Rattle.tw_program_output.specs.declared.answer.FoundBounds.{FoundBounds}
 use Rattle.tw_program_output.specs.declared.answer.ProcedureRow.{ProcedureRow}
@@ -78,5 +79,6 @@ pub record IsAnswer (order : CheckOrder) (program : List Procedure) (answer : Ch
   pub procedures : AreRows 0 program answer.procedures.items
   pub engines : answer.needs.0 ≡ needed Control program
   pub workers : answer.needs.1 ≡ needed Leaf program
+  pub searches : answer.searching ≡ searching program
   pub bounds : MayBeFound order.bounds order.limit program answer.bounds
   pub insertion : MayBeChecked order.event_order program answer.insertion

@@ -9,23 +9,21 @@ use Rattle.tw_order.specs.declared.form.Assembling.{Assembling}
 use Rattle.tw_order.specs.declared.form.Assembling.TheVariants as assembling
 use Rattle.tw_order.specs.declared.order.Source.TheVariants.{Assembly}
 use Rattle.tw_asm.specs.declared.fault.FaultNo.{FaultNo}
-use Rattle.tw_diagnostics.specs.Diagnostics.{IsTextReason, error_word}
-use Rattle.tw_diagnostics.specs.declared.diagnostic.Reason.{Reason}
 use Rattle.tw_source.specs.Failure.{failed, fault_failure}
 use Rattle.tw_source.specs.Reply.{Reply, reply}
 use Rattle.tw_source.specs.Text.{RepliesByUtf8}
 use Rattle.tw_source.specs.declared.close.Close.TheVariants.{Success}
 use Rattle.tw_source.specs.Program.{RepliesByPlain, RepliesBySource}
 
--- holds for the line of a fault; its word and column are of the error alone
-abbrev pub IsFaultReply : List ℕ → FaultNo → ℕ → Reply → Type 0
-IsFaultReply input which line r = (reason : Reason) × IsTextReason input which line reason × (r ≡ failed (fault_failure which line (error_word reason)))
+-- holds for the line of a fault, with some word and column in it
+abbrev pub IsFaultReply : FaultNo → ℕ → Reply → Type 0
+IsFaultReply which line r = (at : ℕ × ℕ) × (r ≡ failed (fault_failure which line at))
 
 -- like `RepliesBySource`, for an assembly text whose bytes are requested: it has no names, and an error prints only its line
 abbrev pub RepliesByText : List ℕ → (Versioned → Reply → Type 0) → Reply → Type 0
 RepliesByText input Answers r =
     RepliesByUtf8 input (((program : Versioned) × EncodesProgram program input × Answers program r)
-    ⊎ ((which : FaultNo) × (line : ℕ) × HasFault input which line × IsFaultReply input which line r)) r
+    ⊎ ((which : FaultNo) × (line : ℕ) × HasFault input which line × IsFaultReply which line r)) r
 
 -- holds for a program's bytes, in hex digits
 abbrev pub IsWritten : Versioned → Reply → Type 0

@@ -1,5 +1,5 @@
 -- Output of `check` about a program. Without options its text is specified; what options add is only tested, as is JSON, which is one line that is read back.
-use Rattle.std.specs.Prelude.{◌≡◌, ℕ, List, [], ◌∷◌, ◌++◌, codes, Option, Some, None, option_map, ⊤}
+use Rattle.std.specs.Prelude.{◌≡◌, ℕ, List, [], ◌∷◌, ◌++◌, codes, ◌==◌, if◌then◌else◌, Option, Some, None, option_map, ⊤}
 use Rattle.std.specs.List.{flat_map}
 use Rattle.tw_code.specs.declared.procedure.Procedure.{Procedure}
 use Rattle.tw_order.specs.declared.check.BoundsOf.{BoundsOf}
@@ -40,6 +40,10 @@ needs_cells engines workers = (codes "needs engines ", Number engines) ∷ (code
 abbrev pub needs_line : ℕ → ℕ → List ℕ
 needs_line engines workers = row_text (needs_cells engines workers) ++ codes "\n"
 
+-- returns how many procedures have a search, if any has
+abbrev pub searches_line : ℕ → List ℕ
+searches_line searching = if searching == 0 then [] else row_text ((codes "searches ", Number searching) ∷ []) ++ codes "\n"
+
 -- returns the names that budgets have: only beside a listing
 abbrev pub shown_names : Places → List (List ℕ) → List (List ℕ)
 shown_names Hidden names = []
@@ -49,11 +53,11 @@ abbrev pub listing_text : Option (List ℕ) → List ℕ
 listing_text None = []
 listing_text (Some listing) = listing
 
--- returns the listing, the budgets and the needs, then these lines about bounds and about the order of events
+-- returns the listing, the budgets, the needs and the searches, then these lines about bounds and about the order of events
 abbrev pub check_text : CheckOrder → CheckAnswer → List ℕ → List ℕ → List ℕ
 check_text order answer bounds last =
     listing_text (option_map (λ t. t.items) answer.listing) ++ (codes "accepted\n"
-    ++ (procedure_lines (shown_names order.places answer.names) answer.procedures.items ++ (needs_line answer.needs.0 answer.needs.1 ++ (bounds ++ last))))
+    ++ (procedure_lines (shown_names order.places answer.names) answer.procedures.items ++ (needs_line answer.needs.0 answer.needs.1 ++ (searches_line answer.searching ++ (bounds ++ last)))))
 
 -- hold for any lines about what is requested
 abbrev pub MayHaveBounds : BoundsOf → List ℕ → Type 0

@@ -41,6 +41,8 @@ pub struct CheckAnswer {
     pub procedures: Vec<ProcedureRow>,
     /// How many engines and workers the targets need.
     pub needs: (u8, u8),
+    /// How many procedures have a search.
+    pub searching: usize,
     /// The bounds, if they are requested.
     pub bounds: Option<FoundBounds>,
     /// The first insertion that may show the order of events, if that is requested.
@@ -166,6 +168,7 @@ pub(crate) fn check_answer(
     Ok(CheckAnswer {
         procedures: procedure_rows(alloc, verified)?,
         needs: verified.needs(),
+        searching: verified.searching(),
         names,
         listing,
         bounds,

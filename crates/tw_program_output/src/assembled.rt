@@ -35,7 +35,7 @@ fn hex_reply(alloc: Global, program: &Program) -> Result<Reply, AllocError>
 
 /// Returns the line of a text's first fault.
 fn fault_reply(alloc: Global, text: &str, fault: AsmFault) -> Result<Reply, AllocError>
-    ensures { IfOk result (λ r. IsFaultReply text.now fault.no fault.line (reply r.text.items r.close)) }
+    ensures { IfOk result (λ r. IsFaultReply fault.no fault.line (reply r.text.items r.close)) }
 {
     let reason = text_reason(alloc, text, fault)?;
     failed_reply(alloc, fault_failure(fault, error_word(&reason)))

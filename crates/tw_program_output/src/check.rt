@@ -2,7 +2,7 @@
 
 ghost use Rattle.std.specs.Prelude.{◌≡◌, IfOk, map, option_map};
 ghost use Rattle.tw_code.specs.accepting.WellTyped.{IsFirstRejection};
-ghost use Rattle.tw_program_output.specs.Check.{IsCheckText, IsInForm, IsPrinted, RepliesByCheck, check_text, listing_text, needs_cells, needs_line, procedure_cells, procedure_line, procedure_lines, shown_names};
+ghost use Rattle.tw_program_output.specs.Check.{IsCheckText, IsInForm, IsPrinted, RepliesByCheck, check_text, listing_text, needs_cells, needs_line, procedure_cells, procedure_line, procedure_lines, searches_line, shown_names};
 ghost use Rattle.tw_program_output.specs.Rejection.{MayBeBefore, RepliesByRejection, rejection};
 ghost use Rattle.tw_program_output.specs.Rows.{cell_of};
 ghost use Rattle.tw_source.specs.Failure.{after};
@@ -96,6 +96,19 @@ fn put_needs(out: &mut Writer, needs: (u8, u8))
     put_line(out, &needs_cells(needs));
 }
 
+/// Adds the line with how many procedures have a search, if any has.
+fn put_searches(out: &mut Writer, searching: usize)
+    ensures { IsAppended out.old out.new (searches_line searching) }
+{
+    if searching == 0 {
+        return;
+    }
+    put_line(
+        out,
+        &[Cell::new("searches", "searches ", Shown::Number(searching as u64))],
+    );
+}
+
 /// Returns the lines of an answer, with these about bounds and about the order of events.
 fn answer_text(
     alloc: Global,
@@ -111,6 +124,7 @@ fn answer_text(
     text.put("accepted\n");
     put_budgets(alloc, &mut text, order.places, answer);
     put_needs(&mut text, answer.needs);
+    put_searches(&mut text, answer.searching);
     text.put_bytes(bounds);
     text.put_bytes(last);
     text.finish()

@@ -37,6 +37,13 @@ fn procedure_array(alloc: Global, whose: BoundsOf, answer: &CheckAnswer) -> Arra
     array
 }
 
+/// Adds how many procedures have a search, if any has.
+fn put_searches(object: &mut ObjectWriter, searching: usize) {
+    if searching > 0 {
+        object.put_number("searches", searching as u64);
+    }
+}
+
 /// Adds what is requested: the listing, the bounds and the order.
 fn put_requested(alloc: Global, object: &mut ObjectWriter, answer: &CheckAnswer) {
     if let Some(text) = &answer.listing {
@@ -63,6 +70,7 @@ pub(crate) fn check_line(
     object.put_array("procedures", procedure_array(alloc, order.bounds, answer));
     object.put_lines("inputs", &inputs);
     object.put_object("needs", row_object(alloc, &needs_cells(answer.needs)));
+    put_searches(&mut object, answer.searching);
     put_requested(alloc, &mut object, answer);
     let line = object.line()?;
     Ok(line.into_bytes())

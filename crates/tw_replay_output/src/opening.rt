@@ -9,11 +9,11 @@ ghost use Rattle.tw_source.specs.Source.{text_of};
 
 use crate::numbers::put_bytes;
 use std::alloc::{AllocError, Global};
+use tw_asm::put_type;
 use tw_code::{
     MAX_ENTRIES, MAX_MEMBERS, Procedure, has_fitting_inputs, has_input_count, input_count,
     input_param, main_params, rises,
 };
-use tw_diagnostics::put_type;
 use tw_report::{put, put_numbered};
 use tw_source::{
     Failure, Position, Reply, SourceText, example_word, put_examples, put_failure_line, refused_by,
@@ -114,9 +114,9 @@ fn excess_text(asked: DataType, input: &Input) -> &'static str {
 
 /// Adds what type an input has, which one is required, and a word for one of that.
 fn put_types(out: &mut Vec<u8>, given: DataType, asked: DataType) -> Result<(), AllocError> {
-    put(out, " is ")?;
+    put(out, " is")?;
     put_type(out, given)?;
-    put(out, ", required: ")?;
+    put(out, ", required:")?;
     put_type(out, asked)?;
     put(out, ", such as ")?;
     put(out, example_word(asked))?;

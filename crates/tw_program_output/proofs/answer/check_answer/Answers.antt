@@ -6,6 +6,7 @@ returns c = record {
   procedures = c.in_ok-procedure_rows.ensures;
   engines = c.needs.ensures.engines;
   workers = c.needs.ensures.workers;
+  searches = c.searching.ensures;
   bounds = c.in_ok-bounds.ensures;
   insertion = c.in_ok-insertion.ensures;
 }

@@ -1,11 +1,11 @@
 use Rattle.std.proofs.Common.{◌∙◌, ap}
 use Rattle.tw_program_output.specs.Assembled.{IsFaultReply}
 use Rattle.tw_program_output.proofs.ReplyNames.{Failure, IfOk-weaker, Reply, reply}
-use Rattle.tw_source.specs.Failure.{failed, fault_failure}
+use Rattle.tw_source.specs.Failure.{failed}
 use Rattle.tw_program_output.proofs.assembled.fault_reply.Goals as goal
 
 pub returns : goal.returns
 returns c =
     let fault = c.args.fault in
-    IfOk-weaker _ _ (λ (r : Reply). IsFaultReply c.args.text.now fault.no fault.line (reply r.text.items r.close))
-    (λ (r : Reply) h. (c.in_ok-reason.reason, c.in_ok-reason.ensures, h ∙ ap (λ (f : Failure). failed f) (c.fault_failure.ensures ∙ ap (fault_failure fault.no fault.line) c.error_word.ensures))) c.failed_reply.ensures
+    IfOk-weaker _ _ (λ (r : Reply). IsFaultReply fault.no fault.line (reply r.text.items r.close))
+    (λ (r : Reply) h. (c.error_word.result, h ∙ ap (λ (f : Failure). failed f) c.fault_failure.ensures)) c.failed_reply.ensures

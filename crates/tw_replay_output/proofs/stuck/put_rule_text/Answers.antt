@@ -1,8 +1,12 @@
-use Rattle.std.proofs.Common.{◌++◌, ◌∙◌, List, ap, append_assoc, codes, decimal, ℕ}
+use Rattle.std.proofs.Common.{◌≡◌, ◌++◌, ◌∙◌, List, ap, append_assoc, codes, decimal, ℕ}
 use Rattle.std.proofs.lemmas.Result.{on_ok_weaker}
 use Rattle.tw_symbols.specs.Symbols.{bracketed, name_at}
-use Rattle.tw_diagnostics.proofs.Reasoning.{three_parts}
 use Rattle.tw_replay_output.proofs.stuck.put_rule_text.Goals as goal
+
+-- three parts, one after the other
+three_parts : (old a b c first second third : List ℕ) → first ≡ old ++ a → second ≡ first ++ b → third ≡ second ++ c → third ≡ old ++ (a ++ (b ++ c))
+three_parts old a b c first second third e f g =
+    g ∙ ap (λ (t : List ℕ). t ++ c) (f ∙ ap (λ (t : List ℕ). t ++ b) e) ∙ append_assoc (old ++ a) b c ∙ append_assoc old a (b ++ c)
 
 pub returns : goal.returns
 returns c =

@@ -1,0 +1,13 @@
+use Rattle.std.proofs.Common.{List, ◌≡◌, ℕ}
+use Rattle.tw_program_output.specs.Check.{check_text}
+use Rattle.tw_writer.proofs.Pieces.{both_added, finished, from_empty}
+use Rattle.tw_program_output.proofs.check.answer_text.Goals as goal
+
+pub returns : goal.returns
+returns c =
+    let text = check_text c.args.order.now c.args.answer.now c.args.bounds.now c.args.last.now in
+    let lines =
+    both_added _ _ _ _ _ c.put_listing.ensures (both_added _ _ _ _ _ c.put.ensures
+    (both_added _ _ _ _ _ c.put_budgets.ensures (both_added _ _ _ _ _ c.put_needs.ensures
+    (both_added _ _ _ _ _ c.put_searches.ensures (both_added _ _ _ _ _ c.put_bytes.ensures c.put_bytes-2.ensures))))) in
+    finished c.finish.result c.put_bytes-2.new.self (λ (t : List ℕ). t ≡ text) c.finish.ensures.all c.finish.ensures.fine (from_empty _ _ _ c.new-text.ensures.empty lines)
