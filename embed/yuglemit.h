@@ -30,7 +30,7 @@ extern "C" {
 #endif
 
 /* The version: 1,000,000 times major, 1,000 times minor, and patch. The call returns that of the library. */
-#define YUGLEMIT_VERSION_NUMBER 27000
+#define YUGLEMIT_VERSION_NUMBER 28000
 uint32_t yuglemit_version(void);
 
 /* ---- Codes. A call returns 0 or the code of an error. No code is an exit status, a letter or a kind, and memory that runs out is one code. */
@@ -168,7 +168,7 @@ typedef struct yuglemit_load_options {
 } yuglemit_load_options;
 
 /* The newest version of the language that this header describes: types and letters of later ones aren't in it. */
-#define YUGLEMIT_LANGUAGE 4
+#define YUGLEMIT_LANGUAGE 5
 #define YUGLEMIT_LOAD_OPTIONS {sizeof(yuglemit_load_options), 16777216, YUGLEMIT_LANGUAGE}
 
 /* The most that runs do, whatever the inputs, the layout and the order of events. A bound is a number up to 1,000,000,000,000; or YUGLEMIT_OVER
@@ -530,10 +530,10 @@ uint8_t yuglemit_raw_stop_lower(yuglemit_stop *stop);
 static inline uint8_t yuglemit_stop_lower(const yuglemit_stop *stop) { yuglemit_stop same = *stop;
  return yuglemit_raw_stop_lower(&same); }
 
-/* Runs a program in this thread, its actors in turn. `inputs` and `stop` may be empty handles; the flag is looked at before each turn, and
- * for each 65,536 local instructions of a task. If the call returns 0, the report is that of the run, and a bound of the program's runs with options->limit events, or its greatest budget, is at
- * most its cap. Else nothing is run: YUGLEMIT_INPUT_COUNT, _INPUT_TYPE, _NO_ACTOR, _NO_LIMIT, _NO_MEMORY, _ABOVE_CAP, _NO_PROGRAM,
- * _NO_INPUTS, _NO_STOP, _NO_LAYOUT, _NO_SIZE, _ONE_HANDLE. yuglemit_unfit_input finds the input of _INPUT_TYPE. */
+/* Runs a program in this thread, its actors in turn. `inputs` and `stop` may be empty handles; the flag is looked at before each turn that may make
+ * an event, and for each 65,536 local instructions of a task. If the call returns 0, the report is that of the run, and a bound of the program's runs
+ * with options->limit events, or its greatest budget, is at most its cap. Else nothing is run: YUGLEMIT_INPUT_COUNT, _INPUT_TYPE, _NO_ACTOR,
+ * _NO_LIMIT, _NO_MEMORY, _ABOVE_CAP, _NO_PROGRAM, _NO_INPUTS, _NO_STOP, _NO_LAYOUT, _NO_SIZE, _ONE_HANDLE. yuglemit_unfit_input finds the input of _INPUT_TYPE. */
 uint8_t yuglemit_raw_run(yuglemit_program *program, yuglemit_inputs *inputs, const uint64_t *options, size_t option_count, const uint64_t *caps,
                          size_t cap_count, yuglemit_stop *stop, yuglemit_report *report);
 static inline uint8_t yuglemit_run_within(const yuglemit_program *program, const yuglemit_inputs *inputs, const yuglemit_options *options,

@@ -7,9 +7,9 @@ import random
 from dataclasses import dataclass, field
 from typing import Any, List, Tuple
 
-from random_programs import NUMBERS, WORDS
+from random_programs import NUMBERS, WORDS, condition_of_parts, number_of_parts, text_of_parts
 
-HEAD = "from yuglemit.build import Array, Int, Out, Table, Text, byte_length, check, control, each, insert, leaf, nth, out\n"
+HEAD = "from yuglemit.build import Array, Int, Out, Table, Text, byte, byte_length, check, control, each, find, insert, leaf, muldiv, nth, out, span, split, until\n"
 MAIN = "def main(a: Int, b: Int, s: Text, xs: Array[Int], ws: Table[Text], total: Out[Int], said: Out[Text], kept: Out[Array[Int]]):"
 APART = 20_000  # subscripts that two statements write are so far apart, and none is written twice by two tasks
 
@@ -55,7 +55,9 @@ class Writer:
         chance = self.chance
         if deep > 1 or chance.random() < 0.35:
             return str(chance.choice(NUMBERS if chance.random() < 0.1 else range(-9, 10))) if chance.random() < 0.3 else self.name()
-        kind = chance.randrange(12)
+        kind = chance.randrange(14)
+        if kind > 11:
+            return number_of_parts(self, self.name())
         if kind < 6:
             left, right = self.name() if chance.random() < 0.5 else self.number(deep + 1), self.number(deep + 1)
             if left.lstrip("-").isdigit():
@@ -76,7 +78,9 @@ class Writer:
         chance = self.chance
         if deep > 1 or chance.random() < 0.5:
             return chance.choice([*self.texts, *self.texts, repr(chance.choice(WORDS))])
-        kind = chance.randrange(4)
+        kind = chance.randrange(5)
+        if kind == 4:
+            return text_of_parts(self, chance.choice(self.texts))
         if kind == 0:
             return f"({chance.choice(self.texts)} + {self.text(deep + 1)})"
         if kind == 1:
@@ -87,7 +91,9 @@ class Writer:
 
     def condition(self, deep: int = 0) -> str:
         chance = self.chance
-        kind = chance.randrange(9 if deep < 2 else 5)
+        kind = chance.randrange(10 if deep < 2 else 5)
+        if kind == 9:
+            return condition_of_parts(self, chance.choice(self.texts))
         if kind < 4:
             return f"{self.name()} {chance.choice(['==', '!=', '<', '<=', '>', '>='])} {self.number(deep + 1)}"
         if kind == 4:
@@ -144,15 +150,37 @@ class Writer:
         if len(self.counters) == 2:
             return self.assignment()
         counter = f"i{len(self.counters)}"
+        if not self.counters and self.chance.random() < 0.3:
+            return self.falling(counter)
         start, turns, step = self.chance.randrange(-3, 4), self.chance.randrange(1, 4), self.chance.choice([1, 1, 2, -1])
         over = f"range({start}, {start + turns * step}, {step})"
         if self.chance.random() < 0.4:
             first = self.chance.choice(["", f"{self.name()}, "])
             over = f"each(range({first}{self.number(1)}{self.chance.choice(['', ', 2', ', -1']) if first else ''}), {self.chance.randrange(2, 12)})"
         self.line(f"for {counter} in {over}:")
+        self.turns(counter)
+
+    def falling(self, counter: str) -> None:
+        """A `while` of few turns."""
+        self.line(f"{counter} = {self.chance.randrange(5)}")
+        self.line(f"while {counter} > 0" + (f" and {self.condition()}:" if self.chance.random() < 0.5 else ":"))
+        self.line(f"    {counter} -= 1")
+        self.turns(counter)
+
+    def turns(self, counter: str) -> None:
         self.counters.append(counter)
         self.inner()
         self.counters.pop()
+
+    def words(self) -> None:
+        """A loop over the words of a text."""
+        if self.depth:
+            return self.assignment()
+        over = f"split({self.chance.choice(self.texts)}, {self.text(2)})"
+        self.line("for found in " + self.chance.choice([f"{over}:", f"each({over}, {self.chance.randrange(1, 4)}):"]))
+        self.texts.append("found")
+        self.inner()
+        self.texts.remove("found")
 
 
 class Leaf(Writer):
@@ -162,13 +190,15 @@ class Leaf(Writer):
     written: List[Tuple[str, str]] = []
 
     def statement(self) -> bool:
-        chance, kind = self.chance, self.chance.randrange(14)
+        chance, kind = self.chance, self.chance.randrange(15)
         if kind < 4 or self.depth > 2:
             self.assignment()
         elif kind < 6:
             self.choice()
         elif kind < 8:
             self.checked()
+        elif kind == 14:
+            self.words()
         elif kind == 8:
             self.counted()
         elif kind == 9:

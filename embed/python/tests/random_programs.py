@@ -9,7 +9,7 @@ import ast
 import random
 import re
 from dataclasses import dataclass, field
-from typing import Any, Callable, Dict, List, Tuple
+from typing import Any, Callable, Dict, Iterator, List, Optional, Tuple
 
 
 class Overflow(Exception):
@@ -33,10 +33,23 @@ def _checked(name: str) -> Callable[..., Number]:
     return call
 
 
-for _name in ("add", "sub", "mul", "floordiv", "mod", "neg", "abs"):
+def _shift(name: str, most: int) -> Callable[[int, int], Number]:
+    call = _checked(name)
+
+    def shift(number: int, places: int) -> Number:
+        if not 0 <= places <= most:
+            raise Overflow
+        return call(number, places)
+
+    return shift
+
+
+for _name in ("add", "sub", "mul", "floordiv", "mod", "and", "or", "xor", "neg", "abs", "invert"):
     setattr(Number, f"__{_name}__", _checked(f"__{_name}__"))
-    if _name not in ("neg", "abs"):
+    if _name not in ("neg", "abs", "invert"):
         setattr(Number, f"__r{_name}__", _checked(f"__r{_name}__"))
+for _name, _most in (("lshift", 62), ("rshift", 63)):
+    setattr(Number, f"__{_name}__", _shift(f"__{_name}__", _most))
 
 
 class Word(str):
@@ -62,9 +75,70 @@ def read_int(text: str) -> Number:
     return Number(text)
 
 
+def _place(place: Optional[int]) -> Number:
+    if place is None:
+        raise Overflow
+    return Number(place)
+
+
+def _places(text: str, start: int) -> range:
+    """The places of a text from one on, which has to be one of it, or its end."""
+    length = len(text.encode())
+    return range(start, length) if 0 <= start <= length else _place(None)  # type: ignore[return-value]
+
+
+def byte(text: str, place: int) -> Number:
+    return _place(text.encode()[place] if 0 <= place < len(text.encode()) else None)
+
+
+def find(text: str, what: str, start: int = 0) -> Number:
+    places = [*_places(text, start), len(text.encode())]
+    return _place(next((it for it in places if text.encode()[it:].startswith(what.encode())), None))
+
+
+def span(text: str, signs: str, start: int = 0) -> Number:
+    return Number(next((it for it in _places(text, start) if text.encode()[it] not in signs.encode()), len(text.encode())))
+
+
+def until(text: str, signs: str, start: int = 0) -> Number:
+    return Number(next((it for it in _places(text, start) if text.encode()[it] in signs.encode()), len(text.encode())))
+
+
+def part(text: str, start: int, end: Optional[int]) -> Word:
+    """`text[start:end]`, by bytes; neither end may be inside of a character."""
+    whole = text.encode()
+    end = len(whole) if end is None else end
+    if not 0 <= start <= end <= len(whole):
+        raise Overflow
+    try:
+        return Word([it.decode() for it in (whole[:start], whole[start:end], whole[end:])][1])
+    except UnicodeDecodeError:
+        raise Overflow from None
+
+
+def split(text: str, signs: str) -> Iterator[Word]:
+    at = span(text, signs)
+    while at < len(text.encode()):
+        end = until(text, signs, at)
+        yield part(text, at, end)
+        at = span(text, signs, end)
+
+
+def muldiv(a: int, b: int, c: int) -> Number:
+    if c <= 0:
+        raise Overflow
+    found = abs(int(a) * int(b)) // int(c)
+    return _checked("__add__")(found if (a < 0) == (b < 0) else -found, 0)
+
+
+# Names of version 5.
+PARTS: Dict[str, Any] = {"byte": byte, "find": find, "span": span, "until": until, "split": split, "muldiv": muldiv, "part": part}
+
+
 def names() -> Dict[str, Any]:
     """The names that a function finds if Python runs it."""
     return {
+        **PARTS,
         "Overflow": Overflow,
         "int": read_int,
         "str": lambda it: Word(str(it)),
@@ -77,7 +151,18 @@ def names() -> Dict[str, Any]:
     }
 
 
-class _Numbered(ast.NodeTransformer):
+class Parts(ast.NodeTransformer):
+    """Makes `text[i:j]` a call of `part`."""
+
+    def visit_Subscript(self, node: ast.Subscript) -> ast.expr:
+        self.generic_visit(node)
+        if not isinstance(node.slice, ast.Slice):
+            return node
+        ends = node.slice.lower or ast.Constant(0), node.slice.upper or ast.Constant(None)
+        return ast.Call(ast.Name("part", ast.Load()), [node.value, *ends], [])
+
+
+class _Numbered(Parts):
     def visit_Constant(self, node: ast.Constant) -> ast.expr:
         if type(node.value) is not int:
             return node
@@ -91,6 +176,40 @@ def runnable(text: str) -> Any:
 
 NUMBERS = [0, 1, -1, 2, 3, -3, 7, 10, -10, 100, 2**31, 2**62, -(2**62), 2**63 - 1, -(2**63)]
 WORDS = ["", "a", "0", "-5", "12", "007", "x y", "é", '"q"', "9223372036854775807"]
+
+
+PLAIN = 3  # so deep no expression is within another
+
+
+def number_of_parts(writer: Any, name: str) -> str:
+    """An int that instructions of version 5 compute, of names and constants."""
+    chance, text = writer.chance, writer.text(PLAIN)
+    place = chance.choice([writer.number(PLAIN), str(chance.randrange(4))])
+    kind = chance.randrange(9)
+    if kind < 3:
+        return f"({name} {chance.choice(['&', '|', '^', '<<', '>>'])} {place})"
+    if kind == 3:
+        return f"~{name}"
+    if kind == 4:
+        return f"byte({text}, {place})"
+    if kind == 5:
+        return f"muldiv({name}, {writer.number(PLAIN)}, {place})"
+    start = f", {place}" if chance.random() < 0.5 else ""
+    return f"{chance.choice(['find', 'span', 'until'])}({text}, {writer.text(PLAIN)}{start})"
+
+
+def text_of_parts(writer: Any, name: str) -> str:
+    """A part of a text that has a name."""
+    start, end = (writer.chance.choice(["", "0", "1", writer.number(PLAIN)]) for _ in range(2))
+    return f"{name}[{start}:{end}]"
+
+
+def condition_of_parts(writer: Any, name: str) -> str:
+    chance, text = writer.chance, writer.text(PLAIN)
+    kind = chance.randrange(3)
+    if kind == 0:
+        return f"{text} {chance.choice(['in', 'not in'])} {name}"
+    return f"{name}.startswith({text})" if kind == 1 else f"{name} {chance.choice(['<', '<=', '>', '>='])} {text}"
 
 
 @dataclass
@@ -115,7 +234,9 @@ class Writer:
             if chance.random() < 0.4:
                 return str(chance.choice(NUMBERS if chance.random() < 0.3 else range(-9, 10)))
             return chance.choice(self.ints + self.counters)
-        kind = chance.randrange(10)
+        kind = chance.randrange(12)
+        if kind > 9:
+            return number_of_parts(self, chance.choice(self.ints))
         if kind < 5:
             operator = chance.choice(["+", "-", "*", "//", "%"])
             left, right = self.number(deep + 1), self.number(deep + 1)
@@ -136,7 +257,9 @@ class Writer:
         chance = self.chance
         if deep > 2 or chance.random() < 0.5:
             return chance.choice(["s", "t", "t", repr(chance.choice(WORDS))])
-        kind = chance.randrange(3)
+        kind = chance.randrange(4)
+        if kind == 3:
+            return text_of_parts(self, chance.choice(["s", "t"]))
         if kind == 0:
             left, right = chance.choice(["s", "t"]), self.text(deep + 1)
             return f"({left} + {right})"
@@ -146,7 +269,9 @@ class Writer:
 
     def condition(self, deep: int = 0) -> str:
         chance = self.chance
-        kind = chance.randrange(8 if deep < 2 else 5)
+        kind = chance.randrange(9 if deep < 2 else 5)
+        if kind == 8:
+            return condition_of_parts(self, chance.choice(["s", "t"]))
         if kind < 4:
             return f"{self.number(deep + 1)} {chance.choice(['==', '!=', '<', '<=', '>', '>='])} {self.number(deep + 1)}"
         if kind == 4:

@@ -11,7 +11,7 @@ from traceback import extract_tb
 from types import CodeType
 from typing import Any, Callable, Dict, Iterable, Iterator, List, Optional, Sequence, Tuple, TypeVar, Union
 
-from random_programs import Number, Overflow, Word, read_int, word
+from random_programs import PARTS, Number, Overflow, Parts, Word, read_int, word
 
 Subscript = Union[int, str]
 Item = TypeVar("Item")
@@ -248,9 +248,9 @@ class _Maker:
         return make
 
 
-def _each(over: Union[Box, Range], most: int) -> Iterator[Any]:
-    if isinstance(over, Range):
-        return _at_most(map(Number, over.numbers), most)
+def _each(over: Union[Box, Range, Iterator[Word]], most: int) -> Iterator[Any]:
+    if not isinstance(over, Box):
+        return _at_most(map(Number, over.numbers) if isinstance(over, Range) else over, most)
     return _at_most([(_plain(it), over.members[it]) for it in over.order()], most)
 
 
@@ -265,13 +265,13 @@ def _insert(box: Box, subscript: Subscript, member: Any) -> None:
 
 
 _NAMES: Dict[str, Any] = {
-    "Overflow": Overflow, "N": Number, "W": word, "int": read_int, "str": lambda it: word(str(it)), "abs": lambda it: abs(Number(it)), "min": min, "max": max,
+    **PARTS, "Overflow": Overflow, "N": Number, "W": word, "int": read_int, "str": lambda it: word(str(it)), "abs": lambda it: abs(Number(it)), "min": min, "max": max,
     "range": Range, "byte_length": lambda it: Number(len(it.encode())), "len": lambda it: Number(len(it.members)),
     "each": _each, "nth": _nth, "insert": _insert, "Int": int, "Text": str,
 }
 
 
-class _AsPython(ast.NodeTransformer):
+class _AsPython(Parts):
     """Makes a file's text what Python runs."""
 
     def __init__(self, functions: Dict[str, Function]) -> None:

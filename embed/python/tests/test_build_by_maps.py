@@ -129,9 +129,7 @@ class Table(unittest.TestCase):
 
     SHOWN: Dict[str, List[Any]] = {
         "word_count": [[f"word {number}" for number in range(30)]],
-        "tree_sum": [list(range(64))],
         "queens": [5],
-        "levenshtein": [[ord(letter) for letter in "kittens"], [ord(letter) for letter in "sitting"]],
     }
 
     def test_rows(self) -> None:

@@ -235,7 +235,7 @@ class Advice(unittest.TestCase):
             ("x = [i for i in range(3)]", "write a for loop"),
             ("for i, x in enumerate(m):\n        pass", r"for subscript, member in each\(..\) has both"),
             ("print(n)", "does nothing here: nothing is printed, an output is set"),
-            ("while n < 3:\n        n += 1", r"while is not of the language: for _ in range\(1000\)"),
+            ("for w in 'a b'.split():\n        pass", r"for word in split\(text, \" \"\)"),
             ("m.append(3)", "there are no methods"),
             ("x = m.get(3)", "there are no methods"),
             ("n = max(m)", "max takes 2 arguments: compare in a loop"),

@@ -161,7 +161,7 @@ class TopLevel(unittest.TestCase):
 
     def test_all_functions_are_checked(self) -> None:
         """Also those that main doesn't lead to, and those of a file without main."""
-        for body, message in (("while n > 1:\n        pass", "while is not"), ("return [n]", "not of the language"), ("return 'a'", "is Int, and can't be set to Text"), ("return n * n", "64 bits")):
+        for body, message in (("with n:\n        pass", "with is not"), ("return [n]", "not of the language"), ("return 'a'", "is Int, and can't be set to Text"), ("return n * n", "64 bits")):
             unused = f"@leaf\ndef g(n: Int) -> Int:\n    {body}\n"
             for text in (unused + "N = 1\n" + RETURNS_N, "N = 1\n" + RETURNS_N + unused, unused):
                 why = error_of(HEAD + text)

@@ -11,10 +11,10 @@ from ._native import NO_BOUND, OVER, Head
 from ._shown import Shown
 
 # The most seconds that an instruction and an event take, by the work of the program. No register holds a text, or one does, or texts are read as
-# numbers, too. ./dev prices measures the dearest ones; examples/many/bound.sh has the same prices.
-PRICES = {"ints": (1 / 50_000_000, 1 / 100_000), "texts": (1 / 2_000_000, 1 / 10_000), "numbers": (1 / 50_000, 1 / 10_000)}
+# numbers, too, or searched. ./dev prices measures the dearest ones; examples/many/bound.sh has the same prices.
+PRICES = {"ints": (1 / 50_000_000, 1 / 100_000), "texts": (1 / 2_000_000, 1 / 10_000), "numbers": (1 / 50_000, 1 / 10_000), "searches": (1 / 20_000, 1 / 10_000)}
 # Likewise what they usually take on one core of a common machine.
-_USUAL = {"ints": (2.5e-9, 3.3e-7), "texts": (2.5e-8, 1e-6), "numbers": (2.5e-8, 1e-6)}
+_USUAL = {"ints": (2.5e-9, 3.3e-7), "texts": (2.5e-8, 1e-6), "numbers": (2.5e-8, 1e-6), "searches": (5e-8, 1e-6)}
 _BEGIN = 1e-4
 MOST_EVENTS = 1_000_000  # of a run
 
@@ -62,7 +62,7 @@ class Bounds(metaclass=Shown):
 
     All but the first are None past 1,000,000,000,000, or if a procedure starts itself, directly or through others (`is_endless`): then only the
     limit of events bounds a run. `members` and `bytes` are what a run holds at any time beyond those of the inputs, and of outputs that are texts.
-    A text counts 4,096 bytes, also in a register of a task or an argument of a rule. `work` is "ints" if no register can hold a text, "numbers" if READI may read one, else "texts".
+    A text counts 4,096 bytes, also in a register of a task or an argument of a rule. `work` is "ints" if no register can hold a text, "searches" if FIND, SPAN or UNTIL may search one, else "numbers" if READI may read one, else "texts".
     """
 
     greatest: int
@@ -139,7 +139,9 @@ def procedures_of(heads: Sequence[Head], source: str) -> Tuple[Procedure, ...]:
 
 def work_of(text: str) -> str:
     """Returns which work a program may do, by its text: one without these words does none of it."""
-    return "ints" if "text" not in text else "numbers" if "READI" in text else "texts"
+    if "text" not in text:
+        return "ints"
+    return "searches" if re.search("FIND|SPAN|UNTIL", text) else "numbers" if "READI" in text else "texts"
 
 
 def bounds_of(found: List[int], procedures: Tuple[Procedure, ...], work: str) -> Bounds:

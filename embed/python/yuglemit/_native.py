@@ -260,7 +260,7 @@ class Flag:
         _done(short().yuglemit_raw_stop_raise(self.of_run.seen()))
 
 
-_MOST_SOURCE, _LANGUAGE = 16_777_216, 4  # bytes of a source, and the highest version of the language
+_MOST_SOURCE, _LANGUAGE = 16_777_216, 5  # bytes of a source, and the highest version of the language
 
 
 def load(source: bytes, format_: str) -> Tuple[Verdict, Optional[Loaded]]:

@@ -168,7 +168,7 @@ pub struct Procedure {
 pub const MOST_BYTES: u64 = 16_777_216;
 
 /// The newest version of the language whose types this crate has.
-const LANGUAGE: u64 = 4;
+const LANGUAGE: u64 = 5;
 
 /// A program that is verified. Any number of threads may run it at once.
 pub struct Program {

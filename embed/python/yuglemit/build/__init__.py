@@ -15,7 +15,7 @@ checkers, and lets a leaf function be called as plain Python.
 
 from __future__ import annotations
 
-from typing import TYPE_CHECKING, Annotated, Any, Callable, Dict, Iterator, Optional, Protocol, Tuple, TypeVar, Union, overload
+from typing import TYPE_CHECKING, Annotated, Any, Callable, Dict, Iterator, List, Optional, Protocol, Tuple, TypeVar, Union, overload
 
 from .compiler import Built, build_file, build_text
 from .errors import BuildError
@@ -119,11 +119,11 @@ def check(*values: object) -> bool:
     return all(it is not False and (not isinstance(it, int) or -(2**63) <= it < 2**63) for it in values)
 
 
-def each(over: Union[Dict[Subscript, Any], range], most: Optional[int] = None) -> Iterator[Any]:
-    """Gives to a `for` the subscripts, or with two names the subscripts and the members or values; or the numbers of a range. If more are left after
+def each(over: Union[Dict[Subscript, Any], range, List[str]], most: Optional[int] = None) -> Iterator[Any]:
+    """Gives to a `for` the subscripts, or with two names the subscripts and the members or values; or the numbers of a range, or the words of a text. If more are left after
     `most`, the loop is refused there. Above 1,000 it is the next thousand; without it, 1,000 for an Array or a Table, and else 100,000."""
     bound = most if most is not None else 1000 if isinstance(over, (Array, Table)) else 100_000
-    for number, it in enumerate(over if isinstance(over, range) else sorted(over.items())):
+    for number, it in enumerate(sorted(over.items()) if isinstance(over, dict) else over):
         if number == (bound if bound <= 1000 else -(-bound // 1000) * 1000):
             raise OverflowError(f"each: there are more than {number}, the most of this loop")
         yield it
@@ -146,6 +146,41 @@ def byte_length(text: str) -> int:
     return len(text.encode())
 
 
+def byte(text: str, place: int) -> int:
+    """The byte of a text's UTF-8 at a place, from 0; it is refused if there is none."""
+    return text.encode()[place]
+
+
+def find(text: str, what: str, start: int = 0) -> int:
+    """The least place, of bytes, from `start` on at which a text has another; it is refused if there is none."""
+    return text.encode().index(what.encode(), start)
+
+
+def span(text: str, signs: str, start: int = 0) -> int:
+    """The least place from `start` on whose byte is none of these signs, or the length in bytes."""
+    return next((it for it in range(start, byte_length(text)) if byte(text, it) not in signs.encode()), byte_length(text))
+
+
+def until(text: str, signs: str, start: int = 0) -> int:
+    """The least place from `start` on whose byte is one of these signs, or the length in bytes."""
+    return next((it for it in range(start, byte_length(text)) if byte(text, it) in signs.encode()), byte_length(text))
+
+
+def split(text: str, blanks: str) -> List[str]:
+    """Gives to a `for` the words of a text: what is between any number of these signs."""
+    words, at = [], span(text, blanks)
+    while at < byte_length(text):
+        end = until(text, blanks, at)
+        words.append(text.encode()[at:end].decode())
+        at = span(text, blanks, end)
+    return words
+
+
+def muldiv(a: int, b: int, c: int) -> int:
+    """a * b / c, rounded towards zero, for c above 0: only the result has to fit in 64 bits."""
+    return abs(a * b) // c * (1 if (a < 0) == (b < 0) else -1)
+
+
 BuildError.__module__ = __name__
 
 __all__ = [
@@ -160,12 +195,18 @@ __all__ = [
     "Text",
     "build_file",
     "build_text",
+    "byte",
     "byte_length",
     "check",
     "control",
     "each",
+    "find",
     "insert",
     "leaf",
+    "muldiv",
     "nth",
     "out",
+    "span",
+    "split",
+    "until",
 ]

@@ -42,7 +42,6 @@ _CALLS = {
     "max": _SMALLEST,
 }
 _STATEMENTS: Dict[Type[ast.AST], str] = {
-    ast.While: "for _ in range(1000): with `if ..: break`, or a function that calls itself",
     ast.Try: "if check(..): has the ways of what may be refused",
     ast.Raise: "an instruction that is refused ends a task",
     ast.Assert: "write an if",
@@ -57,6 +56,8 @@ def advice_on(node: ast.AST) -> Optional[str]:
     if isinstance(node, ast.Call) and isinstance(node.func, ast.Name):
         return _CALLS.get(node.func.id)
     if isinstance(node, ast.Call) and isinstance(node.func, ast.Attribute):
+        if node.func.attr == "split":
+            return "for word in split(text, \" \") takes a text apart"
         return "there are no methods; each(..) has subscripts and members, and out.NAME[..] = .. sets one"
     if isinstance(node, ast.Constant) and not isinstance(node.value, str):
         return _CONSTANTS.get(type(node.value))

@@ -7,7 +7,9 @@ import ast
 from dataclasses import dataclass, field
 from typing import Dict, List, Optional, Tuple
 
-SKIPS = frozenset("JMP JEQ JLT ADD SUB MUL DIV REM CAT READI INS LOOK SUBAT TINS TLOOK TSUBAT MINS MGET".split())
+SKIPS = frozenset(
+    "JMP JEQ JLT ADD SUB MUL DIV REM CAT READI INS LOOK SUBAT TINS TLOOK TSUBAT MINS MGET BYTE SLICE FIND SPAN UNTIL MULDIV AND OR XOR SHL SHR JTLT".split()
+)
 Place = Tuple[int, int]  # line, from 1, and offset in bytes, from 0, as ast has them
 
 

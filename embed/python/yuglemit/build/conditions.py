@@ -8,6 +8,7 @@ from typing import List
 
 from .body import Body
 from .kinds import called
+from .texts import VERSION, begins, contains
 from .types import INT, TEXT, DataType
 from .values import closed_container, kind_of, value
 
@@ -20,6 +21,8 @@ def branch(body: Body, node: ast.expr, yes: str, no: str) -> None:
         _joined(body, node, yes, no)
     elif isinstance(node, ast.Compare):
         _compared(body, node, yes, no)
+    elif isinstance(node, ast.Call) and isinstance(node.func, ast.Attribute) and node.func.attr == "startswith":
+        begins(body, node, yes, no)
     elif called(node) == "check":
         body.fail("check(..) is the whole condition of an if, or none of it", node)
     else:
@@ -57,12 +60,12 @@ def _compare(body: Body, operator: ast.cmpop, operands: List[ast.expr], yes: str
         body.code.put("JEQ", first, second, yes if isinstance(operator, ast.Eq) else no)
         body.code.put("JMP", no if isinstance(operator, ast.Eq) else yes)
     elif isinstance(operator, (ast.Lt, ast.Gt, ast.LtE, ast.GtE)):
+        first, second = value(body, left, kind), value(body, right, kind)
         if kind == TEXT:
-            body.fail("texts are compared by == and != alone", left)
-        first, second = value(body, left, INT), value(body, right, INT)
+            body.unit.need(VERSION)
         ordered = (first, second) if isinstance(operator, (ast.Lt, ast.GtE)) else (second, first)
         strict = isinstance(operator, (ast.Lt, ast.Gt))
-        body.code.put("JLT", *ordered, yes if strict else no)
+        body.code.put("JLT" if kind == INT else "JTLT", *ordered, yes if strict else no)
         body.code.put("JMP", no if strict else yes)
     else:
         body.fail("expected == != < <= > >= in, found another comparison", left)
@@ -72,8 +75,11 @@ def _compare(body: Body, operator: ast.cmpop, operands: List[ast.expr], yes: str
 
 def _contained(body: Body, subscript: ast.expr, over: ast.expr, yes: str, no: str) -> None:
     kind = kind_of(body, over).type
+    if kind == TEXT:
+        contains(body, value(body, over, TEXT), value(body, subscript, TEXT), yes, no)
+        return
     if kind.is_scalar:
-        body.fail("in is for containers and maps: whether a subscript is there", over)
+        body.fail("in is for containers and maps, whether a subscript is there, and for texts", over)
     register = closed_container(body, over)
     wanted = value(body, subscript, kind.subscript)
     if kind.is_map:

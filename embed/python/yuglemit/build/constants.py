@@ -79,4 +79,16 @@ def _joined(operator: ast.operator, left: Constant, right: Constant) -> Optional
         return left // right
     if isinstance(operator, ast.Mod) and right:
         return left % right
-    return None
+    return _bits(operator, left, right)
+
+
+def _bits(operator: ast.operator, left: int, right: int) -> Optional[int]:
+    if isinstance(operator, ast.BitAnd):
+        return left & right
+    if isinstance(operator, ast.BitOr):
+        return left | right
+    if isinstance(operator, ast.BitXor):
+        return left ^ right
+    if not isinstance(operator, (ast.LShift, ast.RShift)) or not 0 <= right <= 64:
+        return None
+    return left << right if isinstance(operator, ast.LShift) else left >> right

@@ -10,7 +10,7 @@ from typing import Deque, Dict, Iterator, List, Optional, Tuple
 from .source import Function, Source, container_type
 from .types import INT, TEXT, DataType, Kind, container, future, value
 
-_INT_CALLS = frozenset("len byte_length int abs min max".split())
+_INT_CALLS = frozenset("len byte_length int abs min max byte find span until muldiv".split())
 _SETS = (ast.NamedExpr, ast.Assign, ast.AnnAssign, ast.Return, ast.For)
 
 
@@ -136,9 +136,9 @@ class Kinds:
                 yield f"out.{name}", kind_found, it
 
     def _looped(self, node: ast.For) -> Iterator[Tuple[str, Kind, ast.AST]]:
-        if called(iterated(node)) == "range":
+        if called(iterated(node)) in ("range", "split"):
             if isinstance(node.target, ast.Name):
-                yield node.target.id, value(INT), node.target
+                yield node.target.id, value(INT if called(iterated(node)) == "range" else TEXT), node.target
             return
         kind = self.kind_of(iterated(node))
         if kind is None or kind.type.is_scalar:
@@ -175,6 +175,8 @@ class Kinds:
             return self.kind_of(node.value)
         if isinstance(node, ast.Subscript):
             kind = self.kind_of(node.value)
+            if isinstance(node.slice, ast.Slice):
+                return kind if kind and kind.form == "value" and kind.type == TEXT else None
             return _held_in(kind.type) if kind and not kind.type.is_scalar else None
         return self._kind_of_call(node)
 

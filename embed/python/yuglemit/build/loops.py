@@ -1,18 +1,21 @@
 # SPDX-License-Identifier: Apache-2.0
-"""Loops: over a range, and over the members of a container or the values of a map. The machine's loops make all their turns; a flag skips the rest.
-A loop for which turns are left at its bound is refused there."""
+"""Loops: over a range, the members of a container, the values of a map or the words of a text, and `while`. The machine's loops make all their turns; a flag
+skips the rest, or LAST ends them. A loop for which turns are left at its bound is refused there."""
 
 from __future__ import annotations
 
 import ast
 from dataclasses import dataclass, replace
+from functools import partial
 from math import prod
-from typing import Callable, List, Optional, Sequence, Tuple
+from typing import Callable, List, Optional, Sequence, Tuple, Union
 
 from .body import BREAK, FAILED, RETURN, Again, Body, Cause, Failing, Loop
 from .code import Line
+from .conditions import branch
 from .kinds import called
-from .types import INT
+from .texts import VERSION
+from .types import INT, TEXT
 from .values import closed_container, kind_of, value
 
 MOST_TURNS = 1000
@@ -20,12 +23,14 @@ MOST_VALUES = 100_000
 MOST_DEPTH = 4
 Block = Callable[[Body, Sequence[ast.stmt]], None]
 Ends = Callable[[Body], None]
+AnyLoop = Union[ast.For, ast.While]
 
 
 @dataclass
 class _Shape:
     """A loop's iterations, and the register that each raises by a step; with a limit, an iteration does nothing once the counter has reached it. `cut`
-    says what is then left, and `held` which registers are the loop's own."""
+    says what is then left, and `held` which registers are the loop's own. Of a loop over words `words` has the text, what is between words, and the place that
+    was reached."""
 
     turns: int
     counter: Optional[str]
@@ -34,6 +39,7 @@ class _Shape:
     cut: str = ""
     held: Tuple[str, ...] = ()
     targets: Tuple[str, ...] = ()
+    words: Tuple[str, ...] = ()
 
     @property
     def before_limit(self) -> Tuple[Optional[str], str]:
@@ -46,21 +52,20 @@ class _Shape:
         return (self.turns,) if self.turns <= MOST_TURNS else (-(-self.turns // MOST_TURNS), MOST_TURNS)
 
 
-def loop(body: Body, node: ast.For, block: Block, ends: Ends) -> None:
-    """Compiles a `for`."""
+def loop(body: Body, node: AnyLoop, block: Block, ends: Ends) -> None:
+    """Compiles a `for` or a `while`."""
     if node.orelse:
-        body.fail("a for has no else", node.orelse[0])
-    over, most = _bounded(body, node)
-    shape = _counted(body, node, over, most) if called(over) == "range" else _members(body, node, over, most)
+        body.fail(f"a {'for' if isinstance(node, ast.For) else 'while'} has no else", node.orelse[0])
+    shape, begin = _shaped(body, node)
     _check_depth(body, shape)
-    flag = body.temporary(INT) if _may_end(node) else ""
-    turns = Loop(body.now.copy(), body.new_label("next"), [body.new_label("end") for _ in shape.repeats], flag)
+    has_last = isinstance(node, ast.While) or bool(shape.words)
+    flag = body.temporary(INT) if has_last or _may_end(node) else ""
+    turns = Loop(body.now.copy(), body.new_label("next"), [body.new_label("end") for _ in shape.repeats], flag, has_last)
     before, places = len(body.code.lines), set(body.places)
     tops = _put_repeats(body, turns, shape)
     body.loops.append(turns)
     failing = body.begin_failing(body.by_cause)
-    if called(over) != "range":
-        _member(body, node, over, shape, turns)
+    begin(turns)
     body.now.assigned.update(shape.targets)
     block(body, node.body)
     if body.state is not None:
@@ -75,6 +80,33 @@ def loop(body: Body, node: ast.For, block: Block, ends: Ends) -> None:
     body.forget([it for it in body.places if it not in places])
 
 
+def _shaped(body: Body, node: AnyLoop) -> Tuple[_Shape, Callable[[Loop], None]]:
+    """Returns the shape of a loop, and what writes the begin of a turn."""
+    if isinstance(node, ast.While):
+        test, shape = node.test, _Shape(_greatest(body, node), None, 1)
+        shape.cut = f"{body.source.shown(test)} may still hold after {prod(shape.repeats)} turns, the most of this loop"
+        return shape, lambda turns: _ends_unless(body, lambda yes, no: branch(body, test, yes, no))
+    over, most = _bounded(body, node)
+    if called(over) == "range":
+        return _counted(body, node, over, most), lambda turns: None
+    if called(over) == "split":
+        shape = _words(body, node, over, most)
+        return shape, lambda turns: _word(body, shape)
+    shape = _members(body, node, over, most)
+    return shape, partial(_member, body, node, over, shape)
+
+
+def _ends_unless(body: Body, test: Callable[[str, str], None]) -> None:
+    """Ends the loop unless a test holds, which jumps to one of two labels."""
+    there, stop = body.new_label("there"), body.new_label("stop")
+    test(there, stop)
+    kept = body.now.copy()
+    body.code.label(stop)
+    turn_ends(body, BREAK)
+    body.state = kept
+    body.code.label(there)
+
+
 def _bounded(body: Body, node: ast.For) -> Tuple[ast.expr, Optional[int]]:
     """Returns what a loop is over, and the most turns that each(..) says."""
     if called(node.iter) != "each" or not isinstance(node.iter, ast.Call):
@@ -87,9 +119,9 @@ def _bounded(body: Body, node: ast.For) -> Tuple[ast.expr, Optional[int]]:
     return arguments[0], most if isinstance(most, int) else None
 
 
-def _greatest(body: Body, node: ast.For) -> int:
+def _greatest(body: Body, node: AnyLoop) -> int:
     """Returns how many values a loop takes that doesn't say it: fewer for loops in one another, if the verifier doesn't accept more."""
-    nested = bool(body.loops) or any(isinstance(it, ast.For) for its in node.body for it in ast.walk(its))
+    nested = bool(body.loops) or any(isinstance(it, (ast.For, ast.While)) for its in node.body for it in ast.walk(its))
     return MOST_TURNS if nested and not body.manner.is_wide else MOST_VALUES
 
 
@@ -120,11 +152,10 @@ def _with_pads(body: Body, turns: Loop, failing: Failing, shape: _Shape, lines: 
     body.code.lines = list(lines)
     for number, pads in enumerate(failing.by_causes, FAILED):
         turns.failed.append(pads[0].cause)
-        turns.is_ended = True
         failed = body.new_label("failed")
         body.put_pads(pads, failing.home, failed)
         body.code.label(failed)
-        body.code.put("INT", turns.flag, number)
+        _put_flag(body, turns, number)
         body.code.put("JMP", turns.end)
     if any(turns.next in it.text.split() for it in body.code.lines):
         body.code.label(turns.next)
@@ -134,6 +165,15 @@ def _with_pads(body: Body, turns: Loop, failing: Failing, shape: _Shape, lines: 
         body.code.put("END")
     made, body.code.lines = body.code.lines, kept
     return made
+
+
+def _put_flag(body: Body, turns: Loop, flag: int) -> None:
+    """Sets the flag, after which no turn does anything, or none follows."""
+    turns.is_ended = True
+    body.code.put("INT", turns.flag, flag)
+    if turns.has_last:
+        body.unit.need(VERSION)
+        body.code.put("LAST")
 
 
 def _put_step(body: Body, turns: Loop, shape: _Shape) -> None:
@@ -153,9 +193,9 @@ def _put_step(body: Body, turns: Loop, shape: _Shape) -> None:
     body.values.release(step)
 
 
-def _may_end(node: ast.For) -> bool:
+def _may_end(node: AnyLoop) -> bool:
     """Says whether an iteration may end the loop, by its text: then it has a flag, whose register nothing else may use from its begin on."""
-    kinds = (ast.Break, ast.Return, ast.BinOp, ast.UnaryOp, ast.AugAssign, ast.Call, ast.Subscript, ast.JoinedStr, ast.For)
+    kinds = (ast.Break, ast.Return, ast.BinOp, ast.UnaryOp, ast.AugAssign, ast.Call, ast.Subscript, ast.JoinedStr, ast.For, ast.While)
     return any(isinstance(it, kinds) for statement in node.body for it in ast.walk(statement))
 
 
@@ -171,13 +211,13 @@ def _add_flag(body: Body, turns: Loop, before: int, tops: List[int]) -> None:
     if not turns.is_ended:
         return
     zero, place = body.temporary(INT), body.code.lines[before].place
-    for top, end in reversed(list(zip(tops, turns.ends))):
+    for top, end in reversed(list(zip(tops, turns.ends))[: -1 if turns.has_last else None]):
         body.code.lines[top:top] = [Line(f"INT {zero} 0", place), Line(f"JLT {zero} {turns.flag} {end}", place)]
     body.code.lines[before:before] = [Line(f"INT {turns.flag} 0", place)]
     body.values.release(zero)
 
 
-def _after(body: Body, node: ast.For, turns: Loop, shape: _Shape, ends: Ends) -> None:
+def _after(body: Body, node: AnyLoop, turns: Loop, shape: _Shape, ends: Ends) -> None:
     """Continues after the loop, as its flag says."""
     body.state = turns.home.copy()
     body.state.assigned.difference_update(shape.targets)
@@ -190,8 +230,16 @@ def _after(body: Body, node: ast.For, turns: Loop, shape: _Shape, ends: Ends) ->
         done = body.new_label("all")
         if turns.is_broken:
             _if_flag(body, turns, BREAK, done)
-        place = (node.iter.lineno, node.iter.col_offset)
-        body.code.put("JLT", *shape.before_limit, body.refused(Cause(shape.cut, place, "")))
+        where = node.test if isinstance(node, ast.While) else node.iter
+        refused = body.refused(Cause(shape.cut, (where.lineno, where.col_offset), ""))
+        if isinstance(node, ast.While):
+            branch(body, node.test, refused, done)
+        elif shape.words:
+            start = body.temporary(INT)
+            _is_word_left(body, shape, start, refused, done)
+            body.values.release(start)
+        else:
+            body.code.put("JLT", *shape.before_limit, refused)
         body.code.label(done)
     for it in (*shape.held, turns.flag):
         if it:
@@ -234,8 +282,7 @@ def turn_ends(body: Body, flag: int) -> None:
         _check_outputs(body, turns)
     body.come_home(turns.home)
     if flag:
-        turns.is_ended = True
-        body.code.put("INT", turns.flag, flag)
+        _put_flag(body, turns, flag)
     body.code.put("JMP", turns.end if flag else turns.next)
     body.state = None
 
@@ -354,3 +401,46 @@ def _member(body: Body, node: ast.For, over: ast.expr, shape: _Shape, turns: Loo
     shape.targets = tuple(it for it in shape.targets if it != "_")
     if subscript == "_":
         body.values.release(at)
+
+
+# --- words of a text
+
+
+def _words(body: Body, node: ast.For, over: ast.expr, most: Optional[int]) -> _Shape:
+    assert isinstance(over, ast.Call)
+    if len(over.args) != 2 or over.keywords:
+        body.fail("split takes a text, and a text of the signs that are between words", over)
+    if not isinstance(node.target, ast.Name) or node.target.id == "_":
+        body.fail("expected one name", node.target)
+    _check_kept(body, node, node.target.id)
+    text, blanks, reached = (body.temporary(it) for it in (TEXT, TEXT, INT))
+    value(body, over.args[0], TEXT, text)
+    value(body, over.args[1], TEXT, blanks)
+    body.code.put("INT", reached, 0)
+    body.unit.need(VERSION)
+    own = (text, blanks, reached)
+    shape = _Shape(most or _greatest(body, node), None, 1, "", "", own, (node.target.id,), own)
+    shape.cut = f"{body.source.shown(over)} may have more than {prod(shape.repeats)} words, the most of this loop"
+    return shape
+
+
+def _is_word_left(body: Body, shape: _Shape, start: str, yes: str, no: str) -> None:
+    """Finds the place of the next word, and jumps by whether there is one."""
+    text, blanks, reached = shape.words
+    length = body.temporary(INT)
+    body.code.put("LEN", length, text)
+    body.code.put("SPAN", start, text, blanks, reached, no)
+    body.code.put("JLT", start, length, yes)
+    body.code.put("JMP", no)
+    body.values.release(length)
+
+
+def _word(body: Body, shape: _Shape) -> None:
+    """Writes the begin of a turn: the next word; without one the loop ends."""
+    text, blanks, reached = shape.words
+    start = body.temporary(INT)
+    _ends_unless(body, lambda yes, no: _is_word_left(body, shape, start, yes, no))
+    cause = "a word may begin or end inside of a character"
+    body.code.put("UNTIL", reached, text, blanks, start, body.refused(cause))
+    body.code.put("SLICE", body.variable(shape.targets[0]), text, start, reached, body.refused(cause))
+    body.values.release(start)

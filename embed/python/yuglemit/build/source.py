@@ -15,6 +15,7 @@ from .types import CONTAINERS, DEEPEST, INT, MAPS, SCALARS, DataType
 MOST_ARGUMENTS = 8
 MOST_SHOWN = 60
 BUILTINS = frozenset("check each insert nth len byte_length str int abs min max out Array Table Map Sum Int Text Out range leaf control tuple".split())
+NEWER = frozenset("byte find span until muldiv split".split())  # a file may have functions of its own with these names
 
 
 @dataclass(frozen=True)

@@ -11,7 +11,7 @@ from .advice import advice_on, advice_on_statement
 from .body import BREAK, RETURN, Body, State
 from .conditions import branch
 from .kinds import called, name_of
-from .loops import loop, turn_ends
+from .loops import AnyLoop, loop, turn_ends
 from .reading import is_elif
 from .refusals import let_go, watch
 from .source import container_type, printable
@@ -50,7 +50,7 @@ def _statement(body: Body, node: ast.stmt) -> None:
             compile_one(body, node)
             return
     word = body.source.shown(node).split(maxsplit=1)[0].rstrip(":.")
-    body.fail(f"{word} is not of the language: {advice_on_statement(node) or 'assignments, if, for, return, break, continue and calls are'}")
+    body.fail(f"{word} is not of the language: {advice_on_statement(node) or 'assignments, if, for, while, return, break, continue and calls are'}")
 
 
 def _assign(body: Body, node: ast.Assign) -> None:
@@ -385,7 +385,7 @@ def _attempt(body: Body, node: ast.expr) -> None:
         assign_to(body, node.target, node.value)
     elif called(node) == "insert":
         _insert_call(body, node)
-    elif isinstance(node, ast.Subscript):
+    elif isinstance(node, ast.Subscript) and not isinstance(node.slice, ast.Slice):
         key = body.new_key()
         look(body, node, key)
         body.drop(key)
@@ -452,7 +452,7 @@ def _continue(body: Body, node: ast.Continue) -> None:
     turn_ends(body, 0)
 
 
-def _for(body: Body, node: ast.For) -> None:
+def _loop(body: Body, node: AnyLoop) -> None:
     loop(body, node, block, ends)
 
 
@@ -467,7 +467,8 @@ _STATEMENTS: Dict[Type[ast.stmt], _Compile] = {
     ast.AugAssign: _augmented,  # type: ignore[dict-item]
     ast.Expr: _expression,  # type: ignore[dict-item]
     ast.If: _if,  # type: ignore[dict-item]
-    ast.For: _for,  # type: ignore[dict-item]
+    ast.For: _loop,  # type: ignore[dict-item]
+    ast.While: _loop,  # type: ignore[dict-item]
     ast.Return: _return,  # type: ignore[dict-item]
     ast.Break: _break,  # type: ignore[dict-item]
     ast.Continue: _continue,  # type: ignore[dict-item]

@@ -8,7 +8,7 @@ from typing import Dict, List, Optional
 
 from .constants import fits
 from .reading import parse
-from .source import BUILTINS, Source, check_name, function_of, otherwise_of
+from .source import BUILTINS, NEWER, Source, check_name, function_of, otherwise_of
 
 LIBRARY = "yuglemit.build"
 _MAY_HAVE = "the top level has docstrings, imports, NAME = constant, and functions with @leaf or @control"
@@ -62,7 +62,7 @@ class _TopLevel:
                 if module != LIBRARY:
                     self.source.fail(where, f"import names, not *, which may be any: only from {LIBRARY} is it understood")
                 continue
-            if name in BUILTINS or module == LIBRARY and it.name in BUILTINS:
+            if name in BUILTINS | NEWER or module == LIBRARY and it.name in BUILTINS:
                 if module != LIBRARY or name != it.name:
                     self.source.fail(where, f"{name} is a word of the language: it is imported from {LIBRARY}, and under its own name")
                 continue

@@ -10,9 +10,11 @@ from .advice import advice_on
 from .body import Body
 from .constants import Constant, fits
 from .kinds import called
+from .source import NEWER
 from .types import INT, TEXT, DataType, Kind
 
 _PLAIN = {ast.Add: "ADD", ast.Sub: "SUB", ast.Mult: "MUL"}
+BITS = (ast.BitAnd, ast.BitOr, ast.BitXor, ast.LShift, ast.RShift)
 _LEAVES = "the result may leave 64 bits"
 _LONG = "the text may have more than 4096 bytes"
 
@@ -105,6 +107,10 @@ def _computed(body: Body, node: ast.expr, kind: Kind, into: Optional[str]) -> st
     if isinstance(node, ast.Call):
         return _called(body, node, into)
     if isinstance(node, ast.Subscript):
+        if isinstance(node.slice, ast.Slice):
+            from .texts import part
+
+            return part(body, node, into)
         return _entry(body, node, into)
     if isinstance(node, ast.NamedExpr):
         body.fail(":= is for the argument of check(..)", node)
@@ -127,9 +133,9 @@ def _operations(body: Body, node: ast.BinOp, into: Optional[str]) -> str:
 def _operands(body: Body, node: ast.BinOp) -> DataType:
     """Returns the type of an operation's operands, which its result has too."""
     kind = kind_of(body, node)
-    if kind.type == INT and not isinstance(node.op, (ast.Add, ast.Sub, ast.Mult, ast.FloorDiv, ast.Mod)):
+    if kind.type == INT and not isinstance(node.op, (ast.Add, ast.Sub, ast.Mult, ast.FloorDiv, ast.Mod, *BITS)):
         advice = "; // divides ints" if isinstance(node.op, ast.Div) else ""
-        body.fail(f"the operator of {body.source.shown(node)} is not of the language: + - * // % are{advice}", node)
+        body.fail(f"the operator of {body.source.shown(node)} is not of the language: + - * // % & | ^ << >> are{advice}", node)
     return kind.type
 
 
@@ -139,10 +145,14 @@ def _operated(body: Body, node: ast.BinOp, left: str, into: Optional[str]) -> st
     right = value(body, node.right, operands)
     body.code.at(node)
     if operands == TEXT:
-        return _put(body, "CAT", TEXT, into, left, right, cause=_LONG)
+        return put_result(body, "CAT", TEXT, into, left, right, cause=_LONG)
     plain = _PLAIN.get(type(node.op))
     if plain is not None:
-        return _put(body, plain, INT, into, left, right)
+        return put_result(body, plain, INT, into, left, right)
+    if isinstance(node.op, BITS):
+        from .texts import bits
+
+        return bits(body, node, left, right, into)
     divisor = body.source.constants.of(node.right)
     divide = _floored if isinstance(node.op, ast.FloorDiv) else _remainder
     result = divide(body, left, right, divisor if isinstance(divisor, int) else None)
@@ -160,7 +170,7 @@ def _moved(body: Body, register: str, into: Optional[str]) -> str:
     return into
 
 
-def _put(body: Body, name: str, kind: DataType, into: Optional[str], *operands: str, cause: str = _LEAVES) -> str:
+def put_result(body: Body, name: str, kind: DataType, into: Optional[str], *operands: str, cause: str = _LEAVES) -> str:
     """Writes an instruction that may be refused; its operands are returned, and its result may be in one of them."""
     register = into
     if register is None:
@@ -235,10 +245,14 @@ def _remainder(body: Body, left: str, right: str, divisor: Optional[int]) -> str
 def _unary(body: Body, node: ast.UnaryOp, into: Optional[str]) -> str:
     if isinstance(node.op, ast.UAdd):
         return value(body, node.operand, INT, into)
+    if isinstance(node.op, ast.Invert):
+        from .texts import inverted
+
+        return inverted(body, value(body, node.operand, INT), node, into)
     if not isinstance(node.op, ast.USub):
         body.fail(f"{body.source.shown(node)} is no int or text", node)
     zero = put_constant(body, 0, node)
-    return _put(body, "SUB", INT, into, zero, value(body, node.operand, INT))
+    return put_result(body, "SUB", INT, into, zero, value(body, node.operand, INT))
 
 
 def _chosen(body: Body, node: ast.IfExp, kind: Kind, into: Optional[str]) -> str:
@@ -265,7 +279,7 @@ def _formatted(body: Body, node: ast.JoinedStr, into: Optional[str]) -> str:
             text = _as_text(body, part.value)
         else:
             text = value(body, part, TEXT)
-        result = text if result is None else _put(body, "CAT", TEXT, None, result, text, cause=_LONG)
+        result = text if result is None else put_result(body, "CAT", TEXT, None, result, text, cause=_LONG)
     if result is None:
         return put_constant(body, "", node, into)
     return _copied_back(body, result, into)
@@ -292,6 +306,10 @@ def _called(body: Body, node: ast.Call, into: Optional[str]) -> str:
     name = called(node)
     if node.keywords:
         body.fail(f"{name} takes no keywords", node)
+    if name in NEWER:
+        from .texts import sought
+
+        return sought(body, node, into)
     counts = {"str": 1, "int": 1, "len": 1, "byte_length": 1, "abs": 1, "min": 2, "max": 2, "nth": 2}
     if name not in counts:
         body.fail(f"{body.source.shown(node)} is not of the language here", node)
@@ -303,7 +321,7 @@ def _called(body: Body, node: ast.Call, into: Optional[str]) -> str:
     if name == "int":
         text = value(body, node.args[0], TEXT)
         body.code.at(node)
-        return _put(body, "READI", INT, into, text, cause="the text may be no number")
+        return put_result(body, "READI", INT, into, text, cause="the text may be no number")
     if name == "byte_length":
         text = value(body, node.args[0], TEXT)
         register = into or body.temporary(INT)
