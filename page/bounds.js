@@ -1,6 +1,7 @@
 // @ts-check
 // SPDX-License-Identifier: Apache-2.0
 // Bounds the events of a run of an accepted program: its dearest walk, where RULE and PUT cost what they start too.
+import {SKIPS} from "./program.js";
 
 /** @typedef {import("./program.js").Procedure} Procedure */
 /** @typedef {import("./program.js").Instruction} Instruction */
@@ -16,8 +17,6 @@ function endsOf(code) {
     });
     return ends;
 }
-
-const SKIPS = new Set(["ADD", "SUB", "MUL", "DIV", "REM", "CAT", "READI", "JEQ", "JLT", "INS", "LOOK", "SUBAT", "TINS", "TLOOK", "TSUBAT", "MINS", "MGET"]);
 
 /** Returns the cost of the dearest walk through a procedure. From the last place to the first, the cost of each place is that of the
  * dearest walk from there to the END of its loop, or to a RET.

@@ -107,7 +107,7 @@ function describe(run, event, told) {
     switch (event.kind) {
         case "take": return `${who} takes task ${event.task}: ${called}`;
         case "end": return `${who} ends task ${event.task}, ${called}`;
-        case "local": return `${who} computes: ${event.count > 1 ? `${event.count} instructions` : statement(run, event.lines[0])}${event.refused && event.count === 1 && /^(ADD|SUB|MUL|DIV|REM|CAT|READI)/.test(statement(run, event.lines[0])) ? ", which has no result, and skips" : ""}`;
+        case "local": return `${who} computes: ${event.count > 1 ? `${event.count} instructions` : statement(run, event.lines[0])}${event.refused && event.count === 1 ? ", which has no result, and skips" : ""}`;
         case "ask": return `${who} asks for rule ${event.rule} whether ${data[0]} is closed: ${event.refused ? "not yet, so the rule waits" : "it is"}`;
         case "deliver": return `${who} notifies rule ${event.rule} that ${data[0]} is closed`;
         case "release": return `${who} turns rule ${event.rule} into task ${event.made}: ${called} may begin`;
@@ -219,13 +219,16 @@ export function computed(run, event, before, after) {
     const {name, operands} = run.setting.program[event.procedure].code[event.places[0]], sign = SIGNS[name];
     const given = (/** @type {number} */ k) => shown(before[operands[k]]), result = shown(after[operands[0]] ?? "");
     if (sign) return `${given(1)} ${sign} ${given(2)} ${event.refused ? "has no result" : `= ${result}`}`;
-    if (name === "JEQ" || name === "JLT") return `${given(0)} ${name === "JEQ" ? "=" : "<"} ${given(1)}? ${jumps(name, before[operands[0]], before[operands[1]]) ? "yes: it skips" : "no"}`;
+    if (/^J(EQ|LT|TLT)$/.test(name)) return `${given(0)} ${name === "JEQ" ? "=" : "<"} ${given(1)}? ${jumps(name, before[operands[0]], before[operands[1]]) ? "yes: it skips" : "no"}`;
     if (/^(COPY|LEN|SHOW|READI)$/.test(name)) return event.refused ? `${given(1)} is no number` : `${given(1)} gives ${result}`;
+    if (/^(BYTE|SLICE|FIND|SPAN|UNTIL|MULDIV)$/.test(name)) return `${operands.slice(1, -1).map((_, k) => given(k + 1)).join(", ")} ${event.refused ? "have no result" : `give ${result}`}`;
     return "";
 }
 /** The signs of instructions with two operands.
  * @type {Record<string, string>} */
-const SIGNS = {ADD: "+", SUB: "-", MUL: "×", DIV: "÷", REM: "rem", CAT: "and"};
+const SIGNS = {
+    ADD: "+", SUB: "-", MUL: "×", DIV: "÷", REM: "rem", CAT: "and", AND: "and", OR: "or", XOR: "xor", SHL: "up by", SHR: "down by", WMUL: "×", WADD: "+",
+};
 
 /** Marks the rows that an event changed, and adds those that it took away.
  * @param {Row[]} now @param {Row[]} before @returns {Row[]} */

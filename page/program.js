@@ -1,6 +1,7 @@
 // @ts-check
 // SPDX-License-Identifier: Apache-2.0
 // A program out of its bytes, as docs/BYTES.md writes them. The library assembles the text; nothing is refused here.
+import {textOf} from "./values.js";
 
 /** @typedef {import("./values.js").Type} Type */
 /** A parameter: a mode and a type.
@@ -19,13 +20,18 @@ const CODES = {
     0x01: ["INT", "rn"], 0x02: ["TEXT", "rt"], 0x03: ["COPY", "rr"],
     0x10: ["ADD", "rrrs"], 0x11: ["SUB", "rrrs"], 0x12: ["MUL", "rrrs"], 0x13: ["DIV", "rrrs"], 0x14: ["REM", "rrrs"],
     0x18: ["CAT", "rrrs"], 0x19: ["LEN", "rr"], 0x1a: ["SHOW", "rr"], 0x1b: ["READI", "rrs"],
-    0x20: ["JMP", "s"], 0x21: ["JEQ", "rrs"], 0x22: ["JLT", "rrs"], 0x23: ["REPEAT", "c"], 0x24: ["END", ""],
+    0x20: ["JMP", "s"], 0x21: ["JEQ", "rrs"], 0x22: ["JLT", "rrs"], 0x23: ["REPEAT", "c"], 0x24: ["END", ""], 0x2b: ["LAST", ""],
     0x30: ["NEW", "rry"], 0x31: ["STORE", "rr"], 0x32: ["GET", "rr"], 0x33: ["INS", "rrrs"], 0x34: ["LOOK", "rrrs"],
     0x35: ["SIZE", "rr"], 0x36: ["SUBAT", "rrrs"], 0x37: ["DUPR", "rr"], 0x38: ["DUPW", "rr"], 0x39: ["DROPR", "r"], 0x3a: ["DROPW", "r"],
     0x40: ["RULE", "pnga"], 0x41: ["PUT", "pnga"], 0x42: ["RET", ""],
     0x50: ["TINS", "rrrs"], 0x51: ["TLOOK", "rrrs"], 0x52: ["TSUBAT", "rrrs"], 0x53: ["RULEV", "prga"], 0x54: ["PUTV", "prga"],
     0x60: ["MINS", "rrrs"], 0x61: ["MGET", "rrrs"], 0x62: ["MADD", "rrr"],
+    0x70: ["BYTE", "rrrs"], 0x71: ["SLICE", "rrrrs"], 0x72: ["FIND", "rrrrs"], 0x73: ["SPAN", "rrrrs"], 0x74: ["UNTIL", "rrrrs"], 0x75: ["MULDIV", "rrrrs"],
+    0x76: ["AND", "rrrs"], 0x77: ["OR", "rrrs"], 0x78: ["XOR", "rrrs"], 0x79: ["SHL", "rrrs"], 0x7a: ["SHR", "rrrs"], 0x7b: ["WMUL", "rrrs"], 0x7c: ["WADD", "rrrs"],
+    0x7d: ["JTLT", "rrs"],
 };
+/** The instructions that may skip. */
+export const SKIPS = new Set(Object.values(CODES).filter(([, letters]) => letters.endsWith("s")).map(([name]) => name));
 
 /** Reads bytes from the left. */
 class Reader {
@@ -34,7 +40,7 @@ class Reader {
     byte() { return this.bytes[this.at++]; }
     two() { this.at += 2; return this.view.getUint16(this.at - 2); }
     eight() { this.at += 8; return this.view.getBigInt64(this.at - 8); }
-    text() { const length = this.two(); this.at += length; return new TextDecoder("utf-8", {ignoreBOM: true}).decode(this.bytes.subarray(this.at - length, this.at)); }
+    text() { const length = this.two(); this.at += length; return textOf(this.bytes.subarray(this.at - length, this.at)); }
     /** @returns {Type} */
     type() {
         const word = WORDS[this.byte()];

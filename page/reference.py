@@ -46,8 +46,8 @@ def tables(text: str) -> list[list[list[str]]]:
 
 def named_in(cell: str) -> tuple[list[str], str]:
     """Returns the instructions of a table's first cell, and their operands."""
-    names = re.findall(r"\b[A-Z]{3,}[VI]?\b", cell)
-    return names, re.sub(r"\*\*[24]\*\*: ", "", cell.split(",")[-1] if "," in cell else cell)
+    names = re.findall(r"\b[A-Z]{2,}\b", cell)
+    return names, re.sub(r"\*\*\d\*\*: ", "", cell.split(",")[-1] if "," in cell else cell)
 
 
 def rows_of(section: str) -> dict[str, Row]:

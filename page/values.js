@@ -14,9 +14,18 @@ export const LEAST = -(2n ** 63n);
 const GREATEST = 2n ** 63n - 1n;
 export const LONGEST_TEXT = 4096;
 
+/** Returns the UTF-8 bytes of a text.
+ * @param {string} text */
+export const bytesOf = text => encoder.encode(text);
+
 /** Returns the number of UTF-8 bytes of a text.
  * @param {string} text */
-export const byteLength = text => encoder.encode(text).length;
+export const byteLength = text => bytesOf(text).length;
+
+const decoder = new TextDecoder("utf-8", {ignoreBOM: true});
+/** Returns the text of UTF-8 bytes.
+ * @param {Uint8Array} bytes */
+export const textOf = bytes => decoder.decode(bytes);
 
 /** Returns whether a number fits 64 bits, signed.
  * @param {bigint} number */

@@ -34,3 +34,18 @@ u128 WIDE(ashrti3)(u128 x, int by) {
     if (by == 0) return x;
     return by < 64 ? of((u64)(high >> by), low >> by | (u64)high << (64 - by)) : of((u64)(high >> 63), (u64)(high >> (by - 64)));
 }
+
+static u128 without_sign(u128 x) { return (long)(x >> 64) < 0 ? -x : x; }
+
+u128 WIDE(divti3)(u128 x, u128 y) {
+    u128 whole = without_sign(x), divisor = without_sign(y), rest = 0, quotient = 0;
+    for (int bit = 127; bit >= 0; bit--) {
+        rest = rest << 1 | (whole >> bit & 1);
+        quotient <<= 1;
+        if (rest >= divisor) {
+            rest -= divisor;
+            quotient |= 1;
+        }
+    }
+    return (long)((x ^ y) >> 64) < 0 ? -quotient : quotient;
+}

@@ -16,6 +16,8 @@ int main(void) {
         if (own_ashlti3(x, by) != x << by) differ++;
         if (own_lshrti3(x, by) != x >> by) differ++;
         if (own_ashrti3(x, by) != (u128)((__int128)x >> by)) differ++;
+        __int128 divisor = (__int128)y >> by;
+        if (divisor != 0 && divisor != -1 && own_divti3(x, (u128)divisor) != (u128)((__int128)x / divisor)) differ++;
     }
     printf("wide: %ld differ\n", differ);
     return differ != 0;

@@ -4,7 +4,7 @@ if exists("b:current_syntax")
 endif
 syntax case match
 setlocal iskeyword=@,48-57,_
-syntax keyword twInstruction ADD CAT COPY DIV DROPR DROPW DUPR DUPW END GET INS INT JEQ JLT JMP LEN LOOK MADD MGET MINS MUL NEW PUT PUTV READI REM REPEAT RET RULE RULEV SHOW SIZE STORE SUB SUBAT TEXT TINS TLOOK TSUBAT
+syntax keyword twInstruction ADD AND BYTE CAT COPY DIV DROPR DROPW DUPR DUPW END FIND GET INS INT JEQ JLT JMP JTLT LAST LEN LOOK MADD MGET MINS MUL MULDIV NEW OR PUT PUTV READI REM REPEAT RET RULE RULEV SHL SHOW SHR SIZE SLICE SPAN STORE SUB SUBAT TEXT TINS TLOOK TSUBAT UNTIL WADD WMUL XOR
 syntax keyword twStatement const let names proc regs version
 syntax keyword twWord any closed cont control int leaf map ref sum tcont text tmap val write
 syntax match twValue /\<v\(1[0-5]\|[0-9]\)\>/

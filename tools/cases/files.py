@@ -37,7 +37,6 @@ EVENT_KINDS = {"machine", "state", "steps", "turns"}
 JOINED_BY = {"program": " / ", "bytes": " ", "input": "\\n", "given": " ", "phrases": " / ", "events": ", ", "script": ", "}
 KEYS = {"about", "kind", "status", "output", "complaint"} | JOINED_BY.keys()
 # Keys that aren't followed by a value, or by at most one line.
-ONE_LINE_KEYS = {"about", "kind", "status"}
 
 NAME = re.compile(r"[a-z][a-z0-9_]*")
 GENERATOR = re.compile(r'\{(repeat (?P<times>\d+)|count (?P<first>-?\d+) to (?P<last>-?\d+)) "(?P<text>(?:[^"\\]|\\.)*)"(?: by "(?P<by>(?:[^"\\]|\\.)*)")?\}')

@@ -8,10 +8,10 @@ from dataclasses import dataclass, field, replace
 from typing import Callable
 
 from tools.fuzz.oracle.code import (
-    CLOSED, CONT, FORMS, INT, MAP, REF, SUM, TCONT, TEXT, TMAP, VAL, VERSIONS, WRITE, Instr, Param, Procedure, Program, Type, entry_of, instructions_of,
+    CLOSED, CONT, FIFTH, FORMS, INT, MAP, REF, SUM, TCONT, TEXT, TMAP, VAL, VERSIONS, WRITE, Instr, Param, Procedure, Program, Type, entry_of, instructions_of,
     is_container, is_map, is_sums, subscript_of,
 )
-from tools.fuzz.oracle.machine import Layout, Scalar, Value
+from tools.fuzz.oracle.machine import LOCAL_TYPES, WANTED, Layout, Scalar, Value
 
 Right = tuple[int, Type]
 
@@ -21,6 +21,11 @@ MAIN_TYPES: list[Type] = [(INT,), (TEXT,), (CONT, INT), (CONT, TEXT), (TCONT, IN
 MAPS: list[Type] = [(by, entry) for by in (MAP, TMAP) for entry in (INT, TEXT, SUM)]
 MORE_TYPES: list[Type] = [(CONT, CONT, INT), (TCONT, CONT, TEXT), (CONT, TCONT, CONT, INT)]
 MORE_MAPS: list[Type] = [(CONT, MAP, INT), (TCONT, CONT, TMAP, SUM)]
+
+
+# The instructions that compute, before version 5 and in it.
+FIRST = ["ADD", "SUB", "MUL", "DIV", "REM", "CAT", "LEN", "SHOW", "READI", "COPY"]
+COMPUTING = (FIRST, FIRST + [name for name in FIFTH if name not in ("JTLT", "LAST")])
 
 
 def is_any(_: Type) -> bool:
@@ -37,13 +42,13 @@ def is_shared(type_: Type) -> bool:
 
 
 def main_types(version: int) -> list[Type]:
-    """Returns the types of main's parameters; of version 4 rather maps."""
-    return {1: MAIN_TYPES[:4], 2: MAIN_TYPES, 4: MAIN_TYPES + MAPS + MAPS}[version]
+    """Returns the types of main's parameters; from version 4 on rather maps."""
+    return {1: MAIN_TYPES[:4], 2: MAIN_TYPES}.get(version, MAIN_TYPES + MAPS + MAPS)
 
 
 def more_types(version: int) -> list[Type]:
     """Returns types that main's parameters can't have."""
-    return {1: MORE_TYPES[:1], 2: MORE_TYPES, 4: MORE_TYPES + MORE_MAPS}[version]
+    return {1: MORE_TYPES[:1], 2: MORE_TYPES}.get(version, MORE_TYPES + MORE_MAPS)
 
 
 def scalar(chance: random.Random, type_: int) -> Scalar:
@@ -155,8 +160,10 @@ class Writer:
         makers = [self.compute, self.compute, self.literal, self.new, self.use, self.give_up, self.copy, self.insert, self.look, self.measure]
         if self.depth < 3:
             makers += [self.branch, self.loop, self.stop]
-        if self.version == 4:
+        if self.version >= 4:
             makers += [self.put, self.put, self.read_entry]
+        if self.version >= 5:
+            makers += [self.last]
         if self.head.kind == 0:
             makers += [self.start] * 6 + [self.new]
         return self.chance.choice(makers)()
@@ -168,18 +175,17 @@ class Writer:
         return [Instr("INT" if type_ == INT else "TEXT", (self.register(type_), scalar(self.chance, type_)))]
 
     def compute(self) -> list[Instr]:
-        name = self.chance.choice(["ADD", "SUB", "MUL", "DIV", "REM", "CAT", "LEN", "SHOW", "READI", "COPY"])
-        copied = self.chance.choice([INT, TEXT])
-        types = {"COPY": (copied, copied), "LEN": (INT, TEXT), "SHOW": (TEXT, INT), "READI": (INT, TEXT), "CAT": (TEXT, TEXT, TEXT)}.get(name, (INT, INT, INT))
-        operands = tuple(self.register(type_) for type_ in types)
+        name = self.chance.choice(COMPUTING[self.version == 5])
+        types = self.chance.choice(["ii", "tt"]) if name == "COPY" else LOCAL_TYPES[name]
+        operands = tuple(self.register(WANTED[type_]) for type_ in types)
         if name in ("COPY", "LEN", "SHOW"):
             return [Instr(name, operands)]
         rest = self.block(self.chance.randrange(1, 3), {}) if self.depth < 3 and self.chance.random() < 0.3 else []
         return [Instr(name, (*operands, len(rest))), *rest]
 
     def condition(self, skip: int) -> Instr:
-        name = self.chance.choice(["JEQ", "JEQ", "JLT"])
-        type_ = INT if name == "JLT" else self.chance.choice([INT, TEXT])
+        name = self.chance.choice(["JEQ", "JEQ", "JLT"] + ["JTLT"] * (self.version == 5))
+        type_ = {"JLT": INT, "JTLT": TEXT}.get(name, self.chance.choice([INT, TEXT]))
         return Instr(name, (self.register(type_), self.register(type_), skip))
 
     def branch(self) -> list[Instr]:
@@ -208,6 +214,9 @@ class Writer:
         code = self.block(self.chance.randrange(1, 4), {})
         self.loops, self.turns = self.loops - 1, self.turns // turns
         return [Instr("REPEAT", (turns,)), *code, Instr("END")]
+
+    def last(self) -> list[Instr]:
+        return [Instr("LAST")]
 
     # --- Instructions on data
 
@@ -377,7 +386,7 @@ class Writer:
 
 def head(chance: random.Random, number: int, version: int, is_plain: bool) -> Procedure:
     """Returns a procedure without code: its kind, parameters and registers. Parameters of a plain program are ints, mostly."""
-    plain_maps = [(MAP, INT), (MAP, SUM)] if version == 4 else []
+    plain_maps = [(MAP, INT), (MAP, SUM)] if version >= 4 else []
     types: list[Type] = [*[(INT,)] * 6, (CONT, INT), *plain_maps] if is_plain else main_types(version)
     modes = [CLOSED, REF, WRITE, WRITE] if number == 0 else [VAL, CLOSED, CLOSED, REF, WRITE, WRITE]
     params = []
@@ -392,7 +401,7 @@ def head(chance: random.Random, number: int, version: int, is_plain: bool) -> Pr
 
 def program(chance: random.Random) -> Program:
     """Makes a program. One in ten may have procedures that start each other in a circle."""
-    version = chance.choice([*VERSIONS, 4])
+    version = chance.choice([*VERSIONS, 4, 5])
     is_plain = chance.random() < 0.6
     heads = [head(chance, number, version, is_plain) for number in range(chance.choice([1, 2, 2, 3, 3, 4, 5]))]
     circles = chance.random() < 0.1

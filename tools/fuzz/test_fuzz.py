@@ -27,7 +27,7 @@ from tools.fuzz.oracle.assembler import Error, assembled
 from tools.fuzz.oracle.bounds import COUNTED, bound, bound_lines, budgets, check_lines, has_circle, is_circle
 from tools.fuzz.oracle.code import Fault, Instr, Param, Procedure, Program, decode, disassembled, encode, program_text, quoted, smaller, without
 from tools.fuzz.library import Answer, Library, Verdict
-from tools.fuzz.oracle.machine import Machine, NotEnabled, Scalar, Trap, computed, read_int, run_in_turn, wrapped
+from tools.fuzz.oracle.machine import Machine, NotEnabled, Scalar, Trap, computed, read_int, run_in_turn, scaled, wrapped
 from tools.fuzz.oracle.names import is_name, symbolic
 from tools.fuzz.oracle.report import circle_fault, event_of, report_lines, split_circle, stats_lines, trace_text
 from tools.fuzz.kinds.texts import renamed, styled
@@ -103,7 +103,7 @@ class CodeTest(unittest.TestCase):
         digits = manual.split("$ ./tw asm every.tw\n")[1].split("\n")[0]
         program = decode(bytes.fromhex(digits))
         self.assertEqual(encode(program).hex(), digits)
-        self.assertEqual(len({instr.name for instr in program.main.code}), 39)
+        self.assertEqual(len({instr.name for instr in program.main.code}), 54)
 
     def test_texts(self) -> None:
         self.assertEqual(quoted('a"\\\n\x01é'), '"a\\"\\\\\\n\\x01é"')
@@ -141,6 +141,9 @@ class MachineTest(unittest.TestCase):
         self.assertEqual([computed("DIV", -7, 2), computed("REM", -7, 2), computed("DIV", 7, -2), computed("REM", 7, -2)], [-3, -1, -3, 1])
         self.assertIsNone(computed("DIV", -(2**63), -1))
         self.assertIsNone(computed("ADD", 2**63 - 1, 1))
+        self.assertEqual([computed("SHR", -1, 63), computed("SHL", 3, 63), computed("WMUL", 2**62, 2), computed("XOR", -1, 5)], [1, -(2**63), -(2**63), -6])
+        self.assertEqual([computed("SHL", 1, 64), computed("SHR", 1, -1)], [None, None])
+        self.assertEqual([scaled(-7, 3, 2), scaled(2**62, 4, 4), scaled(2**62, 4, 1), scaled(1, 1, 0)], [-10, 2**62, None, None])
         self.assertEqual([read_int(text) for text in ("0", "-5", "-0", "007", "+1", "", str(2**63))], [0, -5, None, None, None, None, None])
 
     def causes(self, program: Program, *events: tuple[str | int, ...]) -> str:
@@ -182,9 +185,11 @@ class RulesTest(unittest.TestCase):
     def test_bounds_of_the_manual(self) -> None:
         self.assertEqual(bound_lines(PIPELINE), ["bound tasks 4", "bound instructions 24", "bound data 2", "bound members 0", "bound rules 3", "bound bytes 0", "bound events 37"])
         self.assertEqual(check_lines(PIPELINE)[-1], "needs engines 0 workers 0")
+        self.assertEqual(check_lines(main_of(Instr("SPAN", (0, 1, 1, 0, 0))))[-1], "searches 1")
 
     def test_loops_count_as_their_iterations(self) -> None:
         self.assertEqual(budgets(main_of(Instr("REPEAT", (10,)), Instr("ADD", (0, 0, 0, 0)), Instr("END"))), [22])
+        self.assertEqual(budgets(main_of(Instr("REPEAT", (10,)), Instr("LAST"), Instr("END"))), [22])
 
     def test_bounds_are_reached_and_not_passed(self) -> None:
         test = runs.CheckTest(PIPELINE, (39,), (2, 2, 2), 1000)

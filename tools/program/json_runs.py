@@ -120,6 +120,8 @@ def put_check_line(found: dict[str, Any], line: str) -> None:
             found["procedures"][-1]["name"] = procedure[4]
     elif words[0] == "needs":
         found["needs"] = {"engines": int(words[2]), "workers": int(words[4])}
+    elif words[0] == "searches":
+        found["searches"] = int(words[1])
     elif circle := re.fullmatch(r"bound none: procedure (\d+) at place (\d+) leads back to itself", line):
         found["circle"] = {"procedure": int(circle[1]), "place": int(circle[2])}
     elif words[0] == "order":

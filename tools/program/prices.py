@@ -58,6 +58,14 @@ def local_rows() -> Iterator[Row]:
     ):
         start = f'TEXT v0 "{first}"\nTEXT v1 "{second}"\nINT v3 -9223372036854775808\n'
         yield Row(name, looped(texts, start, f"{operands}\n", times=10, copies=20), "instruction")
+    places = "version 5\nproc control\nregs text text int int\n"
+    for name, operands, first, second in (
+        ("FIND of aa.. that isn't there", "FIND v3 v0 v1 v2 +0", LONG, "a" * 1023 + "b"), ("FIND of half the text", "FIND v3 v0 v1 v2 +0", LONG, HALF[1:] + "b"),
+        ("SPAN by 16 signs", "SPAN v3 v0 v1 v2 +0", LONG, "a" * 16), ("SPAN by 4,096 signs", "SPAN v3 v0 v1 v2 +0", LONG, LONG),
+        ("UNTIL by 4,096 signs", "UNTIL v3 v0 v1 v2 +0", LONG, "b" * 4096), ("SLICE of a text", "SLICE v1 v0 v2 v3 +0", LONG, ""), ("BYTE", "BYTE v3 v0 v2 +0", LONG, ""),
+    ):
+        start = f'TEXT v0 "{first}"\nTEXT v1 "{second}"\nLEN v3 v0\n'
+        yield Row(name, looped(places, start, f"{operands}\n", times=1, copies=20), "instruction")
 
 
 def data_rows() -> Iterator[Row]:

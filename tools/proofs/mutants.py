@@ -212,7 +212,7 @@ MUTANTS = (
     Mutant("ranges_are_read_again", "build", BUILD + "loops.py", "value(body, over.args[1] if len(over.args) > 1 else over.args[0], INT, limit)", "limit = value(body, over.args[1] if len(over.args) > 1 else over.args[0], INT)"),
     Mutant("containers_close_without_the_rest", "build", BUILD + "refusals.py", '"JLT v1 v0 refused", ', ""),
     Mutant("records_have_no_rule", "build", BUILD + "refusals.py", "if record_of(keys) not in body.now.rights and all(", "if record_of(keys) in body.now.rights and all("),
-    Mutant("causes_are_the_first", "build", BUILD + "loops.py", "body.refused(cause))", "body.refused(turns.failed[0]))"),
+    Mutant("causes_are_the_first", "build", BUILD + "loops.py", "number, body.refused(cause))", "number, body.refused(turns.failed[0]))"),
     Mutant("budgets_forget_skips", "build", BUILD + "budgets.py", "if words[0] in SKIPS else 0", "if False else 0"),
     Mutant("unset_names_are_read", "build", BUILD + "values.py", "if node.id not in body.now.assigned:", "if False:"),
     Mutant("write_rights_are_dropped", "build", BUILD + "body.py", 'return self.mode != "write" or not self.type.is_scalar', "return True"),

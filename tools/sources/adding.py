@@ -53,7 +53,6 @@ EDITS = (
     Edit("tw_code/specs/machine/Local.antt", USES, ", Minimum"),
     Edit("tw_code/specs/machine/Local.antt", RESULT, "result_of Minimum a b = Some (if int_lt b a then b else a)\n"),
     Edit("tw_code/src/compute.rt", "        Arithmetic::Remainder => left.checked_rem(right),\n", "        Arithmetic::Minimum => Some(if right < left { right } else { left }),\n"),
-    Edit("tw_verify/src/quick.rt", "        Arithmetic::Remainder => Quick::Remainder { to, left, right, skip },\n", "        Arithmetic::Minimum => Quick::Declared,\n"),
 )
 PROGRAM = """version 2
 proc control closed int closed int write int

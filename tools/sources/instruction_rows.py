@@ -25,7 +25,8 @@ SEEN = "tw_asm/specs/Seen.antt"
 ENUMS = {"Local": "LocalInstr", "Data": "DataInstr"}
 ALIASES = {"Local": "local", "Data": "on_data"}
 REGISTERS = ("Value", "Right")
-VERSIONS = ("One", "Two", "Four")
+GIVEN = {"operation": "Arithmetic", "sought": "Sought", "by": "Scalar"}  # fields that the opcode decides, and their types
+VERSIONS = ("One", "Two", "Four", "Five")
 
 # The fields in which operands are gathered, but those of registers.
 GATHERED = {"Number": "number", "Iterations": "iterations", "Skip": "skip", "TypeOf": "ty"}
@@ -48,6 +49,11 @@ class Row(NamedTuple):
     def operation(self) -> str | None:
         """Returns the operation, if it is one on two integers."""
         return self.given.get("operation")
+
+    @property
+    def sought(self) -> str | None:
+        """Returns the search, if it is one in a text."""
+        return self.given.get("sought")
 
     @property
     def skips(self) -> bool:
@@ -95,7 +101,7 @@ def row_of(opcode: str, text: str, version: str, word: str, variants: dict[str, 
     code, forms, kind, variant, arguments = found.groups(default="")
     names = variants[kind][variant] if kind in ENUMS else ()
     values = dict(zip(names, arguments.split()))
-    given = {name: value.removeprefix("operation.") for name, value in values.items() if not value.startswith("x.")}
+    given = {name: value.removeprefix("operation.").removeprefix("sought.") for name, value in values.items() if not value.startswith("x.")}
     fields = tuple(name for name in names if name not in given)
     return Row(opcode, code, tuple(re.findall(r"\w+", forms)), kind, variant, given, fields, version, word.split('"')[1])
 
@@ -117,11 +123,11 @@ def list_rows(rows: list[Row]) -> Iterator[str]:
 
 
 def version_rows(rows: list[Row]) -> Iterator[str]:
-    """Yields which opcodes each version has."""
-    for index, version in enumerate(VERSIONS[:-1]):
-        later = " | ".join(f"Opcode::{row.opcode}" for row in rows if row.version in VERSIONS[index + 1:])
-        yield f"            Version::{version} => !matches!(self, {later}),"
-    yield f"            Version::{VERSIONS[-1]} => true,"
+    """Yields which opcodes each version brought."""
+    for version in VERSIONS[1:]:
+        brought = " | ".join(f"Opcode::{row.opcode}" for row in rows if row.version == version)
+        yield f"            {brought} => Version::{version},"
+    yield f"            _ => Version::{VERSIONS[0]},"
 
 
 def form_rows(rows: list[Row]) -> Iterator[str]:
@@ -144,6 +150,13 @@ def operation_rows(rows: list[Row]) -> Iterator[str]:
             yield f"        Arithmetic::{row.operation} => Opcode::{row.opcode},"
 
 
+def search_rows(rows: list[Row]) -> Iterator[str]:
+    """Yields the opcodes of searches in texts."""
+    for row in rows:
+        if row.sought:
+            yield f"        Sought::{row.sought} => Opcode::{row.opcode},"
+
+
 def variants_in(rows: list[Row], kind: str) -> list[list[Row]]:
     """Returns the rows of each variant of a kind."""
     parts = {row.variant: [other for other in rows if (other.kind, other.variant) == (kind, row.variant)] for row in rows if row.kind == kind}
@@ -160,6 +173,8 @@ def opcode_in(parts: list[Row], star: str) -> str:
     """Returns the opcode of a variant, which a field may decide."""
     if parts[0].operation:
         return f"opcode_of_operation({star}operation)"
+    if parts[0].sought:
+        return f"opcode_of_search({star}sought)"
     if len(parts) == 1:
         return f"Opcode::{parts[0].opcode}"
     return f"opcode_by({', '.join(f'Opcode::{row.opcode}' for row in parts)}, {star}{next(iter(parts[0].given))})"
@@ -177,9 +192,8 @@ def sink_rows(kind: str, star: str) -> Callable[[list[Row]], Iterator[str]]:
 
 def literal(row: Row) -> str:
     """Returns the expression of an instruction of gathered operands."""
-    given = {"operation": "Arithmetic", "by": "Scalar"}
-    registers = iter(("first", "second", "third"))
-    fields = {name: f"{given[name]}::{value}" for name, value in row.given.items()}
+    registers = iter(("first", "second", "third", "fourth"))
+    fields = {name: f"{GIVEN[name]}::{value}" for name, value in row.given.items()}
     fields |= {name: next(registers) if form in REGISTERS else GATHERED[form] for form, name in zip(row.forms, row.fields)}
     text = ", ".join(name if name == value else f"{name}: {value}" for name, value in fields.items())
     return f"Instr::{row.kind}({ENUMS[row.kind]}::{row.variant}" + (f" {{ {text} }})" if text else ")")
@@ -211,6 +225,13 @@ def operation_lines(rows: list[Row]) -> Iterator[str]:
             yield f"opcode_of_operation operation.{row.operation} = opcode.{row.opcode}"
 
 
+def search_lines(rows: list[Row]) -> Iterator[str]:
+    """Yields the opcodes of searches, as definitions."""
+    for row in rows:
+        if row.sought:
+            yield f"opcode_of_search sought.{row.sought} = opcode.{row.opcode}"
+
+
 def back_rows(kind: str, function: str) -> Callable[[list[Row]], Iterator[str]]:
     """Returns a function that yields the table's way back, from instructions of a kind to opcode and operands."""
     def back(rows: list[Row]) -> Iterator[str]:
@@ -232,18 +253,6 @@ def skip_lines(kind: str, function: str) -> Callable[[list[Row]], Iterator[str]]
     return replaced
 
 
-def name_rows(rows: list[Row]) -> Iterator[str]:
-    """Yields which instructions name a procedure."""
-    for row in rows:
-        yield f"kind_of opcode.{row.opcode} = {'inr (refl, λ a. (_, refl))' if row.action else 'inl (λ a b. refl)'}"
-
-
-def call_rows(rows: list[Row]) -> Iterator[str]:
-    """Yields which instructions have a procedure as their first operand; these first."""
-    for row in sorted(rows, key=lambda row: not row.action):
-        yield f"call_of opcode.{row.opcode} = {'inr (refl, λ a. (_, refl))' if row.action else 'inl refl'}"
-
-
 class Region(NamedTuple):
     """Rows of a file: all lines after the line `after`, which comes after `head`, and before one that begins with `until`."""
 
@@ -257,13 +266,15 @@ class Region(NamedTuple):
 REGIONS: tuple[Region, ...] = (
     Region("tw_code/src/opcode.rt", "pub enum Opcode {", "pub enum Opcode {", "}", enum_rows),
     Region("tw_code/src/opcode.rt", "/// All opcodes.", "#[rattlefmt::skip]", "];", list_rows),
-    Region("tw_code/src/opcode.rt", "    pub fn is_in(", "        match version {", "        }", version_rows),
+    Region("tw_code/src/opcode.rt", "    fn since(", "        match self {", "        }", version_rows),
     Region("tw_code/src/opcode.rt", "    pub fn forms(", "        match self {", "        }", form_rows),
     Region("tw_code/src/opcode.rt", "pub fn word_of(", "    match opcode {", "    }", word_rows),
     Region("tw_code/src/sink.rt", "fn opcode_of_operation(", "    match operation {", "    }", operation_rows),
+    Region("tw_code/src/sink.rt", "fn opcode_of_search(", "    match sought {", "    }", search_rows),
     Region("tw_code/src/sink.rt", "fn put_local<", "    match instr {", "    }", sink_rows("Local", "*")),
     Region("tw_code/src/sink.rt", "fn put_data<", "    match instr {", "    }", sink_rows("Data", "")),
     Region(TABLE, "-- ---- one line for each instruction", "abbrev pub opcode_of_operation : Arithmetic → Opcode", "", operation_lines),
+    Region(TABLE, "-- ---- one line for each instruction", "abbrev pub opcode_of_search : Sought → Opcode", "", search_lines),
     Region(TABLE, "-- ---- one line for each instruction", "abbrev pub local_row : LocalInstr → Opcode × List Operand", "", back_rows("Local", "local_row")),
     Region(TABLE, "-- ---- one line for each instruction", "abbrev pub data_row : DataInstr → Opcode × List Operand", "", back_rows("Data", "data_row")),
     Region("tw_code/src/operands.rt", "pub fn make(", "    match opcode {", "        _ =>", making_rows),
@@ -271,8 +282,6 @@ REGIONS: tuple[Region, ...] = (
     Region("tw_asm/src/skip.rt", "fn data_with_skip(", "    match instr {", "        without =>", skip_rows("Data")),
     Region(SEEN, "-- ---- an instruction with another skip", "abbrev pub local_with_skip : ℕ → LocalInstr → LocalInstr", "local_with_skip skip i", skip_lines("Local", "local_with_skip")),
     Region(SEEN, "-- ---- an instruction with another skip", "abbrev pub data_with_skip : ℕ → DataInstr → DataInstr", "data_with_skip skip i", skip_lines("Data", "data_with_skip")),
-    Region("tw_symbols/proofs/RenamedTexts.antt", "kind_of : ", "kind_of : (o : Opcode) → IsFree o ⊎ IsCall o", "", name_rows),
-    Region("tw_symbols/proofs/RenamedTexts.antt", "call_of : ", "call_of : (o : Opcode) → (is_call (forms_of o) ≡ false) ⊎ IsCall o", "", call_rows),
 )
 
 

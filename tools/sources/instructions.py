@@ -40,29 +40,25 @@ WHOLES: tuple[Whole, ...] = (
     Whole("tw_code/specs/format/Table.antt", "LocalInstr", (r"^row_of .*\blocal\.NAME\b", r"^local_row \(?local\.NAME\b")),
     Whole("tw_code/specs/format/Table.antt", "DataInstr", (r"^row_of .*\(on_data\.NAME\b", r"^data_row \(on_data\.NAME\b")),
     Whole("tw_code/src/sink.rt", "Opcode"),
-    Whole("tw_symbols/proofs/RenamedTexts.antt", "Opcode", (r"^kind_of opcode\.NAME = ", r"^call_of opcode\.NAME = ")),
     *(Whole(path, kind) for kind, paths in {
         "Arithmetic": (
             "tw_code/specs/format/Table.antt", "tw_code/specs/machine/Local.antt", "tw_code/src/compute.rt", "tw_code/src/operands.rt", "tw_code/src/sink.rt",
-            "tw_verify/src/quick.rt",
         ),
         "LocalInstr": (
             "tw_code/src/sink.rt",
             "tw_code/specs/accepting/Typing.antt", "tw_code/specs/machine/Local.antt", "tw_soundness/proofs/Values.antt",
             "tw_verify/src/instructions.rt", "tw_bounds/proofs/Moved.antt", "tw_instr/src/local.rt",
             "tw_frame/src/dispatch.rt", "tw_frame/specs/Requirements.antt", "tw_frame/proofs/Quickly.antt", "tw_frame/proofs/Ahead.antt",
-            "tw_diagnostics/src/local_checks.rt", "tw_diagnostics/specs/RegisterCheck.antt", "tw_diagnostics/proofs/Asking.antt",
         ),
         "DataInstr": (
-            "tw_code/src/sink.rt", "tw_code/src/operands.rt", "tw_binary/specs/VersionOne.antt",
+            "tw_code/src/sink.rt", "tw_code/src/operands.rt",
             "tw_code/specs/accepting/Typing.antt", "tw_code/specs/machine/Data.antt", "tw_code/proofs/Growth.antt",
             "tw_soundness/proofs/Conditions.antt", "tw_soundness/proofs/DataLeaves.antt", "tw_soundness/proofs/DataNamed.antt",
             "tw_soundness/proofs/Long.antt", "tw_soundness/proofs/Moving.antt", "tw_soundness/proofs/Whole.antt",
-            "tw_verify/src/instructions.rt", "tw_verify/src/typing.rt", "tw_bounds/proofs/Moved.antt",
+            "tw_verify/src/on_data.rt", "tw_verify/src/typing.rt", "tw_bounds/proofs/Moved.antt",
             "tw_instr/src/on_data.rt", "tw_instr/specs/Memory.antt",
             "tw_pool_state/src/data.rt", "tw_pool_state/specs/Memory.antt", "tw_pool_state/specs/Queued.antt",
             "tw_stats/src/pre_state.rt",
-            "tw_diagnostics/src/data_checks.rt", "tw_diagnostics/specs/RegisterCheck.antt", "tw_diagnostics/proofs/Asking.antt",
             "tw_determinism/proofs/Contesting.antt", "tw_determinism/proofs/CoreEffects.antt", "tw_determinism/proofs/DataShown.antt",
             "tw_determinism/proofs/Keeping.antt", "tw_copies/proofs/DataSpare.antt", "tw_copies/proofs/Fitting.antt", "tw_copies/proofs/Marked.antt",
             "tw_copies/proofs/Registers.antt", "tw_copies/proofs/Summing.antt", "tw_copies/proofs/Tracking.antt",
@@ -76,8 +72,9 @@ WHOLES: tuple[Whole, ...] = (
 PARTS: tuple[str, ...] = (
     "tw_code/specs/accepting/Flow.antt", "tw_code/src/flow.rt", "tw_asm/specs/Seen.antt", "tw_asm/src/skip.rt", "tw_binary/src/rows.rt",
     "tw_asm/src/instructions.rt",
-    "tw_code/proofs/Computing.antt", "tw_code/proofs/TableRows.antt", "tw_asm/proofs/Table.antt", "tw_asm/proofs/Rows.antt", "tw_binary/proofs/VersionOne.antt",
-    "tw_binary/specs/VersionOne.antt", "tw_frame/src/step.rt", "tw_verify/src/quick.rt", "tw_verify/specs/Quick.antt",
+    "tw_code/proofs/TableRows.antt", "tw_asm/proofs/Table.antt", "tw_asm/proofs/Rows.antt",
+    "tw_frame/src/step.rt", "tw_frame/src/text_step.rt", "tw_verify/src/quick.rt", "tw_verify/specs/Quick.antt",
+    "tw_verify/src/searching.rt", "tw_verify/specs/Searching.antt",
     "tw_symbols/src/instruction.rt", "tw_symbols/specs/LineExpansion.antt",
     "tw_bounds/src/weighing.rt", "tw_bounds/specs/Bounds.antt", "tw_bounds/proofs/Paying.antt", "tw_budget/proofs/Sound.antt",
     "tw_bounds/src/limited.rt", "tw_bounds/specs/Limited.antt", "tw_bounds/proofs/LimitedRuns.antt",
@@ -91,8 +88,8 @@ PARTS: tuple[str, ...] = (
 
 # Files that treat some by themselves and then all others at once: a new one needs nothing there.
 SHOWN_ONE: tuple[str, ...] = (
-    "tw_asm/proofs/Skips.antt", "tw_asm/proofs/Written.antt", "tw_diagnostics/proofs/Fewness.antt", "tw_diagnostics/proofs/Starting.antt",
-    "tw_asm/proofs/Firsts.antt", "tw_symbols/proofs/UnchangedLines.antt", "tw_frame/src/arithmetic.rt",
+    "tw_code/proofs/Computing.antt", "tw_asm/proofs/Skips.antt", "tw_asm/proofs/Written.antt", "tw_asm/proofs/Firsts.antt", "tw_frame/src/arithmetic.rt",
+    "tw_symbols/proofs/RenamedTexts.antt", "tw_symbols/proofs/UnchangedLines.antt",
 )
 
 

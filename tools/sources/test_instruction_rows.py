@@ -42,8 +42,7 @@ class Rows(unittest.TestCase):
 
     def test_a_row_that_is_gone_is_written(self) -> None:
         self.edit("tw_code/src/sink.rt", "        LocalInstr::Jump { skip } => sink.put(Opcode::Jump, &[Skip(*skip)]),\n", "")
-        for row in ("kind_of opcode.Put = inr (refl, λ a. (_, refl))\n", "call_of opcode.Put = inr (refl, λ a. (_, refl))\n", "call_of opcode.Size = inl refl\n"):
-            self.edit("tw_symbols/proofs/RenamedTexts.antt", row, "")
+        self.edit("tw_asm/specs/Seen.antt", "local_with_skip skip (local.Jump old) = local.Jump skip\n", "")
         for path, text in instruction_rows.made(self.root).items():
             self.assertEqual(text, (ROOT / "crates" / path).read_text(encoding="utf-8"))
 
@@ -53,11 +52,10 @@ class Rows(unittest.TestCase):
         self.edit(instruction_rows.TABLE, "since o = One\n", "since opcode.Minimum = Two\nsince o = One\n")
         texts = instruction_rows.made(self.root)
         for path, rows in {
-            "tw_code/src/opcode.rt": ("    Minimum = 0x15,", "[Opcode; 40]", "Opcode::Minimum | Opcode::InsertByText | ", '        Opcode::Minimum => "MIN",'),
+            "tw_code/src/opcode.rt": ("    Minimum = 0x15,", "Opcode::Minimum | Opcode::InsertByText | ", '        Opcode::Minimum => "MIN",'),
             "tw_code/src/sink.rt": ("        Arithmetic::Minimum => Opcode::Minimum,",),
             instruction_rows.TABLE: ("opcode_of_operation operation.Minimum = opcode.Minimum",),
             "tw_code/src/operands.rt": ("        Opcode::Minimum => Instr::Local(LocalInstr::Compute { operation: Arithmetic::Minimum, to: first, left: second, right: third, skip }),",),
-            "tw_symbols/proofs/RenamedTexts.antt": ("kind_of opcode.Minimum = inl (λ a b. refl)", "call_of opcode.Minimum = inl refl"),
         }.items():
             for row in rows:
                 self.assertIn(row, texts[path])

@@ -11,7 +11,7 @@ from typing import Any, Iterator
 
 from tools.fuzz import make
 from tools.fuzz.oracle.bounds import COUNTED, bound, budgets, has_circle, limited_lines, needs, reported
-from tools.fuzz.oracle.code import CONT, INT, TCONT, TEXT, Type, encode, entry_of, is_map, is_sums, subscript_of
+from tools.fuzz.oracle.code import CONT, INT, TCONT, TEXT, VERSIONS, Type, encode, entry_of, is_map, is_sums, subscript_of
 from tools.fuzz.common import Corpus, FuzzTest, RunTest
 from tools.fuzz.kinds.inputs import form_of
 from tools.fuzz.library import Library
@@ -68,10 +68,16 @@ class Order(Struct):
     _fields_ = fields("may_show", "procedure", "place")
 
 
+class Load(Struct):
+    _fields_ = fields("most_bytes", "version")
+
+
 class Verdict(Struct):
     _fields_ = fields("letter", "number", "engines", "workers", "procedure", "place", "line", "word", "column")
 
 
+NEWEST = Load(1 << 24, VERSIONS[-1])
+OLDER = 4  # the newest version that a load takes without options
 # Codes of calls (yuglemit_code).
 INPUT_COUNT, INPUT_TYPE, NO_LIMIT, ABOVE_CAP = 201, 202, 204, 207
 NO_PROGRAM, NO_REPORT, NO_LAYOUT, NO_INDEX, NO_TEXT, NO_UTF8, NO_ROOM, REJECTED, NO_LIST, UNFINISHED = 211, 215, 222, 223, 224, 225, 226, 229, 231, 232
@@ -244,13 +250,15 @@ class HandlesTest(RunTest):
     def compare(self, library: Library, native: Any, program: Any, shared: Any, inputs: Any, report: Any) -> None:
         data = encode(self.program)
         verdict = Verdict(*[0] * 9)
-        answered = native.yuglemit_raw_load_source(data, len(data), ord("b"), ctypes.byref(NONE), 0, ctypes.byref(program), *verdict.listed())
+        answered = native.yuglemit_raw_load_source(data, len(data), ord("b"), *NEWEST.listed(), ctypes.byref(program), *verdict.listed())
         expect("the code of a load", REJECTED if verdict.letter else 0, answered)
         code = f"{chr(verdict.letter)}{verdict.number:02}" if verdict.letter else ""
         answer = library.verify(data)
         expect("verdict", (answer.code, answer.procedure, answer.place), (code, verdict.procedure, verdict.place))
         expect("a handle", not answer.code, bool(program.value))
         self.compare_program(native, program, not answer.code)
+        if self.program.version > OLDER:
+            self.compare_older(native, data)
         if not answer.code:
             expect("share", 0, native.yuglemit_raw_program_share(ctypes.byref(program), ctypes.byref(shared)))
             self.append(native, inputs)
@@ -439,10 +447,16 @@ class HandlesTest(RunTest):
             for handle, name in ((stop, "stop"), (other, "stop"), (report, "report")):
                 getattr(native, f"yuglemit_{name}_free")(handle)
 
+    def compare_older(self, native: Any, data: bytes) -> None:
+        """Loads the program as a caller that names no version."""
+        program, verdict = ctypes.c_void_p(), Verdict(*[0] * 9)
+        native.yuglemit_raw_load_source(data, len(data), ord("b"), ctypes.byref(NONE), 0, ctypes.byref(program), *verdict.listed())
+        expect("a later version", ("F", 2, 3, None), (chr(verdict.letter), verdict.number, verdict.place, program.value))
+
     def compare_hex(self, native: Any, data: bytes, program: Any) -> None:
         """Loads the program again, from hex text."""
         verdict, source = Verdict(*[9] * 9), data.hex().encode()
-        answer = native.yuglemit_raw_load_source(source, len(source), 0, ctypes.byref(NONE), 0, ctypes.byref(program), *verdict.listed())
+        answer = native.yuglemit_raw_load_source(source, len(source), 0, *NEWEST.listed(), ctypes.byref(program), *verdict.listed())
         expect("hex text", (0, 0, 0, 0, 0), (answer, verdict.letter, verdict.line, verdict.word, verdict.column))
 
     def compare_aside(self, native: Any, shared: Any, inputs: Any, report: Any) -> None:

@@ -187,7 +187,7 @@ def make_asm(chance: random.Random, corpus: Corpus) -> FuzzTest:
 # --- Damaged texts
 
 PIECES = ["", " ", ";", '"', "\\", "\\q", ":", "+", "-", "0", "99999999999999999999", "v16", "d16", "tcont", "cont", "map", "tmap", "sum", "\t", "é", "\u00a0", "\ufeff", ",",
-          "(", ")", "=", "names", "const", "let", "any", "int", "version 2", "version 1", "version 4", "version 3", "proc control", "regs", "RET", "INT", "\x00", "\n", "a" * 65, "#", "//"]
+          "(", ")", "=", "names", "const", "let", "any", "int", "version 2", "version 1", "version 4", "version 5", "version 3", "version 6", "proc control", "regs", "RET", "INT", "\x00", "\n", "a" * 65, "#", "//"]
 
 
 def damaged_text(chance: random.Random, text: str) -> str:

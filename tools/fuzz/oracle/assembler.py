@@ -254,7 +254,7 @@ class Assembler:
         if len(rest) != 1:
             self.codes.add(2)
         else:
-            self.version = self.number(rest[0], 1, 4)
+            self.version = self.number(rest[0], VERSIONS[0], VERSIONS[-1])
             if self.version not in VERSIONS and not self.codes:
                 self.codes.add(6)
 

@@ -5,7 +5,7 @@ from __future__ import annotations
 from dataclasses import dataclass
 from typing import Callable, Sequence
 
-from tools.fuzz.oracle.code import CALLS, CLOSED, TEXT, Instr, Procedure, Program
+from tools.fuzz.oracle.code import CALLS, CLOSED, SEARCHES, TEXT, Instr, Procedure, Program
 
 OVER = 1_000_000_000_000
 Cost = Callable[[Instr], int]
@@ -216,4 +216,5 @@ def check_lines(program: Program) -> list[str]:
     heads = [f"proc {number} {('control', 'leaf')[found.kind]} budget {budget}"
              for number, (found, budget) in enumerate(zip(program.procedures, budgets(program)))]
     engines, workers = needs(program)
-    return ["accepted", *heads, f"needs engines {engines} workers {workers}"]
+    searching = sum(any(instr.name in SEARCHES for instr in found.code) for found in program.procedures)
+    return ["accepted", *heads, f"needs engines {engines} workers {workers}", *([f"searches {searching}"] if searching else [])]

@@ -18,7 +18,7 @@ VAL, CLOSED, REF, WRITE = 1, 2, 3, 4
 MODES = {VAL: "val", CLOSED: "closed", REF: "ref", WRITE: "write"}
 TYPES = {INT: "int", TEXT: "text", CONT: "cont", TCONT: "tcont", MAP: "map", TMAP: "tmap"}
 ENTRIES = {INT: "int", TEXT: "text", SUM: "sum"}
-VERSIONS = (1, 2, 4)
+VERSIONS = (1, 2, 4, 5)
 KINDS = ("control", "leaf")
 
 # Each instruction's code and operands: v and d registers, n a number of 8 bytes, t a text, s a skip, y a type, k iterations,
@@ -27,17 +27,22 @@ FORMS: dict[str, tuple[int, str]] = {
     "INT": (0x01, "vn"), "TEXT": (0x02, "vt"), "COPY": (0x03, "vv"),
     "ADD": (0x10, "vvvs"), "SUB": (0x11, "vvvs"), "MUL": (0x12, "vvvs"), "DIV": (0x13, "vvvs"), "REM": (0x14, "vvvs"),
     "CAT": (0x18, "vvvs"), "LEN": (0x19, "vv"), "SHOW": (0x1A, "vv"), "READI": (0x1B, "vvs"),
-    "JMP": (0x20, "s"), "JEQ": (0x21, "vvs"), "JLT": (0x22, "vvs"), "REPEAT": (0x23, "k"), "END": (0x24, ""),
+    "JMP": (0x20, "s"), "JEQ": (0x21, "vvs"), "JLT": (0x22, "vvs"), "REPEAT": (0x23, "k"), "END": (0x24, ""), "LAST": (0x2B, ""),
     "NEW": (0x30, "ddy"), "STORE": (0x31, "dv"), "GET": (0x32, "vd"), "INS": (0x33, "dvds"), "LOOK": (0x34, "ddvs"),
     "SIZE": (0x35, "vd"), "SUBAT": (0x36, "vdvs"), "DUPR": (0x37, "dd"), "DUPW": (0x38, "dd"), "DROPR": (0x39, "d"), "DROPW": (0x3A, "d"),
     "RULE": (0x40, "pnag"), "PUT": (0x41, "pnag"), "RET": (0x42, ""),
     "TINS": (0x50, "dvds"), "TLOOK": (0x51, "ddvs"), "TSUBAT": (0x52, "vdvs"), "RULEV": (0x53, "pvag"), "PUTV": (0x54, "pvag"),
     "MINS": (0x60, "dvvs"), "MGET": (0x61, "vdvs"), "MADD": (0x62, "dvv"),
+    "BYTE": (0x70, "vvvs"), "SLICE": (0x71, "vvvvs"), "FIND": (0x72, "vvvvs"), "SPAN": (0x73, "vvvvs"), "UNTIL": (0x74, "vvvvs"),
+    "MULDIV": (0x75, "vvvvs"), "AND": (0x76, "vvvs"), "OR": (0x77, "vvvs"), "XOR": (0x78, "vvvs"), "SHL": (0x79, "vvvs"), "SHR": (0x7A, "vvvs"),
+    "WMUL": (0x7B, "vvvs"), "WADD": (0x7C, "vvvs"), "JTLT": (0x7D, "vvs"),
 }
 NAMES = {code: name for name, (code, _) in FORMS.items()}
-SINCE = {**dict.fromkeys(("TINS", "TLOOK", "TSUBAT", "RULEV", "PUTV"), 2), **dict.fromkeys(("MINS", "MGET", "MADD"), 4)}
+SEARCHES = ("FIND", "SPAN", "UNTIL")
+FIFTH = tuple(name for name, (code, _) in FORMS.items() if code >= 0x70 or name == "LAST")
+SINCE = {**dict.fromkeys(("TINS", "TLOOK", "TSUBAT", "RULEV", "PUTV"), 2), **dict.fromkeys(("MINS", "MGET", "MADD"), 4), **dict.fromkeys(FIFTH, 5)}
 TYPES_SINCE = {TCONT: 2, MAP: 4, TMAP: 4}
-LOCAL = {name for name, (code, _) in FORMS.items() if code <= 0x24}
+LOCAL = {name for name, (code, _) in FORMS.items() if code < 0x30 or name in FIFTH}
 CALLS = {"RULE", "PUT", "RULEV", "PUTV"}
 
 

@@ -1,0 +1,19 @@
+"""Tests that a row which takes more is found."""
+
+import unittest
+
+from tools.program import events
+
+
+class Risen(unittest.TestCase):
+    def test_rows(self) -> None:
+        figures = {"same": 1000.0, "more": 1000.0, "much": 1000.0}
+        rows = {"same": 1000.0, "more": 1019.0, "much": 1021.0, "new": 5.0}
+        self.assertEqual(events.risen(rows, figures), ["events: much: 1021, before 1000", "events: new: 5, before 0"])
+
+    def test_fewer(self) -> None:
+        self.assertEqual(events.risen({"row": 1.0}, {"row": 1000.0}), [])
+
+
+if __name__ == "__main__":
+    unittest.main()
