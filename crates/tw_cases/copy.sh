@@ -5,14 +5,14 @@
 cd "$(dirname "$0")/../.." || exit 1
 data=${1:-crates/tw_cases/data}
 
-# Replaces the name of a file after a command by the options that `tw` makes of it.
+# Replaces the name of a file after a command by the options that `tw` makes of it. Blanks and backslashes in quotes become escapes of cases.
 as_input() {
-    sed -E '/^\$ /{
+    awk 'BEGIN { FS = OFS = "\047" } /^\$ / { for (i = 2; i <= NF; i += 2) { gsub(/\\/, "\\x5c", $i); gsub(/ /, "\\x20", $i) } } { print }' "$1" | sed -E '/^\$ /{
         s#^\$ \./tw asm ([^ :<]+\.tw)( |$)#$ ./tw asm < \1\2#
         s#^\$ \./tw asm ([^ :<]+\.twn)([^|]*[^| ])?#$ ./tw asm --names\2 < \1#
         s#^\$ \./tw ([a-z]+) ([^ :<]+\.twn?)([^|]*[^| ])?( \| .*)?$#$ ./tw \1 --text\3 < \2\4#
         s#^\$ \./tw ([a-z]+) ([^ :<]+\.(hex|history))([^|]*[^| ])?( \| .*)?$#$ ./tw \1\4 < \2\5#
-    }' "$1" >"$data/as_input" && mv "$data/as_input" "$1"
+    }' >"$data/as_input" && mv "$data/as_input" "$1"
 }
 
 [ $# -gt 0 ] || rm -rf "$data"

@@ -6,7 +6,7 @@
 #
 # The limit bounds a program that has no bounds, or more than LIMIT events. Then no event does more instructions than the greatest
 # budget. Each instruction and each event counts as twice the dearest that the program may have: of ints; of texts, if it has some; READI of the
-# longest text, if it has that (./dev prices measures them). So most runs take a small part of it.
+# longest text, or a search in it, if it has that (./dev prices measures them). So most runs take a small part of it.
 [ $# = 2 ] || [ $# = 3 ] || { echo "usage: bound.sh TW PROGRAM [LIMIT]" >&2; exit 2; }
 tw=$1 program=$2 limit=${3:-1000000} text=''
 case $program in
@@ -16,10 +16,13 @@ answer=$("$tw" check $text --bounds <"$program") || { printf '%s\n' "$answer" >&
 listing=$("$tw" disasm $text <"$program") || exit
 work=ints
 case $listing in *text*READI* | *READI*text*) work=numbers ;; *text*) work=texts ;; esac
+case $answer in *"
+searches "*) work=searches ;; esac
 case $work in
     ints) instructions=50000000 events=100000 ;;
     texts) instructions=2000000 events=10000 ;;
     numbers) instructions=50000 events=10000 ;;
+    searches) instructions=20000 events=10000 ;;
 esac
 printf '%s\n' "$answer" | awk -v limit="$limit" -v instructions="$instructions" -v events="$events" '
     $1 == "proc" && $5 > greatest { greatest = $5 }
