@@ -131,8 +131,16 @@ def muldiv(a: int, b: int, c: int) -> Number:
     return _checked("__add__")(found if (a < 0) == (b < 0) else -found, 0)
 
 
+def divided(a: int, b: int, c: int, name: str) -> Number:
+    """`a * b // c` or `a * b % c`, whose product may leave 64 bits where muldiv gives a quotient."""
+    product = int(a) * int(b)
+    if not -(2**63) <= product < 2**63:
+        muldiv(a, b, c)
+    return _checked(name)(product, c)
+
+
 # Names of version 5.
-PARTS: Dict[str, Any] = {"byte": byte, "find": find, "span": span, "until": until, "split": split, "muldiv": muldiv, "part": part}
+PARTS: Dict[str, Any] = {"byte": byte, "find": find, "span": span, "until": until, "split": split, "muldiv": muldiv, "part": part, "divided": divided}
 
 
 def names() -> Dict[str, Any]:
@@ -163,6 +171,14 @@ class Parts(ast.NodeTransformer):
 
 
 class _Numbered(Parts):
+    def visit_BinOp(self, node: ast.BinOp) -> ast.expr:
+        self.generic_visit(node)
+        names = {ast.FloorDiv: "__floordiv__", ast.Mod: "__mod__"}
+        product, name = node.left, names.get(type(node.op))
+        if name is None or not isinstance(product, ast.BinOp) or not isinstance(product.op, ast.Mult):
+            return node
+        return ast.Call(ast.Name("divided", ast.Load()), [product.left, product.right, node.right, ast.Constant(name)], [])
+
     def visit_Constant(self, node: ast.Constant) -> ast.expr:
         if type(node.value) is not int:
             return node

@@ -102,6 +102,45 @@ class Ordinary(unittest.TestCase):
         self.assertEqual((report.end, report.outputs), ("quiet", [Counter(words[:1000])]))
 
 
+# Parameters, a loop over n of at most 100,000 turns, and its inputs for n.
+FEW: List[Tuple[str, str, Callable[[int], List[Any]]]] = [
+    ("n: Int", "s = 0\nfor i in range(n):\n    s += i\nreturn s", lambda n: [n]),
+    ("n: Int", "s = 0\nfor i in range(n, 0, -1):\n    s += i\nreturn s - n", lambda n: [n]),
+    ("n: Int", "s = 0\nfor i in range(100_000):\n    if i == n:\n        break\n    s += i\nreturn s", lambda n: [n]),
+    ("n: Int", "s = 0\nfor i in range(100_000):\n    if i == n:\n        return s\n    s += i\nreturn -2", lambda n: [n]),
+    ("n: Int", "s, i = 0, 0\nwhile i < n:\n    s += i\n    i += 1\nreturn s", lambda n: [n]),
+    ("m: Map[Int, Int]", "s = 0\nfor i, v in each(m):\n    s += v\nreturn s", lambda n: [list(range(n))]),
+    ("t: Text", 's = 0\nfor w in split(t, " "):\n    s += int(w)\nreturn s', lambda n: [" ".join(map(str, range(n)))]),
+]
+
+
+class Turns(unittest.TestCase):
+    def test_few_of_many(self) -> None:
+        """A loop over 10 of at most 100,000 makes 11 turns; those over 20 and 30 take more instructions only for their ten more turns."""
+        for parameters, body, inputs in FEW:
+            program = build_text(HEAD.replace("out\n", "out, split\n") + of_leaf(parameters, body)).program
+            reports = [program.run(*inputs(n)) for n in (10, 20, 30)]
+            self.assertEqual([it.outputs for it in reports], [[45], [190], [435]], body)
+            ten, twenty, thirty = (it.meter.instructions for it in reports)
+            self.assertEqual(twenty - ten, thirty - twenty, body)
+            self.assertLess(ten, (twenty - ten) + 45, body)  # what a turn too many, both loops and the rest of the program take
+
+    def test_refused(self) -> None:
+        """No turn follows a refused instruction."""
+        program = build_text(HEAD + of_leaf("n: Int", "s = 0\nfor i in range(100_000):\n    s += 10 // (n - i)\nreturn s")).program
+        self.assertEqual(program.run(3).outputs, [-1])
+        self.assertLess(program.run(3).meter.instructions, 150)
+
+    def test_in_one_another(self) -> None:
+        """An inner loop that ends leaves the outer one its turns, whichever of them are of two of the machine's loops."""
+        for outer, inner in ((5, 2000), (2000, 5), (2000, 2000)):
+            body = f"s = 0\nfor i in each(range(n), {outer}):\n    for j in each(range(i), {inner}):\n        if j == 3:\n            break\n        s += 1\nreturn s"
+            program = build_text(HEAD + of_leaf("n: Int", body)).program
+            for n in range(6):
+                self.assertEqual(program.run(n).outputs, [sum(min(i, 3) for i in range(n))], (outer, inner, n))
+            self.assertLess(program.run(5).meter.instructions, 500)
+
+
 BIG = 2**63 - 1
 
 

@@ -37,6 +37,14 @@ def fits(number: Optional[int]) -> int:
     return number if number is not None and LEAST <= number <= MOST else NONE
 
 
+def exact(product: int, divisor: int, result: Callable[[], int]) -> Optional[int]:
+    """A result by a product, which may leave 64 bits if the divisor is above 0 and the quotient doesn't."""
+    if not LEAST <= product <= MOST:
+        quotient = abs(product) // max(divisor, 1) * (1 if product > 0 else -1)
+        return result() if divisor > 0 and LEAST <= quotient <= MOST else None
+    return result() if divisor else None
+
+
 def part(text: str, start: int, end: int) -> str:
     """A part of a text by bytes; neither end may be inside of a character."""
     try:
@@ -66,6 +74,9 @@ OF_INTS: Dict[str, Tuple[int, Callable[..., Any]]] = {
     "a << b": (2, lambda a, b: a << b if 0 <= b <= 62 else None),
     "a >> b": (2, lambda a, b: a >> b if 0 <= b <= 63 else None),
     "a << 3 | 5 & a": (1, lambda a: a << 3 | 5 & a),
+    "a * b // c": (3, lambda a, b, c: exact(a * b, c, lambda: int(a * b // c))),
+    "a * b % c": (3, lambda a, b, c: exact(a * b, c, lambda: int(a * b % c))),
+    "a * b % 4611686018427387847 + 1": (2, lambda a, b: exact(a * b, 2**62 - 57, lambda: int(a * b % (2**62 - 57) + 1))),
     "muldiv(a, b, c)": (3, lambda a, b, c: int(build.muldiv(a, b, c)) if c > 0 else None),
 }
 OF_TEXTS: Dict[str, Callable[[str, str, int], int]] = {
@@ -167,6 +178,14 @@ class Loops(unittest.TestCase):
             program = of_leaf("n: Int", body)
             for n in (*range(-1, 30), 97):
                 self.assertEqual(program.run(n).outputs, [wanted(n)], (body, n))
+
+    def test_endless(self) -> None:
+        """`while True` is left by `break` or `return`, and refused at its bound; after one without `break` nothing is reached."""
+        for end, after in (("break", "\nreturn s"), ("return s", "")):
+            program = of_leaf("n: Int", f"s = 0\nwhile True:\n    s += 1\n    if s > n:\n        {end}{after}")
+            self.assertEqual([program.run(n).outputs[0] for n in (-5, 0, 1000, 99_999, 100_000)], [1, 1, 1001, 100_000, NONE], end)
+        with self.assertRaisesRegex(BuildError, "this line is never reached"):
+            of_leaf("n: Int", "while True:\n    n += 1\nreturn n")
 
     def test_bounds(self) -> None:
         """A while is refused at its bound if its test still holds, and what is refused in the test ends it, too. After its end no turn is made."""

@@ -81,14 +81,12 @@ class Failing:
 
 @dataclass
 class Loop:
-    """A loop that is being compiled: the label of the next turn, the labels of its ENDs, the innermost last, and the flag that ends it, with a LAST if
-    `has_last`: then no turn of the innermost follows."""
+    """A loop that is being compiled: the label of the next turn, the labels of its ENDs, the innermost last, and the flag that says why it ended."""
 
     home: State
     next: str
     ends: List[str]
     flag: str
-    has_last: bool = False
     is_ended: bool = False
     is_broken: bool = False
     return_sets: List[Set[str]] = field(default_factory=list)

@@ -23,6 +23,8 @@ def branch(body: Body, node: ast.expr, yes: str, no: str) -> None:
         _compared(body, node, yes, no)
     elif isinstance(node, ast.Call) and isinstance(node.func, ast.Attribute) and node.func.attr == "startswith":
         begins(body, node, yes, no)
+    elif isinstance(node, ast.Constant) and isinstance(node.value, bool):
+        body.code.put("JMP", yes if node.value else no)
     elif called(node) == "check":
         body.fail("check(..) is the whole condition of an if, or none of it", node)
     else:

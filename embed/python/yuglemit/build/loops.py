@@ -1,6 +1,6 @@
 # SPDX-License-Identifier: Apache-2.0
-"""Loops: over a range, the members of a container, the values of a map or the words of a text, and `while`. The machine's loops make all their turns; a flag
-skips the rest, or LAST ends them. A loop for which turns are left at its bound is refused there."""
+"""Loops: over a range, the members of a container, the values of a map or the words of a text, and `while`. LAST ends the machine's loops, of which each has
+its most turns. A loop for which turns are left at its bound is refused there."""
 
 from __future__ import annotations
 
@@ -28,7 +28,7 @@ AnyLoop = Union[ast.For, ast.While]
 
 @dataclass
 class _Shape:
-    """A loop's iterations, and the register that each raises by a step; with a limit, an iteration does nothing once the counter has reached it. `cut`
+    """A loop's iterations, and the register that each raises by a step; with a limit, the loop ends once the counter has reached it. `cut`
     says what is then left, and `held` which registers are the loop's own. Of a loop over words `words` has the text, what is between words, and the place that
     was reached."""
 
@@ -58,11 +58,10 @@ def loop(body: Body, node: AnyLoop, block: Block, ends: Ends) -> None:
         body.fail(f"a {'for' if isinstance(node, ast.For) else 'while'} has no else", node.orelse[0])
     shape, begin = _shaped(body, node)
     _check_depth(body, shape)
-    has_last = isinstance(node, ast.While) or bool(shape.words)
-    flag = body.temporary(INT) if has_last or _may_end(node) else ""
-    turns = Loop(body.now.copy(), body.new_label("next"), [body.new_label("end") for _ in shape.repeats], flag, has_last)
+    flag = body.temporary(INT) if isinstance(node, ast.While) or shape.words or _may_end(node) else ""
+    turns = Loop(body.now.copy(), body.new_label("next"), [body.new_label("end") for _ in shape.repeats], flag)
     before, places = len(body.code.lines), set(body.places)
-    tops = _put_repeats(body, turns, shape)
+    top = _put_repeats(body, turns, shape)
     body.loops.append(turns)
     failing = body.begin_failing(body.by_cause)
     begin(turns)
@@ -74,8 +73,9 @@ def loop(body: Body, node: AnyLoop, block: Block, ends: Ends) -> None:
         body.code.put("JMP", turns.next)
     body.failing.pop()
     body.loops.pop()
-    body.code.lines[tops[-1] :] = _with_pads(body, turns, failing, shape, body.code.lines[tops[-1] :])
-    _add_flag(body, turns, before, tops)
+    body.code.lines[top:] = _with_pads(body, turns, failing, shape, body.code.lines[top:])
+    if turns.is_ended:
+        body.code.lines.insert(before, Line(f"INT {turns.flag} 0", body.code.lines[before].place))
     _after(body, node, turns, shape, ends)
     body.forget([it for it in body.places if it not in places])
 
@@ -85,7 +85,7 @@ def _shaped(body: Body, node: AnyLoop) -> Tuple[_Shape, Callable[[Loop], None]]:
     if isinstance(node, ast.While):
         test, shape = node.test, _Shape(_greatest(body, node), None, 1)
         shape.cut = f"{body.source.shown(test)} may still hold after {prod(shape.repeats)} turns, the most of this loop"
-        return shape, lambda turns: _ends_unless(body, lambda yes, no: branch(body, test, yes, no))
+        return shape, lambda turns: None if _is_endless(node) else _ends_unless(body, lambda yes, no: branch(body, test, yes, no))
     over, most = _bounded(body, node)
     if called(over) == "range":
         return _counted(body, node, over, most), lambda turns: None
@@ -94,6 +94,11 @@ def _shaped(body: Body, node: AnyLoop) -> Tuple[_Shape, Callable[[Loop], None]]:
         return shape, lambda turns: _word(body, shape)
     shape = _members(body, node, over, most)
     return shape, partial(_member, body, node, over, shape)
+
+
+def _is_endless(node: AnyLoop) -> bool:
+    """Says whether it is `while True`, which only `break` and `return` end."""
+    return isinstance(node, ast.While) and isinstance(node.test, ast.Constant) and node.test.value is True
 
 
 def _ends_unless(body: Body, test: Callable[[str, str], None]) -> None:
@@ -132,18 +137,24 @@ def _check_depth(body: Body, shape: _Shape) -> None:
         body.fail(f"at most {MOST_DEPTH} loops in one another; one over more than {MOST_TURNS} values counts as two")
 
 
-def _put_repeats(body: Body, turns: Loop, shape: _Shape) -> List[int]:
-    """Begins the machine's loops, whose iterations do nothing once the limit is reached; returns where their first lines are."""
-    tops = []
-    for count, end in zip(shape.repeats, turns.ends):
+def _put_repeats(body: Body, turns: Loop, shape: _Shape) -> int:
+    """Begins the machine's loops, the innermost of which ends once the limit is reached; returns where its first line is."""
+    for count in shape.repeats:
         body.code.put("REPEAT", count)
-        tops.append(len(body.code.lines))
-        if shape.limit:
-            there = body.new_label("there")
-            body.code.put("JLT", *shape.before_limit, there)
-            body.code.put("JMP", end)
-            body.code.label(there)
-    return tops
+    top = len(body.code.lines)
+    if shape.limit:
+        there = body.new_label("there")
+        body.code.put("JLT", *shape.before_limit, there)
+        _put_last(body)
+        body.code.put("JMP", turns.end)
+        body.code.label(there)
+    return top
+
+
+def _put_last(body: Body) -> None:
+    """Makes this turn the last one of the innermost of the machine's loops."""
+    body.unit.need(VERSION)
+    body.code.put("LAST")
 
 
 def _with_pads(body: Body, turns: Loop, failing: Failing, shape: _Shape, lines: List[Line]) -> List[Line]:
@@ -160,20 +171,35 @@ def _with_pads(body: Body, turns: Loop, failing: Failing, shape: _Shape, lines: 
     if any(turns.next in it.text.split() for it in body.code.lines):
         body.code.label(turns.next)
         _put_step(body, turns, shape)
-    for end in reversed(turns.ends):
-        body.code.label(end)
-        body.code.put("END")
+    body.code.label(turns.end)
+    body.code.put("END")
+    for end in turns.ends[:-1]:
+        _end_outer(body, turns, shape, end)
     made, body.code.lines = body.code.lines, kept
     return made
 
 
+def _end_outer(body: Body, turns: Loop, shape: _Shape, end: str) -> None:
+    """Ends an iteration of a loop around the innermost one: it is the last if the flag is set, or the limit reached."""
+    if turns.is_ended:
+        zero, unset = body.temporary(INT), body.new_label("unset")
+        body.code.put("INT", zero, 0)
+        body.code.put("JEQ", turns.flag, zero, unset)
+        _put_last(body)
+        body.code.label(unset)
+        body.values.release(zero)
+    if shape.limit:
+        body.code.put("JLT", *shape.before_limit, end)
+        _put_last(body)
+    body.code.label(end)
+    body.code.put("END")
+
+
 def _put_flag(body: Body, turns: Loop, flag: int) -> None:
-    """Sets the flag, after which no turn does anything, or none follows."""
+    """Sets the flag, after which no turn follows."""
     turns.is_ended = True
     body.code.put("INT", turns.flag, flag)
-    if turns.has_last:
-        body.unit.need(VERSION)
-        body.code.put("LAST")
+    _put_last(body)
 
 
 def _put_step(body: Body, turns: Loop, shape: _Shape) -> None:
@@ -206,17 +232,6 @@ def _constants(body: Body, node: ast.expr) -> Optional[List[int]]:
     return numbers if len(numbers) == len(found) else None
 
 
-def _add_flag(body: Body, turns: Loop, before: int, tops: List[int]) -> None:
-    """Adds what sets the flag before the loop, and skips the turns after it is set."""
-    if not turns.is_ended:
-        return
-    zero, place = body.temporary(INT), body.code.lines[before].place
-    for top, end in reversed(list(zip(tops, turns.ends))[: -1 if turns.has_last else None]):
-        body.code.lines[top:top] = [Line(f"INT {zero} 0", place), Line(f"JLT {zero} {turns.flag} {end}", place)]
-    body.code.lines[before:before] = [Line(f"INT {turns.flag} 0", place)]
-    body.values.release(zero)
-
-
 def _after(body: Body, node: AnyLoop, turns: Loop, shape: _Shape, ends: Ends) -> None:
     """Continues after the loop, as its flag says."""
     body.state = turns.home.copy()
@@ -241,6 +256,8 @@ def _after(body: Body, node: AnyLoop, turns: Loop, shape: _Shape, ends: Ends) ->
         else:
             body.code.put("JLT", *shape.before_limit, refused)
         body.code.label(done)
+    if _is_endless(node) and not turns.is_broken:
+        body.state = None
     for it in (*shape.held, turns.flag):
         if it:
             body.values.release(it)
@@ -271,7 +288,7 @@ def _returns(body: Body, turns: Loop, ends: Ends) -> None:
 
 
 def turn_ends(body: Body, flag: int) -> None:
-    """Ends the iteration here: jumps to the next one, or with a flag to the END, after which no iteration does anything."""
+    """Ends the iteration here: jumps to the next one, or with a flag to the END, after which no iteration follows."""
     if not body.loops:
         body.fail("this is for loops")
     turns = body.loops[-1]

@@ -4,7 +4,7 @@
 from __future__ import annotations
 
 import ast
-from typing import List, Optional
+from typing import List, Optional, Tuple
 
 from .advice import advice_on
 from .body import Body
@@ -125,8 +125,13 @@ def _operations(body: Body, node: ast.BinOp, into: Optional[str]) -> str:
         chain.append(first)
         first = first.left
     register = value(body, first, _operands(body, chain[-1]))
-    for it in reversed(chain):
-        register = _operated(body, it, register, into if it is node else None)
+    while chain:
+        it = chain.pop()
+        if chain and _is_divided_product(body, it, chain[-1]):
+            product, it = it, chain.pop()
+            register = _divided_product(body, product, it, register, into if it is node else None)
+        else:
+            register = _operated(body, it, register, into if it is node else None)
     return register
 
 
@@ -153,12 +158,67 @@ def _operated(body: Body, node: ast.BinOp, left: str, into: Optional[str]) -> st
         from .texts import bits
 
         return bits(body, node, left, right, into)
-    divisor = body.source.constants.of(node.right)
-    divide = _floored if isinstance(node.op, ast.FloorDiv) else _remainder
-    result = divide(body, left, right, divisor if isinstance(divisor, int) else None)
+    result = _divided(body, node, left, right)
     for it in (left, right):
         body.values.release(it)
     return _moved(body, result, into)
+
+
+def _divided(body: Body, node: ast.BinOp, left: str, right: str) -> str:
+    """Writes // or %."""
+    divisor = body.source.constants.of(node.right)
+    divide = _floored if isinstance(node.op, ast.FloorDiv) else _remainder
+    return divide(body, left, right, divisor if isinstance(divisor, int) else None)
+
+
+def _is_divided_product(body: Body, product: ast.BinOp, node: ast.BinOp) -> bool:
+    """Says whether an operation is `a * b // c` or `a * b % c`, whose c may be above 0."""
+    divisor = body.source.constants.of(node.right)
+    is_divided = isinstance(product.op, ast.Mult) and isinstance(node.op, (ast.FloorDiv, ast.Mod))
+    return is_divided and _operands(body, product) == INT and not (isinstance(divisor, int) and divisor <= 0)
+
+
+def _divided_product(body: Body, product: ast.BinOp, node: ast.BinOp, left: str, into: Optional[str]) -> str:
+    """Writes `a * b // c` or `a * b % c`, whose product may leave 64 bits."""
+    right, divisor = value(body, product.right, INT), value(body, node.right, INT)
+    body.code.at(node)
+    wide, done = body.new_label("wide"), body.new_label("exact")
+    whole = body.temporary(INT)
+    body.code.put("MUL", whole, left, right, wide)
+    result = _divided(body, node, whole, divisor)
+    body.code.put("JMP", done)
+    body.code.label(wide)
+    _divide_wide(body, isinstance(node.op, ast.FloorDiv), (left, right, divisor), whole, result, done)
+    body.code.label(done)
+    for it in (left, right, divisor, whole):
+        body.values.release(it)
+    return _moved(body, result, into)
+
+
+def _divide_wide(body: Body, is_quotient: bool, operands: Tuple[str, str, str], whole: str, result: str, done: str) -> None:
+    """Writes the same by MULDIV: what is left is the difference of two products modulo 2 to the 64."""
+    from .texts import VERSION
+
+    left, right, divisor = operands
+    low, rest, one = body.new_label("low"), body.temporary(INT), body.temporary(INT)
+    body.unit.need(VERSION)
+    body.code.put("MULDIV", rest, left, right, divisor, body.refused(_LEAVES))
+    if is_quotient:
+        body.code.put("COPY", result, rest)
+    body.code.put("WMUL", whole, left, right, "+0")
+    body.code.put("WMUL", rest, rest, divisor, "+0")
+    body.code.put("INT", one, -1)
+    body.code.put("WMUL", rest, rest, one, "+0")
+    body.code.put("WADD", whole, whole, rest, "+0")
+    if not is_quotient:
+        body.code.put("COPY", result, whole)
+    body.code.put("INT", rest, 0)
+    body.code.put("JLT", whole, rest, low)
+    body.code.put("JMP", done)
+    body.code.label(low)
+    body.code.put("ADD", result, result, one if is_quotient else divisor, body.refused(_LEAVES))
+    for it in (rest, one):
+        body.values.release(it)
 
 
 def _moved(body: Body, register: str, into: Optional[str]) -> str:
