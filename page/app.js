@@ -54,7 +54,7 @@ const results = new Results();
 const learning = new Learning(editor, contents, text => during(openText(text)));
 const completion = new Completion(editor, () => checked?.source ?? null);
 const files = new Files(library, editor, contents, results, () => stepper.run);
-const orders = new Orders(library, () => runnable(), seed => run(0, false, seed), line => lead(line), progress);
+const orders = new Orders(library, () => runnable(), seed => run(0, false, seed), line => lead(line), bar);
 const programs = new Programs(contents, say, (page, remembered) => open(page, remembered));
 const opening = new Opening(library, say, (program, trace, layout, name) => opened(program, trace, layout, name));
 const breaking = new Breaking(library, contents, editor, {check: () => check(), leave: () => stepper.leave(), undo: () => restore(() => contents.undo())});
@@ -298,11 +298,17 @@ async function show(setting, trace, event, playing) {
 /** Shows how far a run is followed.
  * @param {number} event @param {number} all 0 if that's done @param {boolean} whole */
 function progress(event, all, whole = true) {
-    const bar = /** @type {HTMLProgressElement} */ ($("following"));
-    bar.hidden = !all;
-    bar.max = all || 1;
-    bar.value = event;
+    bar(event, all);
     $("followed").textContent = all ? `following event ${grouped(event)} of ${grouped(all)}` : whole ? "" : `followed up to event ${grouped(event)}, then stopped`;
+}
+
+/** Shows how much of some work is done.
+ * @param {number} done @param {number} all 0 if that's all of it */
+function bar(done, all) {
+    const it = /** @type {HTMLProgressElement} */ ($("following"));
+    it.hidden = !all;
+    it.max = all || 1;
+    it.value = done;
 }
 
 // The beginning.
@@ -336,6 +342,7 @@ async function followRead() {
     const wrong = !reply || reply.failed || [1, 2, 6].includes(reply.status) && !/^running$/m.test(report);
     results.show(report, wrong ? "bad" : "good", wrong ? "The trace isn't one of this program, with these inputs and actors." : `The trace of the file: ${counted(linesIn(read), "event")}.`, outputsOf(report, it.outputs));
     if (wrong) { stepper.leave(); return; }
+    $("trace-read").hidden = true;
     results.take({report, trace: read, words: it.words, text: it.text, limit: it.limit, seed: 0});
     await show(it.setting, read, 0, false);
 }

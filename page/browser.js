@@ -1,52 +1,101 @@
 // SPDX-License-Identifier: Apache-2.0
 // Drives a Chromium without a screen over its pipe: opens a page, evaluates what is asked there, and takes screenshots.
-import {spawn} from 'node:child_process';
-import fs from 'node:fs';
-import os from 'node:os';
-import path from 'node:path';
+import {spawn} from "node:child_process";
+import fs from "node:fs";
+import os from "node:os";
+import path from "node:path";
 
-export const open = async (address, width = 1300, height = 1000) => {
-    const home = fs.mkdtempSync(path.join(os.tmpdir(), 'browser-'));
-    const child = spawn('chromium', ['--headless', '--no-sandbox', '--disable-gpu', `--user-data-dir=${home}`, `--window-size=${width},${height}`, '--remote-debugging-pipe', 'about:blank'],
-        {stdio: ['ignore', 'ignore', 'ignore', 'pipe', 'pipe']});
-    let count = 0, rest = '', session;
-    const waiting = new Map(), messages = [], heard = new Map();
-    child.stdio[4].setEncoding('utf8').on('data', data => {
+/** How many times as long as on a quiet machine anything may take. */
+export const PATIENCE = +(process.env.PATIENCE ?? 1);
+export const pause = time => new Promise(go => setTimeout(go, time));
+
+const LIMIT = 60000 * PATIENCE;
+/** A browser that runs, with its folder and what it was asked. No answer is waited for longer than LIMIT ms, nor after the browser has ended. */
+export class Browser {
+    constructor(command, options) {
+        this.home = fs.mkdtempSync(path.join(os.tmpdir(), "browser-"));
+        this.child = spawn(command, options(this.home), {stdio: ["ignore", "ignore", "ignore", "pipe", "pipe"]});
+        process.on("exit", () => this.child.kill("SIGKILL"));
+        this.gone = new Promise(go => this.child.once("exit", () => go(this.end(`${command} has ended`))));
+        this.write = () => {};
+        this.ended = "";
+        this.count = 0;
+        this.waiting = new Map();
+    }
+
+    ask(method, params = {}, more = {}) {
+        return new Promise((done, fail) => {
+            const id = ++this.count, wrong = why => fail(new Error(`${method}: ${why}, at ${JSON.stringify(params).slice(0, 300)}`));
+            if (this.ended) { wrong(this.ended); return; }
+            const late = setTimeout(() => this.answer({id, error: {}, message: `no answer in ${LIMIT / 1000} s`}), LIMIT);
+            this.waiting.set(id, it => { clearTimeout(late); it.error ? wrong(it.message ?? it.error.message) : done(it.result); });
+            this.write(JSON.stringify({id, method, params, ...more}));
+        });
+    }
+
+    answer(it) {
+        this.waiting.get(it.id)?.(it);
+        this.waiting.delete(it.id);
+    }
+
+    end(why) {
+        this.ended ||= why;
+        for (const id of [...this.waiting.keys()]) this.answer({id, error: {}, message: why});
+    }
+
+    // Waits until an expression of the page is true. Returns whether it became so in some ms.
+    async until(evaluate, text, most) {
+        for (const from = Date.now(); !this.ended && Date.now() - from < most; await pause(20)) if (await evaluate(text).catch(() => false)) return true;
+        if (this.ended) throw new Error(this.ended);
+        return false;
+    }
+
+    async close() {
+        this.end("the browser is closed");
+        this.child.kill("SIGKILL");
+        await this.gone;
+        await pause(300);
+        fs.rmSync(this.home, {recursive: true, force: true, maxRetries: 9, retryDelay: 200});
+    }
+}
+
+/** Returns what drives a browser. One that can't be driven is closed. */
+export async function driven(browser, drive) {
+    try {
+        return await drive(browser);
+    } catch (error) {
+        await browser.close();
+        throw error;
+    }
+}
+
+const begin = (width, height) => new Browser("chromium", home => ["--headless", "--no-sandbox", "--disable-gpu", `--user-data-dir=${home}`, `--window-size=${width},${height}`, "--remote-debugging-pipe", "about:blank"]);
+export const open = (address, width = 1300, height = 1000) => driven(begin(width, height), async browser => {
+    const messages = [], heard = new Map(), [, , , input, output] = browser.child.stdio;
+    let rest = "", sessionId;
+    input.on("error", () => {}); // The browser has ended, which it says elsewhere.
+    browser.write = text => input.write(`${text}\0`);
+    output.setEncoding("utf8").on("data", data => {
         rest += data;
-        for (let end; (end = rest.indexOf('\0')) >= 0; rest = rest.slice(end + 1)) {
+        for (let end; (end = rest.indexOf("\0")) >= 0; rest = rest.slice(end + 1)) {
             const it = JSON.parse(rest.slice(0, end));
-            if (it.id) { waiting.get(it.id)(it); waiting.delete(it.id); }
+            if (it.id) browser.answer(it);
+            else if (it.method === "Inspector.targetCrashed") browser.end("the page has crashed");
             else if (heard.has(it.method)) heard.get(it.method)(it.params);
-            else if (it.method === 'Runtime.exceptionThrown') messages.push(it.params.exceptionDetails.exception?.description || it.params.exceptionDetails.text);
-            else if (it.method === 'Runtime.consoleAPICalled') messages.push(it.params.args.map(arg => arg.value ?? arg.description).join(' '));
-            else if (it.method === 'Log.entryAdded') messages.push(it.params.entry.text);
+            else if (it.method === "Runtime.exceptionThrown") messages.push(it.params.exceptionDetails.exception?.description || it.params.exceptionDetails.text);
+            else if (it.method === "Runtime.consoleAPICalled") messages.push(it.params.args.map(arg => arg.value ?? arg.description).join(" "));
+            else if (it.method === "Log.entryAdded") messages.push(it.params.entry.text);
         }
     });
-    const ask = (method, params = {}) => new Promise((done, fail) => {
-        waiting.set(++count, it => it.error ? fail(new Error(method + ': ' + it.error.message)) : done(it.result));
-        child.stdio[3].write(JSON.stringify({id: count, method, params, sessionId: session}) + '\0');
-    });
-    const target = (await ask('Target.getTargets')).targetInfos.find(it => it.type === 'page');
-    session = (await ask('Target.attachToTarget', {targetId: target.targetId, flatten: true})).sessionId;
-    for (const domain of ['Page', 'Runtime', 'Log']) await ask(domain + '.enable');
-    await ask('Page.navigate', {url: address});
+    const ask = (method, params) => browser.ask(method, params, {sessionId});
+    const {targetId} = (await ask("Target.getTargets")).targetInfos.find(it => it.type === "page");
+    ({sessionId} = await ask("Target.attachToTarget", {targetId, flatten: true}));
+    for (const domain of ["Page", "Runtime", "Log"]) await ask(`${domain}.enable`);
+    await ask("Page.navigate", {url: address});
     const evaluate = async text => {
-        const it = await ask('Runtime.evaluate', {expression: text, awaitPromise: true, returnByValue: true});
+        const it = await ask("Runtime.evaluate", {expression: text, awaitPromise: true, returnByValue: true});
         if (it.exceptionDetails) throw new Error(it.exceptionDetails.exception?.description || it.exceptionDetails.text);
         return it.result.value;
     };
-    return {
-        ask, evaluate, messages, on: (method, act) => heard.set(method, act),
-        until: async (text, most = 30000) => {
-            for (const from = Date.now(); Date.now() - from < most; await new Promise(go => setTimeout(go, 20))) if (await evaluate(text).catch(() => false)) return true;
-            return false;
-        },
-        picture: async file => fs.writeFileSync(file, Buffer.from((await ask('Page.captureScreenshot', {format: 'png', captureBeyondViewport: true})).data, 'base64')),
-        close: async () => {
-            await ask('Browser.close').catch(() => {});
-            child.kill();
-            await new Promise(go => setTimeout(go, 300));
-            fs.rmSync(home, {recursive: true, force: true, maxRetries: 5});
-        },
-    };
-};
+    return {ask, evaluate, messages, on: (method, act) => heard.set(method, act), until: (text, most = 30000) => browser.until(evaluate, text, most), close: () => browser.close()};
+});

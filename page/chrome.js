@@ -11,7 +11,9 @@ import {callName} from "./source.js";
  * @param {Run} run @param {number} actor its number */
 const slicesOf = (run, actor) => run.track.tasksOf(actor, 1, run.length).flatMap(task => {
     const {track} = run, from = track.takenAt(task), to = track.endOf(task), made = track.makerOf("task", task), name = callName(run.setting.source, track.procedureOf(from)), flow = {name: "task", cat: "task", id: task, pid: 1};
-    const arrow = made ? [{...flow, ph: "s", tid: run.actors.indexOf(track.actorOf(made)) + 1, ts: made}, {...flow, ph: "f", bp: "e", tid: actor + 1, ts: from}] : [];
+    const tid = made && run.actors.indexOf(track.actorOf(made)) + 1; // A viewer draws an arrow only from a slice, and a release is in none.
+    const released = made && track.kindOf(made) === "release" ? [{name: "release", cat: "release", ph: "X", pid: 1, tid, ts: made, dur: 1, args: {task}}] : [];
+    const arrow = made ? [...released, {...flow, ph: "s", tid, ts: made}, {...flow, ph: "f", bp: "e", tid: actor + 1, ts: from}] : [];
     return [{name, cat: "task", ph: "X", pid: 1, tid: actor + 1, ts: from, dur: to - from + 1, args: {task}}, ...arrow];
 });
 

@@ -16,7 +16,7 @@ const GLOSSARY = /** @type {Record<string, string>} */ (/*@GLOSSARY@*/ {});
 const TEN = ["task", "datum", "right", "closed", "rule", "control", "leaf", "engine", "worker", "budget", "stuck", "refused"];
 
 /** Words that don't count in a search. */
-const LITTLE = new Set(["a", "an", "and", "from", "in", "into", "of", "on", "the", "to", "with"]);
+export const LITTLE = new Set(["a", "an", "and", "from", "in", "into", "of", "on", "the", "to", "with"]);
 
 export class Learning {
     /** @param {import("./editor.js").Editor} editor @param {import("./contents.js").Contents} contents @param {(page: Page) => void} put */

@@ -2,16 +2,19 @@
 // SPDX-License-Identifier: Apache-2.0
 // The manual in a dialog: its parts with their contents, a search in all of them, and a way back.
 import {$, h} from "./dom.js";
+import {LITTLE} from "./learning.js";
 
 /** The most places that a search lists. */
 const FOUND = 60;
+/** What a search finds as one: it has all words. */
+const UNITS = ":is(h3, h4, p, pre, li, tr):not(li *, tr *, #manual-contents *)";
 
 export class Manual {
     constructor() {
         this.dialog = /** @type {HTMLDialogElement} */ ($("manual"));
         this.field = /** @type {HTMLInputElement} */ ($("manual-search"));
         this.parts = /** @type {HTMLTemplateElement[]} */ ([...document.querySelectorAll("template[data-title]")]);
-        /** The addresses that were open, the last one last.
+        /** The addresses that were open, the last one last, with a question mark before what was searched.
          * @type {string[]} */
         this.trail = [];
         for (const box of document.querySelectorAll(".manual-links")) box.append(...this.parts.map(it => h("a", {href: `#${it.id}-`}, it.dataset.title ?? "")));
@@ -24,8 +27,14 @@ export class Manual {
     /** Opens the manual where a link leads.
      * @param {Event} event */
     link(event) {
-        const link = /** @type {HTMLElement} */ (event.target).closest?.("a[href^='#manual-']");
-        if (link && this.open(link.getAttribute("href") ?? "")) event.preventDefault();
+        const link = /** @type {HTMLElement | null} */ (/** @type {HTMLElement} */ (event.target).closest?.("a[href^='#manual-']"));
+        if (!link) return;
+        if (link.dataset.unit) this.trail.push(`?${this.field.value}`);
+        if (this.open(link.getAttribute("href") ?? "")) event.preventDefault();
+        const found = link.dataset.unit && $("manual-text").querySelectorAll(UNITS)[+link.dataset.unit];
+        if (!found) return;
+        found.classList.add("hit");
+        found.scrollIntoView({block: "center"});
     }
 
     /** Opens an address; returns whether it is one of the manual's.
@@ -41,6 +50,7 @@ export class Manual {
     /** Shows a part from a place on.
      * @param {string} address */
     show(address) {
+        if (address[0] === "?") { this.field.value = address.slice(1); this.search(); return true; }
         const [, part, place] = /^#manual-([A-Z]+)-(.*)$/.exec(address) ?? [], template = this.parts.find(it => it.id === `manual-${part}`);
         if (!template) return false;
         this.field.value = "";
@@ -55,24 +65,24 @@ export class Manual {
         return true;
     }
 
-    /** Lists the places of all parts that have all words of the search. */
+    /** Lists what has all words of the search, in all parts. */
     search() {
-        const words = this.field.value.toLowerCase().split(/\s+/).filter(it => it);
+        const all = this.field.value.toLowerCase().split(/\s+/).filter(it => it), many = all.filter(it => !LITTLE.has(it)), words = many.length ? many : all;
         if (!words.length) { this.show(this.trail[this.trail.length - 1] ?? ""); return; }
-        const found = this.parts.flatMap(part => placesIn(part).filter(({text}) => words.every(it => text.toLowerCase().includes(it))).map(it => ({...it, title: part.dataset.title ?? ""})));
-        $("manual-text").replaceChildren(h("p", {role: "status"}, `${found.length} places`), h("ul", {id: "manual-found"}, ...found.slice(0, FOUND).map(({address, title, head, text}) => h("li", {}, h("a", {href: address}, head ? `${title}: ${head}` : title), ` ${around(text, words[0])}`))));
+        const found = this.parts.flatMap(unitsIn).filter(({text}) => words.every(it => text.toLowerCase().includes(it)));
+        $("manual-title").textContent = "Search";
+        $("manual-text").replaceChildren(h("p", {role: "status"}, `${found.length} places`), h("ul", {id: "manual-found"}, ...found.slice(0, FOUND).map(({address, unit, title, text}) => h("li", {}, h("a", {href: address, "data-unit": unit}, title), ` ${around(text, words[0])}`))));
     }
 }
 
-/** Returns the places of a part, each with its head and its text.
+/** Returns the units of a part: where they are, what their place is called, and their text.
  * @param {HTMLTemplateElement} part */
-function placesIn(part) {
-    const all = [{address: `#${part.id}-`, head: "", text: ""}];
-    for (const it of part.content.children) {
-        if (it.id && /^H\d$/.test(it.tagName)) all.push({address: `#${it.id}`, head: it.textContent ?? "", text: it.textContent ?? ""});
-        else all[all.length - 1].text += ` ${it.textContent}`;
-    }
-    return all;
+function unitsIn(part) {
+    let address = `#${part.id}-`, title = part.dataset.title ?? "";
+    return [...part.content.querySelectorAll(UNITS)].map((it, unit) => {
+        if (it.id) [address, title] = [`#${it.id}`, `${part.dataset.title}: ${it.textContent}`];
+        return {address, title, unit, text: it.tagName === "TR" ? [...it.children].map(cell => cell.textContent).join(" ") : it.textContent ?? ""};
+    });
 }
 
 /** Returns a text's words around a word.

@@ -8,7 +8,7 @@ import {LARGE} from "./editor.js";
  * @typedef {{program: string, trace: string}} Parts */
 
 /** The most actors of a layout, by their letter. */
-const MOST = {e: 4, s: 4, w: 16};
+const MOST = {e: 4, w: 16};
 
 /** Returns whether a text is taken: a large one is asked about.
  * @param {string} what @param {number} length */
@@ -24,11 +24,18 @@ export function parted(text) {
 }
 
 /** Returns how many actors of a kind a trace has.
- * @param {string} trace @param {"e" | "s" | "w"} letter */
+ * @param {string} trace @param {"e" | "w"} letter */
 export function actorsIn(trace, letter) {
     let most = 0;
     for (const [, number] of trace.matchAll(new RegExp(`^\\w+ ${letter}(\\d+)`, "gm"))) most = Math.max(most, +number);
     return Math.min(MOST[letter], most + 1);
+}
+
+/** Returns the least number of servers with which each notice of a trace is delivered by the one that its datum falls to.
+ * @param {string} trace */
+export function serversIn(trace) {
+    const delivered = [...trace.matchAll(/^deliver s(\d+) (\d+)/gm)];
+    return [1, 2, 3].find(count => delivered.every(([, server, datum]) => +datum % count === +server)) ?? 4;
 }
 
 /** Returns bytes as hex text.
@@ -67,7 +74,7 @@ export class Opening {
         const {program, trace} = parted(textOf(new Uint8Array(await file.arrayBuffer()))), isHex = /^[\s0-9a-fA-F]+$/.test(program);
         const reply = isHex ? await this.library.session(["disasm"], program) : null;
         if (reply && reply.status !== 0) { this.say(`${file.name} isn't a program: ${reply.text.split("\n")[0]}`); return; }
-        const layout = trace ? [actorsIn(trace, "e"), actorsIn(trace, "s"), actorsIn(trace, "w"), Math.max(10000, Math.min(1000000, trace.split("\n").length))] : [1, 1, 1, 10000];
+        const layout = trace ? [actorsIn(trace, "e"), serversIn(trace), actorsIn(trace, "w"), Math.max(10000, Math.min(1000000, trace.split("\n").length))] : [1, 1, 1, 10000];
         await this.put(reply?.text ?? program, trace, layout, file.name.replace(/\.\w+$/, ""));
     }
 }

@@ -18,13 +18,13 @@ export const ordered = seed => seed ? ["--in-turn", "--seed", String(seed)] : []
 export class Orders {
     /** @param {import("./library.js").Library} library @param {() => Promise<Runnable | null>} runnable
      * @param {(seed: number) => Promise<string | null>} run runs an order, shows it and returns its report
-     * @param {(line: number) => void} lead leads to a line @param {(done: number, all: number) => void} progress */
-    constructor(library, runnable, run, lead, progress) {
+     * @param {(line: number) => void} lead leads to a line @param {(done: number, all: number) => void} bar */
+    constructor(library, runnable, run, lead, bar) {
         this.library = library;
         this.runnable = runnable;
         this.run = run;
         this.lead = lead;
-        this.progress = progress;
+        this.bar = bar;
         /** The seed of the run that is shown. */
         this.shown = 0;
         /** The seed that was tried last. */
@@ -77,13 +77,13 @@ export class Orders {
         const it = await this.runnable(), inTurn = it && await this.outputs(it, 0);
         if (!it) return;
         for (let seed = 1; seed <= TRIED; seed++) {
-            this.progress(seed, TRIED);
+            this.bar(seed, TRIED);
             $("order").textContent = `Order ${grouped(seed)} of ${grouped(TRIED)} is tried ..`;
             const outputs = inTurn === null ? null : await this.outputs(it, seed);
-            if (outputs === null) { this.progress(0, 0); $("order").textContent = "stopped"; return; }
+            if (outputs === null) { this.bar(0, 0); $("order").textContent = "stopped"; return; }
             if (outputs !== inTurn) { await this.run(seed); this.say(seed, false); return; }
         }
-        this.progress(0, 0);
+        this.bar(0, 0);
         $("order").textContent = `${counted(TRIED, "order")} had the outputs of the run in turn.`;
     }
 

@@ -14,6 +14,7 @@ export class Programs {
         $("name-it").addEventListener("click", () => this.ask());
         $("naming").addEventListener("submit", event => { event.preventDefault(); this.named(); });
         $("naming").addEventListener("keydown", event => { if (event.key === "Escape") this.close(); });
+        $("unnamed").addEventListener("click", () => this.close());
         $("delete").addEventListener("click", () => this.drop(open));
     }
 

@@ -27,10 +27,14 @@ export function readOrder(text, source) {
     return found && {same: found[1] === undefined, line: source.places[+found[1]]?.[+found[2]] ?? -1};
 }
 
-/** Reads a rejection; null if the text has none. Only the first line decides, since the others quote the program.
+/** The first line of an error after a text's first. */
+const FURTHER = /^(?:also [ANV]\d+ (?:at line|in procedure) |more than \d+ errors$)/;
+
+/** Reads a text's first rejection; null if the text has none. Only the first line decides, since the others quote the program.
  * @param {string} text @param {Source} source @returns {Rejection | null} */
 export function readRejection(text, source) {
-    const [first, ...rest] = text.split("\n"), number = /^refused ([A-Z]\d+)/.exec(first)?.[1], details = rest.filter(line => line);
+    const [first, ...rest] = text.split("\n"), number = /^refused ([A-Z]\d+)/.exec(first)?.[1], end = rest.findIndex((line, k) => k > 0 && FURTHER.test(line));
+    const details = (end < 0 ? rest : rest.slice(0, end)).filter(line => line);
     if (!number) return null;
     const found = /^refused [AHN]\d+ at line (\d+)/.exec(first) ?? /^at line (\d+)/.exec(details[0] ?? "");
     const line = found ? +found[1] - 1 : placed(first, source);

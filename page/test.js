@@ -7,13 +7,21 @@ import fs from "node:fs";
 import os from "node:os";
 import path from "node:path";
 import zlib from "node:zlib";
+import {PATIENCE, pause} from "./browser.js";
 
 const {open, LACKS = []} = await import(process.env.BROWSER === "firefox" ? "./firefox.js" : "./browser.js");
 const [index, tw, examples, pictures, wide, narrow] = process.argv.slice(2), address = "file://" + path.resolve(index);
 const folder = path.dirname(new URL(import.meta.url).pathname), groups = JSON.parse(fs.readFileSync(`${folder}/examples.json`, "utf8"));
 let passed = 0, failed = 0;
 const say = (is, ...what) => { if (is) passed++; else { failed++; console.log("FAILED", ...what); } };
-const native = (words, input) => { const ran = spawnSync(tw, words, {input, maxBuffer: 1 << 28}); return {status: ran.status, text: ran.stdout.toString()}; };
+/** A part that takes longer, in ms, fails by its name, and the next one has a new browser. So does one of its commands. */
+const LIMIT = 240000 * PATIENCE;
+const command = (name, words, more) => {
+    const ran = spawnSync(name, words, {maxBuffer: 1 << 28, timeout: LIMIT, ...more});
+    if (ran.error) throw ran.error;
+    return {status: ran.status, text: ran.stdout.toString(), trouble: ran.stderr.toString()};
+};
+const native = (words, input) => command(tw, words, {input});
 
 // The actions of a reader, and what is seen.
 class Reader {
@@ -39,7 +47,7 @@ class Reader {
         await this.page.until('document.body.dataset.handled === "yes"', 3000);
         return this.pause();
     }
-    async pause() { await new Promise(go => setTimeout(go, 40)); return this.ready(); }
+    async pause() { await pause(40); return this.ready(); }
     async choose(id, value) {
         await this.js(`(() => { const it = document.getElementById("${id}"); it.value = ${JSON.stringify(value)}; document.body.dataset.state = "busy"; it.dispatchEvent(new Event("change")); if (${id !== "pick" && id !== "spelling"}) document.body.dataset.state = "ready"; })()`);
         return this.pause();
@@ -59,7 +67,7 @@ class Reader {
     }
     // Waits until the address has contents that meet a test, and returns it.
     async saved(meets) {
-        for (let again = 0; again < 500; again++, await new Promise(go => setTimeout(go, 20))) {
+        for (let again = 0; again < 500; again++, await pause(20)) {
             const link = await this.js("location.href"), letters = /#p=([\w-]+)$/.exec(link)?.[1];
             if (letters && meets(JSON.parse(zlib.inflateRawSync(Buffer.from(letters, "base64url")).toString()))) return link;
         }
@@ -80,7 +88,7 @@ async function fieldWords(reader) {
 // At first a program with names is shown, which plays from its start until it is touched.
 async function firstSight(reader, page) {
     // The least of three starts counts, since other work on the machine only makes them longer; PATIENCE allows for more of it.
-    const most = 3000 * +(process.env.PATIENCE ?? 1);
+    const most = 3000 * PATIENCE;
     let after = await reader.js("+document.body.dataset.readyAfter");
     for (let again = 0; after >= most && again < 2; again++) {
         await reader.forget();
@@ -280,7 +288,7 @@ async function kept(reader) {
     await reader.choose("pick", "fan_out");
     await reader.js('document.getElementById("text").focus()');
     await reader.key("z", 2);
-    await new Promise(go => setTimeout(go, 400)); await reader.ready();
+    await pause(400); await reader.ready();
     say((await reader.value("text")) === own && (await reader.value("input-0")) === "41", "Ctrl+Z brings nothing back", (await reader.value("text")).slice(0, 60));
     await reader.js("localStorage.clear(); indexedDB.deleteDatabase('yuglemit own')");
     await reader.go(link);
@@ -343,27 +351,28 @@ async function downloads(reader) {
     const wanted = {twn: text, hex: native(["asm", "--names"], text).text, txt: native([...run, ...words], text).text, history: `${native(["asm", "--names"], text).text}${trace}`};
     for (const what of ["text", "bytes", "report", "trace", "timeline"]) await reader.click(`[data-give=${what}]`);
     wanted.svg = native(["picture", "--text", ...words], `${text}\n${trace}`).text;
-    for (let k = 0; k < 100 && fs.readdirSync(room).filter(it => /^pipeline\.(twn|hex|txt|history|svg)$/.test(it)).length < 5; k++) await new Promise(go => setTimeout(go, 50));
+    for (let k = 0; k < 100 && fs.readdirSync(room).filter(it => /^pipeline\.(twn|hex|txt|history|svg)$/.test(it)).length < 5; k++) await pause(50);
     for (const [ending, is] of Object.entries(wanted)) say(fs.existsSync(`${room}/pipeline.${ending}`) && fs.readFileSync(`${room}/pipeline.${ending}`, "utf8") === is, "another file", ending, fs.readdirSync(room));
     say(native(["replay", `${room}/pipeline.history`, ...words.filter(it => !it.startsWith("--limit"))], "").text === wanted.txt, "the trace isn't replayed from its file");
     await reader.click("[data-give=trace]");
     const lines = [await reader.seen("#command code")];
     await reader.click("[data-give=chrome]");
-    await reader.page.until("true", 1); for (let k = 0; k < 100 && !fs.existsSync(`${room}/pipeline.json`); k++) await new Promise(go => setTimeout(go, 50));
+    for (let k = 0; k < 100 && !fs.existsSync(`${room}/pipeline.json`); k++) await pause(50);
     chromeShape(JSON.parse(fs.readFileSync(`${room}/pipeline.json`, "utf8")).traceEvents, trace.split("\n").length - 3);
-    const schema = spawnSync("python3", ["-c", "import json, sys, jsonschema; jsonschema.validate(json.load(open(sys.argv[1])), json.load(open(sys.argv[2])))", `${room}/pipeline.json`, `${folder}/chrome.schema.json`]);
-    if (/No module named/.test(schema.stderr)) console.log("left out: the schema of the Chrome trace, since Python's jsonschema isn't installed");
-    else say(schema.status === 0, "the Chrome trace has another form", schema.stderr.toString().slice(-600));
+    say(command("node", [`${folder}/chrome_of.js`, tw, `${examples}/pipeline.twn`, "--in-turn", ...words]).text === fs.readFileSync(`${room}/pipeline.json`, "utf8"), "the script makes another Chrome trace");
+    const schema = command("python3", ["-c", "import json, sys, jsonschema; jsonschema.validate(json.load(open(sys.argv[1])), json.load(open(sys.argv[2])))", `${room}/pipeline.json`, `${folder}/chrome.schema.json`]);
+    if (/No module named/.test(schema.trouble)) console.log("left out: the schema of the Chrome trace, since Python's jsonschema isn't installed");
+    else say(schema.status === 0, "the Chrome trace has another form", schema.trouble.slice(-600));
     await reader.click("#stats");
     say((await reader.seen("#numbers")) === native([...run, "--stats", ...words], text).text.trim(), "other numbers");
     await reader.click("#another");
     fs.rmSync(`${room}/pipeline.history`); fs.rmSync(`${room}/pipeline.txt`); fs.rmSync(`${room}/pipeline.hex`);
     for (const what of ["report", "trace", "bytes", "python"]) { await reader.click(`[data-give=${what}]`); lines.push(await reader.seen("#command code")); }
-    for (let k = 0; k < 100 && fs.readdirSync(room).filter(it => /^pipeline\.(txt|history|hex|py)$/.test(it)).length < 4; k++) await new Promise(go => setTimeout(go, 50));
+    for (let k = 0; k < 100 && fs.readdirSync(room).filter(it => /^pipeline\.(txt|history|hex|py)$/.test(it)).length < 4; k++) await pause(50);
     say(fs.readFileSync(`${room}/pipeline.history`, "utf8").includes(native([...run, "--trace", "--seed", "1", ...words], text).text.match(/^events\n[^]*?^end\n/m)[0]), "not the order's trace");
-    for (const line of [lines[2], lines[3]]) say(spawnSync("sh", ["-c", line.replace(/^tw/, path.resolve(tw))], {cwd: room}).stdout.toString() === fs.readFileSync(`${room}/pipeline.txt`, "utf8"), "the command prints otherwise", line);
-    const script = spawnSync("sh", ["-c", lines[4]], {cwd: room, env: {...process.env, PYTHONPATH: path.resolve(folder, "../embed/python"), ...process.env.YUGLEMIT_LIBRARY ? {} : {TW_OUT: "release"}}});
-    say(lines[4] === "python3 pipeline.py" && script.stdout.toString() === fs.readFileSync(`${room}/pipeline.txt`, "utf8"), "Python prints otherwise", script.stdout.toString(), script.stderr.toString());
+    for (const line of [lines[2], lines[3]]) say(command("sh", ["-c", line.replace(/^tw/, path.resolve(tw))], {cwd: room}).text === fs.readFileSync(`${room}/pipeline.txt`, "utf8"), "the command prints otherwise", line);
+    const script = command("sh", ["-c", lines[4]], {cwd: room, env: {...process.env, PYTHONPATH: path.resolve(folder, "../embed/python"), ...process.env.YUGLEMIT_LIBRARY ? {} : {TW_OUT: "release"}}});
+    say(lines[4] === "python3 pipeline.py" && script.text === fs.readFileSync(`${room}/pipeline.txt`, "utf8"), "Python prints otherwise", script.text, script.trouble);
     fs.rmSync(room, {recursive: true, force: true});
 }
 
@@ -373,6 +382,7 @@ function chromeShape(all, events) {
     say(of("i").length === events && of("i").every((it, k) => it.ts === k + 1 && it.tid > 0), "other instants", of("i").length, events);
     say(of("X").length > 1 && of("X").every(it => it.dur > 0 && it.ts > 0 && it.name), "other slices");
     say(of("s").length > 0 && String(of("s").map(it => it.id)) === String(of("f").map(it => it.id)), "arrows without an end");
+    say(of("s").every(it => of("X").some(({tid, ts, dur}) => tid === it.tid && ts <= it.ts && it.ts < ts + dur)), "an arrow from no slice");
     say(of("M").filter(it => it.name === "thread_name").length === new Set(all.filter(it => it.tid).map(it => it.tid)).size, "rows without a name");
 }
 
@@ -381,7 +391,7 @@ async function long(reader) {
     await reader.forget();
     await reader.write("text", "proc control write int\nregs int\nREPEAT 1000\nREPEAT 1000\nREPEAT 300\nINT v0 1\nEND\nEND\nEND\nSTORE d0 v0\nRET\n");
     await reader.js('document.getElementById("run").click()');
-    await new Promise(go => setTimeout(go, 400));
+    await pause(400);
     say(await reader.js('!document.getElementById("stop").disabled'), "a run can't be stopped");
     await reader.js('document.getElementById("stop").click()'); await reader.ready();
     say((await reader.seen("#ended")) === "stopped", "not stopped", await reader.seen("#ended"));
@@ -433,7 +443,7 @@ const CONTRAST = `(() => {
 })()`;
 
 // Texts of 64 procedures, and of 16 KB.
-const LONG_TEXTS = {"64 procedures": 8, "16 KB": 20}, PATIENCE = +(process.env.PATIENCE ?? 1);
+const LONG_TEXTS = {"64 procedures": 8, "16 KB": 20};
 const longText = remarks => "proc control write int\nregs int\nPUT 1 0 any 0\nRET\n" + `proc leaf write int\nregs int\n${"; a remark\n".repeat(remarks)}INT v0 1\nSTORE d0 v0\nRET\n`.repeat(63);
 
 // Editing never freezes: the page changes a long text within 0.2 s, by a planted mistake, by Undo and by a picked example. The least of three times counts.
@@ -474,7 +484,7 @@ async function millions(reader) {
     say(/followed up to event [\d,]+, then stopped/.test(await reader.seen("#followed")), "not stopped", await reader.seen("#followed"));
     await reader.js('document.getElementById("run").click()');
     let most = 0;
-    for (let ready = false; !ready; ready = await reader.js('document.body.dataset.state === "ready" && document.getElementById("step").max === "900000"')) { most = Math.max(most, await heap()); await new Promise(go => setTimeout(go, 100)); }
+    for (let ready = false; !ready; ready = await reader.js('document.body.dataset.state === "ready" && document.getElementById("step").max === "900000"')) { most = Math.max(most, await heap()); await pause(100); }
     console.log(`900,000 events in ${Math.round(most)} MB`);
     say(most < 200, "memory", most);
     say((await reader.seen("#at")).endsWith("of 900,000"), "not all events", await reader.seen("#at"));
@@ -543,15 +553,17 @@ async function programs(reader) {
         await reader.click("#new");
         await reader.write("text", (await reader.value("text")).replace("A new program.", `Number ${k}`));
     }
-    await reader.key("Shift"); await new Promise(go => setTimeout(go, 500));
+    await reader.key("Shift"); await pause(500);
     await reader.go(address); await reader.key("Shift");
     say((await mine()).length === 16 && (await mine()).includes("Kept one") && (await mine()).includes("Number 2"), "a program is dropped", await mine());
+    await reader.click("#name-it"); await reader.write("name", "Other"); await reader.click("#unnamed");
+    say((await reader.seen("#naming")) === "" && !(await mine()).includes("Other"), "Cancel renames", await mine());
     await reader.click("#name-it"); await reader.write("name", "Last"); await reader.key("Enter");
     say((await reader.seen("#name-it")) === "Rename" && (await mine()).includes("Last"), "not renamed", await mine());
     const text = await reader.value("text");
     await reader.click("#delete");
     say((await mine()).length === 15 && (await reader.value("text")) === first && (await reader.seen("#said")) === "Last is deleted. Undo brings it back.", "not deleted", await mine(), await reader.seen("#said"));
-    await reader.click("#undo"); await reader.key("Shift"); await new Promise(go => setTimeout(go, 500));
+    await reader.click("#undo"); await reader.key("Shift"); await pause(500);
     say((await reader.value("text")) === text && (await reader.value("pick")).startsWith("own "), "no undo of Delete", await reader.value("text"));
     await reader.go(address); await reader.key("Shift");
     say((await mine()).length === 16 && (await mine()).includes("Last"), "the undo isn't kept", await mine());
@@ -568,7 +580,7 @@ async function opening(reader) {
         fs.writeFileSync(`${room}/${name}`, content);
         const {root} = await reader.page.ask("DOM.getDocument"), {nodeId} = await reader.page.ask("DOM.querySelector", {nodeId: root.nodeId, selector: "#file"});
         await reader.page.ask("DOM.setFileInputFiles", {files: [`${room}/${name}`], nodeId});
-        await new Promise(go => setTimeout(go, 800)); await reader.ready(); await reader.key("Shift");
+        await pause(800); await reader.ready(); await reader.key("Shift");
         return reader.value("text");
     };
     await reader.forget(); await reader.key("Shift");
@@ -577,6 +589,17 @@ async function opening(reader) {
     say((await take("c.bin", Buffer.from(hex.replace(/\s/g, ""), "hex"))) === wanted, "bytes aren't opened", await reader.value("text"));
     say((await take("d.history", hex + trace)) === wanted && (await reader.seen("#ended")) === `The trace of the file: ${trace.split("\n").length - 3} events.`, "a trace isn't followed", await reader.seen("#ended"));
     say((await reader.seen("#at")).endsWith(`of ${trace.split("\n").length - 3}`) && ran.endsWith(`${await reader.seen("#out")}\n`), "another run", await reader.seen("#at"), await reader.seen("#out"));
+    const mapped = fs.readFileSync(`${examples}/mapreduce.twn`, "utf8"), long = native(["run", "--text", "--in-turn", "--seed", "6", "--trace", ...actors, "ints:-1=2,4=3,5=-4"], mapped), events = long.text.match(/^events\n[^]*?^end\n/m)[0];
+    say(!/ s3 /.test(events) && /^deliver s0 8 /m.test(events), "this trace needs no fourth server", events);
+    await take("f.history", native(["asm", "--names"], mapped).text + events);
+    say((await reader.seen("#trace-read")).includes("fill them in as they were") && (await reader.value("servers")) === "4", "other actors", await reader.seen("#trace-read"), await reader.value("servers"));
+    await reader.write("input-0", "-1=2"); await reader.click("#follow-trace");
+    say((await reader.seen("#ended")) === "The trace isn't one of this program, with these inputs and actors.", "another trace is followed", await reader.seen("#ended"));
+    await reader.write("input-0", "-1=2,4=3,5=-4"); await reader.click("#follow-trace");
+    say((await reader.seen("#ended")) === `The trace of the file: ${events.split("\n").length - 3} events.` && (await reader.seen("#trace-read")) === "" && long.text.endsWith(`end\n${await reader.seen("#out")}\n`), "a trace with inputs isn't followed", await reader.seen("#ended"), await reader.seen("#out"));
+    await reader.js(`(() => { const moved = new DataTransfer(); moved.items.add(new File([${JSON.stringify(race)}], "dropped.tw")); for (const kind of ["dragover", "drop"]) document.body.dispatchEvent(new DragEvent(kind, {dataTransfer: moved, bubbles: true, cancelable: true})); })()`);
+    await reader.page.until(`document.getElementById("text").value === ${JSON.stringify(race)}`, 5000 * PATIENCE); await reader.ready();
+    say((await reader.value("text")) === race && (await reader.js('document.getElementById("pick").selectedOptions[0].textContent')).startsWith("dropped ("), "a drop isn't opened", await reader.seen("#said"));
     const before = await reader.value("text");
     say((await take("e.hex", "00 01")) === before && (await reader.seen("#said")).startsWith("e.hex isn't a program: refused"), "another file is opened", await reader.seen("#said"));
     fs.rmSync(room, {recursive: true, force: true});
@@ -584,9 +607,12 @@ async function opening(reader) {
 
 // Small things that misled: two loops' turns, a tab before a fault, a hint's full stop, an old message, a manual's address.
 async function small(reader, page) {
+    const {identifier} = await page.ask("Page.addScriptToEvaluateOnNewDocument", {source: 'addEventListener("DOMContentLoaded", () => { window.loading = [document.querySelectorAll("[inert]").length, document.getElementById("said")?.textContent]; });'});
     await reader.go(`${address}?example=row_products`); await reader.key("Shift"); await reader.event(20);
     say(!/\d, \d+ turns left/.test(await reader.seen("#state")) && /\d and \d+ turns left/.test(await reader.seen("#state")), "turns that read as one number", (await reader.seen("#state")).slice(0, 400));
     await reader.forget(); await reader.key("Shift");
+    say(String(await reader.js("window.loading")) === "2,The page is loading .." && !await reader.js('document.querySelector("[inert]")'), "the page is used before it is loaded", await reader.js("window.loading"));
+    await page.ask("Page.removeScriptToEvaluateOnNewDocument", {identifier});
     const text = await reader.value("text");
     await reader.write("text", text.replace("STORE to value  ", "\tSTORE\tto\tvalu  "));
     const [end, note] = await reader.js('(() => { const fault = document.querySelector("#paint .fault"); return [fault.getBoundingClientRect().right, fault.parentElement.querySelector(".note.bad").getBoundingClientRect().left]; })()');
@@ -602,17 +628,26 @@ async function small(reader, page) {
     say((await reader.seen("#manual-title")) === "The machine", "a place that was found doesn't open");
     await reader.click("#manual-back"); await reader.click("#manual-back");
     say((await reader.seen("#manual-title")) === "Programs in Python", "Back leads elsewhere", await reader.seen("#manual-title"));
+    await reader.write("manual-search", "add to a map");
+    const found = await reader.js('[...document.querySelectorAll("#manual-found li")].map(it => it.innerText)'), which = found.findIndex(it => it.includes("MADD d s v"));
+    say(found.length < 20 && which >= 0 && found[which].startsWith("The machine: "), "the manual's search by words", found);
+    await reader.click(`#manual-found li:nth-child(${which + 1}) a`);
+    say((await reader.seen("#manual-text .hit")).includes("MADD d s v") && await reader.js('(() => { const box = document.getElementById("manual-text").getBoundingClientRect(), hit = document.querySelector("#manual-text .hit").getBoundingClientRect(); return hit.top >= box.top && hit.bottom <= box.bottom; })()'), "what was found isn't in sight", await reader.seen("#manual-text .hit"));
+    await reader.click("#manual-back");
+    say((await reader.value("manual-search")) === "add to a map" && (await reader.js('document.querySelectorAll("#manual-found li").length')) === found.length, "no way back to what was found", await reader.value("manual-search"));
     await reader.click("#manual-close");
     await reader.js('document.getElementById("reference").open = true');
     await reader.write("search", "add to a map");
     say((await reader.js('[...document.querySelectorAll("#instructions > details:not([hidden])")].map(it => it.id)')).includes("instruction-MADD"), "a search by words finds nothing", await reader.seen("#found"));
-    say(await reader.js('fetch === fetch && !document.querySelector("[inert]")'), "the page can't be used");
     await reader.go(`${address}?example=words`); await reader.key("Shift");
     const said = await reader.js('(() => { const it = document.getElementById("step"), all = []; for (let k = 1; k <= Math.min(150, +it.max); k++) { it.value = k; it.dispatchEvent(new Event("input")); all.push(document.getElementById("what").textContent); } return all; })()');
     for (const part of [/ = /, /stores .* in .*, which closes it/, /computes: \d+ instructions: \d+ [A-Z]+/]) say(said.some(it => part.test(it)), "no values in the sentences", part, said.slice(0, 30));
     await reader.event(said.findIndex(it => /stores .* in /.test(it)) + 1);
     await reader.click("#what button.link");
     say(/^d\d/.test(await reader.value("by")), "a datum of the sentence can't be picked", await reader.value("by"));
+    await reader.go(`${address}?example=word_count`); await reader.key("Shift");
+    const sums = await reader.js('(() => { const it = document.getElementById("step"), all = []; for (let k = 1; k <= +it.max; k++) { it.value = k; it.dispatchEvent(new Event("input")); all.push(document.getElementById("what").textContent); } return all.filter(it => /adds /.test(it)); })()');
+    say(String(sums.map(it => /adds 1 to counts .*(?="(of|the)", now (\d)$)/.exec(it)?.slice(1))) === "of,1,the,1,of,2", "no sums in the sentences", sums);
     await reader.size(390, 844);
     await reader.forget(); await reader.key("Shift"); await reader.event(6);
     for (const [part, inside] of [["state", "#state article"], ["data", "#data .diagram"]]) {
@@ -630,8 +665,11 @@ async function small(reader, page) {
     }
     await reader.size(1280, 800); await reader.js("scrollTo(0, 0)");
     say(await reader.js('document.getElementById("data").getBoundingClientRect().top < 700'), "data are below", await reader.js('document.getElementById("data").getBoundingClientRect().top'));
-    await reader.size(2560, 1300); await reader.js("scrollTo(0, 0)");
-    say(await reader.js('new Set(["writing", "running", "data"].map(id => document.getElementById(id).getBoundingClientRect().left)).size === 3 && document.getElementById("data").getBoundingClientRect().right > 2200'), "no three columns");
+    for (const [width, columns] of [[1690, 2], [1700, 3], [2560, 3]]) {
+        await reader.size(width, 1300); await reader.js("scrollTo(0, 0)");
+        const [lefts, right, drawn] = await reader.js('[new Set(["writing", "running", "data"].map(id => document.getElementById(id).getBoundingClientRect().left)).size, ...["#data", "#data .diagram"].map(it => document.querySelector(it).getBoundingClientRect().right)]');
+        say(lefts === columns && (columns === 2 || right > Math.min(width * 0.95, 2200)) && drawn <= right + 1, "other columns at", width, lefts, right, drawn);
+    }
     await reader.size(1300);
 }
 
@@ -748,6 +786,11 @@ async function another(reader) {
     await reader.go(`${address}?example=barrier`); await reader.key("Shift");
     await reader.click("#only-result");
     say((await reader.seen("#order")).startsWith("This is the only result"), "no only result", await reader.seen("#order"));
+    await reader.js('document.getElementById("other-result").click()');
+    say(await reader.page.until('/^Order \\d+ of 1,000 is tried/.test(document.getElementById("order").textContent) && !document.getElementById("stop").disabled', 60000 * PATIENCE), "no progress", await reader.seen("#order"));
+    say((await reader.seen("#followed")) === "" && await reader.js('!document.getElementById("following").hidden'), "orders are tried like events", await reader.seen("#followed"));
+    await reader.js('document.getElementById("stop").click()'); await reader.ready();
+    say((await reader.seen("#order")) === "stopped" && await reader.js('document.getElementById("following").hidden'), "not stopped", await reader.seen("#order"));
     await reader.click("#other-result");
     await reader.page.until('/^1,000 orders/.test(document.getElementById("order").textContent)', 60000 * PATIENCE);
     say((await reader.seen("#order")).startsWith("1,000 orders had the outputs"), "not all orders", await reader.seen("#order"));
@@ -809,6 +852,7 @@ async function inputs(reader) {
     await reader.forget(); await reader.key("Shift");
     const hint = async (from, to) => { const text = await reader.value("text"); await reader.write("text", text.replace(from, to)); const shown = await reader.seen("#verdict"); await reader.write("text", text); return shown; };
     say((await hint("STORE to value", "STORE to vlue")).includes("Did you mean value?"), "no hint at a name", await hint("STORE to value", "STORE to vlue"));
+    say((await hint("RULE double", "RULE doubl")).endsWith("no procedure has this name; did you mean double?"), "another hint at a procedure", await hint("RULE double", "RULE doubl"));
     say((await hint("; Doubles", "// Doubles")).includes("Comments begin with ;"), "no hint at a comment", await hint("; Doubles", "// Doubles"));
     say((await hint("names\n", "")).includes("begin the text with the line names"), "no hint at names", await hint("names\n", ""));
 }
@@ -886,6 +930,8 @@ async function timeline(reader) {
         say((await reader.js('document.querySelectorAll("#lanes .thread").length')) <= 2, "lines of others at", k);
     }
     say(seen.size > 4, "few lanes", [...seen]);
+    const zoomed = await reader.js('(() => { const box = document.getElementById("lanes"), width = () => +box.querySelector("svg").getAttribute("width"), at = () => (box.scrollLeft + 200) / width(), old = [width(), at()]; box.scrollLeft = 900; old[1] = at(); const wheel = by => box.dispatchEvent(new WheelEvent("wheel", {ctrlKey: true, deltaY: by, clientX: box.getBoundingClientRect().left + 200, bubbles: true, cancelable: true})); wheel(100); const small = [width(), at()]; wheel(-100); return [...old, ...small, width(), at()]; })()');
+    say(zoomed[2] < zoomed[0] * 0.7 && Math.abs(zoomed[4] - zoomed[0]) < 30 && Math.abs(zoomed[3] - zoomed[1]) < 0.01 && Math.abs(zoomed[5] - zoomed[1]) < 0.01, "the wheel zooms otherwise", zoomed);
     const box = await reader.js('(() => { const {x, y, width, height} = document.getElementById("strip").getBoundingClientRect(); return {x, y, width, height}; })()');
     say(box.width > 200 && box.height > 10, "no overview", box);
     await reader.js('document.getElementById("strip").scrollIntoView({block: "center"})');
@@ -949,16 +995,49 @@ async function screens(reader) {
     await reader.size(1300);
 }
 
-const page = await open(address), reader = new Reader(page);
-say(await page.until('document.body?.dataset.state === "ready"', 60000 * PATIENCE), "the page isn't ready");
+// Opens the page in a new browser; if it can't be driven, in another one.
+async function begin(tries = 3) {
+    try {
+        page = await open(address);
+    } catch (error) {
+        console.log(error.message);
+        if (tries > 1) return begin(tries - 1);
+        throw error;
+    }
+    reader = new Reader(page);
+    say(await page.until('document.body?.dataset.state === "ready"', 60000 * PATIENCE), "the page isn't ready");
+}
+
+// Ends the browser. What it said is an error.
+async function end() {
+    say(page.messages.length === 0, "messages", page.messages);
+    await page.close();
+}
+
+// Does a part, for LIMIT ms at most. If it fails by more than what it compares, the next one gets a new browser.
+async function within(part) {
+    let late = 0;
+    const limit = new Promise((_, fail) => { late = setTimeout(() => fail(new Error(`it isn't done in ${LIMIT / 1000} s`)), LIMIT); });
+    try {
+        await Promise.race([part(reader, page), limit]);
+    } catch (error) {
+        say(false, part.name, error.stack);
+        await end();
+        await begin();
+    } finally {
+        clearTimeout(late);
+    }
+}
+
+let page, reader;
+await begin();
 const only = process.env.ONLY?.split(",");
 for (const part of [firstSight, steps, typing, errors, large, kept, mistakes, tour, downloads, quick, millions, own, programs, opening, small, old_results, learning, completion, another, links, policy, inputs, diagram, looks, timeline, everywhere, allExamples, long, old, narrowed, screens].filter(it => !LACKS.includes(it.name) && (!only || only.includes(it.name)))) {
     const from = Date.now(), failures = failed;
-    await part(reader, page).catch(error => say(false, part.name, error.stack));
+    await within(part);
     console.log(`${part.name}: ${failed === failures ? "well" : "FAILED"}, ${((Date.now() - from) / 1000).toFixed(1)} s`);
 }
-say(page.messages.length === 0, "messages", page.messages);
-await page.close();
+await end();
 if (LACKS.length) console.log(`left out in this browser: ${LACKS.join(", ")}`);
 console.log(`${passed} passed, ${failed} failed`);
 process.exitCode = failed ? 1 : 0;
