@@ -6,3 +6,4 @@ pub mod Subscripts
 pub mod Members
 pub mod EnteredValues
 pub mod Puts
+mod Runs

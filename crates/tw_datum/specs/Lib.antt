@@ -4,3 +4,4 @@
 pub mod Kept
 pub mod Puts
 pub mod Tree
+pub mod Run

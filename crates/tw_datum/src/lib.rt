@@ -5,6 +5,7 @@
 //! its datum.
 #![tactic(auto)]
 
+mod build;
 pub mod checks;
 mod container;
 mod datum;
@@ -12,6 +13,8 @@ mod entering;
 mod map;
 mod member;
 mod ranked_map;
+mod run;
+mod run_or_tree;
 mod subscript;
 mod tree;
 

@@ -19,17 +19,17 @@ use tw_types::{Value, ValueRef};
 #[cycle(tree)]
 #[derive(Drop)]
 pub struct Tree<V> {
-    root: Option<Box<Fork<V>>>,
+    pub(crate) root: Option<Box<Fork<V>>>,
 }
 
 /// One entry between those before and after it, with the number of them all.
 #[cycle(tree)]
 #[derive(Drop)]
-struct Fork<V> {
-    before: Tree<V>,
-    own: (Value, V),
-    len: usize,
-    after: Tree<V>,
+pub(crate) struct Fork<V> {
+    pub(crate) before: Tree<V>,
+    pub(crate) own: (Value, V),
+    pub(crate) len: usize,
+    pub(crate) after: Tree<V>,
 }
 
 impl<V> Model for Tree<V> {
@@ -195,7 +195,7 @@ impl<V: Drop> Tree<V> {
 
 impl<V: Drop> Tree<V> {
     /// Makes a balanced tree with this node at its root.
-    fn of(fork: Box<Fork<V>>) -> Tree<V>
+    pub(crate) fn of(fork: Box<Fork<V>>) -> Tree<V>
         requires { IsRight fork.value }
         ensures { result ≡ in_fork fork.value }
     {

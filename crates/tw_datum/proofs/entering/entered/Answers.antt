@@ -1,8 +1,11 @@
-use Rattle.std.proofs.Common.{◌<◌, ◌-◌, arith, length}
-use Rattle.tw_datum.proofs.EnteredValues.{short_entry}
+use Rattle.std.proofs.Common.{◌∙◌, ap, sym, subst, T}
+use Rattle.std.specs.FinMap.{is_sorted}
+use Rattle.tw_types.specs.ValueOrder.{value_cmp}
+use Rattle.tw_datum.proofs.EnteredValues.{entered_rising}
+use Rattle.tw_datum.proofs.Entries.{map_of}
 use Rattle.tw_datum.proofs.entering.entered.Goals as goal
 
-pub entry_copy-requires : goal.entry_copy-requires
-entry_copy-requires g c =
-    let low : c.loop-index.index - 1 < length c.args.members.now = omega (arith, c.loop-index-test.true, c.loop-index.auto.index) in
-    short_entry g.K.AsValue.value g.V.AsValue.value c.args.members.now (c.loop-index.index - 1) c.index-members-index.result c.index-members-index.is low c.requires
+pub returns-in-Some : goal.returns-in-Some
+returns-in-Some g c =
+    let copies = rw c.in-Some.is at c.in_ok-run.ensures in
+    c.of_rising.ensures ∙ ap map_of copies.0 ∙ sym (entered_rising _ (subst (λ es. T (is_sorted value_cmp es)) copies.0 copies.1))
