@@ -1,3 +1,4 @@
+pub mod Names
 pub mod Weave
 pub mod Firsts
 pub mod Deep

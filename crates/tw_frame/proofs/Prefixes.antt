@@ -1,8 +1,5 @@
 -- Lists with a common prefix.
-use Rattle.std.proofs.Common.{◌≡◌, ◌<◌, ◌≤◌, ◌∙◌, ℕ, List, length, take, get_or, sym, ap, arith}
-use Rattle.std.specs.Prelude.{reverse}
-use Rattle.std.proofs.lemmas.List.{get_or-take, reverse-reverse}
-use Rattle.std.proofs.lemmas.Option.{same_Some, slice_get-get_or}
+use Rattle.tw_frame.proofs.Names.{List, ap, arith, get_or, get_or-take, length, reverse, reverse-reverse, same_Some, slice_get-get_or, sym, take, ℕ, ◌<◌, ◌∙◌, ◌≡◌, ◌≤◌}
 
 pub items_at : {A : Type 0} (xs ys : List A) (d i : ℕ) (x y : A) → i < d → d ≤ length ys → reverse (take d xs) ≡ reverse (take d ys) → x ≡ get_or xs i x → y ≡ get_or ys i y → x ≡ y
 items_at {A} xs ys d i x y low long e at_x at_y =

@@ -3,11 +3,12 @@
 ghost use Rattle.std.specs.Prelude.{◌≡◌, IfErr, IfOk, false, true};
 ghost use Rattle.std.specs.Result.{result_map_both};
 ghost use Rattle.tw_frame.specs.JobBuffers.{IsRunOf, outcome_of};
-ghost use Rattle.tw_frame.specs.Jobs.{IsCut, MayBeAt, position_of};
+ghost use Rattle.tw_frame.specs.Jobs.{IsCut, IsDone, MayBeAt, position_of};
 ghost use Rattle.tw_frame.specs.Pace.{IsSeenIn};
 
 use crate::context::Context;
 use crate::job::{Cut, JobState, RunOutcome};
+use crate::run::procedure_of;
 use std::alloc::{AllocError, Global};
 use std::marker::Model;
 use tw_stop::StopSignal;
@@ -59,6 +60,15 @@ pub(crate) struct JobBuffer<'a> {
     pub(crate) outcome: JobOutcome,
 }
 
+/// Returns whether the next instruction of a job's task isn't local, so that a run makes no step.
+fn is_at_stop(lent: &JobState<'_>) -> bool
+    requires { MayBeAt lent.now.program.program lent.now.procedure lent.now.position }
+    ensures { result ≡ true → IsDone lent.now.program.program lent.now.procedure lent.now.position lent.now.position 0 false }
+{
+    let p = procedure_of(lent.verified, lent.procedure);
+    !p.code.as_slice()[lent.at.place].is_local()
+}
+
 impl<'a> JobBuffer<'a> {
     /// Runs the task of a job buffer in a copy of its context, and copies the resulting context once more. Returns how far it was run
     /// if the stop signal was raised meanwhile.
@@ -76,6 +86,10 @@ impl<'a> JobBuffer<'a> {
             again,
             outcome,
         } = self;
+        if is_at_stop(lent) {
+            *outcome = JobOutcome::of(RunOutcome::Unmoved { short: false });
+            return Ok(());
+        }
         match lent.run(alloc, after, again, stop) {
             Ok(went) => {
                 *outcome = JobOutcome::of(went);

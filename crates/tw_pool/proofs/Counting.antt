@@ -1,19 +1,8 @@
 -- Actors have places, and a new event is counted at its actor's place.
-use Rattle.std.proofs.Common.{◌≡◌, ◌≢◌, ◌<◌, ◌≤◌, ◌+◌, ◌/◌, ◌%◌, ℕ, Bool, true, false, cond, refl, sym, ap, subst, ◌∙◌, arith, List, [], ◌∷◌, ◌++◌, length, length-append, get_or, set}
-use Rattle.std.specs.List.{All}
-use Rattle.std.proofs.lemmas.Bool.{eq-eqb, eqb-true, ltb-true}
-use Rattle.std.proofs.lemmas.List.{get_or-set_same, get_or-set_other}
+use Rattle.tw_pool.proofs.Names.{Actor, ActorCounts, All, AreCounts, Bool, Engine, Event, FitsWord, HasPlace, IsLayout, IsPlaced, List, Server, Worker, [], actor_of, ap, arith, cond, eq-eqb, eqb-true, events_of, false, get_or, get_or-set_other, get_or-set_same, is_in, length, length-append, ltb-true, place_of, refl, same_actor, set, subst, sym, true, word_of, ℕ, ◌%◌, ◌++◌, ◌+◌, ◌/◌, ◌<◌, ◌∙◌, ◌∷◌, ◌≡◌, ◌≢◌, ◌≤◌}
 use Rattle.std.proofs.lemmas.List.Elements.{All-push, filter-append}
 use Rattle.std.proofs.lemmas.List.Sums.{length-filter, count_by-le-length}
-use Rattle.tw_types.specs.declared.actor.Actor.{Actor}
-use Rattle.tw_types.specs.declared.actor.Actor.TheVariants.{Engine, Server, Worker}
-use Rattle.tw_types.specs.Actor.{is_in}
-use Rattle.tw_types.specs.Layout.{ActorCounts, IsLayout}
-use Rattle.tw_types.specs.declared.event.Event.{Event}
-use Rattle.tw_code.specs.machine.History.{actor_of}
-use Rattle.tw_pool.specs.Actors.{AreCounts, HasPlace, events_of, place_of, same_actor}
 use Rattle.tw_pool.proofs.Round.{place_low, maker_of, round}
-use Rattle.tw_pool.specs.Words.{FitsWord, IsPlaced, word_of}
 
 -- ---- an actor of the layout has a place
 

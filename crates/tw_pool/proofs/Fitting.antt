@@ -1,29 +1,11 @@
 -- The events of rules and notices can be encoded: their numbers are small, since each event raises these by one at most.
-use Rattle.std.proofs.Common.{◌≡◌, ◌<◌, ◌≤◌, ◌+◌, ℕ, zero, suc, List, [], ◌∷◌, length, Option, Some, None, slice_get, refl, ap, subst, arith}
-use Rattle.std.proofs.lemmas.Option.{slice_get_within}
-use Rattle.std.specs.FinMap.{get}
-use Rattle.tw_types.specs.declared.event.Event.{Event}
-use Rattle.tw_types.specs.declared.input.Input.{Input}
-use Rattle.tw_types.specs.declared.param.Param.{Param}
-use Rattle.tw_types.specs.declared.stage.Stage.{Stage}
-use Rattle.tw_types.specs.Layout.{ActorCounts}
-use Rattle.tw_types.specs.Outcome.{Went}
-use Rattle.tw_types.specs.Rule.{Rule}
-use Rattle.tw_types.specs.Store.{Store}
+use Rattle.tw_pool.proofs.Names.{ActorCounts, AreNumbersBelow, ArgFits, Event, Input, IsHeld, List, None, Option, Param, Procedure, RightType, Rule, RuleArgsFit, Some, Stage, State, Store, Went, [], ap, arith, get, length, numbers_along, opening, opening_bound, opening_is_small, reached, refl, slice_get, slice_get_within, subst, suc, zero, ℕ, ◌+◌, ◌<◌, ◌∷◌, ◌≡◌, ◌≤◌}
 use Rattle.tw_types.specs.Task.{Arg, RightArg}
-use Rattle.tw_code.specs.declared.procedure.Procedure.{Procedure}
 use Rattle.tw_code.specs.format.Program.{IsProcedure, IsProgram}
-use Rattle.tw_code.specs.machine.Bounds.{AreNumbersBelow, opening_bound}
 use Rattle.tw_code.specs.machine.Holders.{Typings}
 use Rattle.tw_code.specs.machine.Inputs.{AreInputsOf}
-use Rattle.tw_code.specs.machine.Opening.{opening, reached}
-use Rattle.tw_code.specs.machine.Rights.{RightType}
-use Rattle.tw_code.specs.machine.State.{State}
-use Rattle.tw_code.proofs.Growth.{opening_is_small}
 use Rattle.tw_soundness.specs.InOrder.{right_until}
-use Rattle.tw_soundness.specs.Invariant.{ArgFits, IsHeld, RuleArgsFit}
 use Rattle.tw_soundness.proofs.Accepted.{all_found}
-use Rattle.tw_soundness.proofs.Along.{numbers_along}
 
 -- ---- a rule has at most eight parameters, and its rights are on data that were made
 

@@ -1,54 +1,13 @@
 -- Steps of an actor without a task: the lines of the table, from the events of the parts.
-use Rattle.std.proofs.Common.{IsSome, ◌≡◌, ◌<◌, ◌+◌, ◌^◌, ◌==◌, nat_lt, ◌&&◌, ℕ, Bool, true, false, List, [], ◌∷◌, ◌++◌, length, Option, Some, None, refl, sym, ap, subst, ◌∙◌, arith, inl, inr, option_map, append-nil, slice_get}
-use Rattle.std.proofs.lemmas.Bool.{and_parts, eqb-true}
-use Rattle.std.proofs.lemmas.Option.{same_Some}
+use Rattle.tw_pool.proofs.Names.{Actor, ActorCounts, Arg, Ask, Bool, Deliver, Engine, Event, EventTakes, FitsWord, Frame, FrameFits, FrameView, HasNoAsk, HasNoRelease, HasState, HistoryView, Input, IsAskOfOpen, IsDueFree, IsFree, IsHeld, IsKept, IsSome, IsTurnBy, Issues, JobView, Line, List, MayTakeNow, None, Notice, Notices, Option, Parts, PoolView, Procedure, Release, Server, Some, State, Take, TakesMemory, TakesTexts, Task, TaskOf, Turn, TurnsFree, TypedProgram, Went, Worker, [], and_parts, ap, append-nil, arith, bare_arg, bare_frame, bare_task, best, best_mapped, entry_by, eqb-true, events_of, false, first_of, get, get_mapped, inl, inr, is_among, is_in, issued_to, job_of, length, nat_lt, next_ask, next_ask_mapped, next_release, next_release_mapped, oldest_notice, only_if, option_map, queue_at, reached_is_held, refl, same_Some, same_went, server_of, slice_get, state_of, subst, sym, take_of, true, typings_of, went_after, went_only, with_events, ℕ, ◌&&◌, ◌++◌, ◌+◌, ◌<◌, ◌==◌, ◌^◌, ◌∙◌, ◌∷◌, ◌≡◌}
 use Rattle.std.specs.declared.alloc.AllocError.{AllocError}
 use Rattle.std.specs.declared.result.Result.TheVariants.{Ok}
-use Rattle.std.specs.FinMap.{get}
 use Rattle.std.specs.FinSet as set
-use Rattle.tw_types.specs.declared.actor.Actor.{Actor}
-use Rattle.tw_types.specs.declared.actor.Actor.TheVariants.{Engine, Server, Worker}
-use Rattle.tw_types.specs.declared.event.Event.{Event}
-use Rattle.tw_types.specs.declared.event.Event.TheVariants.{Take, Ask, Deliver, Release}
-use Rattle.tw_types.specs.declared.input.Input.{Input}
-use Rattle.tw_types.specs.declared.notice.Notice.{Notice}
-use Rattle.tw_types.specs.Layout.{ActorCounts}
-use Rattle.tw_types.specs.Actor.{is_in}
-use Rattle.tw_types.specs.Mapped.{entry_by}
-use Rattle.tw_types.specs.Notices.{Notices}
-use Rattle.tw_types.specs.Outcome.{Went, only_if}
-use Rattle.tw_types.specs.Rule.{next_ask, next_release}
-use Rattle.tw_types.specs.Store.{server_of}
-use Rattle.tw_types.specs.Task.{Task, TaskOf, best}
-use Rattle.tw_types.proofs.Chosen.{best_mapped, next_ask_mapped, next_release_mapped}
-use Rattle.tw_types.proofs.Mapped.{get_mapped}
-use Rattle.tw_types.proofs.Outcomes.{same_went, went_after, went_only}
-use Rattle.tw_rights.specs.Bare.{bare_arg, bare_task}
-use Rattle.tw_rights.specs.declared.arg.Arg.{Arg}
-use Rattle.tw_code.specs.declared.procedure.Procedure.{Procedure}
-use Rattle.tw_code.specs.machine.Due.{IsDueFree, first_of, take_of}
 use Rattle.tw_code.specs.machine.Machine.{step}
-use Rattle.tw_code.specs.machine.State.{Frame, State}
 use Rattle.tw_code.proofs.Found.{ask_found, own_rule_there, release_found}
-use Rattle.tw_soundness.specs.Invariant.{IsHeld}
 use Rattle.tw_soundness.proofs.Asked.{Noted, noted}
-use Rattle.tw_soundness.proofs.Safe.{reached_is_held}
-use Rattle.tw_verify.specs.Typed.{TypedProgram, typings_of}
-use Rattle.tw_frame.specs.Jobs.{FrameView, JobView, bare_frame, job_of}
 use Rattle.tw_pool_state.specs.Events.{Succeeds, IsTaken, IsTried, Makes, Untouched}
-use Rattle.tw_pool_state.specs.Fits.{FrameFits}
-use Rattle.tw_pool_state.specs.Memory.{IsAskOfOpen, EventTakes, TakesTexts}
-use Rattle.tw_pool_state.specs.Notes.{is_among, queue_at}
-use Rattle.tw_pool_state.specs.Parts.{state_of}
-use Rattle.tw_pool_state.specs.declared.parts.Parts.{Parts}
-use Rattle.tw_pool.specs.declared.answer.Turn.{Turn}
 use Rattle.tw_pool.specs.declared.answer.Turn.TheVariants.{Idle, NoMemory, Run, Went as Made}
-use Rattle.tw_pool.specs.Actors.{events_of}
-use Rattle.tw_pool.specs.History.{HistoryView}
-use Rattle.tw_pool.specs.Kept.{HasNoAsk, IsFree, IsKept, MayTakeNow, HasNoRelease}
-use Rattle.tw_pool.specs.PoolView.{PoolView, HasState, oldest_notice, with_events}
-use Rattle.tw_pool.specs.Turns.{TurnsFree, IsTurnBy, Issues, Line, TakesMemory, issued_to}
-use Rattle.tw_pool.specs.Words.{FitsWord}
 use Rattle.tw_pool.proofs.Fitting.{few_parameters, low_datum, small_numbers}
 use Rattle.tw_pool.proofs.Keeping.{ask_frames, deliver_frames, made_free, made_issued, no_task, own_count, release_frames, still}
 

@@ -1,57 +1,14 @@
 -- Steps with a `Done`: the lines of the table, from the events of the parts.
-use Rattle.std.proofs.Common.{◌≡◌, ◌≢◌, ◌<◌, ◌≤◌, ◌+◌, ◌*◌, ◌^◌, ◌==◌, not, ◌&&◌, ℕ, Bool, true, false, cond, List, [], ◌∷◌, ◌++◌, length, length-append, Option, Some, None, refl, sym, ap, subst, ◌∙◌, arith, inl, option_map, slice_get, append_assoc, append-nil}
+use Rattle.tw_pool.proofs.Names.{Actor, ActorCounts, Answers, AreIssued, AreParts, Bool, Call, CallTakes, DoneView, End, Event, EventTakes, FitsWord, Frame, FrameView, HasPlace, HasState, HistoryView, Input, Instr, InstrTakes, IsAtAllocating, IsKept, IsOwedBy, IsTurnBy, Issues, JobView, Limit, Line, List, Local, None, Notices, Option, OrNoMemory, Over, Parts, PoolView, Procedure, Run, Served, Some, State, TakesMemory, Turn, TypedProgram, Went, [], actor_cmp, actor_of, ap, append-nil, append_assoc, arith, bare_frame, below_more, cond, end_leaves, events_of, false, get, get-insert, get-remove, get_mapped, inl, insert, instr_after, instr_here, is_in, is_last, issued_to, job_of, length, length-append, nat_tests, no_notices, not, opened_held, opening, opening_bound, opening_is_small, option_and_then, option_map, queues_after, queues_along, reached, refl, run_more, same_Some, same_actor, slice_get, small_along, state_of, steps_of, subst, sym, true, typings_of, went_of, with_events, ℕ, ◌&&◌, ◌*◌, ◌++◌, ◌+◌, ◌<◌, ◌==◌, ◌^◌, ◌∙◌, ◌∷◌, ◌≡◌, ◌≢◌, ◌≤◌}
 use Rattle.tw_types.proofs.Orders.{other_key, own_key}
 use Rattle.std.specs.Prelude.{IfSome, MatchOption, option_to_list}
-use Rattle.std.proofs.lemmas.Bool.Decides.{nat_tests}
-use Rattle.std.proofs.lemmas.Option.{same_Some}
-use Rattle.std.specs.FinMap.{get, get-insert, get-remove, insert}
-use Rattle.std.specs.Option.{option_and_then}
-use Rattle.tw_types.specs.declared.actor.Actor.{Actor}
-use Rattle.tw_types.specs.declared.event.Event.{Event}
-use Rattle.tw_types.specs.declared.event.Event.TheVariants.{Call, End, Local}
-use Rattle.tw_types.specs.declared.input.Input.{Input}
-use Rattle.tw_types.specs.Actor.{actor_cmp, is_in}
-use Rattle.tw_types.specs.Layout.{ActorCounts}
-use Rattle.tw_types.specs.Notices.{Notices}
-use Rattle.tw_types.specs.Outcome.{Went}
 use Rattle.tw_types.proofs.ActorOrder.{actor_cmp_total, actor_cmp-IsAntisymmetric}
-use Rattle.tw_types.proofs.Mapped.{get_mapped}
-use Rattle.tw_types.proofs.Outcomes.{went_of}
-use Rattle.tw_code.specs.declared.instr.Instr.{Instr}
 use Rattle.tw_code.specs.declared.instr.Instr.TheVariants as instr
-use Rattle.tw_code.specs.declared.procedure.Procedure.{Procedure}
 use Rattle.tw_code.specs.accepting.Walk.{greatest_budget}
-use Rattle.tw_code.specs.machine.Bounds.{opening_bound}
-use Rattle.tw_code.specs.machine.Due.{instr_here}
-use Rattle.tw_code.specs.machine.History.{actor_of}
 use Rattle.tw_code.specs.machine.Machine.{end_event, step}
-use Rattle.tw_code.specs.machine.Opening.{opening, reached}
-use Rattle.tw_code.specs.machine.State.{Frame, State}
-use Rattle.tw_code.proofs.Growth.{below_more, opening_is_small}
-use Rattle.tw_code.proofs.Leaving.{end_leaves}
-use Rattle.tw_code.proofs.Runs.{run_more}
-use Rattle.tw_soundness.proofs.Along.{small_along}
-use Rattle.tw_soundness.proofs.Safe.{opened_held}
-use Rattle.tw_verify.specs.Typed.{TypedProgram, typings_of}
-use Rattle.tw_store.specs.Served.{Served}
-use Rattle.tw_frame.specs.Jobs.{DoneView, FrameView, JobView, bare_frame, job_of}
 use Rattle.tw_pool_state.specs.Coming.{frame_after, issued_as}
 use Rattle.tw_pool_state.specs.Events.{Succeeds, IsIssued, IsOwed, IsSmall, Makes, MakesAfter, IsAtInstr, with_done}
-use Rattle.tw_pool_state.specs.Fits.{AreParts}
-use Rattle.tw_pool_state.specs.Memory.{CallTakes, EventTakes, InstrTakes, IsAtAllocating}
-use Rattle.tw_pool_state.specs.Parts.{state_of}
-use Rattle.tw_pool_state.specs.Queued.{no_notices, queues_after, queues_along}
-use Rattle.tw_pool_state.specs.declared.parts.Parts.{Parts}
 use Rattle.tw_pool_state.proofs.Goings.{issued_parts, issued_state}
-use Rattle.tw_pool.specs.declared.answer.Closing.TheVariants.{Limit}
-use Rattle.tw_pool.specs.declared.answer.Turn.{Turn}
-use Rattle.tw_pool.specs.declared.answer.Turn.TheVariants.{Over, Run}
-use Rattle.tw_pool.specs.Actors.{HasPlace, events_of, same_actor}
-use Rattle.tw_pool.specs.History.{HistoryView}
-use Rattle.tw_pool.specs.Kept.{AreIssued, IsKept, IsOwedBy}
-use Rattle.tw_pool.specs.PoolView.{HasState, PoolView, with_events}
-use Rattle.tw_pool.specs.Turns.{Answers, IsTurnBy, Issues, Line, OrNoMemory, TakesMemory, is_last, instr_after, issued_to, steps_of}
-use Rattle.tw_pool.specs.Words.{FitsWord}
 use Rattle.tw_pool.proofs.Queueing.{queues_more}
 use Rattle.tw_pool.proofs.Counting.{AreBy, has_place, itself, others_same, the_same}
 use Rattle.tw_pool.proofs.Freely.{has_state, lends, line_traced, room_here, state, viewed}

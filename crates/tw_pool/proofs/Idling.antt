@@ -1,39 +1,12 @@
 -- Actors that have nothing to do, from the parts of a pool.
-use Rattle.std.proofs.Common.{◌≡◌, ◌<◌, ◌≤◌, ◌+◌, ◌-◌, ◌∙◌, nat_lt, ℕ, Bool, false, List, [], ◌∷◌, length, Some, None, arith, refl, sym, ap, subst, option_map, inl, inr}
-use Rattle.std.proofs.lemmas.Bool.{cases_eq, cases_lt}
-use Rattle.std.proofs.lemmas.Bool.Decides.{nat_tests}
-use Rattle.std.specs.FinMap as map
-use Rattle.std.specs.FinMap.{get}
-use Rattle.tw_types.specs.declared.actor.Actor.{Actor}
-use Rattle.tw_types.specs.declared.actor.Actor.TheVariants.{Engine, Server, Worker}
-use Rattle.tw_types.specs.declared.event.Event.{Event}
-use Rattle.tw_types.specs.declared.input.Input.{Input}
-use Rattle.tw_types.specs.Actor.{actor_at, actor_count}
-use Rattle.tw_types.specs.Layout.{ActorCounts}
-use Rattle.tw_types.specs.Mapped.{entry_by}
-use Rattle.tw_types.specs.Rule.{next_ask, next_release}
-use Rattle.tw_types.specs.Task.{TasksOf, best, best_of}
-use Rattle.tw_types.proofs.Chosen.{best_mapped, next_ask_mapped, next_release_mapped}
-use Rattle.tw_rights.specs.Bare.{bare_arg, bare_task}
-use Rattle.tw_code.specs.machine.Due.{IsDueFree, first_of, take_of}
-use Rattle.tw_code.specs.machine.State.{State}
-use Rattle.tw_pool_state.specs.Notes.{queue_at}
-use Rattle.tw_pool_state.specs.declared.parts.Parts.{Parts}
-use Rattle.tw_verify.specs.Typed.{TypedProgram}
-use Rattle.tw_pool.specs.History.{HistoryView}
-use Rattle.tw_pool.specs.Kept.{IsFree, IsKept}
-use Rattle.tw_pool.specs.PoolView.{PoolView, HasState}
-use Rattle.tw_pool.specs.Work.{AreIdle, HasNoneDue, IsIdle, RunsOn}
+use Rattle.tw_pool.proofs.Names.{Actor, ActorCounts, AreIdle, Bool, Engine, Event, HasNoneDue, HasState, HistoryView, Input, IsDueFree, IsFree, IsIdle, IsKept, List, None, Parts, PoolView, RunsOn, Server, Some, State, TypedProgram, Worker, [], actor_at, ap, arith, bare_arg, bare_task, best_mapped, cases_eq, cases_lt, entry_by, false, first_of, get, inl, inr, nat_lt, nat_tests, next_ask, next_ask_mapped, next_release, next_release_mapped, not, option_map, queue_at, refl, subst, sym, take_of, true, ℕ, ◌+◌, ◌-◌, ◌<◌, ◌∙◌, ◌≡◌, ◌≤◌}
+use Rattle.tw_types.specs.Task.{best}
 use Rattle.tw_pool.proofs.Freely.{deliver_none, state, viewed}
 use Rattle.tw_pool.proofs.Turning as turning
 
-nothing_in : {A : Type 0} (es : List A) → length es ≡ 0 → es ≡ []
-nothing_in [] e = refl
-nothing_in (x ∷ es) e = absurd (omega (arith, e))
-
-pub nothing_best : {A : Type 0} (actor : Actor) (tasks : TasksOf A) → map.len tasks ≡ 0 → best actor tasks ≡ None
-unfolding best
-nothing_best actor tasks none = ap (best_of actor) (nothing_in (map.entries tasks) (sym (map.len-entries tasks) ∙ none))
+pub unset : (b : Bool) → not b ≡ true → b ≡ false
+unset true e = cc
+unset false e = refl
 
 module _ (verified : TypedProgram) (inputs : List Input) (layout : ActorCounts) (stopped : Bool) (traced : HistoryView) (old : Parts) (h : IsKept verified inputs layout traced.limit traced.events old) (w : PoolView) (seen : viewed verified inputs layout stopped traced ≡ w) where
   abbrev here : State
@@ -80,11 +53,30 @@ joined p from middle end first last index low high = elim (cases_lt index middle
 pub one_more : (p : PoolView) (from index : ℕ) → AreIdle p from index → IsIdle p (actor_at p.layout index) → AreIdle p from (index + 1)
 one_more p from index idle own k low high = elim (cases_eq k index) as (λ _. IsIdle p (actor_at p.layout k)) [ inl is ↦ subst (λ n. IsIdle p (actor_at p.layout n)) (sym is) own | inr apart ↦ idle k low (omega (arith, high, apart)) ]
 
-worker_at : (layout : ActorCounts) (index : ℕ) → layout.engines + layout.servers ≤ index → actor_at layout index ≡ Worker (index - (layout.engines + layout.servers))
-worker_at layout index low =
-    let not_first : nat_lt index layout.engines ≡ false = grind (arith, nat_tests, low) in
-    let not_second : nat_lt index (layout.engines + layout.servers) ≡ false = grind (arith, nat_tests, low) in
-    rw (not_first, not_second) refl
+pub shorter : (p : PoolView) (from end far : ℕ) → end ≤ far → AreIdle p from far → AreIdle p from end
+shorter p from end far near idle index low high = idle index low (omega (arith, near, high))
 
-pub workers_idle : (p : PoolView) → ((worker : ℕ) → worker < p.layout.workers → IsIdle p (Worker worker)) → AreIdle p (p.layout.engines + p.layout.servers) (actor_count p.layout)
-workers_idle p all index low high = subst (IsIdle p) (sym (worker_at p.layout index low)) (all (index - (p.layout.engines + p.layout.servers)) (omega (arith, low, high)))
+-- the first of a group of actors after some that are idle
+pub group_begins : (p : PoolView) (from first : ℕ) → AreIdle p from first → AreIdle p from (first + (from - first))
+group_begins p from first idle index low high = idle index low (omega (arith, low, high))
+
+-- one more of the group
+pub group_goes_on : (p : PoolView) (from first number : ℕ) (actor : Actor) → actor_at p.layout (first + number) ≡ actor → AreIdle p from (first + number) → IsIdle p actor → AreIdle p from (first + (number + 1))
+group_goes_on p from first number actor at idle own = shorter p from (first + (number + 1)) (first + number + 1) (omega arith) (one_more p from (first + number) idle (subst (IsIdle p) (sym at) own))
+
+pub engine_at : (layout : ActorCounts) (engine : ℕ) → engine < layout.engines → actor_at layout engine ≡ Engine engine
+engine_at layout engine low = let inside : nat_lt engine layout.engines ≡ true = grind (arith, nat_tests, low) in rw inside refl
+
+pub server_at : (layout : ActorCounts) (server : ℕ) → server < layout.servers → actor_at layout (layout.engines + server) ≡ Server server
+server_at layout server low =
+    let not_first : nat_lt (layout.engines + server) layout.engines ≡ false = grind (arith, nat_tests) in
+    let second : nat_lt (layout.engines + server) (layout.engines + layout.servers) ≡ true = grind (arith, nat_tests, low) in
+    let number : layout.engines + server - layout.engines ≡ server = omega arith in
+    rw (not_first, second, number) refl
+
+pub worker_at : (layout : ActorCounts) (worker : ℕ) → actor_at layout (layout.engines + layout.servers + worker) ≡ Worker worker
+worker_at layout worker =
+    let not_first : nat_lt (layout.engines + layout.servers + worker) layout.engines ≡ false = grind (arith, nat_tests) in
+    let not_second : nat_lt (layout.engines + layout.servers + worker) (layout.engines + layout.servers) ≡ false = grind (arith, nat_tests) in
+    let number : layout.engines + layout.servers + worker - (layout.engines + layout.servers) ≡ worker = omega arith in
+    rw (not_first, not_second, number) refl

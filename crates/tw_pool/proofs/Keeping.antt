@@ -1,36 +1,7 @@
 -- The invariant of a pool's parts holds after one more event, and after no change.
-use Rattle.std.proofs.Common.{map as each, ◌≡◌, ◌≢◌, ◌<◌, ◌+◌, ℕ, Bool, true, false, cond, List, [], ◌∷◌, ◌++◌, length, length-append, Option, Some, None, refl, sym, ap, subst, ◌∙◌, arith, option_map}
-use Rattle.std.specs.FinMap.{get}
-use Rattle.tw_types.specs.declared.actor.Actor.{Actor}
-use Rattle.tw_types.specs.declared.event.Event.{Event}
-use Rattle.tw_types.specs.declared.event.Event.TheVariants.{Ask, Deliver, Release}
-use Rattle.tw_types.specs.declared.input.Input.{Input}
-use Rattle.tw_types.specs.declared.notice.Notice.{Notice}
-use Rattle.tw_types.specs.Layout.{ActorCounts}
-use Rattle.tw_types.specs.Mapped.{mapped}
-use Rattle.tw_types.specs.Notices.{Notices}
-use Rattle.tw_types.specs.Outcome.{Went}
-use Rattle.tw_types.proofs.Mapped.{get_mapped}
-use Rattle.tw_types.proofs.Outcomes.{went_of}
-use Rattle.tw_rights.specs.Rights.{Right}
-use Rattle.tw_rights.specs.Bare.{bare_rule, bare_task}
-use Rattle.tw_code.specs.declared.procedure.Procedure.{Procedure}
-use Rattle.tw_code.specs.machine.History.{actor_of}
+use Rattle.tw_pool.proofs.Names.{Actor, ActorCounts, AreIssued, AreParts, Ask, Bool, Deliver, Event, FrameView, Input, IsKept, IsReached, List, None, Notice, Notices, Option, Parts, Procedure, Release, Right, RunningView, Some, State, TypedProgram, Went, [], actor_of, ap, arith, ask_leaves, bare_frame, bare_rule, bare_task, cond, deliver_leaves, events_of, false, get, get_mapped, length, length-append, map as each, mapped, no_notices, opening, option_map, queues_after, refl, release_leaves, run_more, same_actor, state_of, subst, sym, true, went_of, ℕ, ◌++◌, ◌+◌, ◌<◌, ◌∙◌, ◌∷◌, ◌≡◌, ◌≢◌}
 use Rattle.tw_code.specs.machine.Machine.{ask_event, deliver_event, release_event, step}
-use Rattle.tw_code.specs.machine.Opening.{opening}
-use Rattle.tw_code.specs.machine.State.{State}
-use Rattle.tw_code.proofs.Leaving.{ask_leaves, deliver_leaves, release_leaves}
-use Rattle.tw_code.proofs.Runs.{run_more}
-use Rattle.tw_verify.specs.Typed.{TypedProgram}
-use Rattle.tw_frame.specs.Jobs.{FrameView, bare_frame}
 use Rattle.tw_pool_state.specs.Events.{Succeeds, Untouched}
-use Rattle.tw_pool_state.specs.Fits.{AreParts, IsReached}
-use Rattle.tw_pool_state.specs.Parts.{state_of}
-use Rattle.tw_pool_state.specs.Queued.{no_notices, queues_after}
-use Rattle.tw_pool_state.specs.RunningTasks.{RunningView}
-use Rattle.tw_pool_state.specs.declared.parts.Parts.{Parts}
-use Rattle.tw_pool.specs.Actors.{events_of, same_actor}
-use Rattle.tw_pool.specs.Kept.{AreIssued, IsKept}
 use Rattle.tw_pool.proofs.Queueing.{queues_more}
 use Rattle.tw_pool.proofs.Counting.{itself, of_more, the_same}
 

@@ -1,3 +1,4 @@
+pub mod Names
 mod Round
 pub mod Counting
 pub mod Lines

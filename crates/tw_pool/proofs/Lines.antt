@@ -1,23 +1,6 @@
 -- Each line of the table appends at most two events, all of the actor that makes the step.
-use Rattle.std.proofs.Common.{◌≡◌, ◌==◌, ℕ, Bool, true, false, refl, sym, ap, subst, ◌∙◌, arith, List, [], ◌∷◌, ◌++◌, Option, Some, None, ◌⊎◌, inl, inr}
-use Rattle.tw_types.specs.declared.actor.Actor.{Actor}
-use Rattle.tw_types.specs.declared.actor.Actor.TheVariants.{Engine, Server, Worker}
-use Rattle.tw_types.specs.declared.event.Event.{Event}
-use Rattle.tw_types.specs.declared.event.Event.TheVariants.{Take, Local, Call, End, Ask, Deliver, Release}
-use Rattle.tw_types.specs.Rule.{next_ask, next_release}
-use Rattle.tw_types.specs.Task.{Task, best}
-use Rattle.tw_code.specs.declared.instr.Instr.{Instr}
+use Rattle.tw_pool.proofs.Names.{Actor, ActorCounts, AreOwn, Ask, Bool, Call, Closing, Deliver, DoneView, End, Engine, Event, Instr, IsDueFree, JobView, List, Local, Makes, None, Option, PoolView, Release, Server, Some, State, Submits, Take, TakesBack, Task, Turn, Turns, TurnsFree, TurnsUnless, Worker, [], actor_of, ap, arith, best, event_of, events_of, false, first_of, inl, inr, instr_after, is_last, issued_to, next_ask, next_release, refl, same_actor, steps_of, subst, sym, take_of, true, ℕ, ◌++◌, ◌==◌, ◌∙◌, ◌∷◌, ◌≡◌, ◌⊎◌}
 use Rattle.tw_code.specs.declared.instr.Instr.TheVariants as instr
-use Rattle.tw_code.specs.machine.Due.{IsDueFree, event_of, first_of, take_of}
-use Rattle.tw_code.specs.machine.History.{actor_of}
-use Rattle.tw_code.specs.machine.State.{State}
-use Rattle.tw_types.specs.Layout.{ActorCounts}
-use Rattle.tw_frame.specs.Jobs.{DoneView, JobView}
-use Rattle.tw_pool.specs.declared.answer.Closing.{Closing}
-use Rattle.tw_pool.specs.declared.answer.Turn.{Turn}
-use Rattle.tw_pool.specs.Actors.{events_of, same_actor}
-use Rattle.tw_pool.specs.PoolView.{PoolView}
-use Rattle.tw_pool.specs.Turns.{AreOwn, TurnsFree, Submits, Makes, TakesBack, Turns, TurnsUnless, instr_after, is_last, issued_to, steps_of}
 use Rattle.tw_pool.proofs.Counting.{itself}
 
 -- ---- events of one actor

@@ -1,21 +1,9 @@
 -- Invariants of a pool before its first event.
-use Rattle.std.proofs.Common.{◌≡◌, ℕ, List, [], sym, ap, ◌∙◌, arith, Some, None, replicate}
+use Rattle.tw_pool.proofs.Names.{ActorCounts, AreIssued, Input, IsKept, List, None, Parts, Some, State, TasksByActor, TypedProgram, Went, [], actor_cmp, ap, arith, get, get-empty, opening, reached, replicate, state_of, sym, ℕ, ◌∙◌, ◌≡◌}
 use Rattle.std.specs.FinMap as fin
-use Rattle.std.specs.FinMap.{get, get-empty}
 use Rattle.std.specs.FinSet as set
-use Rattle.tw_types.specs.declared.input.Input.{Input}
-use Rattle.tw_types.specs.Actor.{actor_cmp}
-use Rattle.tw_types.specs.Layout.{ActorCounts}
-use Rattle.tw_types.specs.Outcome.{Went}
 use Rattle.tw_code.specs.machine.Machine.{run}
-use Rattle.tw_code.specs.machine.Opening.{opening, reached}
-use Rattle.tw_code.specs.machine.State.{State}
-use Rattle.tw_verify.specs.Typed.{TypedProgram}
 use Rattle.tw_pool_state.specs.Opening.{IsOpening}
-use Rattle.tw_pool_state.specs.Parts.{state_of}
-use Rattle.tw_pool_state.specs.RunningTasks.{TasksByActor}
-use Rattle.tw_pool_state.specs.declared.parts.Parts.{Parts}
-use Rattle.tw_pool.specs.Kept.{AreIssued, IsKept}
 use Rattle.tw_pool.specs.Openings.{MayOpen}
 use Rattle.tw_pool.proofs.Queueing.{none_queued}
 

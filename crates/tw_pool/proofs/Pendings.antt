@@ -1,33 +1,15 @@
 -- Reports of pending rules, one by one: they are the machine's.
-use Rattle.std.proofs.Common.{◌≡◌, ◌+◌, ◌<◌, ◌⊎◌, inl, inr, ℕ, Bool, true, false, cond, if◌then◌else◌, arith, List, [], ◌∷◌, ◌++◌, length, map, get_or, drop, Some, None, refl, sym, ap, subst, ◌∙◌, append_assoc, add-one, drop-cons}
+use Rattle.tw_pool.proofs.Names.{Arg, ArgMatches, ArgsMatch, Bool, List, None, Param, Procedure, Right, Rule, RuleOf, RulesOf, Some, Stage, [], add-one, ap, append_assoc, arith, bare_arg, bare_rule, cond, drop, drop-cons, entries, entries_mapped, entry_by, erased_arg, erasure, false, flat_map, get, get_or, if◌then◌else◌, inl, inr, is_waiting, length, map, mapped, nat_cmp, nat_cmp_total, pending_of, pending_with_data, refl, right_of, subst, sym, true, waited_at, waited_for, waits_in, written_at, written_by, ℕ, ◌++◌, ◌+◌, ◌<◌, ◌∙◌, ◌∷◌, ◌≡◌, ◌⊎◌}
 use Rattle.std.proofs.lemmas.List.{append-nil}
-use Rattle.std.specs.Cmp.{nat_cmp_total}
-use Rattle.std.specs.FinMap.{entries, get}
-use Rattle.std.specs.List.{flat_map}
-use Rattle.std.specs.Ordering.{nat_cmp}
 use Rattle.tw_types.specs.declared.param.Mode.{Mode}
 use Rattle.tw_types.specs.declared.param.Mode.TheVariants as mode
-use Rattle.tw_types.specs.declared.param.Param.{Param}
 use Rattle.tw_types.specs.declared.pending.Pending.{Pending}
-use Rattle.tw_types.specs.declared.stage.Stage.{Stage}
-use Rattle.tw_types.specs.Mapped.{entry_by, mapped}
 use Rattle.tw_types.specs.Mode.{is_val, is_write}
-use Rattle.tw_types.specs.Rule.{Rule, RuleOf, RulesOf, is_waiting}
-use Rattle.tw_types.proofs.Mapped.{entries_mapped}
 use Rattle.tw_types.proofs.Totals.{IsEntry, get_entry}
-use Rattle.tw_rights.specs.Bare.{bare_arg, bare_rule}
-use Rattle.tw_rights.specs.declared.arg.Arg.{Arg}
 use Rattle.tw_rights.specs.declared.arg.Arg.TheVariants.{Val, Read, Write}
-use Rattle.tw_rights.specs.Rights.{Right}
 use Rattle.tw_rules.specs.declared.erased.ErasedArg.{ErasedArg}
-use Rattle.tw_rules.specs.Table.{erased_arg, erasure}
 use Rattle.tw_store.specs.Slots.{Places}
-use Rattle.tw_code.specs.declared.procedure.Procedure.{Procedure}
 use Rattle.tw_code.specs.machine.Arguments.{params_of}
-use Rattle.tw_code.specs.machine.Pending.{pending_of, waited_for, written_by}
-use Rattle.tw_code.specs.machine.Rights.{right_of}
-use Rattle.tw_pool_state.specs.Fits.{ArgMatches, ArgsMatch}
-use Rattle.tw_pool.specs.Pendings.{pending_with_data, waited_at, waits_in, written_at}
 
 -- ---- one argument more
 

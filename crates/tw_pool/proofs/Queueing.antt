@@ -1,21 +1,8 @@
 -- The queues along the events of a run.
-use Rattle.std.proofs.Common.{◌≡◌, ◌∙◌, ℕ, zero, suc, Bool, true, false, List, [], ◌∷◌, ◌++◌, length, refl, sym, ap, replicate, ◌||◌}
-use Rattle.std.specs.Cmp.{tied_itself}
+use Rattle.tw_pool.proofs.Names.{ActorCounts, AreQueued, Bool, Event, List, Notice, Notices, Procedure, Queues, State, Went, [], ap, eq_by_cmp, false, is_among, is_eq, length, notice_cmp, queue_at, queues_after, queues_along, refl, replicate, same_went, server_of, suc, sym, tied_itself, true, went_first, zero, ℕ, ◌++◌, ◌||◌, ◌∙◌, ◌∷◌, ◌≡◌}
 use Rattle.std.specs.FinSet as set
-use Rattle.std.specs.Ordering.{eq_by_cmp, is_eq}
-use Rattle.tw_types.specs.declared.event.Event.{Event}
-use Rattle.tw_types.specs.declared.notice.Notice.{Notice}
-use Rattle.tw_types.specs.Layout.{ActorCounts}
-use Rattle.tw_types.specs.Notices.{Notices, notice_cmp}
-use Rattle.tw_types.specs.Outcome.{Went}
-use Rattle.tw_types.specs.Store.{server_of}
 use Rattle.tw_types.proofs.NoticeOrder.{notice_cmp_total}
-use Rattle.tw_types.proofs.Outcomes.{same_went, went_first}
-use Rattle.tw_code.specs.declared.procedure.Procedure.{Procedure}
 use Rattle.tw_code.specs.machine.Machine.{run, step}
-use Rattle.tw_code.specs.machine.State.{State}
-use Rattle.tw_pool_state.specs.Notes.{AreQueued, is_among, queue_at}
-use Rattle.tw_pool_state.specs.Queued.{Queues, queues_after, queues_along}
 
 -- one event more
 pub queues_more : (program : List Procedure) (layout : ActorCounts) (history : List Event) (event : Event) (s t u : State) (queues : Queues) → run program layout history s ≡ Went t → step program layout event t ≡ Went u

@@ -1,13 +1,5 @@
 -- Decoding the word of an event returns the event.
-use Rattle.std.proofs.Common.{◌≡◌, ◌<◌, ◌+◌, ◌*◌, ◌-◌, ◌/◌, ◌%◌, ℕ, true, false, nat_lt, refl, ap, ◌∙◌, arith, List, [], ◌∷◌, ◌++◌}
-use Rattle.std.proofs.lemmas.Bool.Decides.{nat_tests}
-use Rattle.std.proofs.lemmas.List.{map-append}
-use Rattle.tw_types.specs.declared.actor.Actor.{Actor}
-use Rattle.tw_types.specs.declared.actor.Actor.TheVariants.{Engine, Server, Worker}
-use Rattle.tw_types.specs.declared.event.Event.{Event}
-use Rattle.tw_types.specs.declared.event.Event.TheVariants.{Take, Local, Call, End, Ask, Deliver, Release}
-use Rattle.tw_code.specs.machine.History.{actor_of}
-use Rattle.tw_pool.specs.Actors.{HasPlace, place_of, actor_of_place}
+use Rattle.tw_pool.proofs.Names.{Actor, Ask, Call, Deliver, End, Engine, Event, HasPlace, List, Local, Release, Server, Take, Worker, [], actor_of, actor_of_place, ap, arith, false, map-append, nat_lt, nat_tests, place_of, refl, true, ℕ, ◌%◌, ◌*◌, ◌++◌, ◌+◌, ◌-◌, ◌/◌, ◌<◌, ◌∙◌, ◌∷◌, ◌≡◌}
 use Rattle.tw_pool.specs.Words.{FitsWord, NumbersFit, kind_of, numbers_of, word_of, unpack, unpack_by, events_in}
 
 pub place_low : (a : Actor) → HasPlace a → place_of a < 24

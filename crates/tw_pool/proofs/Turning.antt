@@ -1,36 +1,10 @@
 -- A step takes the first line of the table that fits.
-use Rattle.std.proofs.Common.{IsSome, ◌≡◌, ◌<◌, ◌≤◌, ◌==◌, ℕ, Bool, true, false, if◌then◌else◌, List, [], ◌∷◌, ◌++◌, length, Option, Some, None, refl, sym, ap, subst, ◌∙◌, arith, inl, inr, option_map, slice_get}
-use Rattle.std.proofs.lemmas.Bool.Decides.{nat_tests}
-use Rattle.std.proofs.lemmas.Option.{same_Some}
-use Rattle.std.specs.FinMap.{get}
-use Rattle.std.specs.Option.{option_and_then, option_or}
-use Rattle.tw_types.specs.declared.actor.Actor.{Actor}
+use Rattle.tw_pool.proofs.Names.{Actor, ActorCounts, Answers, Bool, Call, Closing, DoneView, End, Ended, Foreign, Frame, FrameView, HasState, HistoryView, Input, Instr, IsDone, IsFree, IsKept, IsOwedBy, IsSome, IsTurn, IsTurnBy, Issues, JobView, Limit, Line, List, Makes, None, Option, OrNoMemory, Over, Owed, Parts, PoolView, Procedure, Some, State, Stopped, TakesBack, Turn, Turns, TurnsFree, TurnsUnless, TypedProgram, [], ap, arith, bare_frame, closing_at, closing_of, event_of, events_of, false, get, get_mapped, if◌then◌else◌, inl, inr, instr_after, is_last, issued_to, job_of, length, nat_tests, option_and_then, option_map, option_or, refl, same_Some, same_went, slice_get, steps_of, subst, sym, true, ℕ, ◌++◌, ◌<◌, ◌==◌, ◌∙◌, ◌∷◌, ◌≡◌, ◌≤◌}
 use Rattle.tw_types.specs.declared.ending.Ending.{Ending}
-use Rattle.tw_types.specs.declared.input.Input.{Input}
-use Rattle.tw_types.specs.Layout.{ActorCounts}
-use Rattle.tw_types.proofs.Mapped.{get_mapped}
-use Rattle.tw_types.proofs.Outcomes.{same_went}
-use Rattle.tw_types.specs.declared.event.Event.TheVariants.{Call, End}
-use Rattle.tw_code.specs.declared.instr.Instr.{Instr}
 use Rattle.tw_code.specs.declared.instr.Instr.TheVariants as instr
-use Rattle.tw_code.specs.declared.procedure.Procedure.{Procedure}
-use Rattle.tw_code.specs.machine.Due.{event_of}
 use Rattle.tw_code.specs.machine.Ending.{ending}
 use Rattle.tw_code.specs.machine.Machine.{is_ret, local_of}
-use Rattle.tw_code.specs.machine.State.{Frame, State}
-use Rattle.tw_verify.specs.Typed.{TypedProgram}
-use Rattle.tw_frame.specs.Jobs.{DoneView, FrameView, IsDone, JobView, bare_frame, job_of}
 use Rattle.tw_frame.specs.Ready.{IsStop, StopsAt}
-use Rattle.tw_pool_state.specs.declared.parts.Parts.{Parts}
-use Rattle.tw_pool.specs.declared.answer.Closing.{Closing}
-use Rattle.tw_pool.specs.declared.answer.Closing.TheVariants.{Limit, Stopped}
-use Rattle.tw_pool.specs.declared.answer.Turn.{Turn}
-use Rattle.tw_pool.specs.declared.answer.Turn.TheVariants.{Ended, Foreign, Over, Owed}
-use Rattle.tw_pool.specs.Actors.{events_of}
-use Rattle.tw_pool.specs.History.{HistoryView}
-use Rattle.tw_pool.specs.Kept.{IsFree, IsKept, IsOwedBy}
-use Rattle.tw_pool.specs.PoolView.{PoolView, HasState}
-use Rattle.tw_pool.specs.Turns.{Answers, TurnsFree, IsTurn, IsTurnBy, Issues, Line, Makes, OrNoMemory, TakesBack, Turns, TurnsUnless, closing_at, closing_of, instr_after, is_last, issued_to, steps_of}
 use Rattle.tw_pool.proofs.Freely.{has_state, line_still, state, viewed}
 
 -- ---- why a run is over

@@ -1,31 +1,8 @@
 -- The work that waits in a pool's parts is the work that waits in its state.
-use Rattle.std.proofs.Common.{◌≡◌, ℕ, Bool, true, false, List, Option, Some, None, option_map, length, refl, sym, ap, subst, ◌∙◌}
-use Rattle.std.proofs.lemmas.Option.{same_Some}
-use Rattle.std.specs.FinMap.{get}
-use Rattle.tw_types.specs.declared.actor.Actor.{Actor}
-use Rattle.tw_types.specs.declared.actor.Actor.TheVariants.{Engine, Server, Worker}
+use Rattle.tw_pool.proofs.Names.{Actor, ActorCounts, AreTargeted, Arg, Bool, Engine, HasNoWork, HasState, HistoryView, Input, IsKept, LacksWork, List, None, Option, Parts, PoolView, Server, Some, State, Task, TaskOf, TasksOf, TypedProgram, Worker, ap, bare_arg, bare_task, false, get, get_mapped, is_among, length, mapped, may_take, next_release_mapped, option_map, queue_at, refl, same_Some, same_went, server_of, subst, sym, true, ℕ, ◌∙◌, ◌≡◌}
 use Rattle.tw_types.specs.declared.actor.Kind.{Kind}
-use Rattle.tw_types.specs.declared.input.Input.{Input}
-use Rattle.tw_types.specs.Actor.{may_take}
-use Rattle.tw_types.specs.Layout.{ActorCounts}
-use Rattle.tw_types.specs.Mapped.{mapped}
-use Rattle.tw_types.specs.Store.{server_of}
-use Rattle.tw_types.specs.Task.{Task, TaskOf, TasksOf}
-use Rattle.tw_types.proofs.Chosen.{next_release_mapped}
-use Rattle.tw_types.proofs.Mapped.{get_mapped}
-use Rattle.tw_types.proofs.Outcomes.{same_went}
-use Rattle.tw_rights.specs.Bare.{bare_arg, bare_task}
-use Rattle.tw_rights.specs.declared.arg.Arg.{Arg}
-use Rattle.tw_code.specs.machine.State.{State}
 use Rattle.tw_queue.specs.Targets.{HaveTargets, IsNoTarget}
-use Rattle.tw_verify.specs.Typed.{TypedProgram}
-use Rattle.tw_pool_state.specs.Notes.{is_among, queue_at}
 use Rattle.tw_pool_state.specs.Work as parts
-use Rattle.tw_pool_state.specs.declared.parts.Parts.{Parts}
-use Rattle.tw_pool.specs.History.{HistoryView}
-use Rattle.tw_pool.specs.Kept.{IsKept}
-use Rattle.tw_pool.specs.PoolView.{PoolView, HasState}
-use Rattle.tw_pool.specs.Work.{AreTargeted, HasNoWork, LacksWork}
 use Rattle.tw_pool.proofs.Freely.{has_state, state, viewed}
 
 -- a task without the places of its rights was there with them

@@ -1,5 +1,5 @@
 -- Whether work waits for one actor alone, or for any actor of a kind; which actors have nothing to do.
-use Rattle.std.specs.Prelude.{◌≡◌, ◌≢◌, ◌<◌, ◌≤◌, ℕ, true, None}
+use Rattle.std.specs.Prelude.{◌≡◌, ◌≢◌, ◌<◌, ◌≤◌, ℕ, true, MatchOption, None, Option}
 use Rattle.std.specs.FinMap.{get}
 use Rattle.std.specs.FinSet as set
 use Rattle.tw_types.specs.declared.actor.Actor.{Actor}
@@ -53,3 +53,7 @@ pub record IsIdle (p : PoolView) (actor : Actor) : Type 0 where
 -- holds if no actor from one index up to another has anything to do
 abbrev pub AreIdle : PoolView → ℕ → ℕ → Type 0
 AreIdle p from end = (index : ℕ) → from ≤ index → index < end → IsIdle p (actor_at p.layout index)
+
+-- holds for the first actor from one index up to another that may have something to do, if one may
+abbrev pub IsNextBusy : PoolView → ℕ → ℕ → Option ℕ → Type 0
+IsNextBusy p from end result = MatchOption result (AreIdle p from end) (λ index. (from ≤ index) × (index < end) × AreIdle p from index)

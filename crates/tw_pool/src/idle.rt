@@ -1,54 +1,55 @@
 //! Which actors have nothing to do.
 
-ghost use Rattle.std.specs.Prelude.{◌≡◌, ◌<◌, ◌≤◌, ◌+◌, ℕ, MatchOption, false, true};
+ghost use Rattle.std.specs.Prelude.{◌≡◌, ◌<◌, ◌+◌, true};
 ghost use Rattle.tw_types.specs.Actor.{actor_count, is_in};
 ghost use Rattle.tw_types.specs.declared.actor.Actor.TheVariants.{Engine, Server, Worker};
-ghost use Rattle.tw_pool.specs.Kept.{IsFree};
-ghost use Rattle.tw_pool.specs.Work.{AreIdle, HasNoneDue, IsIdle, RunsOn};
+ghost use Rattle.tw_pool.specs.Work.{AreIdle, IsIdle, IsNextBusy, RunsOn};
 
 use crate::pool::Pool;
 use crate::turn::has_task;
 use tw_types::Actor;
 
 impl<'a> Pool<'a> {
-    /// Returns whether an event may be due to an engine of the pool while it has no task.
-    fn engine_has_due(&self, engine: u8) -> bool
-        ensures { result ≡ false → HasNoneDue self.now (Engine engine) }
+    /// Returns whether an engine of the pool has nothing to do while the run isn't over.
+    fn engine_rests(&self, engine: u8) -> bool
+        requires engine { engine < self.now.layout.engines }
+        requires runs_on { RunsOn self.now }
+        ensures { result ≡ true → IsIdle self.now (Engine engine) }
     {
+        if has_task(&self.parts, Actor::Engine(engine)) {
+            return false;
+        }
         if let Some(_) = self.parts.rules.next_ask(engine) {
-            return true;
+            return false;
         }
         if let Some(_) = self.parts.rules.next_release(engine) {
-            return true;
+            return false;
         }
-        self.parts.tasks.has_any(Actor::Engine(engine))
+        !self.parts.tasks.has_any(Actor::Engine(engine))
     }
 
-    /// Returns whether an event may be due to a server of the pool.
-    fn server_has_due(&self, server: u8) -> bool
-        requires { server < self.now.layout.servers }
-        ensures { result ≡ false → HasNoneDue self.now (Server server) }
+    /// Returns whether a server of the pool has nothing to do while the run isn't over.
+    fn server_rests(&self, server: u8) -> bool
+        requires server { server < self.now.layout.servers }
+        requires runs_on { RunsOn self.now }
+        ensures { result ≡ true → IsIdle self.now (Server server) }
     {
-        self.parts.has_own_work(Actor::Server(server))
-    }
-
-    /// Returns whether an event may be due to a worker of the pool while it has no task.
-    fn worker_has_due(&self, worker: u8) -> bool
-        ensures { result ≡ false → HasNoneDue self.now (Worker worker) }
-    {
-        self.parts.tasks.has_any(Actor::Worker(worker))
-    }
-
-    /// Returns whether an event may be due to an actor of the pool while it has no task.
-    fn has_due(&self, actor: Actor) -> bool
-        requires { is_in self.now.layout actor ≡ true }
-        ensures { result ≡ false → HasNoneDue self.now actor }
-    {
-        match actor {
-            Actor::Engine(engine) => self.engine_has_due(engine),
-            Actor::Server(server) => self.server_has_due(server),
-            Actor::Worker(worker) => self.worker_has_due(worker),
+        if has_task(&self.parts, Actor::Server(server)) {
+            return false;
         }
+        !self.parts.has_own_work(Actor::Server(server))
+    }
+
+    /// Returns whether a worker of the pool has nothing to do while the run isn't over.
+    fn worker_rests(&self, worker: u8) -> bool
+        requires worker { worker < self.now.layout.workers }
+        requires runs_on { RunsOn self.now }
+        ensures { result ≡ true → IsIdle self.now (Worker worker) }
+    {
+        if has_task(&self.parts, Actor::Worker(worker)) {
+            return false;
+        }
+        !self.parts.tasks.has_any(Actor::Worker(worker))
     }
 
     /// Returns whether an actor of the pool has nothing to do while the run isn't over.
@@ -57,48 +58,56 @@ impl<'a> Pool<'a> {
         requires runs_on { RunsOn self.now }
         ensures { result ≡ true → IsIdle self.now actor }
     {
-        if has_task(&self.parts, actor) {
-            return false;
+        match actor {
+            Actor::Engine(engine) => self.engine_rests(engine),
+            Actor::Server(server) => self.server_rests(server),
+            Actor::Worker(worker) => self.worker_rests(worker),
         }
-        !self.has_due(actor)
     }
 
-    /// Returns whether no worker of the pool has a task.
-    fn workers_are_free(&self) -> bool
-        ensures { result ≡ true → (worker : ℕ) → worker < self.now.layout.workers → IsFree self.now (Worker worker) }
+    /// Returns the index of the first engine of the pool from this index on that may not rest.
+    fn next_engine(&self, from: usize) -> Option<usize>
+        requires runs_on { RunsOn self.now }
+        ensures { IsNextBusy self.now from self.now.layout.engines result }
     {
-        for worker in 0..self.layout.workers() {
-            if has_task(&self.parts, Actor::Worker(worker)) {
-                return false;
+        for engine in from..usize::from(self.layout.engines()) {
+            if !self.engine_rests(engine as u8) {
+                return Some(engine);
             }
         }
-        true
+        None
     }
 
-    /// Returns whether no event may be due to a worker of the pool while it has no task.
-    fn workers_lack_tasks(&self) -> bool
-        ensures { result ≡ true → (worker : ℕ) → worker < self.now.layout.workers → HasNoneDue self.now (Worker worker) }
+    /// Returns the index of the first server of the pool from this index on that may not rest. The engines from there on do.
+    fn next_server(&self, from: usize) -> Option<usize>
+        requires runs_on { RunsOn self.now }
+        requires idle { AreIdle self.now from self.now.layout.engines }
+        ensures { IsNextBusy self.now from (self.now.layout.engines + self.now.layout.servers) result }
     {
-        for worker in 0..self.layout.workers() {
-            if self.worker_has_due(worker) {
-                return false;
+        let first = usize::from(self.layout.engines());
+        let start = from.saturating_sub(first);
+        for server in start..usize::from(self.layout.servers()) {
+            if !self.server_rests(server as u8) {
+                return Some(first + server);
             }
         }
-        true
+        None
     }
 
-    /// Returns whether no worker of the pool has anything to do while the run isn't over. None has if no task runs or waits.
-    fn workers_rest(&self) -> bool
-        requires { RunsOn self.now }
-        ensures { result ≡ true → AreIdle self.now (self.now.layout.engines + self.now.layout.servers) (actor_count self.now.layout) }
+    /// Returns the index of the first worker of the pool from this index on that may not rest. The other actors from there on do.
+    fn next_worker(&self, from: usize) -> Option<usize>
+        requires runs_on { RunsOn self.now }
+        requires idle { AreIdle self.now from (self.now.layout.engines + self.now.layout.servers) }
+        ensures { IsNextBusy self.now from (actor_count self.now.layout) result }
     {
-        if !self.workers_are_free() {
-            return false;
+        let first = usize::from(self.layout.engines()) + usize::from(self.layout.servers());
+        let start = from.saturating_sub(first);
+        for worker in start..usize::from(self.layout.workers()) {
+            if !self.worker_rests(worker as u8) {
+                return Some(first + worker);
+            }
         }
-        if self.parts.tasks.len() == 0 {
-            return true;
-        }
-        self.workers_lack_tasks()
+        None
     }
 
     /// Returns whether a scheduling step of the pool by this actor would be idle. Makes none.
@@ -114,7 +123,7 @@ impl<'a> Pool<'a> {
 
     /// Returns the index of the first actor from this one on whose scheduling step in the pool may not be idle. Makes none.
     pub fn next_busy(&self, from: usize) -> Option<usize>
-        ensures { MatchOption result (AreIdle self.now from (actor_count self.now.layout)) (λ index. (from ≤ index) × (index < actor_count self.now.layout) × AreIdle self.now from index) }
+        ensures { IsNextBusy self.now from (actor_count self.now.layout) result }
     {
         let count = self.layout.actor_count();
         if count <= from {
@@ -127,17 +136,12 @@ impl<'a> Pool<'a> {
         if let Some(_) = self.closing() {
             return Some(from);
         }
-        let others = usize::from(self.layout.engines()) + usize::from(self.layout.servers());
-        for index in from..count {
-            if index == others {
-                if self.workers_rest() {
-                    return None;
-                }
-            }
-            if !self.rests(self.layout.actor_at(index)) {
-                return Some(index);
-            }
+        if let Some(engine) = self.next_engine(from) {
+            return Some(engine);
         }
-        None
+        if let Some(server) = self.next_server(from) {
+            return Some(server);
+        }
+        self.next_worker(from)
     }
 }

@@ -1,8 +1,9 @@
 //! Scheduling steps of actors that submit a job's result.
 
-ghost use Rattle.std.specs.Prelude.{◌≡◌, ◌<◌, ◌≤◌, ◌++◌, ◌∷◌, [], IfSome, Some, true, false, length, option_to_list, slice_get};
+ghost use Rattle.std.specs.Prelude.{◌≡◌, ◌<◌, ◌≤◌, ◌++◌, ◌∷◌, ℕ, [], IfSome, Some, true, false, length, option_to_list, slice_get};
 ghost use Rattle.tw_types.specs.Actor.{is_in};
-ghost use Rattle.tw_types.specs.declared.event.Event.TheVariants.{Call as CallBy, End as EndBy};
+ghost use Rattle.tw_types.specs.declared.actor.Actor.{Actor as AnActor};
+ghost use Rattle.tw_types.specs.declared.event.Event.TheVariants.{Call as CallBy, End as EndBy, Local as LocalBy};
 ghost use Rattle.tw_code.specs.declared.instr.Instr.TheVariants as instr_is;
 ghost use Rattle.tw_code.specs.machine.Due.{event_of};
 ghost use Rattle.tw_code.specs.machine.Machine.{is_ret};
@@ -27,12 +28,15 @@ use tw_verify::Verified;
 
 /// Appends the event of a submitted job's local steps to the pool's events, if there is one.
 fn record_event(history: &mut History, event: Option<Event>)
+    requires local { IfSome event (λ e. (actor : AnActor) × (steps : ℕ) × (e ≡ LocalBy actor steps)) }
     requires fits { IfSome event FitsWord }
     requires room { length history.old.events < history.old.limit }
     ensures { history.new ≡ record history.old { events = history.old.events ++ option_to_list event } }
 {
-    if let Some(event) = event {
-        history.push(event);
+    match event {
+        Some(Event::Local(actor, steps)) => history.push(Event::Local(actor, steps)),
+        Some(_) => unreachable!(),
+        None => {}
     }
 }
 

@@ -1,29 +1,6 @@
 -- The index has the best task.
-use Rattle.std.proofs.Common.{◌≡◌, ◌⊎◌, inl, inr, ℕ, Bool, true, false, ◌&&◌, refl, sym, ap, subst, ◌∙◌, option_map, nat_eq, arith}
-use Rattle.std.specs.declared.option.Option.{Option}
-use Rattle.std.specs.declared.option.Option.TheVariants.{None, Some}
-use Rattle.std.specs.List.{Contains}
-use Rattle.std.specs.declared.cmp.Ordering.{Ordering}
-use Rattle.std.specs.declared.cmp.Ordering.TheVariants.{Less, Equal, Greater}
-use Rattle.std.specs.Ordering.{is_lt, int_cmp, nat_cmp, ordering_then}
-use Rattle.std.proofs.lemmas.Bool.{and_parts}
-use Rattle.tw_types.specs.declared.actor.Actor.{Actor}
-use Rattle.tw_types.specs.declared.actor.Actor.TheVariants.{Engine, Server, Worker}
-use Rattle.tw_types.specs.declared.actor.Kind.{Kind}
-use Rattle.tw_types.specs.declared.actor.Kind.TheVariants.{Control, Leaf}
-use Rattle.tw_types.specs.Actor.{may_take, number_in_kind}
-use Rattle.tw_types.specs.Task.{TaskOf, TasksOf, best, is_eligible, is_for}
-use Rattle.tw_rights.specs.declared.arg.Arg.{Arg}
-use Rattle.tw_queue.specs.declared.rank.Rank.{Rank}
-use Rattle.tw_queue.specs.declared.waiting.Waiting.{Waiting}
-use Rattle.tw_queue.specs.Ranks.{rank_cmp}
-use Rattle.tw_queue.specs.QueuesByTarget.{IsBest, IsOwnQueue}
-use Rattle.tw_queue.specs.Queues.{IsTarget, taken_task, queue_of}
-use Rattle.tw_queue.specs.RankIndex.{Ranking, IsRankBest}
-use Rattle.tw_queue.specs.Indexed.{IsIndex, IsEntryAt, rank_of, task_in}
+use Rattle.tw_queue.proofs.Names.{Actor, Arg, Bool, Contains, Control, Engine, Equal, Greater, IsBest, IsEntryAt, IsIndex, IsOwnQueue, IsRankBest, IsTarget, Kind, Leaf, Less, None, Option, Ordering, Rank, Ranking, Server, Some, TaskOf, TasksOf, Waiting, Worker, all_at, and_parts, ap, arith, best, contains_none, false, inl, inr, int_cmp, is_eligible, is_for, is_lt, may_take, nat_cmp, nat_eq, nat_itself, nat_same, number_in_kind, option_map, ordering_then, queue_of, rank_cmp, rank_of, refl, subst, sym, taken_task, task_in, true, ℕ, ◌&&◌, ◌∙◌, ◌≡◌, ◌⊎◌}
 use Rattle.tw_queue.proofs.Bests.{IsAhead, best_is, best_none}
-use Rattle.tw_types.proofs.Elements.{all_at, contains_none}
-use Rattle.tw_types.proofs.Numbers.{nat_itself, nat_same}
 use Rattle.tw_queue.proofs.Indexing.{Entries}
 use Rattle.tw_queue.proofs.Entries.{AreSeen, HasEntry}
 

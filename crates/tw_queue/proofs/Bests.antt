@@ -1,13 +1,6 @@
 -- The best of the tasks, by look-ups in their map.
-use Rattle.std.proofs.Common.{[], ◌≡◌, ℕ, Bool, true, false, cond, T, List, ◌∷◌, refl, sym, ap, subst, ◌∙◌}
+use Rattle.tw_queue.proofs.Names.{Actor, Bool, Equal, Greater, Less, List, None, Option, Ordering, Some, T, [], ap, cond, entries, entries_sorted, eq_by_cmp, false, find, get, get-entries, int_cmp, is_lt, is_sorted, nat_cmp, ordering_then, refl, subst, sym, true, ℕ, ◌∙◌, ◌∷◌, ◌≡◌}
 use Rattle.std.specs.Prelude.{int_lt}
-use Rattle.std.specs.declared.cmp.Ordering.{Ordering}
-use Rattle.std.specs.declared.cmp.Ordering.TheVariants.{Less, Equal, Greater}
-use Rattle.std.specs.declared.option.Option.{Option}
-use Rattle.std.specs.declared.option.Option.TheVariants.{None, Some}
-use Rattle.std.specs.Ordering.{nat_cmp, int_cmp, ordering_then, eq_by_cmp, is_lt}
-use Rattle.std.specs.FinMap.{find, get, entries, entries_sorted, get-entries, is_sorted}
-use Rattle.tw_types.specs.declared.actor.Actor.{Actor}
 use Rattle.tw_types.specs.Task.{TaskOf, TasksOf, best, best_of, better, is_eligible}
 use Rattle.tw_types.proofs.Found.{IsIn, in_first, in_later, later, same_no}
 use Rattle.tw_types.proofs.Rising.{first, second}

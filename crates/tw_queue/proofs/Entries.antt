@@ -1,17 +1,6 @@
 -- The tasks in the slots, seen as a finite map.
-use Rattle.std.proofs.Common.{[], ◌≡◌, ◌≢◌, ◌<◌, ◌+◌, ℕ, suc, zero, true, false, cond, List, ◌∷◌, refl, sym, ap, ◌∙◌, arith, get_or, inl, inr, ◌⊎◌, is_some, count_by}
-use Rattle.std.specs.declared.option.Option.{Option}
-use Rattle.std.specs.declared.option.Option.TheVariants.{None, Some}
-use Rattle.std.specs.Ordering.{nat_cmp, eq_by_cmp}
-use Rattle.std.specs.Cmp.{nat_cmp_total}
+use Rattle.tw_queue.proofs.Names.{AreApart, Arg, IsChangedAt, List, None, Option, Some, TaskOf, TasksOf, Waiting, [], ap, arith, cond, count_by, eq_by_cmp, false, find, get, get-from_entries, get-insert, get-remove, get_or, inl, inr, insert, is_some, len, len-empty, len-insert, nat_cmp, nat_cmp-IsAntisymmetric, nat_cmp_total, numbered, refl, remove, same_map, slot_at, suc, sum_by-cons, sym, task_in, tasks_in, true, zero, ℕ, ◌+◌, ◌<◌, ◌∙◌, ◌∷◌, ◌≡◌, ◌≢◌, ◌⊎◌}
 use Rattle.std.proofs.lemmas.Bool.Decides.{eqb_tells}
-use Rattle.std.proofs.lemmas.List.Sums.{sum_by-cons}
-use Rattle.std.specs.FinMap.{nat_cmp-IsAntisymmetric, find, get, insert, remove, len, get-insert, get-remove, get-from_entries, len-empty, len-insert, same_map}
-use Rattle.tw_types.specs.Task.{TaskOf, TasksOf}
-use Rattle.tw_rights.specs.declared.arg.Arg.{Arg}
-use Rattle.tw_queue.specs.declared.waiting.Waiting.{Waiting}
-use Rattle.tw_queue.specs.Slots.{IsChangedAt, slot_at}
-use Rattle.tw_queue.specs.Indexed.{AreApart, numbered, task_in, tasks_in}
 use Rattle.tw_types.proofs.Orders.{other_key, own_key}
 use Rattle.tw_queue.proofs.Indexing.{IsUpdated}
 

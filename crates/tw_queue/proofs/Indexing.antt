@@ -1,19 +1,7 @@
 -- The index of the ranks stays right when a task is added or removed.
-use Rattle.std.proofs.Common.{[], ◌≡◌, ◌⊎◌, inl, inr, ℕ, ℤ, Bool, true, false, ◌∷◌, refl, sym, subst, ◌∙◌, map, nat_eq}
-use Rattle.std.specs.declared.option.Option.{Option}
-use Rattle.std.specs.declared.option.Option.TheVariants.{None, Some}
+use Rattle.tw_queue.proofs.Names.{AreApart, Bool, Contains-permutation, IsEntryAt, IsHereOrSame, IsIndex, IsPermutation, IsPermutation-map, IsPermutation-sym, IsTarget, Kind, None, Option, Rank, Ranking, Some, Waiting, [], all_at, all_mapped, contains_cases, contains_here, contains_later, contains_none, false, inl, inr, map, mapped_has, nat_apart, nat_eq, nat_flips, nat_itself, nat_same, queue_of, rank_of, refl, subst, sym, true, ℕ, ℤ, ◌∙◌, ◌∷◌, ◌≡◌, ◌⊎◌}
 use Rattle.std.specs.List.{Contains, IsDistinct}
-use Rattle.std.specs.List.Sorted.{IsPermutation}
-use Rattle.std.proofs.lemmas.List.Sorted.{Contains-permutation, IsPermutation-sym, IsPermutation-map}
 use Rattle.std.proofs.lemmas.Map.Keys.{IsDistinct-IsPermutation, IsDistinct-cons, IsDistinct-head, IsDistinct-tail}
-use Rattle.tw_types.specs.declared.actor.Kind.{Kind}
-use Rattle.tw_queue.specs.declared.rank.Rank.{Rank}
-use Rattle.tw_queue.specs.declared.waiting.Waiting.{Waiting}
-use Rattle.tw_queue.specs.RankIndex.{Ranking, IsHereOrSame}
-use Rattle.tw_queue.specs.Queues.{IsTarget, queue_of}
-use Rattle.tw_queue.specs.Indexed.{AreApart, IsIndex, IsEntryAt, rank_of}
-use Rattle.tw_types.proofs.Numbers.{nat_apart, nat_flips, nat_itself, nat_same}
-use Rattle.tw_types.proofs.Elements.{contains_none, contains_here, contains_later, contains_cases, all_mapped, all_at, mapped_has}
 
 -- the task in a slot
 abbrev pub Entries : Type 0

@@ -1,12 +1,7 @@
 -- The slots stay right when one is filled or emptied.
 use Rattle.std.proofs.Common.{[], ◌≡◌, ◌≢◌, ◌⊎◌, ℕ, zero, suc, ◌+◌, ◌-◌, ◌<◌, List, ◌∷◌, ◌++◌, map, length, get_or, set, Some, None, is_some, IsSome, count_by, cond, slice_get, refl, sym, ap, subst, ◌∙◌, inl, inr, arith, length-set, true≢false}
-use Rattle.std.proofs.lemmas.List.{map-set, map_push, length-map, length_push, get_or-map, get_or-set_same, get_or-set_other, get_or_past}
-use Rattle.std.proofs.lemmas.List.Sums.{sum_by-set, sum_by_push}
-use Rattle.std.proofs.lemmas.Option.{slice_get_within, slice_get-get_or, slice_get_read, get_or_from_slice_get}
+use Rattle.tw_queue.proofs.Names.{AreSlots, Free, Full, IsChangedAt, IsFreeList, Waiting, get_or-map, get_or-set_other, get_or-set_same, get_or_from_slice_get, get_or_past, length-map, length_push, map-set, map_push, slice_get-get_or, slice_get_read, slice_get_within, sum_by-set, sum_by_push, waiting_in}
 use Rattle.tw_queue.specs.declared.slots.Slot.{Slot}
-use Rattle.tw_queue.specs.declared.slots.Slot.TheVariants.{Free, Full}
-use Rattle.tw_queue.specs.declared.waiting.Waiting.{Waiting}
-use Rattle.tw_queue.specs.Slots.{AreSlots, IsChangedAt, IsFreeList, waiting_in}
 
 -- ---- lists of free slots
 

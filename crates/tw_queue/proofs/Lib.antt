@@ -1,5 +1,6 @@
 pub mod Kept
 pub mod Bests
+pub mod Names
 pub mod Order
 pub mod RunQueues
 pub mod Runs

@@ -1,12 +1,6 @@
 -- The order of ranks.
-use Rattle.std.proofs.Common.{◌≡◌, Bool, true, false, List, [], ◌∷◌, rules, refl}
-use Rattle.std.specs.Cmp.{IsTotalOrder, IsStrictWeakOrder}
+use Rattle.tw_queue.proofs.Names.{Bool, IsStrictWeakOrder, IsTotalOrder, IsUpperBound, List, Rank, [], false, is_lt, rank_cmp, ranks_by, refl, rules, true, ◌∷◌, ◌≡◌}
 use Rattle.std.specs.Cmp.Rules.{comparing}
-use Rattle.std.specs.Ordering.{is_lt}
-use Rattle.std.specs.BinaryHeap.{IsUpperBound}
-use Rattle.std.proofs.lemmas.List.Sorted.{ranks_by}
-use Rattle.tw_queue.specs.declared.rank.Rank.{Rank}
-use Rattle.tw_queue.specs.Ranks.{rank_cmp}
 
 rank_cmp_total : IsTotalOrder rank_cmp
 rank_cmp_total = search (comparing, rules)

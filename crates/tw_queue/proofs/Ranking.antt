@@ -1,13 +1,6 @@
 -- The ranks of each kind, if those of one kind change.
-use Rattle.std.proofs.Common.{◌≡◌, ◌⊎◌, inl, inr, ℕ, refl, sym}
-use Rattle.std.specs.declared.option.Option.{Option}
-use Rattle.std.specs.declared.option.Option.TheVariants.{None, Some}
-use Rattle.std.specs.Option.{IfSome}
-use Rattle.std.proofs.lemmas.List.Sorted.{IsPermutation-sym}
-use Rattle.tw_types.specs.declared.actor.Kind.TheVariants.{Control, Leaf}
-use Rattle.tw_queue.specs.declared.rank.Rank.{Rank}
+use Rattle.tw_queue.proofs.Names.{Control, IfSome, IsHereOrSame, IsPermutation-sym, IsRankRemoved, Leaf, None, Option, Rank, Ranking, Some, inl, inr, ranks_of, refl, sym, ℕ, ◌≡◌, ◌⊎◌}
 use Rattle.tw_queue.specs.QueuesByTarget.{Listed, ranks_at, IsChangedAt, IsTaken}
-use Rattle.tw_queue.specs.RankIndex.{Ranking, ranks_of, IsHereOrSame, IsRankRemoved}
 
 abbrev both_kinds : Listed → Listed → Ranking
 both_kinds control leaf = ranks_of (record { control = control; leaf = leaf })

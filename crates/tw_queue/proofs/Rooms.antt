@@ -1,13 +1,7 @@
 -- When a task can be added without an allocation.
 use Rattle.std.proofs.Common.{◌≡◌, ℕ, zero, suc, Bool, true, false, List, [], ◌∷◌, Option, refl, sym, ◌∙◌, ◌&&◌}
-use Rattle.std.proofs.lemmas.Bool.{and_from, and_parts}
-use Rattle.tw_types.specs.declared.actor.Kind.{Kind}
-use Rattle.tw_types.specs.declared.actor.Kind.TheVariants.{Control, Leaf}
-use Rattle.tw_types.specs.Task.{TasksOf}
-use Rattle.tw_rights.specs.declared.arg.Arg.{Arg}
+use Rattle.tw_queue.proofs.Names.{Arg, Control, IsRoomKept, KeepsRoom, Kind, Leaf, Queues, TasksOf, and_from, and_parts, has_room_for, queue_of, room_at, room_for, rooms_with}
 use Rattle.tw_queue.specs.declared.index.RankIndex.{RankIndex}
-use Rattle.tw_queue.specs.RankIndex.{has_room_for, rooms_with, KeepsRoom}
-use Rattle.tw_queue.specs.Queues.{Queues, IsRoomKept, queue_of, room_at, room_for}
 
 abbrev queues_with : TasksOf Arg → Bool → RankIndex → Queues
 queues_with tasks has_slot index = record {

@@ -1,23 +1,9 @@
 -- The ranks of one kind, if one run queue changes.
-use Rattle.std.proofs.Common.{[], ◌≡◌, ◌⊎◌, inl, inr, nat_eq, ℕ, zero, suc, ◌<◌, Bool, true, false, List, ◌∷◌, ◌++◌, map, refl, sym, ap, subst, ◌∙◌, length, get_or, slice_set, arith}
+use Rattle.tw_queue.proofs.Names.{AllByRecursion, Bool, Contains, IfSome, IsFirst, IsPermutation, List, None, OnErr, OnOk, Option, Rank, RunQueueView, Some, [], all_at, ap, arith, contains_none, false, get_or, get_or-map, get_or-set_other, get_or-set_same, inl, inr, is_lt, length, length-map, map, map-set, nat_eq, nat_other, nat_same, rank_cmp, refl, room_at, slice_set, subst, suc, sym, true, zero, ℕ, ◌++◌, ◌<◌, ◌∙◌, ◌∷◌, ◌≡◌, ◌⊎◌}
 use Rattle.std.specs.declared.result.Result.{Result}
 use Rattle.std.specs.declared.result.Result.TheVariants.{Ok, Err}
-use Rattle.std.specs.Result.{OnErr, OnOk}
-use Rattle.std.specs.declared.option.Option.{Option}
-use Rattle.std.specs.declared.option.Option.TheVariants.{None, Some}
-use Rattle.std.specs.Option.{IfSome}
-use Rattle.std.specs.Ordering.{is_lt}
-use Rattle.std.specs.List.{AllByRecursion, Contains}
-use Rattle.std.specs.List.Sorted.{IsPermutation}
-use Rattle.std.proofs.lemmas.List.{map-set, get_or-map, length-map, get_or-set_same, get_or-set_other}
 use Rattle.std.proofs.Math.Seq.{map-set_same}
-use Rattle.tw_queue.specs.declared.rank.Rank.{Rank}
-use Rattle.tw_queue.specs.Ranks.{rank_cmp}
-use Rattle.tw_queue.specs.RunQueues.{IsFirst, RunQueueView}
 use Rattle.tw_queue.specs.QueuesByTarget.{ranks_in, rooms_in, ranks_at, AreRoomsKept, IsAheadOfAll, IsBest, IsChangedAt, IsOwnQueue, IsPushed, IsTaken}
-use Rattle.tw_queue.specs.Queues.{room_at}
-use Rattle.tw_types.proofs.Numbers.{nat_other, nat_same}
-use Rattle.tw_types.proofs.Elements.{all_at, contains_none}
 use Rattle.tw_queue.proofs.Order.{upper_over}
 
 pub if_ok : {T E P Q : Type 0} (r : Result T E) → (P → Q) → OnOk r P → OnOk r Q

@@ -1,18 +1,7 @@
 -- Sorted ranks, next to a heap of others.
-use Rattle.std.proofs.Common.{◌≡◌, ℕ, zero, suc, ◌<◌, ◌≤◌, false, List, [], ◌∷◌, ◌++◌, Bor, append_assoc, refl, sym, subst, length, get_or, arith}
-use Rattle.std.specs.declared.option.Option.{Option}
-use Rattle.std.specs.declared.option.Option.TheVariants.{None, Some}
-use Rattle.std.specs.Option.{IfSome, IfNone, option_copied, option_to_list}
+use Rattle.tw_queue.proofs.Names.{Bor, Contains, IfNone, IfSome, IsFirst, IsInFront, IsInOrder, IsPermutation, IsPermutation-append_right, IsPermutation-middle, IsPermutation-sym, IsPermutation-trans, IsUpperBound, List, None, Option, Rank, Some, [], append_assoc, arith, false, get_or, is_lt, length, option_copied, option_to_list, rank_cmp, refl, subst, suc, sym, zero, ℕ, ◌++◌, ◌<◌, ◌∷◌, ◌≡◌, ◌≤◌}
 use Rattle.std.specs.Slice.{IsItemAt}
-use Rattle.std.specs.Ordering.{is_lt}
-use Rattle.std.specs.List.{Contains}
-use Rattle.std.specs.List.Sorted.{IsPermutation}
-use Rattle.std.specs.BinaryHeap.{IsUpperBound}
 use Rattle.std.proofs.lemmas.List.Elements.{Contains-append_left, Contains-append_right}
-use Rattle.std.proofs.lemmas.List.Sorted.{IsPermutation-append_right, IsPermutation-middle, IsPermutation-sym, IsPermutation-trans}
-use Rattle.tw_queue.specs.declared.rank.Rank.{Rank}
-use Rattle.tw_queue.specs.Ranks.{rank_cmp}
-use Rattle.tw_queue.specs.RunQueues.{IsFirst, IsInFront, IsInOrder}
 use Rattle.tw_queue.proofs.RunQueues.{each_at, each_push}
 use Rattle.tw_queue.proofs.Order.{not_after, not_itself}
 

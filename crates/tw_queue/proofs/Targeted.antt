@@ -1,24 +1,6 @@
 -- Without ranks for a target, no task has it.
-use Rattle.std.proofs.Common.{◌≡◌, ℕ, true, [], List, refl, ap, subst, ◌∙◌}
-use Rattle.std.specs.declared.option.Option.{Option}
-use Rattle.std.specs.declared.option.Option.TheVariants.{None, Some}
-use Rattle.std.specs.List.{Contains}
-use Rattle.std.specs.FinMap.{get}
-use Rattle.tw_types.specs.declared.actor.Actor.{Actor}
-use Rattle.tw_types.specs.declared.actor.Actor.TheVariants.{Engine, Server, Worker}
-use Rattle.tw_types.specs.declared.actor.Kind.{Kind}
-use Rattle.tw_types.specs.declared.actor.Kind.TheVariants.{Control, Leaf}
-use Rattle.tw_types.specs.Actor.{may_take}
-use Rattle.tw_types.specs.Task.{TaskOf}
-use Rattle.tw_rights.specs.declared.arg.Arg.{Arg}
-use Rattle.tw_queue.specs.declared.waiting.Waiting.{Waiting}
-use Rattle.tw_queue.specs.Indexed.{IsIndex, rank_of, tasks_in}
-use Rattle.tw_queue.specs.Queues.{queue_of}
-use Rattle.tw_queue.specs.RankIndex.{Ranking}
-use Rattle.tw_queue.specs.Slots.{slot_at}
-use Rattle.tw_queue.specs.Targets.{HasNoRank, HaveTargets, IsNoTarget}
+use Rattle.tw_queue.proofs.Names.{Actor, Arg, Contains, Control, Engine, HasNoRank, HaveTargets, IsIndex, IsNoTarget, Kind, Leaf, List, None, Option, Ranking, Server, Some, TaskOf, Waiting, Worker, [], ap, contains_none, get, may_take, queue_of, rank_of, refl, slot_at, subst, tasks_in, true, ℕ, ◌∙◌, ◌≡◌}
 use Rattle.tw_queue.proofs.Entries.{seen}
-use Rattle.tw_types.proofs.Elements.{contains_none}
 
 module _ (slots : List (Option Waiting)) (ranks : Ranking) (index : IsIndex (slot_at slots) ranks) where
   -- a task of the kind with this target has a rank in its run queue

@@ -130,6 +130,10 @@ impl QueuesByTarget {
         ensures { IsBestQueue number self.now.queues result }
     {
         let own = usize::from(number);
+        if !self.has_at(own) {
+            let rank = self.first(QueuesByTarget::ANY)?;
+            return Some((QueuesByTarget::ANY, rank));
+        }
         match (self.first(QueuesByTarget::ANY), self.first(own)) {
             (None, None) => None,
             (Some(rank), None) => Some((QueuesByTarget::ANY, rank)),

@@ -1,14 +1,4 @@
-use Rattle.std.proofs.Common.{◌<◌, ◌∙◌, arith, length, sym, ap, subst, List}
-use Rattle.tw_types.specs.declared.data_type.Scalar.{Scalar}
-use Rattle.tw_code.specs.declared.instr.Instr.{Instr}
-use Rattle.tw_code.specs.machine.Position.{Position}
-use Rattle.tw_frame.specs.declared.context.Context.{Context}
-use Rattle.tw_frame.specs.Banks.{HasText}
-use Rattle.tw_frame.specs.Jobs.{position_of}
-use Rattle.tw_frame.specs.Pace.{IsSeen, IsSeenCut}
-use Rattle.tw_frame.specs.Ready.{IsReached}
-use Rattle.tw_verify.specs.Searching.{has_slow}
-use Rattle.tw_frame.specs.Positions.{position_at}
+use Rattle.tw_frame.proofs.Names.{Context, HasText, Instr, IsReached, IsSeen, IsSeenCut, List, Position, Scalar, ap, arith, has_slow, length, position_at, position_of, subst, sym, ◌<◌, ◌∙◌}
 use Rattle.tw_frame.proofs.Lending.{done_before, done_run, found_slow, known, ready, short_before, there}
 use Rattle.tw_frame.proofs.Pacing.{nothing, unseen}
 use Rattle.tw_frame.proofs.Running.{is_below}

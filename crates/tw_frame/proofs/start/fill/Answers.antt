@@ -1,6 +1,4 @@
-use Rattle.std.proofs.Common.{◌∙◌, ℕ, List, arith, refl, slice_get, sym, ap, take}
-use Rattle.tw_types.specs.declared.data_type.Scalar.{Scalar}
-use Rattle.tw_frame.specs.Banks.{RegistersView}
+use Rattle.tw_frame.proofs.Names.{List, RegistersView, Scalar, ap, arith, refl, slice_get, sym, take, ℕ, ◌∙◌}
 use Rattle.tw_frame.proofs.Starting.{IsNext, counted_on, counted_past, filled_on, filled_past, next_arg, vals}
 use Rattle.tw_frame.proofs.start.fill.Goals as goal
 

@@ -1,7 +1,4 @@
-use Rattle.std.proofs.Common.{◌≡◌, ◌≤◌, Ok, length, map as each, take}
-use Rattle.tw_code.specs.machine.State.{values_in}
-use Rattle.tw_rights.specs.Bare.{bare_arg}
-use Rattle.tw_frame.specs.Drafts.{started}
+use Rattle.tw_frame.proofs.Names.{Ok, bare_arg, length, map as each, started, take, values_in, ◌≡◌, ◌≤◌}
 use Rattle.tw_frame.proofs.start.fill.Given as goal
 
 abbrev pub invariant-loop-index : goal.invariant-loop-index

@@ -1,5 +1,4 @@
-use Rattle.std.proofs.Common.{◌≡◌, ◌++◌, drop, map}
-use Rattle.tw_pool.specs.Pendings.{pending_with_data}
+use Rattle.tw_pool.proofs.Names.{drop, map, pending_with_data, ◌++◌, ◌≡◌}
 use Rattle.tw_pool.proofs.pending.all_pending.Given as goal
 
 abbrev pub invariant-loop-rule : goal.invariant-loop-rule

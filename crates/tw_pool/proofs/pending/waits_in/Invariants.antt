@@ -1,5 +1,4 @@
-use Rattle.std.proofs.Common.{◌≡◌, ◌++◌, drop}
-use Rattle.tw_pool.specs.Pendings.{waits_in}
+use Rattle.tw_pool.proofs.Names.{drop, waits_in, ◌++◌, ◌≡◌}
 use Rattle.tw_pool.proofs.pending.waits_in.Given as goal
 
 abbrev pub invariant-loop-stage : goal.invariant-loop-stage

@@ -1,6 +1,4 @@
-use Rattle.std.proofs.Common.{◌≡◌, take}
-use Rattle.std.specs.List.{flat_map}
-use Rattle.tw_pool.specs.Pendings.{written_at}
+use Rattle.tw_pool.proofs.Names.{flat_map, take, written_at, ◌≡◌}
 use Rattle.tw_pool.proofs.pending.writes_in.Given as goal
 
 abbrev pub invariant-loop-arg : goal.invariant-loop-arg

@@ -1,5 +1,4 @@
-use Rattle.std.proofs.Common.{◌∙◌, ap}
-use Rattle.tw_pool.specs.Actors.{actor_of_place}
+use Rattle.tw_pool.proofs.Names.{actor_of_place, ap, ◌∙◌}
 use Rattle.tw_pool.proofs.Round.{actor_back}
 use Rattle.tw_pool.proofs.words.maker_of.Goals as goal
 

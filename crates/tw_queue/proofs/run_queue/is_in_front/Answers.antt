@@ -1,7 +1,4 @@
-use Rattle.std.proofs.Common.{◌≡◌, rules, sym, ◌∙◌}
-use Rattle.std.specs.Ordering.{is_lt}
-use Rattle.std.specs.BinaryHeap.{heap_items}
-use Rattle.tw_queue.specs.Ranks.{rank_cmp}
+use Rattle.tw_queue.proofs.Names.{heap_items, is_lt, rank_cmp, rules, sym, ◌∙◌, ◌≡◌}
 use Rattle.tw_queue.proofs.Order.{not_back, upper_over}
 use Rattle.tw_queue.proofs.Runs.{front_over, in_front}
 use Rattle.tw_queue.proofs.run_queue.is_in_front.Goals as goal

@@ -1,6 +1,4 @@
-use Rattle.std.proofs.Common.{◌≡◌, ◌-◌, suc, rules, sym, ◌∙◌, length, arith}
-use Rattle.std.specs.Ordering.{is_lt}
-use Rattle.tw_queue.specs.Ranks.{rank_cmp}
+use Rattle.tw_queue.proofs.Names.{arith, is_lt, length, rank_cmp, rules, suc, sym, ◌-◌, ◌∙◌, ◌≡◌}
 use Rattle.tw_queue.proofs.Order.{not_back}
 use Rattle.tw_queue.proofs.Runs.{in_order_pushed}
 use Rattle.tw_queue.proofs.run_queue.is_next.Goals as goal

@@ -1,8 +1,5 @@
-use Rattle.std.proofs.Common.{ap, sym, ◌∙◌, List}
-use Rattle.tw_frame.specs.declared.context.Context.{Context}
-use Rattle.tw_code.specs.machine.Position.{Loop}
+use Rattle.tw_frame.proofs.Names.{Context, FrameView, JobView, List, Loop, ap, position_of, sym, ◌∙◌}
 use Rattle.tw_frame.specs.JobBuffers.{draft_in}
-use Rattle.tw_frame.specs.Jobs.{FrameView, JobView, position_of}
 use Rattle.tw_frame.proofs.Lending.{sent}
 use Rattle.tw_frame.proofs.frame.Frame.lend.Goals as goal
 

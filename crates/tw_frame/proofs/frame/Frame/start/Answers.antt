@@ -1,8 +1,4 @@
-use Rattle.std.proofs.Common.{◌≡◌, ◌∙◌, Ok, ap, subst, sym}
-use Rattle.tw_code.specs.machine.State.{frame_of}
-use Rattle.tw_rights.specs.Bare.{bare_file}
-use Rattle.tw_frame.specs.declared.context.Context.{Context}
-use Rattle.tw_frame.specs.Jobs.{DraftView, FrameView, bare_frame, position_of}
+use Rattle.tw_frame.proofs.Names.{Context, DraftView, FrameView, Ok, ap, bare_file, bare_frame, frame_of, position_of, subst, sym, ◌∙◌, ◌≡◌}
 use Rattle.tw_frame.proofs.Frames.{frame_made}
 use Rattle.tw_frame.proofs.frame.Frame.start.Goals as goal
 

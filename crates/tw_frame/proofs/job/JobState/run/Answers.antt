@@ -1,5 +1,4 @@
-use Rattle.std.proofs.Common.{subst, sym}
-use Rattle.tw_frame.specs.Jobs.{JobView, MayBeAt}
+use Rattle.tw_frame.proofs.Names.{JobView, MayBeAt, subst, sym}
 use Rattle.tw_frame.proofs.job.JobState.run.Goals as goal
 
 pub run_in-requires : goal.run_in-requires

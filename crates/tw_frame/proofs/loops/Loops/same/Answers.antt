@@ -1,5 +1,4 @@
-use Rattle.std.proofs.Common.{◌≡◌, ◌≤◌, ◌∙◌, ℕ, length, take, sym, ap, arith}
-use Rattle.std.specs.Prelude.{reverse}
+use Rattle.tw_frame.proofs.Names.{ap, arith, length, reverse, sym, take, ℕ, ◌∙◌, ◌≡◌, ◌≤◌}
 use Rattle.tw_frame.proofs.Prefixes.{items_at}
 use Rattle.tw_frame.proofs.loops.Loops.same.Goals as goal
 

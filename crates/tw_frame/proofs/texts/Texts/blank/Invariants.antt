@@ -1,5 +1,4 @@
-use Rattle.std.proofs.Common.{◌≡◌, [], map as each, replicate}
-use Rattle.tw_frame.specs.Slots.{text_in}
+use Rattle.tw_frame.proofs.Names.{[], map as each, replicate, text_in, ◌≡◌}
 use Rattle.tw_frame.proofs.texts.Texts.blank.Given as goal
 
 abbrev pub invariant-loop-index : goal.invariant-loop-index

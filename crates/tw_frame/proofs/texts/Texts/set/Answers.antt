@@ -1,7 +1,5 @@
-use Rattle.std.proofs.Common.{◌∙◌, ℕ, List, ap, set}
-use Rattle.std.proofs.lemmas.List.{map-set}
+use Rattle.tw_frame.proofs.Names.{List, ap, map-set, set, text_in, ℕ, ◌∙◌}
 use Rattle.tw_frame.specs.declared.texts.Slot.TheVariants.{Own}
-use Rattle.tw_frame.specs.Slots.{text_in}
 use Rattle.tw_frame.proofs.texts.Texts.set.Goals as goal
 
 pub returns : goal.returns

@@ -1,7 +1,5 @@
-use Rattle.std.proofs.Common.{◌≡◌, ◌∙◌, ℕ, List, ◌++◌, ◌∷◌, [], get_or, take, sym, ap, arith}
+use Rattle.tw_frame.proofs.Names.{List, [], ap, arith, get_or, map-append, sym, take, take_more, text_in, ℕ, ◌++◌, ◌∙◌, ◌∷◌, ◌≡◌}
 use Rattle.std.proofs.Math.ListN.{get_or-map}
-use Rattle.std.proofs.lemmas.List.{map-append, take_more}
-use Rattle.tw_frame.specs.Slots.{text_in}
 use Rattle.tw_frame.proofs.texts.Texts.try_clone.Goals as goal
 
 pub loop-index-preserved : goal.loop-index-preserved

@@ -1,5 +1,4 @@
-use Rattle.std.proofs.Common.{◌≡◌, map as each, take}
-use Rattle.tw_frame.specs.Slots.{text_in}
+use Rattle.tw_frame.proofs.Names.{map as each, take, text_in, ◌≡◌}
 use Rattle.tw_frame.proofs.texts.Texts.try_clone.Given as goal
 
 abbrev pub invariant-loop-index : goal.invariant-loop-index

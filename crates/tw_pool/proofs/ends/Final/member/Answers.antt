@@ -1,5 +1,4 @@
-use Rattle.std.proofs.Common.{subst, sym}
-use Rattle.tw_store.specs.Served.{KnowsPlaces}
+use Rattle.tw_pool.proofs.Names.{KnowsPlaces, subst, sym}
 use Rattle.tw_pool.specs.Ends.{FinalView}
 use Rattle.tw_pool.proofs.ends.Final.member.Goals as goal
 

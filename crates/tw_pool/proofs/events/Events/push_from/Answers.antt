@@ -1,6 +1,4 @@
-use Rattle.std.proofs.Common.{◌++◌, ◌∷◌, [], ap, option_to_list, sym, ◌∙◌}
-use Rattle.std.proofs.lemmas.List.{map-append}
-use Rattle.tw_pool.specs.Words.{events_in, unpack}
+use Rattle.tw_pool.proofs.Names.{[], ap, events_in, map-append, option_to_list, sym, unpack, ◌++◌, ◌∙◌, ◌∷◌}
 use Rattle.tw_pool.proofs.events.Events.push_from.Goals as goal
 
 pub returns-clause-items : goal.returns-clause-items

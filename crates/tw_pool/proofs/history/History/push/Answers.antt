@@ -1,6 +1,4 @@
-use Rattle.std.proofs.Common.{◌∙◌, ◌/◌, ◌%◌, ap, length, arith}
-use Rattle.tw_pool.specs.History.{HistoryView}
-use Rattle.tw_pool.specs.Words.{events_in}
+use Rattle.tw_pool.proofs.Names.{HistoryView, ap, arith, events_in, length, ◌%◌, ◌/◌, ◌∙◌}
 use Rattle.tw_pool.proofs.Counting.{all_placed, below, counted_more}
 use Rattle.tw_pool.proofs.Round.{traced}
 use Rattle.tw_pool.proofs.history.History.push.Goals as goal

@@ -1,6 +1,4 @@
-use Rattle.std.proofs.Common.{None}
-use Rattle.tw_types.specs.declared.actor.Actor.TheVariants.{Engine}
-use Rattle.tw_pool.specs.Turns.{TurnsFree}
+use Rattle.tw_pool.proofs.Names.{Engine, None, TurnsFree}
 use Rattle.tw_pool.specs.declared.answer.Turn.TheVariants.{NoMemory, Went}
 use Rattle.tw_pool.proofs.Freely as free
 use Rattle.tw_pool.proofs.Freely.{tried_none, tried_some}

@@ -1,5 +1,4 @@
-use Rattle.tw_types.specs.declared.actor.Actor.TheVariants.{Server}
-use Rattle.tw_pool.specs.Turns.{TurnsFree}
+use Rattle.tw_pool.proofs.Names.{Server, TurnsFree}
 use Rattle.tw_pool.specs.declared.answer.Turn.TheVariants.{Idle, Went}
 use Rattle.tw_pool.proofs.Freely as free
 use Rattle.tw_pool.proofs.pool.Pool.deliver.Goals as goal

@@ -1,8 +1,6 @@
-use Rattle.std.proofs.Common.{◌∷◌, ◌++◌, [], refl}
-use Rattle.tw_types.specs.declared.event.Event.TheVariants.{End}
+use Rattle.tw_pool.proofs.Names.{Answers, End, [], refl, steps_of, ◌++◌, ◌∷◌}
 use Rattle.tw_code.specs.declared.instr.Instr.TheVariants as instr
 use Rattle.tw_pool.specs.declared.answer.Turn.TheVariants as answer
-use Rattle.tw_pool.specs.Turns.{Answers, steps_of}
 use Rattle.tw_pool.proofs.Freely as free
 use Rattle.tw_pool.proofs.Handing as hand
 use Rattle.tw_pool.proofs.pool.Pool.end.Goals as goal

@@ -1,8 +1,5 @@
-use Rattle.std.proofs.Common.{◌≡◌, ◌∷◌, ◌++◌, ◌∙◌, [], ap, arith, refl, sym, Some, inr}
-use Rattle.tw_types.specs.declared.event.Event.TheVariants.{Call}
+use Rattle.tw_pool.proofs.Names.{Call, Issues, OrNoMemory, PoolView, Some, [], ap, arith, inr, refl, steps_of, sym, ◌++◌, ◌∙◌, ◌∷◌, ◌≡◌}
 use Rattle.tw_pool.specs.declared.answer.Turn.TheVariants as answer
-use Rattle.tw_pool.specs.PoolView.{PoolView}
-use Rattle.tw_pool.specs.Turns.{Issues, OrNoMemory, steps_of}
 use Rattle.tw_pool.proofs.Freely as free
 use Rattle.tw_pool.proofs.Handing as hand
 use Rattle.tw_pool.proofs.Turning as turning

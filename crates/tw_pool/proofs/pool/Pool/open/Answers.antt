@@ -1,6 +1,4 @@
-use Rattle.std.proofs.Common.{sym, subst}
-use Rattle.tw_pool.specs.History.{HistoryView}
-use Rattle.tw_pool.specs.Kept.{IsKept}
+use Rattle.tw_pool.proofs.Names.{HistoryView, IsKept, subst, sym}
 use Rattle.tw_pool.proofs.Opened.{kept}
 use Rattle.tw_pool.proofs.pool.Pool.open.Goals as goal
 

@@ -1,8 +1,4 @@
-use Rattle.std.proofs.Common.{◌∙◌, sym, subst}
-use Rattle.tw_types.specs.declared.actor.Actor.{Actor}
-use Rattle.tw_types.specs.declared.actor.Actor.TheVariants.{Engine}
-use Rattle.tw_pool.specs.PoolView.{PoolView}
-use Rattle.tw_pool.specs.Turns.{TurnsFree, IsTurnBy}
+use Rattle.tw_pool.proofs.Names.{Actor, Engine, IsTurnBy, PoolView, TurnsFree, subst, sym, ◌∙◌}
 use Rattle.tw_pool.proofs.pool.Pool.schedule.Goals as goal
 
 pub returns-in-Some : goal.returns-in-Some

@@ -1,15 +1,5 @@
-use Rattle.std.proofs.Common.{◌≡◌, ◌∙◌, ap, map, subst}
-use Rattle.std.specs.FinMap.{entries}
-use Rattle.tw_types.specs.Mapped.{mapped}
-use Rattle.tw_rights.specs.Bare.{bare_rule}
-use Rattle.tw_rules.specs.Table.{erasure}
-use Rattle.tw_store.specs.Served.{Served}
-use Rattle.tw_code.specs.machine.Pending.{pending_of}
-use Rattle.tw_code.specs.machine.State.{State}
+use Rattle.tw_pool.proofs.Names.{HasState, PoolView, Served, State, ap, bare_rule, entries, erasure, map, mapped, pending_of, pending_with_data, state_of, subst, ◌∙◌, ◌≡◌}
 use Rattle.tw_soundness.specs.EndsWell.{EndsWell}
-use Rattle.tw_pool_state.specs.Parts.{state_of}
-use Rattle.tw_pool.specs.Pendings.{pending_with_data}
-use Rattle.tw_pool.specs.PoolView.{PoolView, HasState}
 use Rattle.tw_pool.proofs.Pendings.{pending_is}
 use Rattle.tw_pool.proofs.Turning as turning
 use Rattle.tw_pool.proofs.pool.Pool.shut.Goals as goal

@@ -1,9 +1,4 @@
-use Rattle.std.proofs.Common.{◌∙◌, ◌+◌, ◌∷◌, [], sym, ap, subst, None, arith}
-use Rattle.tw_types.specs.declared.event.Event.TheVariants.{Take}
-use Rattle.tw_frame.specs.Jobs.{JobView}
-use Rattle.tw_pool_state.specs.Parts.{state_of}
-use Rattle.tw_pool.specs.Turns.{TurnsFree}
-use Rattle.tw_pool.specs.declared.answer.Turn.TheVariants.{Idle, NoMemory, Run}
+use Rattle.tw_pool.proofs.Names.{Idle, JobView, NoMemory, None, Run, Take, TurnsFree, [], ap, arith, state_of, subst, sym, ◌+◌, ◌∙◌, ◌∷◌}
 use Rattle.tw_pool.proofs.Counting.{few}
 use Rattle.tw_pool.proofs.Freely as free
 use Rattle.tw_pool.proofs.Freely.{taken_none, taken_some}

@@ -1,7 +1,4 @@
-use Rattle.std.proofs.Common.{◌∙◌, sym, subst, Option, Some, None}
-use Rattle.tw_frame.specs.Jobs.{DoneView}
-use Rattle.tw_pool.specs.declared.answer.Turn.TheVariants.{Owed}
-use Rattle.tw_pool.specs.Turns.{IsTurn}
+use Rattle.tw_pool.proofs.Names.{DoneView, IsTurn, None, Option, Owed, Some, subst, sym, ◌∙◌}
 use Rattle.tw_pool.proofs.Turning as turning
 use Rattle.tw_pool.proofs.pool.Pool.turn_owed.Goals as goal
 

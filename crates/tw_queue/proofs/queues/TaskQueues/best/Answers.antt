@@ -1,11 +1,4 @@
-use Rattle.std.proofs.Common.{◌≡◌, sym, ap, ◌∙◌, option_map}
-use Rattle.std.specs.Option.{option_copied}
-use Rattle.std.specs.declared.option.Option.TheVariants.{None, Some}
-use Rattle.tw_types.specs.Task.{best}
-use Rattle.tw_queue.specs.Queues.{taken_task}
-use Rattle.tw_queue.specs.RankIndex.{ranks_of}
-use Rattle.tw_queue.specs.Indexed.{tasks_in}
-use Rattle.tw_queue.specs.Slots.{slot_at}
+use Rattle.tw_queue.proofs.Names.{None, Some, ap, best, option_copied, option_map, ranks_of, slot_at, sym, taken_task, tasks_in, ◌∙◌, ◌≡◌}
 use Rattle.tw_queue.proofs.Entries.{seen}
 use Rattle.tw_queue.proofs.BestTask.{index_none, index_finds, handed_best}
 use Rattle.tw_queue.proofs.queues.TaskQueues.best.Goals as goal

@@ -1,8 +1,5 @@
 use Rattle.std.proofs.Common.{◌≡◌, None, subst}
-use Rattle.tw_types.specs.Task.{best}
-use Rattle.tw_queue.specs.RankIndex.{ranks_of}
-use Rattle.tw_queue.specs.Indexed.{tasks_in}
-use Rattle.tw_queue.specs.Slots.{slot_at}
+use Rattle.tw_queue.proofs.Names.{best, ranks_of, slot_at, tasks_in}
 use Rattle.tw_queue.proofs.Entries.{seen}
 use Rattle.tw_queue.proofs.BestTask.{index_none}
 use Rattle.tw_queue.proofs.queues.TaskQueues.has_any.Goals as goal

@@ -1,6 +1,4 @@
-use Rattle.std.proofs.Common.{subst}
-use Rattle.tw_queue.specs.RankIndex.{ranks_of}
-use Rattle.tw_queue.specs.Targets.{IsNoTarget}
+use Rattle.tw_queue.proofs.Names.{IsNoTarget, ranks_of, subst}
 use Rattle.tw_queue.proofs.Targeted.{no_target}
 use Rattle.tw_queue.proofs.queues.TaskQueues.has_targeted.Goals as goal
 

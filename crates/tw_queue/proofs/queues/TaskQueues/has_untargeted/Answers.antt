@@ -1,6 +1,4 @@
-use Rattle.std.proofs.Common.{subst}
-use Rattle.tw_queue.specs.RankIndex.{ranks_of}
-use Rattle.tw_queue.specs.Targets.{HaveTargets}
+use Rattle.tw_queue.proofs.Names.{HaveTargets, ranks_of, subst}
 use Rattle.tw_queue.proofs.Targeted.{have_targets}
 use Rattle.tw_queue.proofs.queues.TaskQueues.has_untargeted.Goals as goal
 

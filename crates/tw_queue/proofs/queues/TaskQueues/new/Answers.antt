@@ -1,6 +1,4 @@
-use Rattle.std.proofs.Common.{ap}
-use Rattle.tw_queue.specs.RankIndex.{ranks_of}
-use Rattle.tw_queue.specs.Slots.{slot_at}
+use Rattle.tw_queue.proofs.Names.{ap, ranks_of, slot_at}
 use Rattle.tw_queue.proofs.Indexing.{empty_index}
 use Rattle.tw_queue.proofs.queues.TaskQueues.new.Goals as goal
 

@@ -1,12 +1,5 @@
-use Rattle.std.proofs.Common.{◌≡◌, true, ℤ, ◌∷◌, refl, sym, ap, subst, ◌∙◌, arith, to_z-of_z, to_z, of_z, w64}
-use Rattle.std.specs.declared.option.Option.TheVariants.{None, Some}
+use Rattle.tw_queue.proofs.Names.{IsChangedAt, IsIndex, IsPermutation, None, Some, Waiting, ap, arith, of_z, queue_of, ranks_of, refl, room_for, slot_at, subst, sym, tasks_in, to_z, to_z-of_z, true, w64, waiting, ℤ, ◌∙◌, ◌∷◌, ◌≡◌}
 use Rattle.std.specs.FinMap as map
-use Rattle.std.specs.List.Sorted.{IsPermutation}
-use Rattle.tw_queue.specs.declared.waiting.Waiting.{Waiting}
-use Rattle.tw_queue.specs.RankIndex.{ranks_of}
-use Rattle.tw_queue.specs.Indexed.{IsIndex, tasks_in}
-use Rattle.tw_queue.specs.Slots.{IsChangedAt, slot_at}
-use Rattle.tw_queue.specs.Queues.{queue_of, room_for, waiting}
 use Rattle.tw_queue.proofs.Entries.{apart_put, fresh, tasks_put, updated}
 use Rattle.tw_queue.proofs.Indexing.{put_index, ranked}
 use Rattle.tw_queue.proofs.Rooms.{rank_room, room_still, slot_room}

@@ -1,6 +1,4 @@
-use Rattle.std.proofs.Common.{◌≡◌, true, false, sym, subst}
-use Rattle.tw_queue.specs.Indexed.{tasks_in}
-use Rattle.tw_queue.specs.Queues.{room_for}
+use Rattle.tw_queue.proofs.Names.{false, room_for, subst, sym, tasks_in, true, ◌≡◌}
 use Rattle.tw_queue.proofs.Rooms.{rank_room, room_still, slot_room}
 use Rattle.tw_queue.proofs.queues.TaskQueues.reserve.Goals as goal
 

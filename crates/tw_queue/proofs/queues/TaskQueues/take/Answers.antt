@@ -1,10 +1,4 @@
-use Rattle.std.proofs.Common.{◌≡◌, true, refl, sym, ap, subst, ◌∙◌, option_map, IsSome}
-use Rattle.std.specs.declared.option.Option.TheVariants.{None, Some}
-use Rattle.tw_types.specs.Task.{best}
-use Rattle.tw_queue.specs.RankIndex.{ranks_of}
-use Rattle.tw_queue.specs.Indexed.{tasks_in}
-use Rattle.tw_queue.specs.Slots.{slot_at}
-use Rattle.tw_queue.specs.Queues.{taken_task, room_for, without}
+use Rattle.tw_queue.proofs.Names.{IsSome, None, Some, ap, best, option_map, ranks_of, refl, room_for, slot_at, subst, sym, taken_task, tasks_in, true, without, ◌∙◌, ◌≡◌}
 use Rattle.tw_queue.proofs.Entries.{seen, tasks_gone, updated}
 use Rattle.tw_queue.proofs.Indexing.{taken_index}
 use Rattle.tw_queue.proofs.Rooms.{room_still}

@@ -1,8 +1,4 @@
-use Rattle.std.proofs.Common.{◌≡◌, inl, inr, true, false, rules, refl, subst}
-use Rattle.std.specs.Ordering.{is_lt}
-use Rattle.std.specs.BinaryHeap.{IsUpperBound}
-use Rattle.tw_queue.specs.Ranks.{rank_cmp}
-use Rattle.tw_queue.specs.QueuesByTarget.{ranks_at}
+use Rattle.tw_queue.proofs.Names.{IsUpperBound, false, inl, inr, is_lt, rank_cmp, ranks_at, refl, rules, subst, true, ◌≡◌}
 use Rattle.tw_queue.proofs.Order.{not_back, upper_over}
 use Rattle.tw_queue.proofs.queues_by_target.QueuesByTarget.best_queue.Goals as goal
 

@@ -1,5 +1,4 @@
-use Rattle.std.proofs.Common.{◌≡◌, length, replicate, []}
-use Rattle.tw_queue.specs.QueuesByTarget.{ranks_in}
+use Rattle.tw_queue.proofs.Names.{[], length, ranks_in, replicate, ◌≡◌}
 use Rattle.tw_queue.proofs.queues_by_target.QueuesByTarget.new.Given as goal
 
 abbrev pub invariant-loop : goal.invariant-loop

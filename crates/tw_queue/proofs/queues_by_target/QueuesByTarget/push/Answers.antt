@@ -1,7 +1,4 @@
-use Rattle.std.proofs.Common.{◌≡◌, ◌<◌, ap, sym, subst, ◌∙◌, length, slice_set, arith}
-use Rattle.std.specs.Result.{OnOk}
-use Rattle.tw_queue.specs.QueuesByTarget.{IsPushed, ranks_at, ranks_in}
-use Rattle.tw_queue.specs.Queues.{queue_of, room_at}
+use Rattle.tw_queue.proofs.Names.{IsPushed, OnOk, ap, arith, length, queue_of, ranks_at, ranks_in, room_at, slice_set, subst, sym, ◌<◌, ◌∙◌, ◌≡◌}
 use Rattle.tw_queue.proofs.RunQueues.{if_err, if_ok, pushed_at, room_was, rooms_kept, same_ranks}
 use Rattle.tw_queue.proofs.queues_by_target.QueuesByTarget.push.Goals as goal
 

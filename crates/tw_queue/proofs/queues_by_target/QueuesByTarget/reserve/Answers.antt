@@ -1,5 +1,4 @@
-use Rattle.std.proofs.Common.{◌≡◌, ◌<◌, ap, sym, ◌∙◌, length, arith}
-use Rattle.tw_queue.specs.Queues.{queue_of, room_at}
+use Rattle.tw_queue.proofs.Names.{ap, arith, length, queue_of, room_at, sym, ◌<◌, ◌∙◌, ◌≡◌}
 use Rattle.tw_queue.proofs.RunQueues.{if_ok, room_now, room_was, rooms_kept, same_ranks}
 use Rattle.tw_queue.proofs.queues_by_target.QueuesByTarget.reserve.Goals as goal
 

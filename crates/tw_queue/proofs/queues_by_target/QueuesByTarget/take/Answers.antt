@@ -1,8 +1,4 @@
-use Rattle.std.proofs.Common.{◌≡◌, ◌<◌, ap, sym, subst, ◌∙◌, length, slice_set, arith}
-use Rattle.std.specs.Option.{IfSome}
-use Rattle.std.specs.List.{Contains}
-use Rattle.tw_queue.specs.QueuesByTarget.{IsAheadOfAll, IsBest, IsTaken, ranks_at, ranks_in}
-use Rattle.tw_queue.specs.Queues.{room_at}
+use Rattle.tw_queue.proofs.Names.{Contains, IfSome, IsAheadOfAll, IsBest, IsTaken, ap, arith, length, ranks_at, ranks_in, room_at, slice_set, subst, sym, ◌<◌, ◌∙◌, ◌≡◌}
 use Rattle.tw_queue.proofs.RunQueues.{best_at, rooms_kept, taken_at}
 use Rattle.tw_queue.proofs.queues_by_target.QueuesByTarget.take.Goals as goal
 

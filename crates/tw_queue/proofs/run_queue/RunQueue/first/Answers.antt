@@ -1,6 +1,4 @@
-use Rattle.std.proofs.Common.{refl, subst}
-use Rattle.std.specs.BinaryHeap.{heap_items}
-use Rattle.tw_queue.specs.RunQueues.{IsFirst}
+use Rattle.tw_queue.proofs.Names.{IsFirst, heap_items, refl, subst}
 use Rattle.tw_queue.proofs.Runs.{run_shows}
 use Rattle.tw_queue.proofs.run_queue.RunQueue.first.Goals as goal
 

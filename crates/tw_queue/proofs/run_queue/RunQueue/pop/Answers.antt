@@ -1,11 +1,5 @@
-use Rattle.std.proofs.Common.{◌≡◌, ◌<◌, ◌≤◌, ◌∷◌, ◌++◌, ℕ, length, refl, subst, arith}
-use Rattle.std.specs.declared.option.Option.{Option}
-use Rattle.std.specs.declared.option.Option.TheVariants.{None, Some}
+use Rattle.tw_queue.proofs.Names.{IsFirst, IsPermutation, None, Option, Rank, Some, arith, heap_items, length, refl, subst, ℕ, ◌++◌, ◌<◌, ◌∷◌, ◌≡◌, ◌≤◌}
 use Rattle.std.specs.Option.{IfNone, IfSome, IsSome, MatchOption}
-use Rattle.std.specs.BinaryHeap.{heap_items}
-use Rattle.std.specs.List.Sorted.{IsPermutation}
-use Rattle.tw_queue.specs.declared.rank.Rank.{Rank}
-use Rattle.tw_queue.specs.RunQueues.{IsFirst}
 use Rattle.tw_queue.proofs.Runs.{rest_gives, rest_less, run_gives}
 use Rattle.tw_queue.proofs.run_queue.RunQueue.pop.Goals as goal
 

@@ -1,6 +1,4 @@
-use Rattle.std.proofs.Common.{◌≡◌, ◌∷◌, [], ◌++◌, sym, subst}
-use Rattle.std.specs.BinaryHeap.{heap_items}
-use Rattle.std.specs.List.Sorted.{IsPermutation}
+use Rattle.tw_queue.proofs.Names.{IsPermutation, [], heap_items, subst, sym, ◌++◌, ◌∷◌, ◌≡◌}
 use Rattle.tw_queue.proofs.Runs.{rest_more, run_more}
 use Rattle.tw_queue.proofs.run_queue.RunQueue.push.Goals as goal
 

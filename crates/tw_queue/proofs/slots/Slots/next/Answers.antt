@@ -1,5 +1,4 @@
-use Rattle.std.proofs.Common.{ap, sym, ◌∙◌}
-use Rattle.tw_queue.specs.Slots.{slot_at}
+use Rattle.tw_queue.proofs.Names.{ap, slot_at, sym, ◌∙◌}
 use Rattle.tw_queue.proofs.Kept.{first_empty}
 use Rattle.tw_queue.proofs.slots.Slots.next.Goals as goal
 

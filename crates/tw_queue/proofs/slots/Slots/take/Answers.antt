@@ -1,5 +1,4 @@
-use Rattle.std.proofs.lemmas.Option.{slice_get_within}
-use Rattle.tw_queue.specs.declared.slots.Slot.TheVariants.{Free}
+use Rattle.tw_queue.proofs.Names.{Free, slice_get_within}
 use Rattle.tw_queue.proofs.Kept.{changed_set, full_at, left}
 use Rattle.tw_queue.proofs.slots.Slots.take.Goals as goal
 
