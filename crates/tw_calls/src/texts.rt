@@ -24,7 +24,7 @@ fn reply_to(alloc: Global, words: &[u8], input: &[u8]) -> Result<Reply, AllocErr
 fn keep_reply(alloc: Global, reply: Reply, output: &mut Handle) -> u8
     ensures { IsKeptWith reply.close reply.text.items output.old.held output.new.held result }
 {
-    let Reply { text, close } = reply;
+    let Reply { text, close, .. } = reply;
     match text_handle(alloc, text) {
         Ok(handle) => {
             *output = handle;

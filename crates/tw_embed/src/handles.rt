@@ -8,12 +8,13 @@ ghost use Rattle.tw_handles.specs.EventOrder.{IsOrder};
 ghost use Rattle.tw_handles.specs.Loading.{IsLoading, IsVerified};
 ghost use Rattle.tw_handles.specs.Running.{IsAdded};
 ghost use Rattle.tw_handles.specs.Shape.{AreNeeds, IsNameRead, IsParameter, IsSection};
+ghost use Rattle.tw_handles.specs.Texts.{MayBeTold};
 ghost use Rattle.tw_handles.specs.declared.container.NewMember.TheVariants as member;
 ghost use Rattle.tw_verdict.specs.Format.{format_of};
 ghost use Rattle.tw_types.specs.declared.input.Input.TheVariants as input;
 
 use std::alloc::Global;
-use tw_handles::Handle;
+use tw_handles::{Handle, program_of, reading, shared_of};
 
 /// Exports `tw_handles::verify`.
 #[unsafe(no_mangle)]
@@ -38,6 +39,23 @@ pub extern "C" fn yuglemit_raw_load_source(
     tw_handles::load_source(alloc, source, format, options, program, numbers)
 }
 
+/// Exports `tw_handles::load_told`.
+#[unsafe(no_mangle)]
+pub extern "C" fn yuglemit_raw_load_told(
+    alloc: Global,
+    source: &[u8],
+    format: u8,
+    options: &[u64],
+    program: &mut Handle,
+    numbers: &mut [u64],
+    words: &mut Handle,
+) -> u8
+    ensures loading { IsLoading (format_of format source.now) options.now source.now program.old.held program.new.held numbers.old numbers.new result }
+    ensures words { MayBeTold words.old.held words.new.held }
+{
+    tw_handles::load_told(alloc, source, format, options, program, numbers, words)
+}
+
 /// Exports `tw_handles::share`.
 #[unsafe(no_mangle)]
 pub extern "C" fn yuglemit_raw_program_share(
@@ -48,7 +66,7 @@ pub extern "C" fn yuglemit_raw_program_share(
     ensures kept { program.new.held ≡ program.old.held }
     ensures is { IsShared program.old.held other.old.held other.new.held result }
 {
-    tw_handles::share(alloc, program, other)
+    reading!(alloc, program, shared_of, shared => tw_handles::share(alloc, shared, other))
 }
 
 /// Exports `tw_handles::procedures`.
@@ -61,7 +79,7 @@ pub extern "C" fn yuglemit_raw_program_procedures(
     ensures kept { program.new.held ≡ program.old.held }
     ensures is { IsCountOf program.old.held count.old count.new result }
 {
-    tw_handles::procedures(alloc, program, count)
+    reading!(alloc, program, program_of, verified => tw_handles::procedures(verified, count))
 }
 
 /// Exports `tw_handles::budget`.
@@ -75,7 +93,7 @@ pub extern "C" fn yuglemit_raw_program_budget(
     ensures kept { program.new.held ≡ program.old.held }
     ensures is { IsBudgetOf program.old.held procedure budget.old budget.new result }
 {
-    tw_handles::budget(alloc, program, procedure, budget)
+    reading!(alloc, program, program_of, verified => tw_handles::budget(verified, procedure, budget))
 }
 
 /// Exports `tw_handles::program_bounds`.
@@ -89,7 +107,7 @@ pub extern "C" fn yuglemit_raw_program_bounds(
     ensures kept { program.new.held ≡ program.old.held }
     ensures is { AreBounds program.old.held limit numbers.old numbers.new result }
 {
-    tw_handles::program_bounds(alloc, program, limit, numbers)
+    reading!(alloc, program, program_of, verified => tw_handles::program_bounds(alloc, verified, limit, numbers))
 }
 
 /// Exports `tw_handles::program_order`.
@@ -102,7 +120,7 @@ pub extern "C" fn yuglemit_raw_program_order(
     ensures kept { program.new.held ≡ program.old.held }
     ensures is { IsOrder program.old.held numbers.old numbers.new result }
 {
-    tw_handles::program_order(alloc, program, numbers)
+    reading!(alloc, program, program_of, verified => tw_handles::program_order(alloc, verified, numbers))
 }
 
 /// Exports `tw_handles::describe_procedure`.
@@ -116,7 +134,7 @@ pub extern "C" fn yuglemit_raw_program_procedure(
     ensures kept { program.new.held ≡ program.old.held }
     ensures is { IsSection program.old.held procedure numbers.old numbers.new result }
 {
-    tw_handles::describe_procedure(alloc, program, procedure, numbers)
+    reading!(alloc, program, program_of, verified => tw_handles::describe_procedure(verified, procedure, numbers))
 }
 
 /// Exports `tw_handles::describe_parameter`.
@@ -131,7 +149,7 @@ pub extern "C" fn yuglemit_raw_program_parameter(
     ensures kept { program.new.held ≡ program.old.held }
     ensures is { IsParameter program.old.held procedure index numbers.old numbers.new result }
 {
-    tw_handles::describe_parameter(alloc, program, procedure, index, numbers)
+    reading!(alloc, program, program_of, verified => tw_handles::describe_parameter(verified, procedure, index, numbers))
 }
 
 /// Exports `tw_handles::read_needs`.
@@ -144,7 +162,7 @@ pub extern "C" fn yuglemit_raw_program_needs(
     ensures kept { program.new.held ≡ program.old.held }
     ensures is { AreNeeds program.old.held numbers.old numbers.new result }
 {
-    tw_handles::read_needs(alloc, program, numbers)
+    reading!(alloc, program, program_of, verified => tw_handles::read_needs(verified, numbers))
 }
 
 /// Exports `tw_handles::source_name`.

@@ -24,10 +24,11 @@ pub use handles::{
     yuglemit_container_free, yuglemit_container_new, yuglemit_input_int, yuglemit_input_text,
     yuglemit_inputs_free, yuglemit_member_int, yuglemit_member_int_by_text, yuglemit_member_text,
     yuglemit_member_text_by_text, yuglemit_program_free, yuglemit_raw_input_container,
-    yuglemit_raw_load_source, yuglemit_raw_program_bounds, yuglemit_raw_program_budget,
-    yuglemit_raw_program_needs, yuglemit_raw_program_order, yuglemit_raw_program_parameter,
-    yuglemit_raw_program_procedure, yuglemit_raw_program_procedures, yuglemit_raw_program_share,
-    yuglemit_raw_verify, yuglemit_source_name,
+    yuglemit_raw_load_source, yuglemit_raw_load_told, yuglemit_raw_program_bounds,
+    yuglemit_raw_program_budget, yuglemit_raw_program_needs, yuglemit_raw_program_order,
+    yuglemit_raw_program_parameter, yuglemit_raw_program_procedure,
+    yuglemit_raw_program_procedures, yuglemit_raw_program_share, yuglemit_raw_verify,
+    yuglemit_source_name,
 };
 pub use lists::{
     yuglemit_raw_input_ints, yuglemit_raw_input_ints_by_text, yuglemit_raw_input_texts,

@@ -11,7 +11,8 @@ ghost use Rattle.tw_handles.specs.Texts.{IsInstructionCount, IsJsonPrinted, IsRe
 ghost use Rattle.tw_types.specs.declared.value.Value.TheVariants as value;
 
 use std::alloc::Global;
-use tw_handles::{Handle, Item, Member};
+use tw_handles::{Handle, Item, Member, NO_UTF8, outputs_of, reading, report_of, text_of};
+use tw_types::ValueRef;
 
 /// Exports `tw_handles::report_ending`.
 #[unsafe(no_mangle)]
@@ -23,7 +24,7 @@ pub extern "C" fn yuglemit_raw_report_ending(
     ensures kept { report.new.held ≡ report.old.held }
     ensures is { IsEnding report.old.held numbers.old numbers.new result }
 {
-    tw_handles::report_ending(alloc, report, numbers)
+    reading!(alloc, report, report_of, run => tw_handles::report_ending(&run.left, numbers))
 }
 
 /// Exports `tw_handles::output`.
@@ -37,7 +38,7 @@ pub extern "C" fn yuglemit_raw_report_output(
     ensures kept { report.new.held ≡ report.old.held }
     ensures is { IsOutput report.old.held index item.old item.new result }
 {
-    tw_handles::output(alloc, report, index, item)
+    reading!(alloc, report, outputs_of, outcome => tw_handles::output(outcome, index, item))
 }
 
 /// Exports `tw_handles::output_text`.
@@ -51,7 +52,7 @@ pub extern "C" fn yuglemit_raw_report_text(
     ensures kept { report.new.held ≡ report.old.held }
     ensures is { IsOutputText report.old.held index room.old room.new result }
 {
-    tw_handles::output_text(alloc, report, index, room)
+    reading!(alloc, report, outputs_of, outcome => tw_handles::output_text(outcome, index, room))
 }
 
 /// Exports `tw_handles::output_member`.
@@ -66,7 +67,7 @@ pub extern "C" fn yuglemit_raw_report_member(
     ensures kept { report.new.held ≡ report.old.held }
     ensures is { IsMember report.old.held index place member.old member.new result }
 {
-    tw_handles::output_member(alloc, report, index, place, member)
+    reading!(alloc, report, outputs_of, outcome => tw_handles::output_member(outcome, index, place, member))
 }
 
 /// Exports `tw_handles::output_members`.
@@ -81,7 +82,7 @@ pub extern "C" fn yuglemit_raw_report_members(
     ensures kept { report.new.held ≡ report.old.held }
     ensures is { AreMembers report.old.held index first members.old members.new result }
 {
-    tw_handles::output_members(alloc, report, index, first, members)
+    reading!(alloc, report, outputs_of, outcome => tw_handles::output_members(outcome, index, first, members))
 }
 
 /// Exports `tw_handles::member_text`.
@@ -96,7 +97,7 @@ pub extern "C" fn yuglemit_raw_report_member_text(
     ensures kept { report.new.held ≡ report.old.held }
     ensures is { IsMemberText report.old.held index place room.old room.new result }
 {
-    tw_handles::member_text(alloc, report, index, place, room)
+    reading!(alloc, report, outputs_of, outcome => tw_handles::member_text(outcome, index, place, room))
 }
 
 /// Exports `tw_handles::subscript_text`.
@@ -111,7 +112,7 @@ pub extern "C" fn yuglemit_raw_report_subscript_text(
     ensures kept { report.new.held ≡ report.old.held }
     ensures is { IsSubscriptText report.old.held index place room.old room.new result }
 {
-    tw_handles::subscript_text(alloc, report, index, place, room)
+    reading!(alloc, report, outputs_of, outcome => tw_handles::subscript_text(outcome, index, place, room))
 }
 
 /// Exports `tw_handles::find_int`.
@@ -126,7 +127,8 @@ pub extern "C" fn yuglemit_raw_report_find_int(
     ensures kept { report.new.held ≡ report.old.held }
     ensures is { IsPlace report.old.held index (value.Int subscript) place.old place.new result }
 {
-    tw_handles::find_int(alloc, report, index, subscript, place)
+    let named = ValueRef::Int(subscript);
+    reading!(alloc, report, outputs_of, outcome => tw_handles::find(outcome, index, named, place))
 }
 
 /// Exports `tw_handles::find_text`.
@@ -141,7 +143,13 @@ pub extern "C" fn yuglemit_raw_report_find_text(
     ensures kept { report.new.held ≡ report.old.held }
     ensures is { IsTextPlace subscript.now report.old.held index place.old place.new result }
 {
-    tw_handles::find_text(alloc, report, index, subscript, place)
+    match str::from_utf8(subscript) {
+        Ok(text) => {
+            let named = ValueRef::Text(text);
+            reading!(alloc, report, outputs_of, outcome => tw_handles::find(outcome, index, named, place))
+        }
+        Err(_) => NO_UTF8,
+    }
 }
 
 /// Exports `tw_handles::report_meter`.
@@ -154,7 +162,7 @@ pub extern "C" fn yuglemit_raw_report_meter(
     ensures kept { report.new.held ≡ report.old.held }
     ensures is { IsMetered report.old.held numbers.old numbers.new result }
 {
-    tw_handles::report_meter(alloc, report, numbers)
+    reading!(alloc, report, report_of, run => tw_handles::report_meter(&run.left, numbers))
 }
 
 /// Exports `tw_handles::report_order`.
@@ -167,7 +175,7 @@ pub extern "C" fn yuglemit_raw_report_order(
     ensures kept { report.new.held ≡ report.old.held }
     ensures is { IsRunOrder report.old.held numbers.old numbers.new result }
 {
-    tw_handles::report_order(alloc, report, numbers)
+    reading!(alloc, report, report_of, run => tw_handles::report_order(run.certificate, numbers))
 }
 
 /// Exports `tw_handles::instructions`.
@@ -180,7 +188,7 @@ pub extern "C" fn yuglemit_raw_report_instructions(
     ensures kept { report.new.held ≡ report.old.held }
     ensures is { IsInstructionCount report.old.held count.old count.new result }
 {
-    tw_handles::instructions(alloc, report, count)
+    reading!(alloc, report, report_of, run => tw_handles::instructions(&run.left, count))
 }
 
 /// Exports `tw_handles::print_report`.
@@ -193,7 +201,7 @@ pub extern "C" fn yuglemit_raw_print_report(
     ensures kept { report.new.held ≡ report.old.held }
     ensures is { IsReportPrinted report.old.held text.old.held text.new.held result }
 {
-    tw_handles::print_report(alloc, report, text)
+    reading!(alloc, report, report_of, run => tw_handles::print_report(alloc, &run.left, text))
 }
 
 /// Exports `tw_handles::print_trace`.
@@ -206,7 +214,7 @@ pub extern "C" fn yuglemit_raw_print_trace(
     ensures kept { report.new.held ≡ report.old.held }
     ensures is { IsTracePrinted report.old.held text.old.held text.new.held result }
 {
-    tw_handles::print_trace(alloc, report, text)
+    reading!(alloc, report, report_of, run => tw_handles::print_trace(alloc, &run.left, text))
 }
 
 /// Exports `tw_handles::print_json`.
@@ -219,7 +227,7 @@ pub extern "C" fn yuglemit_raw_print_json(
     ensures kept { report.new.held ≡ report.old.held }
     ensures is { IsJsonPrinted report.old.held text.old.held text.new.held result }
 {
-    tw_handles::print_json(alloc, report, text)
+    reading!(alloc, report, report_of, run => tw_handles::print_json(alloc, &run.left, text))
 }
 
 /// Exports `tw_handles::text_length`.
@@ -232,7 +240,7 @@ pub extern "C" fn yuglemit_raw_text_length(
     ensures kept { text.new.held ≡ text.old.held }
     ensures is { IsTextLength text.old.held length.old length.new result }
 {
-    tw_handles::text_length(alloc, text, length)
+    reading!(alloc, text, text_of, bytes => tw_handles::text_length(bytes, length))
 }
 
 /// Exports `tw_handles::text_copy`.
@@ -241,7 +249,7 @@ pub extern "C" fn yuglemit_raw_text_copy(alloc: Global, text: &mut Handle, room:
     ensures kept { text.new.held ≡ text.old.held }
     ensures is { IsTextCopied text.old.held room.old room.new result }
 {
-    tw_handles::text_copy(alloc, text, room)
+    reading!(alloc, text, text_of, bytes => tw_handles::fill(bytes, room))
 }
 
 /// Frees the contents of a report's handle.

@@ -6,7 +6,7 @@ ghost use Rattle.tw_handles.specs.Stops.{IsStopMade, IsStopSet, IsStopShared};
 ghost use Rattle.tw_handles.specs.Unfit.{IsUnfit};
 
 use std::alloc::Global;
-use tw_handles::Handle;
+use tw_handles::{Handle, inputs_of, program_of, reading, stop_of};
 
 /// Exports `tw_handles::stop_new`.
 #[unsafe(no_mangle)]
@@ -26,7 +26,7 @@ pub extern "C" fn yuglemit_raw_stop_share(
     ensures kept { stop.new.held ≡ stop.old.held }
     ensures is { IsStopShared stop.old.held other.old.held other.new.held result }
 {
-    tw_handles::stop_share(alloc, stop, other)
+    reading!(alloc, stop, stop_of, flag => tw_handles::stop_share(alloc, flag, other))
 }
 
 /// Exports `tw_handles::stop_raise`.
@@ -75,7 +75,9 @@ pub extern "C" fn yuglemit_raw_unfit_input(
     ensures inputs { inputs.new.held ≡ inputs.old.held }
     ensures is { IsUnfit program.old.held inputs.old.held index.old index.new result }
 {
-    tw_handles::unfit_input(alloc, program, inputs, index)
+    reading!(alloc, program, program_of, verified => {
+        reading!(alloc, inputs, inputs_of, given => tw_handles::unfit_input(verified, given, index))
+    })
 }
 
 /// Frees what the handle of a stop flag holds.

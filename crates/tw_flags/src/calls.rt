@@ -1,9 +1,9 @@
 //! Calls on a stop flag.
 
 ghost use Rattle.std.specs.Prelude.{◌≡◌, [], IfOk};
-ghost use Rattle.tw_flags.specs.Flags.{HasCaughtUp, HasSeen, IsFlagOf, IsOfFlag, IsSeen, IsSet, IsShared, settings_of};
+ghost use Rattle.tw_flags.specs.Flags.{HasCaughtUp, HasSeen, IsFlagOf, IsOfFlag, IsSeen, IsSet, IsShared, values_of};
 
-use crate::flag::{FlagSignal, SeenSettings, StopFlag};
+use crate::flag::{FlagSignal, SeenValues, StopFlag};
 use crate::rule::{FlagRule, Look, Nothing, Setting};
 use logbook::{Offer, Seen, Start, Word};
 use std::alloc::{AllocError, Global};
@@ -13,7 +13,7 @@ use tw_stop::StopSignal;
 impl StopFlag {
     /// Makes a flag that isn't raised.
     pub fn new(alloc: Global) -> Result<StopFlag, AllocError>
-        ensures { IfOk result (λ flag. settings_of flag ≡ []) }
+        ensures { IfOk result (λ flag. values_of flag ≡ []) }
     {
         let (seen, mut pen, _other) = Seen::open(Start::alone(), 0, 0);
         match Arc::new(alloc, Word::tracked(0, &mut pen)) {
@@ -22,7 +22,7 @@ impl StopFlag {
         }
     }
 
-    /// Returns another holder of this flag, which has seen the same settings.
+    /// Returns another holder of this flag, which has seen the same values.
     pub fn share(&self) -> Result<StopFlag, AllocError>
         ensures { IfOk result (λ other. IsShared self.now other) }
     {
@@ -55,7 +55,7 @@ impl StopFlag {
             );
     }
 
-    /// Returns the signal for a run that looks at the flag. It has seen the same settings.
+    /// Returns the signal for a run that looks at the flag. It has seen the same values.
     pub fn signal(&self) -> FlagSignal<'_>
         ensures { IsFlagOf self.now result }
     {
@@ -66,7 +66,7 @@ impl StopFlag {
     }
 
     /// Lets the holder have seen what a run's signal has seen.
-    pub fn catch_up(&mut self, run: SeenSettings)
+    pub fn catch_up(&mut self, run: SeenValues)
         requires { IsOfFlag self.old run }
         ensures { HasCaughtUp self.old run self.new }
     {
@@ -76,10 +76,10 @@ impl StopFlag {
 
 impl<'f> FlagSignal<'f> {
     /// Ends the looks, and returns what the run has seen.
-    pub fn into_seen(self) -> SeenSettings
+    pub fn into_seen(self) -> SeenValues
         ensures { HasSeen self.entry result }
     {
-        SeenSettings { seen: self.seen }
+        SeenValues { seen: self.seen }
     }
 }
 

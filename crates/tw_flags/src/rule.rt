@@ -2,23 +2,23 @@
 
 use logbook::{Gain, Plain, Play, Rule};
 
-/// The word of a flag is that of its settings.
+/// The word of a flag is that of its values.
 pub struct FlagRule;
 
 impl Rule<bool, bool> for FlagRule {
     ghost use Rattle.std.specs.Prelude.{[]};
     ghost use base.Fml.{ftrue};
-    ghost use Rattle.tw_flags.specs.Settings.{IsKept};
+    ghost use Rattle.tw_flags.specs.Values.{IsKept};
 
-    ghost holds = { λ cells settings. IsKept cells settings };
+    ghost holds = { λ cells values. IsKept cells values };
 
     ghost first = { [] };
 
-    ghost hinted = { λ word settings. Unit {0} };
+    ghost hinted = { λ word values. Unit {0} };
 
-    ghost shows = { λ settings. [] };
+    ghost shows = { λ values. [] };
 
-    ghost keeps = { λ names settings. ftrue };
+    ghost keeps = { λ names values. ftrue };
 
     ghost moves = { λ asked before after answer. Unit {0} };
 }
@@ -36,7 +36,7 @@ impl Gain<bool, bool> for Nothing {
 pub(crate) struct Look;
 
 impl Play<bool, bool> for Look {
-    ghost use Rattle.tw_flags.specs.Settings.{Looks};
+    ghost use Rattle.tw_flags.specs.Values.{Looks};
 
     ghost then = { Looks };
 }
@@ -45,7 +45,7 @@ impl Play<bool, bool> for Look {
 pub(crate) struct Setting;
 
 impl Play<bool, bool> for Setting {
-    ghost use Rattle.tw_flags.specs.Settings.{Sets};
+    ghost use Rattle.tw_flags.specs.Values.{Sets};
 
     ghost then = { Sets };
 }

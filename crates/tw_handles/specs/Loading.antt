@@ -2,13 +2,12 @@
 use Rattle.std.specs.Prelude.{◌≡◌, ◌≢◌, ◌⊎◌, ◌<◌, ◌≤◌, ◌∷◌, ℕ, List, [], length, unwrap_or, Option, Some, None, slice_get}
 use Rattle.std.specs.Arc.{arc_value}
 use Rattle.tw_code.specs.format.Versions.{version_number}
-use Rattle.tw_in_turn.specs.declared.run.StoppableResult.{StoppableResult}
 use Rattle.tw_types.specs.declared.input.Input.{Input}
-use Rattle.tw_verdict.specs.Source.{HasSource, IsSourceError, without_line}
-use Rattle.tw_verdict.specs.Verdict.{IsVerdict, accepted, no_memory}
+use Rattle.tw_verdict.specs.Source.{HasSource, IsSourceError, IsSourceReading, without_line}
+use Rattle.tw_verdict.specs.Verdict.{accepted, no_memory}
 use Rattle.tw_verdict.specs.declared.format.Format.{Format}
+use Rattle.tw_verdict.specs.declared.format.Format.TheVariants as format
 use Rattle.tw_verdict.specs.declared.text.SourceVerdict.{SourceVerdict}
-use Rattle.tw_verdict.specs.declared.verdict.Verdict.{Verdict}
 use Rattle.tw_verify.specs.Typed.{TypedProgram}
 use Rattle.tw_handles.specs.Codes.{loading_code, no_options}
 use Rattle.tw_handles.specs.Numbers.{filled}
@@ -36,17 +35,7 @@ inputs_in (Some (Report left)) = None
 inputs_in (Some (Stop flag)) = None
 inputs_in (Some (Text text)) = None
 
--- returns the result of a run, from a report's handle
-abbrev pub report_in : Option Held → Option StoppableResult
-report_in None = None
-report_in (Some (Program verified)) = None
-report_in (Some (Inputs inputs)) = None
-report_in (Some (Container container)) = None
-report_in (Some (Report run)) = Some run.left
-report_in (Some (Stop flag)) = None
-report_in (Some (Text text)) = None
-
--- returns that with its certificate
+-- returns the result of a run, with its certificate, from a report's handle
 abbrev pub finished_in : Option Held → Option Finished
 finished_in None = None
 finished_in (Some (Program verified)) = None
@@ -102,4 +91,4 @@ IsLoading form options source old new before after code =
 
 -- holds if the verdict on the bytes is written
 abbrev pub IsVerified : List ℕ → List ℕ → List ℕ → ℕ → Type 0
-IsVerified bytes before after code = (verdict : Verdict) × IsVerdict bytes verdict × IsPut (without_line verdict) before after code
+IsVerified bytes before after code = (found : Option TypedProgram) × (verdict : SourceVerdict) × IsSourceReading format.Bytes bytes found verdict × IsPut verdict before after code

@@ -6,7 +6,7 @@ use Rattle.tw_in_turn.specs.declared.run.StoppableResult.{StoppableResult}
 use Rattle.tw_store.specs.Amounts.{amounts_in}
 use Rattle.tw_handles.specs.Asking.{Fails}
 use Rattle.tw_handles.specs.Codes.{done, no_report}
-use Rattle.tw_handles.specs.Loading.{report_in}
+use Rattle.tw_handles.specs.Loading.{finished_in}
 use Rattle.tw_handles.specs.Numbers.{filled}
 use Rattle.tw_handles.specs.Reading.{final_of, history_of}
 use Rattle.tw_handles.specs.Texts.{capped}
@@ -21,4 +21,4 @@ meter_of left =
     length events ∷ tasks_in events ∷ capped (executed_in left) ∷ (store.next - 1) ∷ (amounts_in store.live).members ∷ (amounts_in store.live).bytes ∷ []
 
 abbrev pub IsMetered : Option Held → List ℕ → List ℕ → ℕ → Type 0
-IsMetered held old new code = MatchOption (report_in held) (Fails no_report old new code) (λ left. (new ≡ filled (meter_of left) old) × (code ≡ done))
+IsMetered held old new code = MatchOption (finished_in held) (Fails no_report old new code) (λ run. (new ≡ filled (meter_of run.left) old) × (code ≡ done))

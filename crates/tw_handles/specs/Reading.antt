@@ -2,7 +2,6 @@
 use Rattle.std.specs.Prelude.{◌≡◌, ◌≤◌, ◌<◌, ◌⊎◌, ◌||◌, ◌==◌, ◌++◌, ◌∷◌, [], ℕ, List, Option, Some, None, MatchOption, Result, Ok, Err, MatchResult, drop, length, pos, slice_get, if◌then◌else◌}
 use Rattle.std.specs.FinMap.{get}
 use Rattle.std.specs.Option.{option_and_then}
-use Rattle.tw_in_turn.specs.declared.run.InTurnResult.{InTurnResult}
 use Rattle.tw_in_turn.specs.declared.run.InTurnResult.TheVariants as left
 use Rattle.tw_in_turn.specs.declared.run.StoppableResult.{StoppableResult}
 use Rattle.tw_in_turn.specs.declared.run.StoppableResult.TheVariants as stoppable
@@ -21,26 +20,20 @@ use Rattle.tw_types.specs.declared.value.Value.{Value}
 use Rattle.tw_types.specs.declared.value.Value.TheVariants as value
 use Rattle.tw_handles.specs.Asking.{Fails}
 use Rattle.tw_handles.specs.Codes.{done, no_index, no_report, no_room, no_text, unfinished}
-use Rattle.tw_handles.specs.Loading.{finished_in, report_in}
+use Rattle.tw_handles.specs.Loading.{finished_in}
 use Rattle.tw_handles.specs.Numbers.{filled}
 use Rattle.tw_handles.specs.declared.finished.Finished.{Finished}
 use Rattle.tw_handles.specs.declared.held.Held.{Held}
 use Rattle.tw_handles.specs.declared.item.Item.{Item}
 
-abbrev pub final_in : InTurnResult → FinalView
-final_in (left.Over final history) = final
-final_in (left.NoMemory final history) = final
-
 abbrev pub final_of : StoppableResult → FinalView
-final_of (stoppable.Ended left) = final_in left
+final_of (stoppable.Ended (left.Over final history)) = final
+final_of (stoppable.Ended (left.NoMemory final history)) = final
 final_of (stoppable.Stopped final history cut) = final
 
-abbrev pub history_in : InTurnResult → HistoryView
-history_in (left.Over final history) = history
-history_in (left.NoMemory final history) = history
-
 abbrev pub history_of : StoppableResult → HistoryView
-history_of (stoppable.Ended left) = history_in left
+history_of (stoppable.Ended (left.Over final history)) = history
+history_of (stoppable.Ended (left.NoMemory final history)) = history
 history_of (stoppable.Stopped final history cut) = history
 
 -- returns the exit status of `tw run`: 0 quiet, 3 stuck, 4 limit; a finished run has no other
@@ -51,14 +44,10 @@ closing_status (Some (Stuck rules)) = 3
 closing_status (Some Stopped) = 5
 closing_status (Some Limit) = 4
 
--- returns the exit status of `tw run`, which is 5 if an allocation failed
-abbrev pub end_in : InTurnResult → ℕ
-end_in (left.Over final history) = closing_status final.closing
-end_in (left.NoMemory final history) = 5
-
--- 8 if it was stopped, which no run of `tw` is
+-- returns the exit status of `tw run`, which is 5 if an allocation failed; 8 if it was stopped, which no run of `tw` is
 abbrev pub end_status : StoppableResult → ℕ
-end_status (stoppable.Ended left) = end_in left
+end_status (stoppable.Ended (left.Over final history)) = closing_status final.closing
+end_status (stoppable.Ended (left.NoMemory final history)) = 5
 end_status (stoppable.Stopped final history cut) = 8
 
 -- returns the numbers of events and of outputs, and the status
@@ -66,7 +55,7 @@ abbrev pub ending_of : StoppableResult → List ℕ
 ending_of left = length (history_of left).events ∷ length (final_of left).outputs ∷ end_status left ∷ []
 
 abbrev pub IsEnding : Option Held → List ℕ → List ℕ → ℕ → Type 0
-IsEnding held old new code = MatchOption (report_in held) (Fails no_report old new code) (λ left. (new ≡ filled (ending_of left) old) × (code ≡ done))
+IsEnding held old new code = MatchOption (finished_in held) (Fails no_report old new code) (λ run. (new ≡ filled (ending_of run.left) old) × (code ≡ done))
 
 -- returns the outputs and the store of a report: those of a run that ended by itself, quiet, or whose options ask for what is there
 abbrev pub readable_of : Option Finished → Result FinalView ℕ

@@ -20,7 +20,7 @@ use Rattle.tw_handles.specs.declared.finished.Finished.{Finished}
 use Rattle.tw_handles.specs.declared.held.Held.{Held}
 use Rattle.tw_handles.specs.declared.held.Held.TheVariants.{Stop}
 use Rattle.tw_handles.specs.declared.running.RunOrder.{RunOrder}
-use Rattle.tw_handles.specs.Stops.{WithFlag}
+use Rattle.tw_handles.specs.Stops.{flag_in}
 
 -- holds if the inputs have one more, or are unchanged because an allocation failed
 abbrev pub IsAppended : Input → List Input → Option Held → ℕ → Type 0
@@ -81,7 +81,7 @@ IsRunByFlag program given order flag after old new code =
 abbrev pub IsRunUntil : Option Held → Option Held → RunOrder → Option Held → Option Held → Option Held → Option Held → ℕ → Type 0
 IsRunUntil program given order stop after old new code = MatchOption stop
     ((after ≡ None) × (first : Never) × (last : Never) × IsRunBy (Looked always_no first last) program given order old new code)
-    (λ held. WithFlag (Some held) ((after ≡ Some held) × Fails no_stop old new code) (λ flag. IsRunByFlag program given order flag after old new code))
+    (λ held. MatchOption (flag_in (Some held)) ((after ≡ Some held) × Fails no_stop old new code) (λ flag. IsRunByFlag program given order flag after old new code))
 
 -- returns the option with this index, or the usual one if the list lacks it
 abbrev pub option_at : List ℕ → ℕ → ℕ → ℕ

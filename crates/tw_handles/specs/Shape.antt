@@ -79,10 +79,13 @@ abbrev pub IsParameter : Option Held → ℕ → ℕ → List ℕ → List ℕ �
 IsParameter held procedure index old new code =
     MatchOption (program_in held) (Fails no_program old new code) (λ verified. IsParameterIn verified procedure index old new code)
 
+-- returns how many engines and workers a run needs
+abbrev pub needs_of : TypedProgram → List ℕ
+needs_of verified = needed Control verified.program ∷ needed Leaf verified.program ∷ []
+
 abbrev pub AreNeeds : Option Held → List ℕ → List ℕ → ℕ → Type 0
 AreNeeds held old new code =
-    MatchOption (program_in held) (Fails no_program old new code)
-    (λ verified. (new ≡ filled (needed Control verified.program ∷ needed Leaf verified.program ∷ []) old) × (code ≡ done))
+    MatchOption (program_in held) (Fails no_program old new code) (λ verified. (new ≡ filled (needs_of verified) old) × (code ≡ done))
 
 -- holds for the name that a text gives the procedure of this number, empty if it gives none
 abbrev pub IsNameIn : List ℕ → ℕ → List ℕ → Type 0

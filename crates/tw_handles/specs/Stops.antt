@@ -1,7 +1,7 @@
 -- Calls on a stop flag.
-use Rattle.std.specs.Prelude.{◌≡◌, ◌⊎◌, ℕ, Bool, [], Option, Some, None}
+use Rattle.std.specs.Prelude.{◌≡◌, ◌⊎◌, ℕ, Bool, [], Option, Some, None, MatchOption}
 use Rattle.tw_flags.specs.declared.flag.StopFlag.{StopFlag}
-use Rattle.tw_flags.specs.Flags.{IsSet, IsShared, settings_of}
+use Rattle.tw_flags.specs.Flags.{IsSet, IsShared, values_of}
 use Rattle.tw_handles.specs.Asking.{Fails}
 use Rattle.tw_handles.specs.Codes.{done, no_memory, no_stop}
 use Rattle.tw_handles.specs.declared.held.Held.{Held}
@@ -13,17 +13,17 @@ IsFlagPut flag old new code = ((new ≡ Some (Stop flag)) × (code ≡ done)) �
 
 -- the handle holds a flag that nobody has set, or an allocation failed
 abbrev pub IsStopMade : Option Held → Option Held → ℕ → Type 0
-IsStopMade old new code = ((flag : StopFlag) × (settings_of flag ≡ []) × (new ≡ Some (Stop flag)) × (code ≡ done)) ⊎ Fails no_memory old new code
+IsStopMade old new code = ((flag : StopFlag) × (values_of flag ≡ []) × (new ≡ Some (Stop flag)) × (code ≡ done)) ⊎ Fails no_memory old new code
 
--- a handle with a flag; a null one has none
-abbrev pub WithFlag : Option Held → Type 0 → (StopFlag → Type 0) → Type 0
-WithFlag None Without With = Without
-WithFlag (Some (Program verified)) Without With = Without
-WithFlag (Some (Inputs inputs)) Without With = Without
-WithFlag (Some (Container container)) Without With = Without
-WithFlag (Some (Report left)) Without With = Without
-WithFlag (Some (Stop flag)) Without With = With flag
-WithFlag (Some (Text text)) Without With = Without
+-- returns the flag of a handle; a null one has none
+abbrev pub flag_in : Option Held → Option StopFlag
+flag_in None = None
+flag_in (Some (Program verified)) = None
+flag_in (Some (Inputs inputs)) = None
+flag_in (Some (Container container)) = None
+flag_in (Some (Report left)) = None
+flag_in (Some (Stop flag)) = Some flag
+flag_in (Some (Text text)) = None
 
 -- the handle holds the same flag, or an allocation failed
 abbrev pub IsFlagShared : StopFlag → Option Held → Option Held → ℕ → Type 0
@@ -31,8 +31,8 @@ IsFlagShared flag old new code = ((other : StopFlag) × IsShared flag other × (
 
 -- the other handle holds the same flag
 abbrev pub IsStopShared : Option Held → Option Held → Option Held → ℕ → Type 0
-IsStopShared held old new code = WithFlag held (Fails no_stop old new code) (λ flag. IsFlagShared flag old new code)
+IsStopShared held old new code = MatchOption (flag_in held) (Fails no_stop old new code) (λ flag. IsFlagShared flag old new code)
 
 -- the handle's flag was raised, or lowered
 abbrev pub IsStopSet : Bool → Option Held → Option Held → ℕ → Type 0
-IsStopSet raised old new code = WithFlag old (Fails no_stop old new code) (λ flag. (after : StopFlag) × IsSet raised flag after × (new ≡ Some (Stop after)) × (code ≡ done))
+IsStopSet raised old new code = MatchOption (flag_in old) (Fails no_stop old new code) (λ flag. (after : StopFlag) × IsSet raised flag after × (new ≡ Some (Stop after)) × (code ≡ done))

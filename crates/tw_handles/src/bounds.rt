@@ -1,12 +1,10 @@
 //! The bounds of a loaded program's runs.
 
-ghost use Rattle.std.specs.Prelude.{◌≡◌, Some};
-ghost use Rattle.tw_handles.specs.Caps.{AreBounds, AreBoundsIn, AreFound, number_of as number_of_is, numbers_of};
+ghost use Rattle.std.specs.Prelude.{◌≡◌};
+ghost use Rattle.tw_handles.specs.Caps.{AreBoundsIn, AreFound, number_of as number_of_is, numbers_of};
 ghost use Rattle.tw_handles.specs.Numbers.{filled};
 
 use crate::codes;
-use crate::handle::Handle;
-use crate::held::Held;
 use crate::numbers::put;
 use std::alloc::Global;
 use tw_bounds::{Bound, LimitedBounds, least_bounds};
@@ -61,8 +59,9 @@ fn find_bounds(alloc: Global, verified: &Verified, limit: Option<u32>, numbers: 
     }
 }
 
-/// Writes the bounds of a program, if the limit is in its range.
-fn bounds_in(alloc: Global, verified: &Verified, limit: usize, numbers: &mut [u64]) -> u8
+/// Writes the bounds of the program's runs with at most `limit` events, or of all runs if `limit` is 0. Returns `NO_LIMIT` if it is over
+/// 1,000,000.
+pub fn program_bounds(alloc: Global, verified: &Verified, limit: usize, numbers: &mut [u64]) -> u8
     ensures { AreBoundsIn verified.now limit numbers.old numbers.new result }
 {
     if limit == 0 {
@@ -72,29 +71,4 @@ fn bounds_in(alloc: Global, verified: &Verified, limit: usize, numbers: &mut [u6
     } else {
         codes::NO_LIMIT
     }
-}
-
-/// Writes the bounds of a program, if the contents are one.
-fn bounds_held(alloc: Global, held: &Held, limit: usize, numbers: &mut [u64]) -> u8
-    ensures { AreBounds (Some held.now) limit numbers.old numbers.new result }
-{
-    match held {
-        Held::Program(verified) => bounds_in(alloc, verified, limit, numbers),
-        Held::Inputs(_) | Held::Report(_) | Held::Stop(_) | Held::Container(_) | Held::Text(_) =>
-            codes::NO_PROGRAM,
-    }
-}
-
-/// Writes the bounds of the program's runs with at most `limit` events, or of all runs if `limit` is 0. Returns `NO_LIMIT` if it is over
-/// 1,000,000.
-pub fn program_bounds(alloc: Global, program: &mut Handle, limit: usize, numbers: &mut [u64]) -> u8
-    ensures kept { program.new.held ≡ program.old.held }
-    ensures is { AreBounds program.old.held limit numbers.old numbers.new result }
-{
-    let Some(whole) = program.take(alloc) else {
-        return codes::NO_PROGRAM;
-    };
-    let code = bounds_held(alloc, &whole, limit, numbers);
-    *program = Handle::of(whole);
-    code
 }

@@ -36,7 +36,7 @@ pub(crate) const NO_INDEX: u8 = 223;
 /// The value is no text.
 pub(crate) const NO_TEXT: u8 = 224;
 /// The bytes aren't UTF-8.
-pub(crate) const NO_UTF8: u8 = 225;
+pub const NO_UTF8: u8 = 225;
 /// The buffer is shorter than the text.
 pub(crate) const NO_ROOM: u8 = 226;
 /// The run has no end: it was stopped, or memory ran out.

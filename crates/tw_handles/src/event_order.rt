@@ -1,12 +1,10 @@
 //! Whether the order of events may show in the outputs of a loaded program.
 
-ghost use Rattle.std.specs.Prelude.{◌≡◌, Some};
-ghost use Rattle.tw_handles.specs.EventOrder.{IsOrder, IsOrderFound, order_of};
+ghost use Rattle.std.specs.Prelude.{◌≡◌};
+ghost use Rattle.tw_handles.specs.EventOrder.{IsOrderFound, order_of};
 ghost use Rattle.tw_handles.specs.Numbers.{filled};
 
 use crate::codes;
-use crate::handle::Handle;
-use crate::held::Held;
 use crate::numbers::put;
 use std::alloc::Global;
 use tw_copies::{CopyInsertion, first_copy_insertion};
@@ -25,8 +23,9 @@ fn put_order(found: Option<CopyInsertion>, numbers: &mut [u64])
     }
 }
 
-/// Finds the first contested insertion of a program, and writes it.
-fn find_order(alloc: Global, verified: &Verified, numbers: &mut [u64]) -> u8
+/// Writes whether the order of events may show in the program's outputs. If not, all runs with the same inputs that end by themselves end alike with
+/// the same outputs, in any layout and order. Otherwise they may differ, and the first insertion that may make them so is written.
+pub fn program_order(alloc: Global, verified: &Verified, numbers: &mut [u64]) -> u8
     ensures { IsOrderFound verified.now numbers.old numbers.new result }
 {
     match first_copy_insertion(alloc, verified) {
@@ -36,29 +35,4 @@ fn find_order(alloc: Global, verified: &Verified, numbers: &mut [u64]) -> u8
         }
         Err(_) => codes::NO_MEMORY,
     }
-}
-
-/// Writes the order of a program, if the contents are one.
-fn order_held(alloc: Global, held: &Held, numbers: &mut [u64]) -> u8
-    ensures { IsOrder (Some held.now) numbers.old numbers.new result }
-{
-    match held {
-        Held::Program(verified) => find_order(alloc, verified, numbers),
-        Held::Inputs(_) | Held::Report(_) | Held::Stop(_) | Held::Container(_) | Held::Text(_) =>
-            codes::NO_PROGRAM,
-    }
-}
-
-/// Writes whether the order of events may show in the program's outputs. If not, all runs with the same inputs that end by themselves end alike with
-/// the same outputs, in any layout and order. Otherwise they may differ, and the first insertion that may make them so is written.
-pub fn program_order(alloc: Global, program: &mut Handle, numbers: &mut [u64]) -> u8
-    ensures kept { program.new.held ≡ program.old.held }
-    ensures is { IsOrder program.old.held numbers.old numbers.new result }
-{
-    let Some(whole) = program.take(alloc) else {
-        return codes::NO_PROGRAM;
-    };
-    let code = order_held(alloc, &whole, numbers);
-    *program = Handle::of(whole);
-    code
 }

@@ -91,11 +91,21 @@ impl Handle {
     }
 
     /// Takes the box out, which leaves a null handle.
-    pub(crate) fn take(&mut self, alloc: Global) -> Option<Box<Held>>
+    pub fn take(&mut self, alloc: Global) -> Option<Box<Held>>
         ensures empty { self.new.held ≡ None }
         ensures taken { option_map (λ b. b.value) result ≡ self.old.held }
     {
         replace(self, Handle::empty(alloc)).into_box()
+    }
+
+    /// Puts the box back that `take` took out.
+    pub fn put(&mut self, whole: Option<Box<Held>>)
+        requires { self.old.held ≡ None }
+        ensures { self.new.held ≡ option_map (λ b. b.value) whole }
+    {
+        if let Some(whole) = whole {
+            *self = Handle::of(whole);
+        }
     }
 }
 

@@ -156,8 +156,8 @@ pub(crate) fn value_of(datum: Option<&Datum>) -> Option<&Value>
     }
 }
 
-/// Writes a text to the start of a buffer, or returns `NO_ROOM` if it doesn't fit.
-pub(crate) fn fill(text: &[u8], room: &mut [u8]) -> u8
+/// Writes a text to the start of a buffer. Returns `NO_ROOM` if the buffer is shorter.
+pub fn fill(text: &[u8], room: &mut [u8]) -> u8
     ensures { IsFilled text.now room.old room.new result }
 {
     let length = text.len();

@@ -2,8 +2,9 @@
 
 ghost use Rattle.std.specs.Prelude.{◌≡◌, IfOk, Some};
 ghost use Rattle.tw_handles.specs.Codes.{loading_code};
-ghost use Rattle.tw_handles.specs.Loading.{IsKept, IsLoading, IsSourceLoaded, IsVerified, IsWithinLength, program_in, verdict_at as verdict_at_is, verdict_numbers};
+ghost use Rattle.tw_handles.specs.Loading.{IsKept, IsLoading, IsSourceLoaded, IsVerified, IsWithinLength, program_in, verdict_numbers};
 ghost use Rattle.tw_handles.specs.Numbers.{filled};
+ghost use Rattle.tw_handles.specs.Texts.{MayBeTold};
 ghost use Rattle.tw_verdict.specs.Format.{format_of as format_is};
 
 use crate::codes;
@@ -11,9 +12,10 @@ use crate::handle::Handle;
 use crate::held::Held;
 use crate::numbers::put;
 use crate::running::option_at;
+use crate::texts::keep_text;
 use std::alloc::{AllocError, Global};
 use std::sync::Arc;
-use tw_verdict::{Format, SourceVerdict, Verdict, format_of, read_source, verdict_of};
+use tw_verdict::{Format, SourceVerdict, format_of, read_source, refused_at, without_line};
 use tw_verify::Verified;
 
 /// The greatest length of a source, if the caller says none: that of a session.
@@ -56,37 +58,18 @@ fn load(
     format: Format,
     newest: u64,
     source: &[u8],
+    told: bool,
     program: &mut Handle,
-) -> SourceVerdict
-    ensures { IsSourceLoaded format newest source.now program.old.held program.new.held result }
+) -> (SourceVerdict, Option<Vec<u8>>)
+    ensures { IsSourceLoaded format newest source.now program.old.held program.new.held result.0 }
 {
-    let (found, reading) = read_source(alloc, format, source);
+    let (found, reading, words) = read_source(alloc, format, source, told);
     match found {
         Some(verified) if u64::from(verified.program().version().number()) <= newest => {
-            keep(alloc, verified, reading, program)
+            (keep(alloc, verified, reading, program), None)
         }
-        Some(_) => verdict_at(b'F', 2, 3),
-        None => reading,
-    }
-}
-
-/// Returns a verdict of a letter, a number, and a byte of the source.
-fn verdict_at(letter: u8, number: u8, place: usize) -> SourceVerdict
-    ensures { result ≡ verdict_at_is letter number place }
-{
-    let verdict = Verdict {
-        letter,
-        number,
-        engines: 0,
-        workers: 0,
-        procedure: 0,
-        place,
-    };
-    SourceVerdict {
-        verdict,
-        line: 0,
-        word: 0,
-        column: 0,
+        Some(_) => (without_line(refused_at(b'F', 2, 0, 3)), None),
+        None => (reading, words),
     }
 }
 
@@ -96,15 +79,16 @@ fn load_within(
     format: Format,
     options: &[u64],
     source: &[u8],
+    told: bool,
     program: &mut Handle,
-) -> SourceVerdict
-    ensures { IsWithinLength format options.now source.now program.old.held program.new.held result }
+) -> (SourceVerdict, Option<Vec<u8>>)
+    ensures { IsWithinLength format options.now source.now program.old.held program.new.held result.0 }
 {
     if source.len() as u64 > option_at(options, 0, USUAL_MOST) {
-        verdict_at(b'H', 2, 0)
+        (without_line(refused_at(b'H', 2, 0, 0)), None)
     } else {
         let newest = option_at(options, 1, USUAL_NEWEST);
-        load(alloc, format, newest, source, program)
+        load(alloc, format, newest, source, told, program)
     }
 }
 
@@ -147,7 +131,41 @@ pub fn load_source(
         return codes::NO_OPTIONS;
     }
     let format = format_of(format, source);
-    let verdict = load_within(alloc, format, options, source, program);
+    let (verdict, _words) = load_within(alloc, format, options, source, false, program);
+    put_verdict(verdict, numbers)
+}
+
+/// Puts words about an error in a line into a handle, if there are some.
+fn keep_words(alloc: Global, line: usize, made: Option<Vec<u8>>, words: &mut Handle)
+    ensures { MayBeTold words.old.held words.new.held }
+{
+    match made {
+        Some(made) if line > 0 => {
+            let _code = keep_text(alloc, made, words);
+        }
+        _ => {}
+    }
+}
+
+/// Like `load_source`. If the source is an assembly text with an error in a line, the handle `words` holds what `tw check --text` prints of it.
+pub fn load_told(
+    alloc: Global,
+    source: &[u8],
+    format: u8,
+    options: &[u64],
+    program: &mut Handle,
+    numbers: &mut [u64],
+    words: &mut Handle,
+) -> u8
+    ensures loading { IsLoading (format_is format source.now) options.now source.now program.old.held program.new.held numbers.old numbers.new result }
+    ensures words { MayBeTold words.old.held words.new.held }
+{
+    if options.len() > 2 {
+        return codes::NO_OPTIONS;
+    }
+    let format = format_of(format, source);
+    let (verdict, made) = load_within(alloc, format, options, source, true, program);
+    keep_words(alloc, verdict.line, made, words);
     put_verdict(verdict, numbers)
 }
 
@@ -155,12 +173,6 @@ pub fn load_source(
 pub fn verify(alloc: Global, bytes: &[u8], numbers: &mut [u64]) -> u8
     ensures { IsVerified bytes.now numbers.old numbers.new result }
 {
-    let verdict = verdict_of(alloc, bytes);
-    let at = SourceVerdict {
-        verdict,
-        line: 0,
-        word: 0,
-        column: 0,
-    };
-    put_verdict(at, numbers)
+    let (_found, verdict, _words) = read_source(alloc, Format::Bytes, bytes, false);
+    put_verdict(verdict, numbers)
 }

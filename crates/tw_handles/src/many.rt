@@ -1,19 +1,15 @@
 //! Calls that read many members of an output at once, or values of one that is a map.
 
-ghost use Rattle.std.specs.Prelude.{◌≡◌, ◌↔◌, ◌<◌, ◌≤◌, ◌+◌, IfSome, IsTrue, Some, length, option_map};
+ghost use Rattle.std.specs.Prelude.{◌≡◌, ◌↔◌, ◌<◌, ◌≤◌, ◌+◌, IfSome, IsTrue, length, option_map};
 ghost use Rattle.std.specs.Option.{option_copied};
 ghost use Rattle.tw_store.specs.Served.{KnowsPlaces};
-ghost use Rattle.tw_handles.specs.Many.{AreMembers, AreRead, AreReadIn};
+ghost use Rattle.tw_handles.specs.Many.{AreRead, AreReadIn};
 ghost use Rattle.tw_handles.specs.Shown.{shown_by, shown_if, shown_of};
 
 use crate::codes;
-use crate::handle::Handle;
-use crate::held::Held;
 use crate::item::value_item;
 use crate::members::Member;
-use crate::report::readable;
 use crate::shown::shown_in;
-use std::alloc::Global;
 use tw_pool::Final;
 use tw_store::Datum;
 
@@ -66,8 +62,9 @@ fn read_members(outcome: &Final, datum: &Datum, first: usize, room: &mut [Member
     codes::DONE
 }
 
-/// Describes the members or values of an output.
-fn members_in_output(outcome: &Final, index: usize, first: usize, room: &mut [Member]) -> u8
+/// Describes the members or values of an output from a place on, as many as `room` has items. Returns `NO_INDEX` if there are fewer; then `room` holds
+/// some of them or what it held before.
+pub fn output_members(outcome: &Final, index: usize, first: usize, room: &mut [Member]) -> u8
     ensures { AreReadIn outcome.now index first room.old room.new result }
 {
     if outcome.outputs().len() <= index {
@@ -78,34 +75,4 @@ fn members_in_output(outcome: &Final, index: usize, first: usize, room: &mut [Me
         None if first == 0 && room.is_empty() => codes::DONE,
         None => codes::NO_INDEX,
     }
-}
-
-/// Describes those of an output of a report, if the contents are one.
-fn members_held(held: &Held, index: usize, first: usize, room: &mut [Member]) -> u8
-    ensures { AreMembers (Some held.now) index first room.old room.new result }
-{
-    match readable(held) {
-        Ok(outcome) => members_in_output(outcome, index, first, room),
-        Err(code) => code,
-    }
-}
-
-/// Describes the members or values of an output from a place on, as many as `room` has items. Returns `NO_INDEX` if there are fewer; then `room` holds
-/// some of them or what it held before.
-pub fn output_members(
-    alloc: Global,
-    report: &mut Handle,
-    index: usize,
-    first: usize,
-    room: &mut [Member],
-) -> u8
-    ensures kept { report.new.held ≡ report.old.held }
-    ensures is { AreMembers report.old.held index first room.old room.new result }
-{
-    let Some(whole) = report.take(alloc) else {
-        return codes::NO_REPORT;
-    };
-    let code = members_held(&whole, index, first, room);
-    *report = Handle::of(whole);
-    code
 }

@@ -1,15 +1,12 @@
 //! Whether another order of events may show in the outputs of a run that was made.
 
-ghost use Rattle.std.specs.Prelude.{◌≡◌, Some};
-ghost use Rattle.tw_handles.specs.Certificates.{IsNumbered, IsRunOrder, certificate_numbers};
+ghost use Rattle.std.specs.Prelude.{◌≡◌};
+ghost use Rattle.tw_handles.specs.Certificates.{IsNumbered, certificate_numbers};
 ghost use Rattle.tw_handles.specs.Numbers.{filled};
 
 use crate::certificate::Certificate;
 use crate::codes;
-use crate::handle::Handle;
-use crate::held::Held;
 use crate::numbers::put;
-use std::alloc::Global;
 
 /// Writes 0 for the same in every order, 1 with the first contested insertion's procedure and place, or 2 for a run that was cut off.
 fn put_certificate(certificate: Certificate, numbers: &mut [u64])
@@ -25,8 +22,9 @@ fn put_certificate(certificate: Certificate, numbers: &mut [u64])
     }
 }
 
-/// Writes a certificate in numbers, if there is one.
-fn number(made: Option<Certificate>, numbers: &mut [u64]) -> u8
+/// Writes the certificate of a run whose options asked for it. If it is 0, all runs with the same inputs that end by themselves, in any layout and
+/// order of events, end like this one, with its outputs. Returns `NO_ORDER` if the report has no certificate.
+pub fn report_order(made: Option<Certificate>, numbers: &mut [u64]) -> u8
     ensures { IsNumbered made numbers.old numbers.new result }
 {
     match made {
@@ -36,29 +34,4 @@ fn number(made: Option<Certificate>, numbers: &mut [u64]) -> u8
         }
         None => codes::NO_ORDER,
     }
-}
-
-/// Writes the certificate of a report, if the contents are one.
-fn order_held(held: &Held, numbers: &mut [u64]) -> u8
-    ensures { IsRunOrder (Some held.now) numbers.old numbers.new result }
-{
-    match held {
-        Held::Report(run) => number(run.certificate, numbers),
-        Held::Program(_) | Held::Inputs(_) | Held::Stop(_) | Held::Container(_) | Held::Text(_) =>
-            codes::NO_REPORT,
-    }
-}
-
-/// Writes the certificate of a run whose options asked for it. If it is 0, all runs with the same inputs that end by themselves, in any layout and
-/// order of events, end like this one, with its outputs. Returns `NO_ORDER` if the report has no certificate.
-pub fn report_order(alloc: Global, report: &mut Handle, numbers: &mut [u64]) -> u8
-    ensures kept { report.new.held ≡ report.old.held }
-    ensures is { IsRunOrder report.old.held numbers.old numbers.new result }
-{
-    let Some(whole) = report.take(alloc) else {
-        return codes::NO_REPORT;
-    };
-    let code = order_held(&whole, numbers);
-    *report = Handle::of(whole);
-    code
 }

@@ -6,10 +6,11 @@ ghost use Rattle.tw_handles.specs.Running.{IsRun, IsRunBy, IsRunByFlag, IsRunIfW
 
 use crate::caps::{AllCaps, is_admitted};
 use crate::certificate::{asks, certify_if};
-use crate::codes;
 use crate::finished::Finished;
 use crate::handle::Handle;
 use crate::held::Held;
+use crate::view::{inputs_of, program_of};
+use crate::{codes, reading};
 use std::alloc::Global;
 use tw_flags::StopFlag;
 use tw_in_turn::run_until;
@@ -148,24 +149,6 @@ fn run_in<S: StopSignal>(
     }
 }
 
-/// Runs a program, if the contents are inputs.
-fn run_with_held<S: StopSignal>(
-    alloc: Global,
-    verified: &Verified,
-    inputs: &Held,
-    order: RunOrder,
-    stop: &mut S,
-    report: &mut Handle,
-) -> u8
-    ensures { IsRunWith (Looked S.says stop.old stop.new) verified.now (Some inputs.now) order report.old.held report.new.held result }
-{
-    match inputs {
-        Held::Inputs(inputs) => run_in(alloc, verified, inputs.as_slice(), order, stop, report),
-        Held::Program(_) | Held::Report(_) | Held::Stop(_) | Held::Container(_) | Held::Text(_) =>
-            codes::NO_INPUTS,
-    }
-}
-
 /// Runs a program with the inputs of a handle.
 fn run_with<S: StopSignal>(
     alloc: Global,
@@ -178,35 +161,10 @@ fn run_with<S: StopSignal>(
     ensures kept { inputs.new.held ≡ inputs.old.held }
     ensures is { IsRunWith (Looked S.says stop.old stop.new) verified.now inputs.old.held order report.old.held report.new.held result }
 {
-    let Some(whole) = inputs.take(alloc) else {
-        let none = Vec::new(alloc);
-        return run_in(alloc, verified, none.as_slice(), order, stop, report);
-    };
-    let code = run_with_held(alloc, verified, &whole, order, stop, report);
-    *inputs = Handle::of(whole);
-    code
+    reading!(alloc, inputs, inputs_of, given => run_in(alloc, verified, given, order, stop, report))
 }
 
-/// Runs a program with the inputs of a handle, if the contents are a program.
-fn run_held<S: StopSignal>(
-    alloc: Global,
-    program: &Held,
-    inputs: &mut Handle,
-    order: RunOrder,
-    stop: &mut S,
-    report: &mut Handle,
-) -> u8
-    ensures kept { inputs.new.held ≡ inputs.old.held }
-    ensures is { IsRunBy (Looked S.says stop.old stop.new) (Some program.now) inputs.old.held order report.old.held report.new.held result }
-{
-    match program {
-        Held::Program(verified) => run_with(alloc, verified, inputs, order, stop, report),
-        Held::Inputs(_) | Held::Report(_) | Held::Stop(_) | Held::Container(_) | Held::Text(_) =>
-            codes::NO_PROGRAM,
-    }
-}
-
-/// Runs the program of a handle.
+/// Runs the program of a handle with the inputs of another.
 fn run_program<S: StopSignal>(
     alloc: Global,
     program: &mut Handle,
@@ -219,12 +177,7 @@ fn run_program<S: StopSignal>(
     ensures inputs { inputs.new.held ≡ inputs.old.held }
     ensures is { IsRunBy (Looked S.says stop.old stop.new) program.old.held inputs.old.held order report.old.held report.new.held result }
 {
-    let Some(whole) = program.take(alloc) else {
-        return codes::NO_PROGRAM;
-    };
-    let code = run_held(alloc, &whole, inputs, order, stop, report);
-    *program = Handle::of(whole);
-    code
+    reading!(alloc, program, program_of, verified => run_with(alloc, verified, inputs, order, stop, report))
 }
 
 /// Runs it until a flag is raised. If the run was opened, the flag's holder has then seen what the run saw.

@@ -1,13 +1,13 @@
 //! Calls on the procedures of a loaded program.
 
-ghost use Rattle.std.specs.Prelude.{◌≡◌, IfOk, Some};
+ghost use Rattle.std.specs.Prelude.{◌≡◌, IfOk};
+ghost use Rattle.tw_handles.specs.Codes.{done};
 ghost use Rattle.tw_handles.specs.Texts.{IsTextMade};
-ghost use Rattle.tw_handles.specs.Shape.{AreNeeds, IsNameIn, IsNameRead, IsParameter, IsParameterIn, IsSection, IsSectionIn, by_inside as by_inside_is, by_of as by_of_is, kind_letter as kind_letter_is, map_letter as map_letter_is, members_of as members_of_is, mode_letter as mode_letter_is, parameter_at as parameter_at_is, parameter_of, section_of};
+ghost use Rattle.tw_handles.specs.Shape.{IsNameIn, IsNameRead, IsParameterIn, IsSectionIn, by_inside as by_inside_is, by_of as by_of_is, kind_letter as kind_letter_is, map_letter as map_letter_is, members_of as members_of_is, mode_letter as mode_letter_is, needs_of, parameter_at as parameter_at_is, parameter_of, section_of};
 ghost use Rattle.tw_handles.specs.Numbers.{filled};
 
 use crate::codes;
 use crate::handle::Handle;
-use crate::held::Held;
 use crate::item::{leaf_letter, letter_of};
 use crate::numbers::put;
 use crate::texts::keep_text;
@@ -35,8 +35,9 @@ fn put_section(procedure: &Procedure, numbers: &mut [u64])
     put(&[parameters, kind_letter(procedure.kind) as u64], numbers);
 }
 
-/// Describes a procedure in numbers.
-fn section_in(verified: &Verified, procedure: usize, numbers: &mut [u64]) -> u8
+/// Describes a procedure in numbers: how many parameters it has, and its kind, `c` control or `l` leaf. Returns `NO_INDEX` if there is no
+/// such procedure.
+pub fn describe_procedure(verified: &Verified, procedure: usize, numbers: &mut [u64]) -> u8
     ensures { IsSectionIn verified.now procedure numbers.old numbers.new result }
 {
     match verified.program().procedures().get(procedure) {
@@ -46,36 +47,6 @@ fn section_in(verified: &Verified, procedure: usize, numbers: &mut [u64]) -> u8
         }
         None => codes::NO_INDEX,
     }
-}
-
-/// Describes a procedure of a program, if the contents are one.
-fn section_held(held: &Held, procedure: usize, numbers: &mut [u64]) -> u8
-    ensures { IsSection (Some held.now) procedure numbers.old numbers.new result }
-{
-    match held {
-        Held::Program(verified) => section_in(verified, procedure, numbers),
-        Held::Inputs(_) | Held::Report(_) | Held::Stop(_) | Held::Container(_) | Held::Text(_) =>
-            codes::NO_PROGRAM,
-    }
-}
-
-/// Describes a procedure in numbers: how many parameters it has, and its kind, `c` control or `l` leaf. Returns `NO_INDEX` if there is no
-/// such procedure.
-pub fn describe_procedure(
-    alloc: Global,
-    program: &mut Handle,
-    procedure: usize,
-    numbers: &mut [u64],
-) -> u8
-    ensures kept { program.new.held ≡ program.old.held }
-    ensures is { IsSection program.old.held procedure numbers.old numbers.new result }
-{
-    let Some(whole) = program.take(alloc) else {
-        return codes::NO_PROGRAM;
-    };
-    let code = section_held(&whole, procedure, numbers);
-    *program = Handle::of(whole);
-    code
 }
 
 /// Returns the letter of a mode.
@@ -161,8 +132,13 @@ fn parameter_at(verified: &Verified, procedure: usize, index: usize) -> Option<P
     }
 }
 
-/// Describes a parameter in numbers.
-fn parameter_in(verified: &Verified, procedure: usize, index: usize, numbers: &mut [u64]) -> u8
+/// Describes a parameter of a procedure. Returns `NO_INDEX` if there is no such procedure or parameter.
+pub fn describe_parameter(
+    verified: &Verified,
+    procedure: usize,
+    index: usize,
+    numbers: &mut [u64],
+) -> u8
     ensures { IsParameterIn verified.now procedure index numbers.old numbers.new result }
 {
     match parameter_at(verified, procedure, index) {
@@ -174,62 +150,14 @@ fn parameter_in(verified: &Verified, procedure: usize, index: usize, numbers: &m
     }
 }
 
-/// Describes a parameter of a program, if the contents are one.
-fn parameter_held(held: &Held, procedure: usize, index: usize, numbers: &mut [u64]) -> u8
-    ensures { IsParameter (Some held.now) procedure index numbers.old numbers.new result }
-{
-    match held {
-        Held::Program(verified) => parameter_in(verified, procedure, index, numbers),
-        Held::Inputs(_) | Held::Report(_) | Held::Stop(_) | Held::Container(_) | Held::Text(_) =>
-            codes::NO_PROGRAM,
-    }
-}
-
-/// Describes a parameter of a procedure. Returns `NO_INDEX` if there is no such procedure or parameter.
-pub fn describe_parameter(
-    alloc: Global,
-    program: &mut Handle,
-    procedure: usize,
-    index: usize,
-    numbers: &mut [u64],
-) -> u8
-    ensures kept { program.new.held ≡ program.old.held }
-    ensures is { IsParameter program.old.held procedure index numbers.old numbers.new result }
-{
-    let Some(whole) = program.take(alloc) else {
-        return codes::NO_PROGRAM;
-    };
-    let code = parameter_held(&whole, procedure, index, numbers);
-    *program = Handle::of(whole);
-    code
-}
-
-/// Writes the needs of a program, if the contents are one.
-fn needs_held(held: &Held, numbers: &mut [u64]) -> u8
-    ensures { AreNeeds (Some held.now) numbers.old numbers.new result }
-{
-    match held {
-        Held::Program(verified) => {
-            let (engines, workers) = verified.needs();
-            put(&[engines as u64, workers as u64], numbers);
-            codes::DONE
-        }
-        Held::Inputs(_) | Held::Report(_) | Held::Stop(_) | Held::Container(_) | Held::Text(_) =>
-            codes::NO_PROGRAM,
-    }
-}
-
 /// Writes how many engines and workers a run of a program needs.
-pub fn read_needs(alloc: Global, program: &mut Handle, numbers: &mut [u64]) -> u8
-    ensures kept { program.new.held ≡ program.old.held }
-    ensures is { AreNeeds program.old.held numbers.old numbers.new result }
+pub fn read_needs(verified: &Verified, numbers: &mut [u64]) -> u8
+    ensures numbers { numbers.new ≡ filled (needs_of verified.now) numbers.old }
+    ensures code { result ≡ done }
 {
-    let Some(whole) = program.take(alloc) else {
-        return codes::NO_PROGRAM;
-    };
-    let code = needs_held(&whole, numbers);
-    *program = Handle::of(whole);
-    code
+    let (engines, workers) = verified.needs();
+    put(&[engines as u64, workers as u64], numbers);
+    codes::DONE
 }
 
 /// Returns the name that a text gives a procedure.

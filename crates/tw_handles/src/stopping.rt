@@ -1,7 +1,7 @@
 //! Stop flags.
 
-ghost use Rattle.std.specs.Prelude.{◌≡◌, Some, true, false};
-ghost use Rattle.tw_handles.specs.Stops.{IsFlagPut, IsStopMade, IsStopSet, IsStopShared};
+ghost use Rattle.std.specs.Prelude.{Some, true, false};
+ghost use Rattle.tw_handles.specs.Stops.{IsFlagPut, IsFlagShared, IsStopMade, IsStopSet};
 
 use crate::codes;
 use crate::handle::Handle;
@@ -32,31 +32,14 @@ pub fn stop_new(alloc: Global, stop: &mut Handle) -> u8
     }
 }
 
-/// Puts the same flag into another handle, if the contents are one.
-fn share_held(alloc: Global, held: &Held, other: &mut Handle) -> u8
-    ensures { IsStopShared (Some held.now) other.old.held other.new.held result }
+/// Makes `other` another handle of a flag, for use in another thread.
+pub fn stop_share(alloc: Global, flag: &StopFlag, other: &mut Handle) -> u8
+    ensures { IsFlagShared flag.now other.old.held other.new.held result }
 {
-    match held {
-        Held::Stop(flag) => match flag.share() {
-            Ok(copy) => put_flag(alloc, copy, other),
-            Err(_) => codes::NO_MEMORY,
-        },
-        Held::Program(_) | Held::Inputs(_) | Held::Report(_) | Held::Container(_) | Held::Text(_) =>
-            codes::NO_STOP,
+    match flag.share() {
+        Ok(copy) => put_flag(alloc, copy, other),
+        Err(_) => codes::NO_MEMORY,
     }
-}
-
-/// Makes `other` another handle of the flag that `stop` holds, for use in another thread.
-pub fn stop_share(alloc: Global, stop: &mut Handle, other: &mut Handle) -> u8
-    ensures kept { stop.new.held ≡ stop.old.held }
-    ensures shared { IsStopShared stop.old.held other.old.held other.new.held result }
-{
-    let Some(whole) = stop.take(alloc) else {
-        return codes::NO_STOP;
-    };
-    let code = share_held(alloc, &whole, other);
-    *stop = Handle::of(whole);
-    code
 }
 
 /// Sets a flag, if the contents are one.

@@ -1,12 +1,12 @@
 //! Texts that a handle holds.
 
-ghost use Rattle.std.specs.Prelude.{◌≡◌, IfOk, Some, option_map};
-ghost use Rattle.tw_handles.specs.Texts.{IsTextCopied, IsTextKept, IsTextLength, text_in};
+ghost use Rattle.std.specs.Prelude.{◌≡◌, IfOk, Some, length, option_map};
+ghost use Rattle.tw_handles.specs.Codes.{done};
+ghost use Rattle.tw_handles.specs.Texts.{IsTextKept, text_in};
 
 use crate::codes;
 use crate::handle::Handle;
 use crate::held::Held;
-use crate::item::fill;
 use std::alloc::{AllocError, Global};
 
 /// Puts a text into a new handle.
@@ -50,53 +50,11 @@ pub fn take_text(alloc: Global, text: &mut Handle) -> Option<Vec<u8>>
     }
 }
 
-/// Writes the length of a text in bytes, if the contents are one.
-fn length_held(held: &Held, length: &mut usize) -> u8
-    ensures { IsTextLength (Some held.now) length.old length.new result }
-{
-    match held {
-        Held::Text(text) => {
-            *length = text.len();
-            codes::DONE
-        }
-        Held::Program(_) | Held::Inputs(_) | Held::Report(_) | Held::Stop(_) | Held::Container(_) =>
-            codes::NO_STRING,
-    }
-}
-
 /// Writes the length of a text in bytes.
-pub fn text_length(alloc: Global, text: &mut Handle, length: &mut usize) -> u8
-    ensures kept { text.new.held ≡ text.old.held }
-    ensures is { IsTextLength text.old.held length.old length.new result }
+pub fn text_length(text: &[u8], count: &mut usize) -> u8
+    ensures count { count.new ≡ length text.now }
+    ensures code { result ≡ done }
 {
-    let Some(whole) = text.take(alloc) else {
-        return codes::NO_STRING;
-    };
-    let code = length_held(&whole, length);
-    *text = Handle::of(whole);
-    code
-}
-
-/// Copies a text, if the contents are one.
-fn copy_held(held: &Held, room: &mut [u8]) -> u8
-    ensures { IsTextCopied (Some held.now) room.old room.new result }
-{
-    match held {
-        Held::Text(text) => fill(text, room),
-        Held::Program(_) | Held::Inputs(_) | Held::Report(_) | Held::Stop(_) | Held::Container(_) =>
-            codes::NO_STRING,
-    }
-}
-
-/// Writes a text to the start of a buffer. Returns `NO_ROOM` if the buffer is shorter.
-pub fn text_copy(alloc: Global, text: &mut Handle, room: &mut [u8]) -> u8
-    ensures kept { text.new.held ≡ text.old.held }
-    ensures is { IsTextCopied text.old.held room.old room.new result }
-{
-    let Some(whole) = text.take(alloc) else {
-        return codes::NO_STRING;
-    };
-    let code = copy_held(&whole, room);
-    *text = Handle::of(whole);
-    code
+    *count = text.len();
+    codes::DONE
 }

@@ -34,7 +34,7 @@ replay_of order = record { answer = Report; layout = order.options.layout; input
 -- holds for the report of a run that ended so, with its details, if the program was read from a text
 abbrev pub IsReportOf : Option (List ℕ) → List Procedure → RunOrder → List Event → State → Ending → Reply → Type 0
 IsReportOf text program order events s e r =
-    (printed more : List ℕ) × IsRunText run.Report text program order events s (closing_of e) printed × AreRunDetails run.Report text program order events s (closing_of e) more
+    (printed more : List ℕ) × IsRunText run.Report text program order events 0 s (closing_of e) printed × AreRunDetails run.Report text program order events s (closing_of e) more
     × (r ≡ reply (printed ++ more) (close_of (closing_of e)))
 
 -- each reply to the replay of what `run --trace` writes, for a run that ended by itself, is the report of this run

@@ -64,21 +64,21 @@ replay_there program order first read events r same all from =
 
 -- ---- output
 
-module _ (given answer : RunAnswer) (is : given ≡ answer) (text : Option (List ℕ)) (program : List Procedure) (order : RunOrder) (events : List Event) (s : State) (closing : Closing) (old : List ℕ) where
+module _ (given answer : RunAnswer) (is : given ≡ answer) (text : Option (List ℕ)) (program : List Procedure) (order : RunOrder) (events : List Event) (cut : ℕ) (s : State) (closing : Closing) (old : List ℕ) where
   abbrev pub Prints : RunAnswer → List ℕ → Type 0
-  Prints a new = Adds (IsRunOutput a text program order events s closing) old new
+  Prints a new = Adds (IsRunOutput a text program order events cut s closing) old new
 
   -- without lines at the end
-  pub alone : (printed new : List ℕ) → IsRunText answer text program order events s closing printed → AreRunDetails answer text program order events s closing [] → new ≡ old ++ printed → Prints given new
+  pub alone : (printed new : List ℕ) → IsRunText answer text program order events cut s closing printed → AreRunDetails answer text program order events s closing [] → new ≡ old ++ printed → Prints given new
   alone printed new prints none added = subst (λ (a : RunAnswer). Prints a new) (sym is) (printed, (printed, [], prints, none, sym (append-nil printed)), added)
 
   -- after a report
-  pub ended : (printed more middle new : List ℕ) → IsRunText answer text program order events s closing printed → AreRunDetails answer text program order events s closing more → middle ≡ old ++ printed → new ≡ middle ++ more → Prints given new
+  pub ended : (printed more middle new : List ℕ) → IsRunText answer text program order events cut s closing printed → AreRunDetails answer text program order events s closing more → middle ≡ old ++ printed → new ≡ middle ++ more → Prints given new
   ended printed more middle new prints are added whole =
       subst (λ (a : RunAnswer). Prints a new) (sym is) (printed ++ more, (printed, more, prints, are, refl), whole ∙ ap (λ (t : List ℕ). t ++ more) added ∙ append_assoc old printed more)
 
   -- after a report and other lines
-  pub ended_after : (printed lines more middle new : List ℕ) → IsRunText answer text program order events s closing (printed ++ lines) → AreRunDetails answer text program order events s closing more → middle ≡ old ++ printed
+  pub ended_after : (printed lines more middle new : List ℕ) → IsRunText answer text program order events cut s closing (printed ++ lines) → AreRunDetails answer text program order events s closing more → middle ≡ old ++ printed
       → new ≡ middle ++ (lines ++ more) → Prints given new
   ended_after printed lines more middle new prints are added whole =
       ended (printed ++ lines) more (middle ++ lines) new prints are (ap (λ (t : List ℕ). t ++ lines) added ∙ append_assoc old printed lines) (whole ∙ sym (append_assoc middle lines more))

@@ -51,17 +51,18 @@ run_report text program order s closing = end_report program s (Some closing) ++
 abbrev pub begins : Version → List Procedure → RunOrder → PlainView
 begins version program order = record { version = version; program = program; layout = order.options.layout; state = opening program order.inputs }
 
--- holds if this is the requested output: the report, also with statistics or the order, a JSON line, or a timeline, which is XML of printed bytes
-abbrev pub IsRunText : RunAnswer → Option (List ℕ) → List Procedure → RunOrder → List Event → State → Closing → List ℕ → Type 0
-IsRunText Report text program order events s closing printed = printed ≡ run_report text program order s closing
-IsRunText Json text program order events s closing printed = (cut : ℕ) × (printed ≡ run_line program events cut s closing)
-IsRunText Order text program order events s closing printed =
+-- Holds if this is the requested output: the report, also with statistics or the order, a JSON line, or a timeline, which is XML of printed bytes.
+-- Tasks that were cut off have executed `cut` local instructions.
+abbrev pub IsRunText : RunAnswer → Option (List ℕ) → List Procedure → RunOrder → List Event → ℕ → State → Closing → List ℕ → Type 0
+IsRunText Report text program order events cut s closing printed = printed ≡ run_report text program order s closing
+IsRunText Json text program order events cut s closing printed = printed ≡ run_line program events cut s closing
+IsRunText Order text program order events cut s closing printed =
     (found : Option CopyInsertion) × (lines : List ℕ) × IsFirstContest program order.inputs order.options.layout events found × IsOrderText text closing found lines × (printed ≡ run_report text program order s closing ++ lines)
-IsRunText OrderJson text program order events s closing printed =
-    (found : Option CopyInsertion) × (cut : ℕ) × IsFirstContest program order.inputs order.options.layout events found × (printed ≡ order_line closing found (members_of program events cut s closing))
-IsRunText Numbers text program order events s closing printed =
+IsRunText OrderJson text program order events cut s closing printed =
+    (found : Option CopyInsertion) × IsFirstContest program order.inputs order.options.layout events found × (printed ≡ order_line closing found (members_of program events cut s closing))
+IsRunText Numbers text program order events cut s closing printed =
     (numbers : List ℕ) × (printed ≡ run_report text program order s closing ++ numbers)
-IsRunText (Picture shown) text program order events s closing printed = IsXml printed × IsPrinted printed
+IsRunText (Picture shown) text program order events cut s closing printed = IsXml printed × IsPrinted printed
 
 -- returns the start of the run
 abbrev pub start_of : List Procedure → RunOrder → Start
@@ -89,6 +90,6 @@ AreRunDetails OrderJson text program order events s closing more = more ≡ []
 AreRunDetails (Picture shown) text program order events s closing more = more ≡ []
 
 -- holds for the requested output and the lines at the end
-abbrev pub IsRunOutput : RunAnswer → Option (List ℕ) → List Procedure → RunOrder → List Event → State → Closing → List ℕ → Type 0
-IsRunOutput answer text program order events s closing lines =
-    (printed : List ℕ) × (more : List ℕ) × IsRunText answer text program order events s closing printed × AreRunDetails answer text program order events s closing more × (lines ≡ printed ++ more)
+abbrev pub IsRunOutput : RunAnswer → Option (List ℕ) → List Procedure → RunOrder → List Event → ℕ → State → Closing → List ℕ → Type 0
+IsRunOutput answer text program order events cut s closing lines =
+    (printed : List ℕ) × (more : List ℕ) × IsRunText answer text program order events cut s closing printed × AreRunDetails answer text program order events s closing more × (lines ≡ printed ++ more)

@@ -278,7 +278,7 @@ fn put_outcome(
     requires finished { IsFinished verified.program order.now history.now.events }
     requires source { MayBeSource source.now verified.program }
     ensures { OnOk result ((over : IsRunOver verified.program order.now outcome.now history.now.events closing)
-        → (lines : List ℕ) × IsRunOutput order.now.options.answer (text_of source.now) verified.program order.now history.now.events over.state closing lines × (out.new.items ≡ out.old.items ++ lines)) }
+        → (lines : List ℕ) × IsRunOutput order.now.options.answer (text_of source.now) verified.program order.now history.now.events cut over.state closing lines × (out.new.items ≡ out.old.items ++ lines)) }
 {
     match order.options.answer {
         RunAnswer::Report => {
@@ -318,7 +318,7 @@ pub fn ended_reply(
     requires over { IsRunOver verified.program order.now outcome.now history.now.events closing }
     requires source { MayBeSource source.now verified.program }
     ensures { IfOk result (λ r. (over : IsRunOver verified.program order.now outcome.now history.now.events closing) → (printed : List ℕ) × (more : List ℕ)
-        × IsRunText order.now.options.answer (text_of source.now) verified.program order.now history.now.events over.state closing printed
+        × IsRunText order.now.options.answer (text_of source.now) verified.program order.now history.now.events cut over.state closing printed
         × AreRunDetails order.now.options.answer (text_of source.now) verified.program order.now history.now.events over.state closing more
         × (reply r.text.items r.close ≡ reply (trace_text order.now.options.trace history.now.events ++ (printed ++ more)) (close_of closing))) }
 {
@@ -330,5 +330,6 @@ pub fn ended_reply(
     Ok(Reply {
         text,
         close: close_of(closing),
+        more: None,
     })
 }

@@ -1,8 +1,8 @@
 -- Reading a source, by the reading of its bytes or of its text.
 use Rattle.std.proofs.Common.{◌≡◌, ◌≢◌, ◌⊎◌, ◌∙◌, ℕ, nat_eq, true, false, List, Option, Some, None, MatchOption, Ok, Err, inl, inr, refl, sym, ap, subst}
-use Rattle.std.specs.declared.result.Result.{Result}
-use Rattle.tw_binary.specs.Reading.{program_of}
+use Rattle.tw_binary.specs.Reading.{out_of_memory, program_of}
 use Rattle.tw_binary.specs.declared.fault.Fault.{Fault}
+use Rattle.tw_binary.specs.declared.fault.FaultNo.TheVariants as fault
 use Rattle.tw_asm.specs.Origins.{ComesFrom, at_place, instr_at}
 use Rattle.tw_order.specs.declared.order.Source.{Source}
 use Rattle.tw_order.specs.declared.order.Source.TheVariants.{Hex, Assembly}
@@ -24,46 +24,10 @@ use Rattle.tw_verify.specs.Rejection.{verify_error_code}
 use Rattle.tw_verify.specs.Typed.{TypedProgram}
 use Rattle.tw_verify.specs.declared.rejection.VerifyError.{VerifyError}
 use Rattle.tw_verify.specs.declared.rejection.VerifyError.TheVariants as error
-use Rattle.tw_verdict.specs.Reading.{IsReading}
-use Rattle.tw_verdict.specs.Source.{Encodes, EncodesNone, IsLineIn, IsOrigin, IsErrorIn, IsRejectionIn, IsUnreadable, IsSourceAcceptance, IsSourceError, IsSourceReading, failure_in_numbers, format_of_source, without_line}
-use Rattle.tw_verdict.specs.Verdict.{IsProgramVerdict, IsReadVerdict, accepted, no_memory}
+use Rattle.tw_verdict.specs.Source.{Encodes, EncodesNone, IsLineIn, IsOrigin, IsErrorIn, IsRejectionIn, IsUnreadable, IsSourceAcceptance, IsSourceReading, failure_in_numbers, fault_in_numbers, format_of_source, without_line}
+use Rattle.tw_verdict.specs.Verdict.{no_memory}
 use Rattle.tw_verdict.specs.declared.format.Format.TheVariants as format
 use Rattle.tw_verdict.specs.declared.text.SourceVerdict.{SourceVerdict}
-use Rattle.tw_verdict.specs.declared.verdict.Verdict.{Verdict}
-
--- ---- bytes
-
-pub encoded : (bytes : List ℕ) (found : Option TypedProgram) (w : Verdict) → IsReading bytes found w → IsSourceReading format.Bytes bytes found (without_line w)
-encoded bytes (Some v) w (has, is, zero) =
-    (record { read = has.read; encodes = has.read_is; program = has.program; version = has.version; accepted_is = has.accepted_is }, ap without_line (by is))
-  where
-    of_program : IsProgramVerdict has.read.procedures w → w ≡ accepted v.program
-    of_program (inl (right, e)) = e ∙ ap accepted (sym has.program)
-    of_program (inr (number, procedure, place, first, e)) = let no_zero : 86 ≡ 0 = sym (ap (λ (x : Verdict). x.letter) e) ∙ zero in cc
-
-    by : IsReadVerdict (program_of bytes) w ⊎ (w ≡ no_memory) → w ≡ accepted v.program
-    by (inl r) = of_program (subst (λ (x : Result Versioned Fault). IsReadVerdict x w) has.read_is r)
-    by (inr e) = let no_zero : 77 ≡ 0 = sym (ap (λ (x : Verdict). x.letter) e) ∙ zero in cc
-encoded bytes None w (is, some) = (by is, some)
-  where
-    of_read : (r : Result Versioned Fault) → program_of bytes ≡ r → IsReadVerdict r w → IsSourceError format.Bytes bytes (without_line w)
-    of_read (Ok p) e (inl (right, is)) = absurd (some (ap (λ (x : Verdict). x.letter) is))
-    of_read (Ok p) e (inr (number, procedure, place, first, is)) = inl (record {
-      read = p;
-      encodes = e;
-      number = number;
-      procedure = procedure;
-      place = place;
-      first = first;
-      line = 0;
-      origin = refl;
-      verdict_is = ap without_line is;
-    })
-    of_read (Err f) e is = inr (inl (record { why = Bytes f; none = (f, refl, e); verdict_is = (coded 70 (fault_number f.no) (position.Byte f.offset), refl, ap without_line is) }))
-
-    by : IsReadVerdict (program_of bytes) w ⊎ (w ≡ no_memory) → IsSourceError format.Bytes bytes (without_line w)
-    by (inl r) = of_read (program_of bytes) refl r
-    by (inr e) = inr (inr (ap without_line e))
 
 -- ---- texts
 
@@ -139,6 +103,22 @@ unreadable from input why v none (inl is) =
     readable (Text x) h = λ e. cc
     readable (Named x) h = λ e. cc
     readable NoMemory h = absurd h.1
+
+-- ---- bytes
+
+pub read_program : (bytes : List ℕ) (program : Versioned) (found : Option TypedProgram) (v : SourceVerdict) → program_of bytes ≡ Ok program → IsSourceAcceptance (record { program = program; source = None }) found v
+    → IsSourceReading format.Bytes bytes found v
+read_program bytes program (Some verified) v is (same, version, right, e) = (record { read = program; encodes = is; program = same; version = version; accepted_is = right }, e)
+read_program bytes program None v is (inl (number, procedure, place, line, first, at, e), some) =
+    (inl (record { read = program; encodes = is; number = number; procedure = procedure; place = place; first = first; line = line; origin = at; verdict_is = e }), some)
+read_program bytes program None v is (inr e, some) = (inr (inr e), some)
+
+pub read_fault : (bytes : List ℕ) (f : Fault) (v : SourceVerdict) → (f ≡ out_of_memory) ⊎ (program_of bytes ≡ Err f)
+    → ((f.no ≢ fault.NoMemory) × (v ≡ fault_in_numbers f)) ⊎ ((f.no ≡ fault.NoMemory) × (v ≡ without_line no_memory)) → IsSourceReading format.Bytes bytes None v
+read_fault bytes f v first (inr (none, e)) = (inr (inr e), has_letter v 77 refl (ap (λ (x : SourceVerdict). x.verdict.letter) e))
+read_fault bytes f v (inl out) (inl (some, e)) = absurd (some (ap (λ (x : Fault). x.no) out))
+read_fault bytes f v (inr first) (inl (some, e)) =
+    (inr (inl (record { why = Bytes f; none = (f, refl, first); verdict_is = (coded 70 (fault_number f.no) (position.Byte f.offset), refl, e) })), has_letter v 70 refl (ap (λ (x : SourceVerdict). x.verdict.letter) e))
 
 -- ---- the verifier's errors
 

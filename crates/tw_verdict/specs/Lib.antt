@@ -1,8 +1,6 @@
 -- Formats of a source.
 pub mod Format
--- Reading a program's bytes.
-pub mod Reading
 -- Reading a source, and the position of its error.
 pub mod Source
--- The verdict on bytes.
+-- Verdicts without a position in a text.
 pub mod Verdict

@@ -1,6 +1,7 @@
 -- Reading a source: the accepted program, or the verdict with the position of its error.
 use Rattle.std.specs.Prelude.{◌≡◌, ◌≢◌, ◌⊎◌, ℕ, List, Option, Some, None, Ok, Err}
 use Rattle.tw_asm.specs.Origins.{ComesFrom, instr_at}
+use Rattle.tw_binary.specs.Fault.{fault_number}
 use Rattle.tw_binary.specs.Reading.{program_of}
 use Rattle.tw_binary.specs.declared.fault.Fault.{Fault}
 use Rattle.tw_order.specs.declared.order.Source.{Source}
@@ -74,6 +75,10 @@ coded_numbers (Some code) at = in_numbers code at
 
 abbrev pub failure_in_numbers : Failure → SourceVerdict
 failure_in_numbers f = coded_numbers f.code f.position
+
+-- returns a fault of bytes in numbers: letter F, its number, and the byte
+abbrev pub fault_in_numbers : Fault → SourceVerdict
+fault_in_numbers f = without_line (record { letter = 70; number = fault_number f.no; engines = 0; workers = 0; procedure = 0; place = f.offset })
 
 -- holds for the verdict if the source encodes no program: the error in numbers
 abbrev pub IsUnreadable : NoProgram → SourceVerdict → Type 0

@@ -1,14 +1,12 @@
 //! Verdicts in numbers: on a program's bytes, on hex text and on assembly text. An accepted program comes with its verdict.
 #![tactic(auto)]
 
-mod bytes;
 mod format;
 mod source;
 mod text;
 mod verdict;
 
-pub use bytes::{read_bytes, verdict_of};
 pub use format::{Format, format_of};
 pub use source::read_source;
-pub use text::SourceVerdict;
-pub use verdict::Verdict;
+pub use text::{SourceVerdict, without_line};
+pub use verdict::{Verdict, refused_at};

@@ -1,18 +1,20 @@
 //! Reading and verifying a program's source.
 
-ghost use Rattle.std.specs.Prelude.{List, Some};
+ghost use Rattle.std.specs.Prelude.{◌≡◌, ◌≢◌, ◌⊎◌, List, Some};
 ghost use Rattle.tw_code.specs.declared.procedure.Procedure.{Procedure};
 ghost use Rattle.tw_source.specs.Source.{MayBeSource};
-ghost use Rattle.tw_verdict.specs.Source.{IsErrorIn, IsLineIn, IsSourceAcceptance, IsSourceReading, format_of_source};
+ghost use Rattle.tw_verdict.specs.Source.{IsErrorIn, IsLineIn, IsSourceAcceptance, IsSourceReading, fault_in_numbers, format_of_source, without_line as without_line_is};
+ghost use Rattle.tw_verdict.specs.Verdict.{no_memory};
 
-use crate::bytes::read_bytes;
 use crate::format::Format;
 use crate::text::{SourceVerdict, no_program_verdict, without_line};
 use crate::verdict::{accepted, refused_at};
 use std::alloc::Global;
+use tw_binary::{Fault, FaultNo, decode};
 use tw_code::Program;
-use tw_order::Source;
-use tw_source::{ReadProgram, SourceText, read_program};
+use tw_order::{Caps, Places, Source};
+use tw_program_output::{Admitted, admit};
+use tw_source::{NoProgram, ReadProgram, Reply, SourceText, parse_error_reply, read_program};
 use tw_verify::{Refused, Verified, VerifyError, verify};
 
 /// Returns the line of the instruction at a place; 0 if there is no such instruction.
@@ -54,62 +56,128 @@ fn rejection_verdict(source: &Option<SourceText<'_>>, refused: &Refused) -> Sour
     }
 }
 
+/// Takes the text of a reply.
+fn text_in(reply: Reply) -> Vec<u8> {
+    let Reply { text, .. } = reply;
+    text
+}
+
+/// Returns what `check` prints of a program that the verifier rejects, if it is asked for.
+fn words_of(
+    alloc: Global,
+    told: bool,
+    source: &Option<SourceText<'_>>,
+    program: Program,
+) -> Option<Vec<u8>>
+    requires { MayBeSource source.now program.procedures }
+{
+    if !told {
+        return None;
+    }
+    match admit(alloc, source, Places::Hidden, None, Caps::NONE, program) {
+        Ok(Admitted::Rejected(reply)) => Some(text_in(reply)),
+        Ok(Admitted::Run(_)) | Err(_) => None,
+    }
+}
+
+/// Returns what it prints of a source that encodes no program, if it is asked for.
+fn parse_words(alloc: Global, told: bool, why: &NoProgram<'_>) -> Option<Vec<u8>> {
+    if !told {
+        return None;
+    }
+    match parse_error_reply(alloc, why) {
+        Ok(reply) => Some(text_in(reply)),
+        Err(_) => None,
+    }
+}
+
 /// Verifies a program that was read from a source.
 fn verify_read(
     alloc: Global,
     program: Program,
     source: &Option<SourceText<'_>>,
-) -> (Option<Verified>, SourceVerdict)
+    told: bool,
+) -> (Option<Verified>, SourceVerdict, Option<Vec<u8>>)
     requires { MayBeSource source.now program.procedures }
     ensures { IsSourceAcceptance (record { program = program; source = source.now }) result.0 result.1 }
 {
     match verify(alloc, program) {
         Ok(verified) => {
             let verdict = accepted(&verified);
-            (Some(verified), without_line(verdict))
+            (Some(verified), without_line(verdict), None)
         }
-        Err(refused) => (None, rejection_verdict(source, &refused)),
+        Err(refused) => {
+            let verdict = rejection_verdict(source, &refused);
+            let Refused { program, .. } = refused;
+            (None, verdict, words_of(alloc, told, source, program))
+        }
     }
 }
 
 /// Verifies a program that was read.
-fn accept(alloc: Global, read: ReadProgram<'_>) -> (Option<Verified>, SourceVerdict)
+fn accept(
+    alloc: Global,
+    read: ReadProgram<'_>,
+    told: bool,
+) -> (Option<Verified>, SourceVerdict, Option<Vec<u8>>)
     requires { MayBeSource read.source read.program.procedures }
     ensures { IsSourceAcceptance read.entry result.0 result.1 }
 {
     let ReadProgram { program, source } = read;
-    verify_read(alloc, program, &source)
+    verify_read(alloc, program, &source, told)
 }
 
 /// Reads and verifies hex text or assembly text.
-fn read_text(alloc: Global, source: Source, input: &[u8]) -> (Option<Verified>, SourceVerdict)
+fn read_text(
+    alloc: Global,
+    source: Source,
+    input: &[u8],
+    told: bool,
+) -> (Option<Verified>, SourceVerdict, Option<Vec<u8>>)
     ensures { IsSourceReading (format_of_source source) input.now result.0 result.1 }
 {
     match read_program(alloc, source, input) {
-        Ok(read) => accept(alloc, read),
-        Err(why) => (None, no_program_verdict(alloc, &why)),
+        Ok(read) => accept(alloc, read, told),
+        Err(why) => {
+            let verdict = no_program_verdict(alloc, &why);
+            (None, verdict, parse_words(alloc, told, &why))
+        }
     }
 }
 
-/// Verifies the bytes of a program.
-fn read_encoded(alloc: Global, bytes: &[u8]) -> (Option<Verified>, SourceVerdict)
-    ensures { IsSourceReading Format.Bytes bytes.now result.0 result.1 }
+/// Returns the verdict on bytes with a fault.
+fn fault_verdict(fault: &Fault) -> SourceVerdict
+    ensures { ((fault.now.no ≢ FaultNo.NoMemory) × (result ≡ fault_in_numbers fault.now)) ⊎ ((fault.now.no ≡ FaultNo.NoMemory) × (result ≡ without_line_is no_memory)) }
 {
-    let (verified, verdict) = read_bytes(alloc, bytes);
-    (verified, without_line(verdict))
+    match fault.no {
+        FaultNo::NoMemory => SourceVerdict::no_memory(),
+        no => without_line(refused_at(b'F', no.number(), 0, fault.offset)),
+    }
 }
 
-/// Reads a source of this format, and verifies its program. The program is there if the verdict's letter is 0.
+/// Decodes and verifies the bytes of a program.
+fn read_bytes(alloc: Global, bytes: &[u8]) -> (Option<Verified>, SourceVerdict, Option<Vec<u8>>)
+    ensures { IsSourceReading Format.Bytes bytes.now result.0 result.1 }
+{
+    match decode(alloc, bytes) {
+        Ok(program) => verify_read(alloc, program, &None, false),
+        Err(fault) => (None, fault_verdict(&fault), None),
+    }
+}
+
+/// Reads a source of this format, and verifies its program. The program is there if the verdict's letter is 0. Of a rejected assembly text there is what
+/// `tw check --text` prints, if it is asked for and memory lasts.
 pub fn read_source(
     alloc: Global,
     format: Format,
     source: &[u8],
-) -> (Option<Verified>, SourceVerdict)
+    told: bool,
+) -> (Option<Verified>, SourceVerdict, Option<Vec<u8>>)
     ensures { IsSourceReading format source.now result.0 result.1 }
 {
     match format {
-        Format::Bytes => read_encoded(alloc, source),
-        Format::Hex => read_text(alloc, Source::Hex, source),
-        Format::Assembly => read_text(alloc, Source::Assembly, source),
+        Format::Bytes => read_bytes(alloc, source),
+        Format::Hex => read_text(alloc, Source::Hex, source, false),
+        Format::Assembly => read_text(alloc, Source::Assembly, source, told),
     }
 }

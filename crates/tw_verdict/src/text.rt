@@ -30,8 +30,8 @@ impl SourceVerdict {
     }
 }
 
-/// A verdict without a position in a text.
-pub(crate) fn without_line(verdict: Verdict) -> SourceVerdict
+/// Returns a verdict without a position in a text.
+pub fn without_line(verdict: Verdict) -> SourceVerdict
     ensures { result ≡ without_line_is verdict }
 {
     SourceVerdict {

@@ -1,11 +1,9 @@
 //! Verdicts.
 
-ghost use Rattle.std.specs.Prelude.{◌≡◌, ◌≢◌, ◌⊎◌};
-ghost use Rattle.tw_verify.specs.Rejection.{verify_error_code};
-ghost use Rattle.tw_verdict.specs.Verdict.{accepted as accepted_is, fault as fault_is, no_memory as no_memory_is, rejection as rejection_is};
+ghost use Rattle.std.specs.Prelude.{◌≡◌};
+ghost use Rattle.tw_verdict.specs.Verdict.{accepted as accepted_is, no_memory as no_memory_is};
 
-use tw_binary::{Fault, FaultNo};
-use tw_verify::{Refused, Verified, VerifyError};
+use tw_verify::Verified;
 
 /// The verdict on a program's bytes.
 #[repr(C)]
@@ -26,7 +24,7 @@ pub struct Verdict {
 }
 
 /// Makes a verdict of a letter, a code, and a position in the program.
-pub(crate) fn refused_at(letter: u8, number: u8, procedure: usize, place: usize) -> Verdict
+pub fn refused_at(letter: u8, number: u8, procedure: usize, place: usize) -> Verdict
     ensures { result ≡ record { letter = letter; number = number; engines = 0; workers = 0; procedure = procedure; place = place } }
 {
     Verdict {
@@ -60,33 +58,5 @@ pub(crate) fn accepted(verified: &Verified) -> Verdict
         workers,
         procedure: 0,
         place: 0,
-    }
-}
-
-/// Returns the verdict on bytes with a fault.
-fn fault_at(fault: &Fault) -> Verdict
-    ensures { result ≡ fault_is fault.now }
-{
-    refused_at(b'F', fault.no.number(), 0, fault.offset)
-}
-
-/// Like `fault_at`, also if an allocation failed.
-pub(crate) fn fault_verdict(fault: &Fault) -> Verdict
-    ensures { ((fault.now.no ≢ FaultNo.NoMemory) × (result ≡ fault_is fault.now)) ⊎ ((fault.now.no ≡ FaultNo.NoMemory) × (result ≡ no_memory_is)) }
-{
-    match fault.no {
-        FaultNo::NoMemory => Verdict::no_memory(),
-        _ => fault_at(fault),
-    }
-}
-
-/// Returns the verdict on a program that the verifier rejects.
-pub(crate) fn rejection_verdict(refused: &Refused) -> Verdict
-    ensures { ((refused.now.no ≢ VerifyError.NoMemory) × (result ≡ rejection_is (verify_error_code refused.now.no) refused.now.procedure refused.now.place))
-        ⊎ ((refused.now.no ≡ VerifyError.NoMemory) × (result ≡ no_memory_is)) }
-{
-    match refused.no {
-        VerifyError::NoMemory => Verdict::no_memory(),
-        no => refused_at(b'V', no.number(), refused.procedure, refused.place),
     }
 }

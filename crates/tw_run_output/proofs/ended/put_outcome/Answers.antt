@@ -15,7 +15,7 @@ returns-in_ok-put_run_report-in-Report c =
     on_ok_weaker c.put_run_details.result
     (λ h over.
     let (more, are, whole) = h over.state over.reaches in
-    ended order.options.answer Report c.in-Report.is text c.args.verified.program order c.args.history.now.events over.state c.args.closing c.args.out.now.items (printed ++ limit) more _ c.put_run_details.new.out.items
+    ended order.options.answer Report c.in-Report.is text c.args.verified.program order c.args.history.now.events c.args.cut over.state c.args.closing c.args.out.now.items (printed ++ limit) more _ c.put_run_details.new.out.items
     (ap (λ (t : List ℕ). t ++ limit) (over.reports printed is)) are added whole) c.put_run_details.ensures
 
 pub returns-in_ok-put_run_report-in-Numbers : goal.returns-in_ok-put_run_report-in-Numbers
@@ -27,7 +27,7 @@ returns-in_ok-put_run_report-in-Numbers c =
     on_ok_weaker c.put_run_numbers.result
     (λ h over.
     let (numbers, more, are, whole) = h over.state over.reaches in
-    ended_after order.options.answer Numbers c.in-Numbers.is text c.args.verified.program order c.args.history.now.events over.state c.args.closing c.args.out.now.items (printed ++ limit) numbers more _ c.put_run_numbers.new.out.items
+    ended_after order.options.answer Numbers c.in-Numbers.is text c.args.verified.program order c.args.history.now.events c.args.cut over.state c.args.closing c.args.out.now.items (printed ++ limit) numbers more _ c.put_run_numbers.new.out.items
     (numbers, ap (λ (t : List ℕ). (t ++ limit) ++ numbers) (over.reports printed is)) are added whole) c.put_run_numbers.ensures
 
 pub returns-in_ok-put_run_report-in-Order : goal.returns-in_ok-put_run_report-in-Order
@@ -39,7 +39,7 @@ returns-in_ok-put_run_report-in-Order c =
     on_ok_weaker c.put_order.result
     (λ h over.
     let (found, lines, more, first, shown, are, whole) = h over.state over.reaches in
-    ended_after order.options.answer Order c.in-Order.is text c.args.verified.program order c.args.history.now.events over.state c.args.closing c.args.out.now.items (printed ++ limit) lines more _ c.put_order.new.out.items
+    ended_after order.options.answer Order c.in-Order.is text c.args.verified.program order c.args.history.now.events c.args.cut over.state c.args.closing c.args.out.now.items (printed ++ limit) lines more _ c.put_order.new.out.items
     (found, lines, first, shown, ap (λ (t : List ℕ). (t ++ limit) ++ lines) (over.reports printed is)) are added whole) c.put_order.ensures
 
 pub returns-in-Picture : goal.returns-in-Picture
@@ -47,7 +47,7 @@ returns-in-Picture c =
     let order = c.args.order.now in
     on_ok_weaker c.put_run_picture.result
     (λ (printed, xml, bytes, added) over.
-    alone order.options.answer (Picture c.in-Picture.shown) c.in-Picture.is (text_of c.args.source.now) c.args.verified.program order c.args.history.now.events over.state c.args.closing c.args.out.now.items printed c.put_run_picture.new.out.items
+    alone order.options.answer (Picture c.in-Picture.shown) c.in-Picture.is (text_of c.args.source.now) c.args.verified.program order c.args.history.now.events c.args.cut over.state c.args.closing c.args.out.now.items printed c.put_run_picture.new.out.items
     (xml, bytes) refl added) c.put_run_picture.ensures
 
 pub returns-in-Json : goal.returns-in-Json
@@ -55,7 +55,7 @@ returns-in-Json c =
     let order = c.args.order.now in
     on_ok_weaker c.put_json.result
     (λ (line, is, added) over.
-    alone order.options.answer Json c.in-Json.is (text_of c.args.source.now) c.args.verified.program order c.args.history.now.events over.state c.args.closing c.args.out.now.items line c.put_json.new.out.items (c.args.cut, over.shows c.args.cut line is) refl added)
+    alone order.options.answer Json c.in-Json.is (text_of c.args.source.now) c.args.verified.program order c.args.history.now.events c.args.cut over.state c.args.closing c.args.out.now.items line c.put_json.new.out.items (over.shows c.args.cut line is) refl added)
     c.put_json.ensures
 
 pub returns-in-OrderJson : goal.returns-in-OrderJson
@@ -63,5 +63,5 @@ returns-in-OrderJson c =
     let order = c.args.order.now in
     on_ok_weaker c.put_order_json.result
     (λ (found, members, first, are, added) over.
-    alone order.options.answer OrderJson c.in-OrderJson.is (text_of c.args.source.now) c.args.verified.program order c.args.history.now.events over.state c.args.closing c.args.out.now.items (order_line c.args.closing found members)
-    c.put_order_json.new.out.items (found, c.args.cut, first, ap (order_line c.args.closing found) (over.members c.args.cut members are)) refl added) c.put_order_json.ensures
+    alone order.options.answer OrderJson c.in-OrderJson.is (text_of c.args.source.now) c.args.verified.program order c.args.history.now.events c.args.cut over.state c.args.closing c.args.out.now.items (order_line c.args.closing found members)
+    c.put_order_json.new.out.items (found, first, ap (order_line c.args.closing found) (over.members c.args.cut members are)) refl added) c.put_order_json.ensures

@@ -1,6 +1,6 @@
 use Rattle.std.proofs.Common.{◌≡◌, sym, ap, ◌∙◌}
 use Rattle.logbook.specs.Pages.{Named}
-use Rattle.tw_flags.specs.Settings.{word_in}
+use Rattle.tw_flags.specs.Values.{word_in}
 use Rattle.tw_flags.proofs.Setting.{sets_moves}
 use Rattle.tw_flags.proofs.flag.StopFlag.set.Goals as goal
 

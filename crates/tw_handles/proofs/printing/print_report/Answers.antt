@@ -1,7 +1,7 @@
 use Rattle.tw_run_output.specs.Ends.{IsEndReport}
 use Rattle.tw_handles.specs.Reading.{final_of}
 use Rattle.tw_handles.proofs.MadeTexts.{made_text}
-use Rattle.tw_handles.proofs.printing.report_in.Goals as goal
+use Rattle.tw_handles.proofs.printing.print_report.Goals as goal
 
 pub returns-in-Ok : goal.returns-in-Ok
 returns-in-Ok c = made_text (IsEndReport (final_of c.args.left.now)) c.in-Ok.made.items c.args.text.now.held c.keep_text.new.text.held c.keep_text.result c.in-Ok.ensures c.keep_text.ensures

@@ -1,6 +1,6 @@
 use Rattle.tw_handles.specs.Texts.{IsTrace}
 use Rattle.tw_handles.proofs.MadeTexts.{made_text}
-use Rattle.tw_handles.proofs.printing.trace_in.Goals as goal
+use Rattle.tw_handles.proofs.printing.print_trace.Goals as goal
 
 pub returns-in-Ok : goal.returns-in-Ok
 returns-in-Ok c = made_text (IsTrace c.args.left.now) c.in-Ok.made.items c.args.text.now.held c.keep_text.new.text.held c.keep_text.result c.in-Ok.ensures c.keep_text.ensures
