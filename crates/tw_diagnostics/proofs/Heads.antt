@@ -1,8 +1,7 @@
 -- The first line that begins a procedure.
-use Rattle.std.proofs.Common.{◌≡◌, ◌+◌, ℕ, suc, true, false, List, [], ◌∷◌, ◌++◌, length, Option, Some, None, refl, sym, ap, subst, ◌∙◌, arith}
+use Rattle.std.proofs.Common.{◌≡◌, ◌+◌, ℕ, suc, Bool, true, false, List, [], ◌∷◌, ◌++◌, length, Option, Some, None, refl, sym, ap, subst, ◌∙◌, arith}
 use Rattle.tw_diagnostics.proofs.RoleNames.{AllByRecursion, Code, HasStatement, HaveStatements, Head, Label, OfVersion, ParserState, Registers, Statement, after_line, at_start, lines, situation, situation_from}
-use Rattle.tw_diagnostics.specs.LineRole.{HasNoHead, IsFirstHead, is_head, statement_role}
-use Rattle.tw_diagnostics.specs.declared.role.LineRole.{LineRole}
+use Rattle.tw_diagnostics.specs.FirstHead.{HasNoHead, IsFirstHead, is_head}
 use Rattle.tw_diagnostics.proofs.Saying.{split_last}
 
 -- ---- lines before one
@@ -42,15 +41,15 @@ pub all_more : {A : Type 0} (P : A → Type 0) (xs : List A) (x : A) → AllByRe
 all_more P [] x all p = (p, tt)
 all_more P (y ∷ xs) x all p = (all.0, all_more P xs x all.1 p)
 
-pub none_on : (ls : List (List ℕ)) (line : List ℕ) (role : LineRole) → NoHeads ls → ((s : ParserState) (said : Option Statement) → HasStatement s line said → role ≡ statement_role said) → is_head role ≡ false → NoHeads (ls ++ (line ∷ []))
-none_on ls line role before prints nohead said say =
+pub none_on : (ls : List (List ℕ)) (line : List ℕ) (head : Bool) → NoHeads ls → ((s : ParserState) (said : Option Statement) → HasStatement s line said → head ≡ is_head said) → head ≡ false → NoHeads (ls ++ (line ∷ []))
+none_on ls line head before says none said say =
     let split = split_last 1 at_start ls line said say in
-    let here : is_head (statement_role split.last) ≡ false = ap is_head (sym (prints (situation split.before) split.last split.says)) ∙ nohead in
-    subst HasNoHead (sym split.is) (all_more (λ (s : Option Statement). is_head (statement_role s) ≡ false) split.before split.last (before split.before split.say) here)
+    let here : is_head split.last ≡ false = sym (says (situation split.before) split.last split.says) ∙ none in
+    subst HasNoHead (sym split.is) (all_more (λ (s : Option Statement). is_head s ≡ false) split.before split.last (before split.before split.say) here)
 
-pub first_head : (text : List ℕ) (ls : List (List ℕ)) (line : List ℕ) (others : List (List ℕ)) (role : LineRole) (index : ℕ) (said : List (Option Statement)) → lines text ≡ ls ++ (line ∷ others) → index ≡ length ls → NoHeads ls
-    → ((s : ParserState) (x : Option Statement) → HasStatement s line x → role ≡ statement_role x) → is_head role ≡ true → HaveStatements 1 at_start (lines text) said → IsFirstHead text (index + 1)
-first_head text ls line others role index said parts index_is none prints headed say = by split.here (ap is_head (sym (prints (situation split.before) split.here split.says)) ∙ headed) split.is
+pub first_head : (text : List ℕ) (ls : List (List ℕ)) (line : List ℕ) (others : List (List ℕ)) (head : Bool) (index : ℕ) (said : List (Option Statement)) → lines text ≡ ls ++ (line ∷ others) → index ≡ length ls → NoHeads ls
+    → ((s : ParserState) (x : Option Statement) → HasStatement s line x → head ≡ is_head x) → head ≡ true → HaveStatements 1 at_start (lines text) said → IsFirstHead text (index + 1)
+first_head text ls line others head index said parts index_is none says headed say = by split.here (sym (says (situation split.before) split.here split.says) ∙ headed) split.is
   where
     split : SplitAt 1 at_start ls line said
     split = split_at 1 at_start ls line others said (subst (λ (all : List (List ℕ)). HaveStatements 1 at_start all said) parts say)
@@ -58,7 +57,7 @@ first_head text ls line others role index said parts index_is none prints headed
     no : false ≡ true → ⊥
     no e = cc
 
-    by : (x : Option Statement) → is_head (statement_role x) ≡ true → said ≡ split.before ++ (x ∷ split.after) → IsFirstHead text (index + 1)
+    by : (x : Option Statement) → is_head x ≡ true → said ≡ split.before ++ (x ∷ split.after) → IsFirstHead text (index + 1)
     by None e is = absurd (no e)
     by (Some (OfVersion version)) e is = absurd (no e)
     by (Some (Head kind params)) e is = record {

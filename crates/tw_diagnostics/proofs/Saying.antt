@@ -1,18 +1,15 @@
--- A line's first word decides the line's role.
-use Rattle.std.proofs.Common.{◌≡◌, ◌≢◌, ◌+◌, ℕ, suc, Bool, true, false, List, [], ◌∷◌, ◌++◌, length, map, codes, Option, Some, None, refl, sym, ap, subst, ◌∙◌, arith}
-use Rattle.tw_diagnostics.proofs.RoleNames.{AnyShortName, Bare, Code, Encodes, EncodesInLimits, HasStatement, HaveStatements, Head, IsLine, IsRead, Label, OfVersion, ParserState, Quoted, Registers, Statement, Version, Word, after_line, at_start, before_colon, broken_no_line, bytes_eq, flat_map, line_once, opcode_in, seen, situation, situation_from}
+-- A line's first word decides whether a procedure begins there.
+use Rattle.std.proofs.Common.{◌≡◌, ◌+◌, ℕ, suc, Bool, true, false, List, [], ◌∷◌, ◌++◌, length, map, codes, Option, Some, None, refl, sym, ap, subst, ◌∙◌, arith}
+use Rattle.tw_diagnostics.proofs.RoleNames.{AnyShortName, Bare, Code, Encodes, EncodesInLimits, HasStatement, HaveStatements, Head, IsLine, IsRead, Label, OfVersion, ParserState, Quoted, Registers, Statement, Version, Word, after_line, at_start, broken_no_line, bytes_eq, flat_map, line_once, opcode_in, seen, situation, situation_from}
 use Rattle.std.proofs.lemmas.Slice.Eq.{bytes_eq-Decides}
 use Rattle.tw_code.specs.declared.opcode.Opcode.{Opcode}
 use Rattle.tw_code.specs.format.Table.{row, word_of}
 use Rattle.tw_lexer.specs.declared.word.Word as words
 use Rattle.tw_asm.specs.Parts.{Name, Natural, kind_word, operand_parts, param_parts, register_part}
-use Rattle.tw_asm.proofs.Answered.{first_is, none_some, proc_is_none, regs_is_none, version_is_none}
+use Rattle.tw_asm.proofs.Answered.{first_is, none_some, proc_is_none}
 use Rattle.tw_asm.proofs.Sayings.{code_first, no_label}
 use Rattle.tw_asm.proofs.Spelled.{bare_is}
-use Rattle.tw_asm.proofs.Table.{found_back, no_colon}
-use Rattle.tw_diagnostics.specs.LineRole.{statement_role}
-use Rattle.tw_diagnostics.specs.declared.role.LineRole.{LineRole}
-use Rattle.tw_diagnostics.specs.declared.role.LineRole.TheVariants as says
+use Rattle.tw_diagnostics.specs.FirstHead.{is_head}
 
 -- ---- the first word of a statement
 
@@ -37,76 +34,41 @@ first_said version (Code i) w ws say =
 pub quoted_apart : (text word : List ℕ) → Quoted text ≡ Bare word → ⊥
 quoted_apart text word e = cc
 
--- ---- what a first word says
+-- ---- whether a first word begins a procedure
 
-pub apart : (a b : List ℕ) → bytes_eq a b ≡ false → a ≡ b → ⊥
+apart : (a b : List ℕ) → bytes_eq a b ≡ false → a ≡ b → ⊥
 apart a b isnt e = no (sym isnt ∙ (bytes_eq-Decides a b).1 e)
   where
     no : false ≡ true → ⊥
     no e = cc
 
-pub is_word : (a b : List ℕ) → bytes_eq a b ≡ true → a ≡ b
-is_word a b e = (bytes_eq-Decides a b).0 e
-
-abbrev pub SaysRole : Version → List ℕ → List Word → LineRole → Type 0
-SaysRole version first ws said = (statement : Statement) → EncodesInLimits version statement (Bare first ∷ ws) → said ≡ statement_role (Some statement)
-
 -- a word that is none of an instruction
 no_code : {Z : Type 0} (version : Version) (first other : List ℕ) (i : (word : List ℕ) × (o : Opcode) × (Bare first ≡ Bare word) × (opcode_in version word ≡ Some o)) → first ≡ other → opcode_in version other ≡ None → Z
 no_code version first other (word, o, is, found) e none = absurd (none_some o (sym none ∙ (ap (opcode_in version) (sym e ∙ bare_is first word is) ∙ found)))
 
-module _ (version : Version) (first : List ℕ) (ws : List Word) where
-  pub version_role : first ≡ codes "version" → SaysRole version first ws says.Version
-  version_role e statement say = by statement (first_said version statement (Bare first) ws say)
-    where
-      by : (s : Statement) → IsFirst version s (Bare first) ws → says.Version ≡ statement_role (Some s)
-      by (OfVersion number) f = refl
-      by (Head kind params) f = absurd (apart (codes "version") (codes "proc") refl (sym e ∙ bare_is first (codes "proc") f))
-      by (Registers registers) f = absurd (apart (codes "version") (codes "regs") refl (sym e ∙ bare_is first (codes "regs") f))
-      by (Label name) f = absurd (no_label (codes "version") name refl (sym e ∙ bare_is first (name ++ codes ":") f))
-      by (Code i) f = no_code version first (codes "version") f e (version_is_none version)
+head_said : (version : Version) (statement : Statement) (first : List ℕ) (ws : List Word) → first ≡ codes "proc" → EncodesInLimits version statement (Bare first ∷ ws) → true ≡ is_head (Some statement)
+head_said version statement first ws e say = by statement (first_said version statement (Bare first) ws say)
+  where
+    by : (s : Statement) → IsFirst version s (Bare first) ws → true ≡ is_head (Some s)
+    by (OfVersion number) f = absurd (apart (codes "proc") (codes "version") refl (sym e ∙ bare_is first (codes "version") f))
+    by (Head kind params) f = refl
+    by (Registers registers) f = absurd (apart (codes "proc") (codes "regs") refl (sym e ∙ bare_is first (codes "regs") f))
+    by (Label name) f = absurd (no_label (codes "proc") name refl (sym e ∙ bare_is first (name ++ codes ":") f))
+    by (Code i) f = no_code version first (codes "proc") f e (proc_is_none version)
 
-  pub head_role : first ≡ codes "proc" → SaysRole version first ws says.Head
-  head_role e statement say = by statement (first_said version statement (Bare first) ws say)
-    where
-      by : (s : Statement) → IsFirst version s (Bare first) ws → says.Head ≡ statement_role (Some s)
-      by (OfVersion number) f = absurd (apart (codes "proc") (codes "version") refl (sym e ∙ bare_is first (codes "version") f))
-      by (Head kind params) f = refl
-      by (Registers registers) f = absurd (apart (codes "proc") (codes "regs") refl (sym e ∙ bare_is first (codes "regs") f))
-      by (Label name) f = absurd (no_label (codes "proc") name refl (sym e ∙ bare_is first (name ++ codes ":") f))
-      by (Code i) f = no_code version first (codes "proc") f e (proc_is_none version)
+pub other_said : (version : Version) (statement : Statement) (w : Word) (ws : List Word) → (w ≡ Bare (codes "proc") → ⊥) → EncodesInLimits version statement (w ∷ ws) → false ≡ is_head (Some statement)
+other_said version (OfVersion number) w ws other say = refl
+other_said version (Head kind params) w ws other say = absurd (other (first_said version (Head kind params) w ws say))
+other_said version (Registers registers) w ws other say = refl
+other_said version (Label name) w ws other say = refl
+other_said version (Code i) w ws other say = refl
 
-  pub registers_role : first ≡ codes "regs" → SaysRole version first ws says.Registers
-  registers_role e statement say = by statement (first_said version statement (Bare first) ws say)
-    where
-      by : (s : Statement) → IsFirst version s (Bare first) ws → says.Registers ≡ statement_role (Some s)
-      by (OfVersion number) f = absurd (apart (codes "regs") (codes "version") refl (sym e ∙ bare_is first (codes "version") f))
-      by (Head kind params) f = absurd (apart (codes "regs") (codes "proc") refl (sym e ∙ bare_is first (codes "proc") f))
-      by (Registers registers) f = refl
-      by (Label name) f = absurd (no_label (codes "regs") name refl (sym e ∙ bare_is first (name ++ codes ":") f))
-      by (Code i) f = no_code version first (codes "regs") f e (regs_is_none version)
-
-  pub label_role : (front : List ℕ) → first ≡ front ++ codes ":" → SaysRole version first ws says.Label
-  label_role front e statement say = by statement (first_said version statement (Bare first) ws say)
-    where
-      by : (s : Statement) → IsFirst version s (Bare first) ws → says.Label ≡ statement_role (Some s)
-      by (OfVersion number) f = absurd (no_label (codes "version") front refl (sym (bare_is first (codes "version") f) ∙ e))
-      by (Head kind params) f = absurd (no_label (codes "proc") front refl (sym (bare_is first (codes "proc") f) ∙ e))
-      by (Registers registers) f = absurd (no_label (codes "regs") front refl (sym (bare_is first (codes "regs") f) ∙ e))
-      by (Label name) f = refl
-      by (Code i) (word, o, is, found) =
-          let named = (found_back version word o found).0 in
-          absurd (no_label first front (ap before_colon (bare_is first word is ∙ named) ∙ no_colon o) e)
-
-  pub code_role : first ≢ codes "version" → first ≢ codes "proc" → first ≢ codes "regs" → ((front : List ℕ) → first ≢ front ++ codes ":") → SaysRole version first ws says.Code
-  code_role no_version no_head no_registers no_colon' statement say = by statement (first_said version statement (Bare first) ws say)
-    where
-      by : (s : Statement) → IsFirst version s (Bare first) ws → says.Code ≡ statement_role (Some s)
-      by (OfVersion number) f = absurd (no_version (bare_is first (codes "version") f))
-      by (Head kind params) f = absurd (no_head (bare_is first (codes "proc") f))
-      by (Registers registers) f = absurd (no_registers (bare_is first (codes "regs") f))
-      by (Label name) f = absurd (no_colon' name (bare_is first (name ++ codes ":") f))
-      by (Code i) f = refl
+pub bare_said : (version : Version) (statement : Statement) (first : List ℕ) (ws : List Word) → EncodesInLimits version statement (Bare first ∷ ws) → bytes_eq first (codes "proc") ≡ is_head (Some statement)
+bare_said version statement first ws say = by (bytes_eq first (codes "proc")) refl
+  where
+    by : (b : Bool) → bytes_eq first (codes "proc") ≡ b → b ≡ is_head (Some statement)
+    by true e = head_said version statement first ws ((bytes_eq-Decides first (codes "proc")).0 e) say
+    by false e = other_said version statement (Bare first) ws (λ is. apart first (codes "proc") e (bare_is first (codes "proc") is)) say
 
 -- ---- a line
 
@@ -118,10 +80,10 @@ nothing_seen : (ws : List words.Word) → map seen ws ≡ [] → ws ≡ []
 nothing_seen [] e = refl
 nothing_seen (w ∷ ws) e = absurd cc
 
-pub role_of_line : (ws : List words.Word) (whole : Bool) (line : List ℕ) (role : LineRole) → IsRead (map seen ws) whole line → (ws ≡ [] → role ≡ statement_role None)
-    → ((version : Version) (statement : Statement) → EncodesInLimits version statement (map seen ws) → role ≡ statement_role (Some statement)) → (s : ParserState) (said : Option Statement) → HasStatement s line said → role ≡ statement_role said
-role_of_line ws whole line role read nothing says s None is = nothing (nothing_seen ws (words_are (map seen ws) [] whole line read is))
-role_of_line ws whole line role read nothing says s (Some statement) ((vs, is, say), may) =
+pub said_of_line : (ws : List words.Word) (whole : Bool) (line : List ℕ) (head : Bool) → IsRead (map seen ws) whole line → (ws ≡ [] → head ≡ false)
+    → ((version : Version) (statement : Statement) → EncodesInLimits version statement (map seen ws) → head ≡ is_head (Some statement)) → (s : ParserState) (said : Option Statement) → HasStatement s line said → head ≡ is_head said
+said_of_line ws whole line head read nothing says s None is = nothing (nothing_seen ws (words_are (map seen ws) [] whole line read is))
+said_of_line ws whole line head read nothing says s (Some statement) ((vs, is, say), may) =
     says s.version statement (subst (λ (us : List Word). EncodesInLimits s.version statement us) (sym (words_are (map seen ws) vs whole line read is)) say)
 
 -- ---- line by line

@@ -1,2 +1,2 @@
--- Roles of lines; what is printed of errors is only tested.
-pub mod LineRole
+-- The first head of a text; what is printed of errors is only tested.
+pub mod FirstHead

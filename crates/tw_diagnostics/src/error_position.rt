@@ -92,7 +92,7 @@ pub(crate) fn position_of(
 }
 
 /// Returns the word with this number of a line, from 1, as it is written; it is empty if there is none.
-pub(crate) fn word_of(alloc: Global, line: &[u8], number: usize) -> Result<&[u8], AllocError>
+pub fn word_of(alloc: Global, line: &[u8], number: usize) -> Result<&[u8], AllocError>
     requires { IsUtf8 line.now }
 {
     match position_of(alloc, line, number)? {

@@ -23,6 +23,7 @@ mod text_diagnostic;
 mod usual_words;
 
 pub use diagnostic::Reason;
+pub use error_position::word_of;
 pub use hints::is_near;
 pub use main_diagnostic::shape_text;
 pub use program_diagnostic::rejection_text;

@@ -5,8 +5,7 @@ use Rattle.std.proofs.lemmas.Bool.{eqb-false}
 use Rattle.tw_types.specs.declared.input.Input.{Input}
 use Rattle.tw_types.specs.declared.input.Input.TheVariants as input
 use Rattle.tw_lexer.specs.Quoted.{EncodesQuoted}
-use Rattle.tw_inputs.specs.InputWords.{AreSeparated, AreJoined, AreEncoded, IsRejectedWord, OneInput, OneRejectedWord, RejectedWord, refused_word, EncodesInput, EncodesInt, EncodesMember, EncodesMembers, EncodesRest, head_of}
-use Rattle.tw_inputs.specs.InputReasons.{diagnostic_line}
+use Rattle.tw_inputs.specs.InputWords.{AreSeparated, AreJoined, AreEncoded, IsRejectedWord, OneInput, OneRejectedWord, RejectedWord, EncodesInput, EncodesInt, EncodesMember, EncodesMembers, EncodesRest, head_of}
 use Rattle.tw_inputs.specs.WordErrors.{IsInputReason, IsRejection}
 use Rattle.tw_inputs.specs.declared.words.WordError.{WordError}
 use Rattle.tw_inputs.specs.declared.words.WordError.TheVariants.{NoMemory, Refused}
@@ -125,18 +124,9 @@ as_many (w ∷ before) (v ∷ others) word other later after (x ∷ inputs) [] e
 as_many (w ∷ before) (v ∷ others) word other later after (x ∷ inputs) (y ∷ given) e h k none nothing =
     ap suc (as_many before others word other later after inputs given (heads w v (before ++ word ∷ later) (others ++ other ∷ after) e).1 h.1 k.1 none nothing)
 
--- words at the same index are equal
-same_word : (before others : List (List ℕ)) (word other : List ℕ) (later after : List (List ℕ)) → before ++ word ∷ later ≡ others ++ other ∷ after → length before ≡ length others → word ≡ other
-same_word [] [] word other later after e l = (heads word other later after e).0
-same_word [] (w ∷ others) word other later after e l = absurd (omega (arith, l))
-same_word (w ∷ before) [] word other later after e l = absurd (omega (arith, l))
-same_word (w ∷ before) (v ∷ others) word other later after e l = same_word before others word other later after (heads w v (before ++ word ∷ later) (others ++ other ∷ after) e).1 (omega (arith, l))
-
 pub one_refused_word : OneRejectedWord
 one_refused_word words refused other (before, inputs, word, later, e, h, none, is) (others, given, second, after, f, k, nothing, also) =
-    let many = as_many before others word second later after inputs given (sym e ∙ f) h k none nothing in
-    let same = same_word before others word second later after (sym e ∙ f) many in
-    is ∙ ap (λ (n : ℕ). refused_word (suc n) (diagnostic_line (suc n) word)) many ∙ ap (λ (w : List ℕ). refused_word (suc (length others)) (diagnostic_line (suc (length others)) w)) same ∙ sym also
+    is ∙ ap suc (as_many before others word second later after inputs given (sym e ∙ f) h k none nothing) ∙ sym also
 
 -- if each word encodes an input, none is rejected
 pub none_refused : (words : List (List ℕ)) (inputs : List Input) (number : RejectedWord) → AreEncoded inputs words → IsRejectedWord words number → ⊥
@@ -173,25 +163,11 @@ one_word_more inputs new words i d x lt h k is =
 
 -- the first word that encodes no input
 pub refused_at : (inputs : List Input) (words : List (Bor (List ℕ))) (i : ℕ) (d : Bor (List ℕ)) → i < length words → AreEncoded inputs (take i (map (λ w. w.now) words))
-    → ((given : Input) → EncodesInput given (get_or words i d).now → ⊥) → (why : WordError) → IsRejection (i + 1) (get_or words i d).now why → IsInputReason (map (λ w. w.now) words) why
-refused_at inputs words i d lt h none why rejection =
+    → ((given : Input) → EncodesInput given (get_or words i d).now → ⊥) → (why : WordError) → IsRejection (i + 1) why → IsInputReason (map (λ w. w.now) words) why
+refused_at inputs words i d lt h none NoMemory is = tt
+refused_at inputs words i d lt h none (Refused at reason) is =
     let texts = map (λ (w : Bor (List ℕ)). w.now) words in
     let all : length texts ≡ length words = length-map words (λ (w : Bor (List ℕ)). w.now) in
     let parts : texts ≡ take i texts ++ (get_or words i d).now ∷ drop (i + 1) texts =
     sym (take-append-drop (i + 1) texts) ∙ ap (λ (t : List (List ℕ)). t ++ drop (i + 1) texts) (word_at words i d lt) ∙ append_assoc (take i texts) ((get_or words i d).now ∷ []) (drop (i + 1) texts) in
-    let count : i + 1 ≡ suc (length (take i texts)) = omega (arith, lt, all, length-take i texts) in
-    by why (λ at reason is line. (
-      take i texts,
-      inputs,
-      (get_or words i d).now,
-      drop (i + 1) texts,
-      parts,
-      h,
-      none,
-      ap (λ (n : ℕ). refused_word n reason) (is ∙ count) ∙ ap (refused_word (suc (length (take i texts)))) (line ∙ ap (λ (n : ℕ). diagnostic_line n (get_or words i d).now) count),
-    )) rejection
-  where
-    by : (r : WordError) → ((at : ℕ) (reason : List ℕ) → at ≡ i + 1 → reason ≡ diagnostic_line (i + 1) (get_or words i d).now → IsRejectedWord (map (λ (w : Bor (List ℕ)). w.now) words) (refused_word at reason)) → IsRejection (i + 1) (get_or words i d).now r
-        → IsInputReason (map (λ (w : Bor (List ℕ)). w.now) words) r
-    by (Refused at reason) all h = all at reason.items h.0 h.1
-    by NoMemory all h = tt
+    (take i texts, inputs, (get_or words i d).now, drop (i + 1) texts, parts, h, none, is ∙ omega (arith, lt, all, length-take i texts))

@@ -4,7 +4,6 @@ use Rattle.tw_types.specs.declared.input.Input.{Input}
 use Rattle.tw_types.specs.declared.input.Input.TheVariants as input
 use Rattle.tw_lexer.specs.Number.{IsIn64, EncodesNumber}
 use Rattle.tw_lexer.specs.Quoted.{EncodesQuoted}
-use Rattle.tw_inputs.specs.InputReasons.{diagnostic_line}
 
 -- ---- lists
 
@@ -71,12 +70,12 @@ pub record RejectedWord : Type 0 where
 abbrev pub refused_word : ℕ → List ℕ → RejectedWord
 refused_word number reason = record { number = number; reason = reason }
 
--- holds if the word is the first that encodes no input, and the line is that of this word
+-- holds if the word with this number is the first that encodes no input
 abbrev pub IsRejectedWord : List (List ℕ) → RejectedWord → Type 0
 IsRejectedWord words refused =
     (before : List (List ℕ)) × (inputs : List Input) × (word : List ℕ) × (later : List (List ℕ))
     × (words ≡ before ++ word ∷ later) × AreEncoded inputs before × ((given : Input) → EncodesInput given word → ⊥)
-    × (refused ≡ refused_word (suc (length before)) (diagnostic_line (suc (length before)) word))
+    × (refused.number ≡ suc (length before))
 
 -- ---- theorems
 
@@ -84,4 +83,4 @@ abbrev pub OneInput : Type 0
 OneInput = (word : List ℕ) (given other : Input) → EncodesInput given word → EncodesInput other word → given ≡ other
 
 abbrev pub OneRejectedWord : Type 0
-OneRejectedWord = (words : List (List ℕ)) (refused other : RejectedWord) → IsRejectedWord words refused → IsRejectedWord words other → refused ≡ other
+OneRejectedWord = (words : List (List ℕ)) (refused other : RejectedWord) → IsRejectedWord words refused → IsRejectedWord words other → refused.number ≡ other.number

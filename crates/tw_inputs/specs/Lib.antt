@@ -1,6 +1,5 @@
--- A program's inputs. InputWords defines which input a word encodes, InputReasons and WordErrors why a word encodes none. JsonInputs defines which
+-- A program's inputs. InputWords defines which input a word encodes, WordErrors what is said if it encodes none. JsonInputs defines which
 -- inputs a JSON array has, and JsonLines those of a line that may have an id. Lists is for private clauses.
-pub mod InputReasons
 pub mod InputWords
 pub mod WordErrors
 pub mod Lists

@@ -1,6 +1,5 @@
 -- Why words encode no inputs.
 use Rattle.std.specs.Prelude.{◌≡◌, ℕ, List, ⊤}
-use Rattle.tw_inputs.specs.InputReasons.{diagnostic_line}
 use Rattle.tw_inputs.specs.InputWords.{IsRejectedWord, refused_word}
 use Rattle.tw_inputs.specs.declared.words.WordError.{WordError}
 use Rattle.tw_inputs.specs.declared.words.WordError.TheVariants.{NoMemory, Refused}
@@ -10,7 +9,7 @@ abbrev pub IsInputReason : List (List ℕ) → WordError → Type 0
 IsInputReason words NoMemory = ⊤
 IsInputReason words (Refused number reason) = IsRejectedWord words (refused_word number reason.items)
 
--- holds if the word is rejected, with the line that says why
-abbrev pub IsRejection : ℕ → List ℕ → WordError → Type 0
-IsRejection number word NoMemory = ⊤
-IsRejection number word (Refused at reason) = (at ≡ number) × (reason.items ≡ diagnostic_line number word)
+-- holds if the word with this number is rejected
+abbrev pub IsRejection : ℕ → WordError → Type 0
+IsRejection number NoMemory = ⊤
+IsRejection number (Refused at reason) = at ≡ number

@@ -30,6 +30,7 @@ fn hex_reply(alloc: Global, program: &Program) -> Result<Reply, AllocError>
     Ok(Reply {
         text,
         close: Close::Success,
+        more: None,
     })
 }
 

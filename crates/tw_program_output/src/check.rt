@@ -23,7 +23,7 @@ use std::alloc::{AllocError, Global};
 use tw_code::Program;
 use tw_order::{CheckOrder, Form, Places};
 use tw_source::{
-    Close, Failure, Position, Reply, SourceText, put_failure_line, refused_by, rejection_details,
+    Close, Failure, Reply, SourceText, put_failure_line, rejection_errors, rejection_failure,
     rejection_line,
 };
 use tw_symbols::Symbols;
@@ -194,6 +194,7 @@ pub fn checked_reply(
         Admitted::Run(verified) => Ok(Reply {
             text: requested_text(alloc, source, order, &verified)?,
             close: Close::Success,
+            more: None,
         }),
         Admitted::Rejected(reply) => Ok(reply),
     }
@@ -218,12 +219,7 @@ fn text_before(
 fn failure_at(refused: &Refused, line: Option<usize>, before: usize) -> Failure
     ensures { result ≡ after before (rejection refused.now.no refused.now.procedure refused.now.place line) }
 {
-    let position = Position::Place {
-        procedure: refused.procedure,
-        place: refused.place,
-        line,
-    };
-    let mut failure = Failure::coded(b'V', refused.no.number(), position);
+    let mut failure = rejection_failure(refused, line);
     failure.before = before;
     failure
 }
@@ -244,7 +240,6 @@ pub(crate) fn rejection_reply(
     let line = rejection_line(alloc, source, refused)?;
     let failure = failure_at(refused, line, before);
     put_failure_line(alloc, &mut text, failure)?;
-    let details = rejection_details(alloc, source, refused, line)?;
-    text.extend_from_slice(&details)?;
-    Ok(refused_by(text, failure))
+    let details = rejection_errors(alloc, source, refused, line)?;
+    details.reply_after(text, failure)
 }

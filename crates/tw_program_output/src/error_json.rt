@@ -5,7 +5,7 @@ ghost use Rattle.tw_json_output.specs.Lines.{IsJsonLine};
 ghost use Rattle.tw_program_output.specs.ErrorJson.{failure_in};
 
 use std::alloc::{AllocError, Global};
-use tw_json_output::ObjectWriter;
+use tw_json_output::{ArrayWriter, ObjectWriter};
 use tw_source::{Close, ErrorCode, Failure, Position, Reply, put_code};
 
 /// Returns the error with which a session ends, if it ends with one.
@@ -83,13 +83,51 @@ fn failure_object(alloc: Global, failure: Failure, lines: &[u8]) -> ObjectWriter
     object
 }
 
+/// Returns the lines of a reply that are between these numbers of bytes.
+fn lines_between(error: &Reply, before: usize, end: usize) -> &[u8] {
+    let end = end.min(error.text.len());
+    &error.text[before.min(end)..end]
+}
+
+/// Returns where the lines of the first of these errors begin, or the reply's end.
+fn end_before(error: &Reply, more: &[Failure]) -> usize {
+    match more {
+        [next, ..] => next.before,
+        [] => error.text.len(),
+    }
+}
+
+/// Returns the objects of further errors.
+fn more_array(alloc: Global, error: &Reply, more: &[Failure]) -> ArrayWriter {
+    let mut array = ArrayWriter::new(alloc);
+    for index in 0..more.len() {
+        let failure = more[index];
+        let end = end_before(error, &more[index + 1..]);
+        let lines = lines_between(error, failure.before, end);
+        array.push(failure_object(alloc, failure, lines));
+    }
+    array
+}
+
+/// Returns the errors after the first of a reply.
+fn errors_after(error: &Reply) -> &[Failure] {
+    match &error.more {
+        Some(more) => more,
+        None => &[],
+    }
+}
+
 /// Returns the object of an error's reply.
 fn error_object(alloc: Global, error: &Reply) -> ObjectWriter {
     let failure = failure_of(error.close);
-    let lines = &error.text[failure.before.min(error.text.len())..];
+    let more = errors_after(error);
+    let lines = lines_between(error, failure.before, end_before(error, more));
     let mut object = ObjectWriter::new(alloc);
     object.put_word("status", error_status(error.close));
     object.put_object("error", failure_object(alloc, failure, lines));
+    if !more.is_empty() {
+        object.put_array("more", more_array(alloc, error, more));
+    }
     object
 }
 

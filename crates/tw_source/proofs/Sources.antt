@@ -4,7 +4,7 @@ use Rattle.tw_source.proofs.ReplyNames.{AreOrigins, ComesFrom, HaveStatements, P
 use Rattle.std.specs.List.{slice_get}
 use Rattle.tw_asm.specs.Fault.{situation, situation_from}
 use Rattle.tw_asm.specs.Statement.{Statement, Code, Head, Label, OfVersion, Registers}
-use Rattle.tw_diagnostics.specs.LineRole.{HasNoHead, IsFirstHead, is_head, statement_role}
+use Rattle.tw_diagnostics.specs.FirstHead.{HasNoHead, IsFirstHead, is_head}
 use Rattle.tw_symbols.proofs.LineByLine.{as_many}
 use Rattle.tw_source.specs.Text.{IsLineOfError}
 use Rattle.tw_verify.specs.declared.rejection.VerifyError.{VerifyError}
@@ -52,7 +52,7 @@ none_begun : (number : ℕ) (s : ParserState) (said : List (Option Statement)) �
 none_begun number s [] h = refl
 none_begun number s (x ∷ said) h = none_begun (number + 1) (after_line number x s) said h.1 ∙ by x h.0
   where
-    by : (y : Option Statement) → is_head (statement_role y) ≡ false → (after_line number y s).procedures ≡ s.procedures
+    by : (y : Option Statement) → is_head y ≡ false → (after_line number y s).procedures ≡ s.procedures
     by None e = refl
     by (Some (OfVersion version)) e = refl
     by (Some (Head kind params)) e = absurd (untrue e)

@@ -5,7 +5,7 @@ use Rattle.std.specs.Str.Lines.{lines}
 use Rattle.tw_asm.specs.Origins.{ComesFrom}
 use Rattle.tw_symbols.specs.Symbols.{AreNames, name_at}
 use Rattle.tw_symbols.specs.Expansion.{ExpandsTo}
-use Rattle.tw_diagnostics.specs.LineRole.{IsFirstHead}
+use Rattle.tw_diagnostics.specs.FirstHead.{IsFirstHead}
 use Rattle.tw_lexer.specs.Shown.{shortened}
 use Rattle.tw_verify.specs.declared.rejection.VerifyError.{VerifyError}
 use Rattle.tw_verify.specs.declared.rejection.VerifyError.TheVariants as rejection

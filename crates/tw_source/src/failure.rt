@@ -121,6 +121,20 @@ fn put_position(alloc: Global, out: &mut Vec<u8>, position: Position) -> Result<
     }
 }
 
+/// Adds the first line of an error that isn't a text's first.
+pub(crate) fn put_further_line(
+    alloc: Global,
+    out: &mut Vec<u8>,
+    failure: Failure,
+) -> Result<(), AllocError> {
+    if let Some(code) = failure.code {
+        put(out, "also ")?;
+        put_code(alloc, out, code)?;
+        put_position(alloc, out, failure.position)?;
+    }
+    put(out, "\n")
+}
+
 /// Adds the first line of an error that has a code.
 pub fn put_failure_line(
     alloc: Global,

@@ -2,15 +2,13 @@
 
 ghost use Rattle.std.specs.Prelude.{◌≡◌, IfOk};
 ghost use Rattle.tw_source.specs.Failure.{fault_failure as fault_failure_is};
-ghost use Rattle.tw_source.specs.Program.{IsFailure, PrintsNone};
-ghost use Rattle.tw_source.specs.Reply.{reply};
+ghost use Rattle.tw_source.specs.Program.{IsFailure};
 ghost use Rattle.tw_source.specs.declared.program.NoProgram.TheVariants.{Text};
 ghost use Rattle.tw_visible.specs.Visible.{HidesNothing};
 
 use crate::failure::{Failure, Position};
 use crate::first_words::first_word;
 use crate::name_hint::put_head;
-use crate::reply::{Reply, detailed_reply};
 use crate::source::plain_or;
 use std::alloc::{AllocError, Global};
 use tw_asm::{AsmFault, FaultNo};
@@ -40,7 +38,7 @@ fn is_same_line(text: &str, plain: &str, number: usize) -> bool {
 
 impl FaultyText<'_> {
     /// Returns the text in which the fault is.
-    fn plain(&self) -> &str {
+    pub(crate) fn plain(&self) -> &str {
         plain_or(self.text, &self.plain)
     }
 
@@ -91,20 +89,17 @@ pub(crate) fn text_failure(alloc: Global, faulty: &FaultyText<'_>) -> Result<Fai
 }
 
 /// Returns the line of a fault, as it is written and as it is expanded, why it is rejected, and the head of the procedure that it calls by a name.
-fn fault_details(
-    alloc: Global,
-    faulty: &FaultyText<'_>,
-    reason: &Reason<'_>,
-) -> Result<Vec<u8>, AllocError>
+pub(crate) fn fault_details(alloc: Global, faulty: &FaultyText<'_>) -> Result<Vec<u8>, AllocError>
     ensures { IfOk result (λ details. HidesNothing details.items) }
 {
+    let reason = text_reason(alloc, faulty.plain(), faulty.fault)?;
     let mut out = Vec::new(alloc);
     let line = faulty.fault.line;
     if !faulty.is_written() {
         put_shown_line(&mut out, faulty.text, line)?;
         put(&mut out, "expands to: ")?;
     }
-    put_text_diagnostic(alloc, &mut out, faulty.plain(), line, reason)?;
+    put_text_diagnostic(alloc, &mut out, faulty.plain(), line, &reason)?;
     if matches!(faulty.fault.no, FaultNo::Word) {
         put_usual(&mut out, first_word(faulty.plain(), line))?;
     }
@@ -112,14 +107,4 @@ fn fault_details(
         put_head(alloc, &mut out, faulty.text, line)?;
     }
     visible_bytes(alloc, &out)
-}
-
-/// Returns the reply to a text with a fault.
-pub(crate) fn faulty_reply(alloc: Global, faulty: &FaultyText<'_>) -> Result<Reply, AllocError>
-    ensures { IfOk result (λ r. PrintsNone (Text faulty.now) (reply r.text.items r.close)) }
-{
-    let reason = text_reason(alloc, faulty.plain(), faulty.fault)?;
-    let failure = fault_failure(faulty.fault, faulty.word(&reason));
-    let details = fault_details(alloc, faulty, &reason)?;
-    detailed_reply(alloc, failure, &details)
 }

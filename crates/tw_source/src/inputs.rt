@@ -88,6 +88,7 @@ pub fn input_word_reply(alloc: Global, number: usize, reason: &[u8]) -> Result<R
     Ok(Reply {
         text,
         close: Close::Unreadable(Failure::uncoded(Position::Input(number))),
+        more: None,
     })
 }
 
@@ -109,6 +110,7 @@ pub fn unreadable_reply(text: Vec<u8>, place: Place) -> Reply
     Reply {
         text,
         close: Close::Unreadable(failure),
+        more: None,
     }
 }
 

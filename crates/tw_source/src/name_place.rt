@@ -75,6 +75,16 @@ fn only_index(line: &[u8], word: &[u8]) -> Option<usize>
     found
 }
 
+/// Returns whether a line has a word, and not only as a part of a longer one.
+pub(crate) fn has_name(line: &[u8], word: &[u8]) -> bool {
+    for index in 0..line.len() {
+        if is_at(line, word, index) {
+            return true;
+        }
+    }
+    false
+}
+
 /// Returns what precedes the first `;`.
 fn before_semicolon(line: &str) -> &str
     ensures { result.now ≡ before_first (λ b. b == 59) line.now }

@@ -1,7 +1,7 @@
 //! Output about symbolic assembly and its expanded text.
 
 ghost use Rattle.std.specs.Prelude.{IfOk};
-ghost use Rattle.tw_source.specs.Program.{IsFailure, PrintsNone, RepliesByPlain};
+ghost use Rattle.tw_source.specs.Program.{IsFailure, RepliesByPlain};
 ghost use Rattle.tw_source.specs.declared.program.NoProgram.TheVariants.{Named};
 ghost use Rattle.tw_source.specs.Reply.{reply};
 ghost use Rattle.tw_visible.specs.Visible.{HidesNothing};
@@ -11,7 +11,8 @@ use crate::failure::{Failure, Position};
 use crate::first_words::first_word;
 use crate::name_hint::{is_argument, put_head, put_name_hint};
 use crate::name_place::text_place;
-use crate::reply::{Reply, detailed_reply, fixed_reply, not_utf8_reply};
+use crate::program::{NoProgram, parse_error_reply};
+use crate::reply::{Reply, fixed_reply, not_utf8_reply};
 use std::alloc::{AllocError, Global};
 use tw_diagnostics::put_shown_line;
 use tw_lexer::{put, put_both, put_shortened};
@@ -161,7 +162,11 @@ fn put_word_diagnostic(
 }
 
 /// Returns the rejected line as it was written, what is wrong with which word of it, and the head of the procedure that is called.
-fn name_details(alloc: Global, text: &str, rejection: NameError<'_>) -> Result<Vec<u8>, AllocError>
+pub(crate) fn name_details(
+    alloc: Global,
+    text: &str,
+    rejection: NameError<'_>,
+) -> Result<Vec<u8>, AllocError>
     ensures { IfOk result (λ details. HidesNothing details.items) }
 {
     let mut out = Vec::new(alloc);
@@ -187,18 +192,6 @@ pub(crate) fn name_failure(
     Ok(Failure::coded(b'N', error.no.number(), position))
 }
 
-/// Returns the reply to symbolic assembly that can't be expanded.
-pub(crate) fn unexpanded_reply(
-    alloc: Global,
-    unexpanded: &UnexpandedText<'_>,
-) -> Result<Reply, AllocError>
-    ensures { IfOk result (λ r. PrintsNone (Named unexpanded.now) (reply r.text.items r.close)) }
-{
-    let failure = name_failure(alloc, unexpanded)?;
-    let details = name_details(alloc, unexpanded.text, unexpanded.error)?;
-    detailed_reply(alloc, failure, &details)
-}
-
 /// Returns the expanded text, or the first name error.
 fn text_plain_reply(alloc: Global, text: &str) -> Result<Reply, AllocError>
     ensures { IfOk result (λ r. RepliesByPlain text.now (reply r.text.items r.close)) }
@@ -207,11 +200,12 @@ fn text_plain_reply(alloc: Global, text: &str) -> Result<Reply, AllocError>
         Ok(Some(plain)) => Ok(Reply {
             text: plain.into_bytes(),
             close: Close::Success,
+            more: None,
         }),
         Ok(None) => fixed_reply(alloc, text, Close::Success),
         Err(error) => match error.no {
             NameNo::NoMemory => Err(AllocError),
-            _ => unexpanded_reply(alloc, &UnexpandedText { text, error }),
+            _ => parse_error_reply(alloc, &NoProgram::Named(UnexpandedText { text, error })),
         },
     }
 }

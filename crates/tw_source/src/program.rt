@@ -2,18 +2,21 @@
 
 ghost use Rattle.std.specs.Prelude.{◌≡◌, ◌≢◌, Err, Ok, Some, IfErr, IfOk, IsUtf8};
 ghost use Rattle.tw_order.specs.declared.order.Source.TheVariants.{Assembly, Hex};
-ghost use Rattle.tw_source.specs.Program.{IsExpansion, IsFailure, PrintsNone, HasProgram, HasNoProgram, TextHasProgram, source_text};
+ghost use Rattle.tw_source.specs.Program.{IsExpansion, IsFailure, MayHaveDetails, PrintsNone, HasProgram, HasNoProgram, TextHasProgram, source_text};
 ghost use Rattle.tw_source.specs.Reply.{reply};
 ghost use Rattle.tw_source.specs.Source.{MayBeSource, text_of};
 ghost use Rattle.tw_binary.specs.declared.fault.Fault.{Fault as ByteFault};
 ghost use Rattle.tw_binary.specs.Reading.{program_of};
 ghost use Rattle.tw_source.specs.declared.program.NoProgram.TheVariants.{Bytes, NoMemory};
+ghost use Rattle.tw_visible.specs.Visible.{HidesNothing};
 
+use crate::details::Details;
 use crate::digits::digits;
-use crate::failure::{Failure, Position};
-use crate::faulty_text::{FaultyText, faulty_reply, text_failure};
-use crate::names::{UnexpandedText, name_failure, unexpanded_reply};
-use crate::reply::{Reply, failed_reply};
+use crate::failure::{Failure, Position, put_failure_line};
+use crate::faulty_text::{FaultyText, fault_details, text_failure};
+use crate::further::put_further;
+use crate::names::{UnexpandedText, name_details, name_failure};
+use crate::reply::Reply;
 use crate::source::{SourceText, plain_or};
 use hex::FromHexError;
 use std::alloc::{AllocError, Global};
@@ -105,7 +108,10 @@ fn program_of_plain<'a>(
 }
 
 /// Returns the program of a text.
-fn program_of_text<'a>(alloc: Global, text: &'a str) -> Result<ReadProgram<'a>, NoProgram<'a>>
+pub(crate) fn program_of_text<'a>(
+    alloc: Global,
+    text: &'a str,
+) -> Result<ReadProgram<'a>, NoProgram<'a>>
     ensures spells { IfOk result (λ read. TextHasProgram text.entry.now read.program) }
     ensures source { IfOk result (λ read. MayBeSource read.source read.program.procedures) }
     ensures text { IfOk result (λ read. text_of read.source ≡ Some text.entry.now) }
@@ -173,16 +179,47 @@ pub fn parse_failure(alloc: Global, why: &NoProgram<'_>) -> Result<Failure, Allo
     }
 }
 
-/// Returns the reply to input that encodes no program, with diagnostics if it is a text.
+/// Returns the lines after the first of the error of input that encodes no program. If it isn't a text, there are none.
+pub(crate) fn parse_details(alloc: Global, why: &NoProgram<'_>) -> Result<Vec<u8>, AllocError>
+    ensures { IfOk result (λ lines. MayHaveDetails why.now lines.items) }
+{
+    match why {
+        NoProgram::Text(faulty) => fault_details(alloc, faulty),
+        NoProgram::Named(unexpanded) => name_details(alloc, unexpanded.text, unexpanded.error),
+        _ => Ok(Vec::new(alloc)),
+    }
+}
+
+/// Returns the lines after the first, and those of further errors of a text.
+fn text_details(alloc: Global, why: &NoProgram<'_>, text: &str) -> Result<Details, AllocError>
+    ensures { IfOk result (λ details. HidesNothing details.lines.items) }
+{
+    let mut details = Details::new(alloc, parse_details(alloc, why)?);
+    put_further(alloc, &mut details, text)?;
+    details.visible(alloc)
+}
+
+/// Returns all lines after the first.
+fn all_details(alloc: Global, why: &NoProgram<'_>) -> Result<Details, AllocError>
+    ensures { IfOk result (λ details. MayHaveDetails why.now details.lines.items) }
+{
+    match why {
+        NoProgram::Text(faulty) => text_details(alloc, why, faulty.text),
+        NoProgram::Named(unexpanded) => text_details(alloc, why, unexpanded.text),
+        _ => Ok(Details {
+            lines: Vec::new(alloc),
+            more: Vec::new(alloc),
+        }),
+    }
+}
+
+/// Returns the reply to input that encodes no program, with diagnostics and further errors if it is a text.
 pub fn parse_error_reply(alloc: Global, why: &NoProgram<'_>) -> Result<Reply, AllocError>
     ensures { IfOk result (λ r. (why.now ≢ NoMemory) × PrintsNone why.now (reply r.text.items r.close)) }
 {
-    match why {
-        NoProgram::Text(faulty) => faulty_reply(alloc, faulty),
-        NoProgram::Named(unexpanded) => unexpanded_reply(alloc, unexpanded),
-        _ => {
-            let failure = parse_failure(alloc, why)?;
-            failed_reply(alloc, failure)
-        }
-    }
+    let failure = parse_failure(alloc, why)?;
+    let details = all_details(alloc, why)?;
+    let mut text = Vec::new(alloc);
+    put_failure_line(alloc, &mut text, failure)?;
+    details.reply_after(text, failure)
 }

@@ -15,6 +15,8 @@ use tw_lexer::put;
 pub struct Reply {
     pub text: Vec<u8>,
     pub close: Close,
+    /// The errors after the first, if there are any. Their lines are the text's last.
+    pub more: Option<Vec<Failure>>,
 }
 
 /// Returns the reply that rejects with this text, of this error.
@@ -24,6 +26,7 @@ pub fn refused_by(text: Vec<u8>, failure: Failure) -> Reply
     Reply {
         text,
         close: Close::Refused(failure),
+        more: None,
     }
 }
 
@@ -33,7 +36,11 @@ pub fn fixed_reply(alloc: Global, line: &str, close: Close) -> Result<Reply, All
 {
     let mut text = Vec::new(alloc);
     put(&mut text, line)?;
-    Ok(Reply { text, close })
+    Ok(Reply {
+        text,
+        close,
+        more: None,
+    })
 }
 
 /// Returns the reply that has only the first line of an error.

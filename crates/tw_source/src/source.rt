@@ -231,7 +231,7 @@ fn put_rejected_line(
 }
 
 /// Returns the details of an error at the line with this number, to be printed after its first line. Without a text there are none.
-pub fn rejection_details(
+pub(crate) fn rejection_details(
     alloc: Global,
     source: &Option<SourceText<'_>>,
     refused: &Refused,

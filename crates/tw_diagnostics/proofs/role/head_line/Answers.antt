@@ -6,13 +6,13 @@ use Rattle.tw_lexer.proofs.LineLoops.{all_lines, line_turn}
 use Rattle.tw_diagnostics.proofs.Heads.{NoHeads, first_head, none_on}
 use Rattle.tw_diagnostics.proofs.role.head_line.Goals as goal
 
-pub returns-then-is_head : goal.returns-then-is_head
-returns-then-is_head c = λ said say.
+pub returns-then-begins : goal.returns-then-begins
+returns-then-begins c = λ said say.
     let road = YieldsList-at c.into_iter-index-iterator.ensures.into_iter_gives (YieldsList-from_enumerate (YieldsList-at c.enumerate-index-items.ensures.source (YieldsList-from_lines c.args.text.now c.lines.ensures.rest)) c.enumerate-index-items.ensures.count) in
     let t = YieldsList-turn road c.loop-index.yielded _ c.loop-index.yielded_by _ _ (c.in-Some.index, c.in-Some.line) c.in-Some.is c.next.ensures.steps in
     let at = line_turn (lines c.args.text.now) c.loop-index.yielded c.in-Some.index c.in-Some.line.now (YieldsList-so_far road c.loop-index.yielded _ c.loop-index.yielded_by) t.0 t.1 in
     let ls : List (List ℕ) = map (λ (item : ℕ × Bor (List ℕ)). item.1.now) c.loop-index.yielded in
-    first_head c.args.text.now ls c.in-Some.line.now at.others c.in_ok-says.says c.in-Some.index said at.parts at.index_is c.loop-index.invariant.none c.in_ok-says.ensures (sym c.is_head.ensures ∙ c.if-is_head.true) say
+    first_head c.args.text.now ls c.in-Some.line.now at.others c.in_ok-begins.begins c.in-Some.index said at.parts at.index_is c.loop-index.invariant.none c.in_ok-begins.ensures c.if-begins.true say
 
 pub loop-index-preserved : goal.loop-index-preserved
 loop-index-preserved c =
@@ -24,7 +24,7 @@ loop-index-preserved c =
     record {
       next = search rules;
       finite = search rules;
-      none = subst NoHeads (sym more) (none_on ls c.in-Some.line.now c.in_ok-says.says c.loop-index.invariant.none c.in_ok-says.ensures (sym c.is_head.ensures ∙ c.if-is_head.false));
+      none = subst NoHeads (sym more) (none_on ls c.in-Some.line.now c.in_ok-begins.begins c.loop-index.invariant.none c.in_ok-begins.ensures c.if-begins.false);
     }
 
 pub returns : goal.returns

@@ -21,4 +21,4 @@ returns-in_default c =
     let text = c.args.text.now in
     let unexpanded : UnexpandedText = record { text = c.args.text; error = error } in
     let first = is_refused error (IsFirstRejection text (seen_rejection error)) c.in_default.not-NoMemory c.in-Err.ensures.expands in
-    IfOk-weaker _ _ _ (λ (r : Reply) h. inl (c.utf8.text, inr (unexpanded, (refl, first), h))) c.unexpanded_reply.ensures
+    IfOk-weaker _ _ _ (λ (r : Reply) h. inl (c.utf8.text, inr (unexpanded, (refl, first), h.1))) c.parse_error_reply.ensures

@@ -2,7 +2,7 @@ use Rattle.std.proofs.Common.{◌∙◌, List, Option, Some, ℕ, subst}
 use Rattle.tw_source.proofs.ReplyNames.{HaveStatements, IfOk-weaker, at_start, lines, plain_of}
 use Rattle.std.proofs.Common.{MatchOption}
 use Rattle.tw_asm.specs.Statement.{Statement}
-use Rattle.tw_diagnostics.specs.LineRole.{HasNoHead, IsFirstHead}
+use Rattle.tw_diagnostics.specs.FirstHead.{HasNoHead, IsFirstHead}
 use Rattle.tw_source.proofs.Sources.{main_line, other_line, some_origin}
 use Rattle.tw_source.proofs.source.text_rejection_line.Goals as goal
 
