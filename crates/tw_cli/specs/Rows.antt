@@ -43,41 +43,52 @@ cap_options =
     value (codes "most-tasks") ∷ value (codes "most-instructions") ∷ value (codes "most-data") ∷ value (codes "most-bytes") ∷ value (codes "most-budget")
     ∷ value (codes "most-members") ∷ []
 
--- how the program and its inputs are read, and the input arguments
-abbrev pub reading_arguments : List Argument
-reading_arguments = flag (codes "text") ∷ argument Inputs (codes "inputs") ∷ argument Positions (codes "input") ∷ []
+-- the input arguments, and how a trace's program is read
+abbrev pub input_arguments : List Argument
+input_arguments = argument Positions (codes "input") ∷ []
+
+abbrev pub trace_options : List Argument
+trace_options = flag (codes "text") ∷ argument Trace (codes "events") ∷ argument Inputs (codes "inputs") ∷ actor_options
 
 abbrev pub run_arguments : List Argument
 run_arguments =
-    actor_options ++ (value (codes "limit") ∷ (range_options ++ (value (codes "jobs") ∷ flag (codes "trace") ∷ flag (codes "stats") ∷ flag (codes "order") ∷ flag (codes "json")
-    ∷ argument Inputs (codes "each") ∷ flag (codes "picture") ∷ (cap_options ++ (flag (codes "in-turn") ∷ value (codes "seed") ∷ value (codes "seconds") ∷ flag (codes "quiet")
-    ∷ argument Inputs (codes "inputs-json") ∷ reading_arguments)))))
+    flag (codes "text") ∷ argument Inputs (codes "inputs") ∷ argument Inputs (codes "inputs-json") ∷ argument Inputs (codes "each")
+    ∷ (actor_options ++ (flag (codes "in-turn") ∷ value (codes "seed") ∷ value (codes "jobs") ∷ value (codes "limit") ∷ value (codes "seconds")
+    ∷ (cap_options ++ (flag (codes "order") ∷ flag (codes "trace") ∷ flag (codes "stats") ∷ flag (codes "json") ∷ flag (codes "picture")
+    ∷ (range_options ++ (flag (codes "quiet") ∷ input_arguments))))))
+
+abbrev pub check_arguments : List Argument
+check_arguments =
+    flag (codes "text") ∷ value (codes "limit") ∷ (cap_options ++ (flag (codes "places") ∷ argument ValueOrMain (codes "bounds") ∷ flag (codes "order") ∷ flag (codes "json") ∷ []))
 
 abbrev pub rows : List Command
 rows =
     command (codes "asm") true (flag (codes "names") ∷ flag (codes "plain") ∷ flag (codes "json") ∷ [])
     ∷ command (codes "disasm") true (flag (codes "text") ∷ flag (codes "places") ∷ flag (codes "json") ∷ [])
-    ∷ command (codes "check") true (flag (codes "text") ∷ flag (codes "places") ∷ flag (codes "json") ∷ flag (codes "order") ∷ argument ValueOrMain (codes "bounds") ∷ value (codes "limit") ∷ cap_options)
+    ∷ command (codes "check") true check_arguments
     ∷ command (codes "run") true run_arguments
-    ∷ command (codes "replay") true (actor_options ++ (flag (codes "stats") ∷ flag (codes "json") ∷ argument Trace (codes "events") ∷ reading_arguments))
-    ∷ command (codes "picture") true (actor_options ++ (range_options ++ (argument Trace (codes "events") ∷ reading_arguments)))
-    ∷ command (codes "explain") false (argument Position (codes "number") ∷ flag (codes "json") ∷ []) ∷ []
+    ∷ command (codes "replay") true (trace_options ++ (flag (codes "stats") ∷ flag (codes "json") ∷ input_arguments))
+    ∷ command (codes "picture") true (trace_options ++ (range_options ++ input_arguments))
+    ∷ command (codes "explain") false (flag (codes "json") ∷ argument Position (codes "number") ∷ []) ∷ []
 
 -- ---- clap
 
--- return how clap is set up for an option of this name, for a flag, and for an option that has the value `main` if none is given
-abbrev pub option_rule : Text → Rule
-option_rule name = record (new_rule name) { long = Some name }
-
+-- return how clap is set up for a flag of this name, for an option, and for an option that has the value `main` if none is given
 abbrev pub flag_rule : Text → Rule
-flag_rule name = record (option_rule name) { action = Some SetTrue }
+flag_rule name = record (new_rule name) { long = Some name; action = Some SetTrue }
+
+abbrev pub option_rule : Text → Rule
+option_rule name = record (new_rule name) { long = Some name; value_names = 1 }
 
 abbrev pub main_rule : Text → Rule
 main_rule name = record (option_rule name) { range = Some (record { start_inclusive = 0; end_inclusive = 1 }); missing = codes "main" ∷ [] }
 
--- returns how clap is set up for arguments of this name, any number of them
+-- return how clap is set up for an argument of this name, and for any number of them
+abbrev pub position_rule : Text → Rule
+position_rule name = record (new_rule name) { value_names = 1 }
+
 abbrev pub several_rule : Text → Rule
-several_rule name = record (new_rule name) { range = Some (record { start_inclusive = 0; end_inclusive = usize_max }) }
+several_rule name = record (position_rule name) { range = Some (record { start_inclusive = 0; end_inclusive = usize_max }) }
 
 -- returns how clap is set up for an argument; a session gets no names of files
 abbrev pub form_rule : ArgumentForm → Text → Rule
@@ -86,7 +97,7 @@ form_rule Value name = option_rule name
 form_rule ValueOrMain name = main_rule name
 form_rule Inputs name = flag_rule name
 form_rule Trace name = flag_rule name
-form_rule Position name = new_rule name
+form_rule Position name = position_rule name
 form_rule Positions name = several_rule name
 
 -- the program without its commands: the arguments come without its own name, and must name a command, or request help or the version

@@ -16,16 +16,24 @@ fn argument<'a>(alloc: Global, row: &ArgumentRow<'a>) -> Arg<'a>
 {
     let bare = Arg::new(alloc, row.name).help(row.help);
     match row.form {
-        ArgumentForm::Flag | ArgumentForm::Inputs | ArgumentForm::Trace => {
-            bare.long(row.name).action(ArgAction::SetTrue)
-        }
-        ArgumentForm::Value => bare.long(row.name),
+        ArgumentForm::Flag => bare
+            .long(row.name)
+            .help_heading(row.group)
+            .action(ArgAction::SetTrue),
+        ArgumentForm::Inputs | ArgumentForm::Trace => bare
+            .long(row.name)
+            .help_heading(row.group)
+            .next_line_help(true)
+            .action(ArgAction::SetTrue),
+        ArgumentForm::Value => bare.long(row.name).help_heading(row.group).value_name("N"),
         ArgumentForm::ValueOrMain => bare
             .long(row.name)
+            .help_heading(row.group)
+            .value_name("main|all")
             .num_args(0..=1)
             .default_missing_value("main"),
-        ArgumentForm::Position => bare,
-        ArgumentForm::Positions => bare.num_args(0..),
+        ArgumentForm::Position => bare.value_name("CODE"),
+        ArgumentForm::Positions => bare.value_name("INPUT").num_args(0..),
     }
 }
 

@@ -11,7 +11,7 @@ pub(crate) struct CommandHelp<'a> {
 }
 
 /// The program's version, which the newest section of CHANGELOG.md names.
-pub(crate) const VERSION: &str = "0.28";
+pub(crate) const VERSION: &str = "0.29";
 
 pub(crate) const ABOUT: &str =
     "Yuglemit assembles, checks and runs dataflow programs on a proved task host. Its manual is `man tw`.";
@@ -68,7 +68,7 @@ Exit status: 0 accepted, 1 rejected, 2 command line rejected, 5 out of memory, 7
 
 pub(crate) const RUN: CommandHelp<'static> = CommandHelp {
     about: "Runs a program and reports its outputs",
-    usage: "tw run [FILE] [OPTIONS] [input]...",
+    usage: "tw run [FILE] [OPTIONS] [INPUT]...",
     whole: "Reads a program from a FILE, which is an argument, or from standard input as hex text: two digits a byte; spaces, tabs
 and line ends are skipped. A FILE may also hold assembly text.
 With --text it reads assembly text, or symbolic assembly as `tw asm --names` does. An error is then followed by the rejected
@@ -87,7 +87,7 @@ With --inputs the inputs are read instead: after the program a line `inputs`, th
 end. An input is its whole line; empty lines are skipped. No input is an argument then. With --inputs DATA, --inputs-json DATA
 and --each DATA the lines after `inputs` are those of a file; - is standard input.
 Options may come before, after or between the inputs. --trace, --in-turn, --stats, --picture, --quiet, --text, --inputs,
---inputs-json and --each take no value; the others take a number in decimal digits.
+--inputs-json and --each take no value; the others take a number in decimal digits, --seconds also with up to three decimals.
 With --most-tasks, --most-instructions, --most-data, --most-bytes, --most-budget or --most-members, a program is rejected before
 it runs, as O07, if its bound and that by --limit are larger; see `tw check --help`. So a run that begins stays below.
 The report has a line for each output, then one for each member of a container or value of a map, and ends with how the run ended.
@@ -98,10 +98,10 @@ the workers take turns, again and again. The same command makes the same trace e
 number N decides who takes the next turn; the same N gives the same trace, another N may give another. What depends on
 the order of events shows so. --each is excluded then.
 With --seconds N a run is stopped once N seconds have passed, and its report ends with `stopped`; with --each the run of
-each line. A task that works then is cut off, without an event.
-A run in threads of more than two seconds prints once a second on standard error, if that is a terminal, how many events
-there are so far, and --each how many lines are answered, and how many that is a second. With --quiet nothing is printed,
-nor by a run with --in-turn.
+each line. N may have up to three decimals. A task that works then is cut off, without an event.
+A run of more than two seconds prints once a second on standard error, if that is a terminal, how many events there are so
+far; with --in-turn how many turns, and with --each how many lines are answered, and how many that is a second. With --quiet
+nothing is printed. Ctrl-C at such a terminal stops a run of ./tw without --each likewise, with status 130; a second one ends it.
 With --stats statistics of the run's own events follow the report, as `tw replay --stats` prints them. With --picture an SVG
 timeline of the events replaces the report, as `tw picture` draws it; --trace and --stats are excluded then. --from and --to
 need --picture: the timeline shows the events from one number to the other, counted from 1.
@@ -114,7 +114,7 @@ rejected, else 4 if one ended by the limit or was stopped, else 3 if one is stuc
 
 pub(crate) const REPLAY: CommandHelp<'static> = CommandHelp {
     about: "Executes the events of a trace and reports the state",
-    usage: "tw replay [FILE] [OPTIONS] [input]...",
+    usage: "tw replay [FILE] [OPTIONS] [INPUT]...",
     whole: "Executes the events of a trace on the reference machine and reports the resulting state.
 A FILE, which is an argument, or standard input has a program as hex text, or with --text as assembly text, a line `events`,
 a line for each event, and a line `end` or the end. Without a line `events` there are no events; anything after `end` is ignored,
@@ -134,7 +134,7 @@ Exit status: 0 quiet or still running, 1 rejected or an event that isn't enabled
 
 pub(crate) const PICTURE: CommandHelp<'static> = CommandHelp {
     about: "Draws the events of a trace as an SVG timeline",
-    usage: "tw picture [FILE] [OPTIONS] [input]...",
+    usage: "tw picture [FILE] [OPTIONS] [INPUT]...",
     whole: "Executes the events of a trace on the reference machine and draws them as one SVG timeline.
 It takes what `tw replay` takes except --stats and --json, and rejects what that rejects, with the same line and status. Otherwise its
 output can be opened in a browser. Each actor has a row, with its events from left to right by their numbers. An event has a
@@ -150,12 +150,21 @@ Exit status: 0 quiet or still running, 1 rejected or an event that isn't enabled
 
 pub(crate) const EXPLAIN: CommandHelp<'static> = CommandHelp {
     about: "Explains the code of an error or a trap",
-    usage: "tw explain [OPTIONS] [number]",
+    usage: "tw explain [OPTIONS] [CODE]",
     whole: "A code is what an error line of another command names: H01 to H03, A01 to A07, N01 to N07, F01 to F09, V01 to V18, O01 to O07,
 E01, X01 or C1 to C15. Small letters are accepted, and V4 for V04. The output says what the code means, what is required, the
 usual mistake and its correction. Without a code all are listed, each with what it means.
 Exit status: 0 explained, 2 command line rejected or no such code, 5 out of memory, 7 a write failed.",
 };
+
+/// The headings of options.
+pub(crate) const INPUT_GROUP: &str = "Input";
+
+pub(crate) const RUN_GROUP: &str = "Run";
+
+pub(crate) const LIMIT_GROUP: &str = "Limits";
+
+pub(crate) const OUTPUT_GROUP: &str = "Output";
 
 pub(crate) const ENGINES_HELP: &str = "How many engines: 1 to 4 (default: 1)";
 
@@ -182,34 +191,13 @@ pub(crate) const MOST_BUDGET_HELP: &str = "Reject a program with a larger budget
 pub(crate) const MOST_MEMBERS_HELP: &str =
     "Reject a program whose run may hold more members and values of maps, beyond the inputs";
 
-pub(crate) const TRACE_HELP: &str =
-    "Write the trace before the report: a line `events`, a line for each event, a line `end`";
-
-pub(crate) const IN_TURN_HELP: &str =
-    "Run in one thread, in which the actors take turns in a fixed order";
-
-pub(crate) const SEED_HELP: &str =
-    "With --in-turn: another order of the turns, which this number decides, from 1 to 18446744073709551615";
-
-pub(crate) const SECONDS_HELP: &str =
-    "Stop the run after so many seconds: 1 to 4294967295; with --each the run of each line";
-
 pub(crate) const INPUT_HELP: &str =
     "An input: int:, text:, ints:, texts:, tints: or ttexts:, and its value";
 
 pub(crate) const INPUTS_HELP: &str =
     "Read the inputs, one a line: they follow the program and a line `inputs`, or are in a file DATA";
 
-pub(crate) const INPUTS_JSON_HELP: &str =
-    "Read the inputs as one JSON array: it follows the program and a line `inputs`, or is in a file DATA";
-
 pub(crate) const JSON_HELP: &str = "Write a JSON object on one line in place of the output";
-
-pub(crate) const JOBS_HELP: &str =
-    "With --each: answer lines in so many threads, 1 to 64; 1 by default";
-
-pub(crate) const EACH_HELP: &str =
-    "Run each line of inputs, a JSON array, after the program or in a file DATA, and write a JSON line for each";
 
 pub(crate) const EVENTS_HELP: &str =
     "Read the trace from a file TRACE: the line `events` and those after it";
@@ -223,26 +211,10 @@ pub(crate) const FROM_HELP: &str =
 pub(crate) const TO_HELP: &str =
     "The number of the last event in the timeline: 1 to 4294967295 (default: the last of all)";
 
-pub(crate) const QUIET_HELP: &str =
-    "Don't print on standard error how many events there are so far, or how many lines of --each are answered";
-
-pub(crate) const PICTURE_HELP: &str = "Write an SVG timeline of the events instead of the report";
-
 pub(crate) const TEXT_HELP: &str =
     "Read the program as assembly text or symbolic assembly instead of hex text";
-
-pub(crate) const NAMES_HELP: &str =
-    "Read symbolic assembly, whose first line with a word is `names`, or assembly text";
-
-pub(crate) const PLAIN_HELP: &str =
-    "Write the assembly text to which symbolic assembly expands instead of hex text";
-
-pub(crate) const BOUNDS_HELP: &str =
-    "Print bounds of whole runs: tasks, instructions, data, members, rules, bytes and events; with =all, of each procedure";
 
 pub(crate) const ORDER_HELP: &str =
     "Say whether outputs are the same in every order of events, or which insertion may show it";
 
 pub(crate) const PLACES_HELP: &str = "List the instructions, each with its place";
-
-pub(crate) const NUMBER_HELP: &str = "The code, such as A02, V04 or C5; without it all are listed";

@@ -15,6 +15,7 @@ mod numbers;
 mod option_forms;
 mod options;
 mod orders;
+mod page;
 
 pub use command::NoOrder;
 pub use command_rows::ArgumentForm;

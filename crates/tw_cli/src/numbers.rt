@@ -4,6 +4,7 @@ ghost use Rattle.std.specs.Prelude.{IfOk, IfSome};
 ghost use Rattle.std.specs.Int.{IsInRange};
 
 use clap::ArgMatches;
+use std::time::Duration;
 use tw_lexer::digits;
 use tw_order::{Caps, EventLimit, EventRange};
 use tw_types::Layout;
@@ -21,11 +22,15 @@ const JOBS: &str = "error: --jobs takes a number from 1 to 64\n";
 
 const SEED: &str = "error: --seed takes a number from 1 to 18446744073709551615\n";
 
-const SECONDS: &str = "error: --seconds takes a number from 1 to 4294967295\n";
+const SECONDS: &str =
+    "error: --seconds takes a number from 0.001 to 4294967295, with up to three decimals\n";
 
 const EVENTS: &str = "error: --from and --to take numbers from 1 to 4294967295\n";
 
 const CAPS: &str = "error: --most-tasks and its like take numbers from 1 to 18446744073709551615\n";
+
+/// The most seconds of a run.
+const MOST_SECONDS: u64 = 4_294_967_295;
 
 /// The numbers that the options of a command give. What isn't given has its default.
 #[derive(Clone, Copy)]
@@ -34,7 +39,7 @@ pub(crate) struct Numbers {
     pub(crate) limit: EventLimit,
     pub(crate) jobs: usize,
     pub(crate) seed: Option<u64>,
-    pub(crate) seconds: Option<u64>,
+    pub(crate) seconds: Option<Duration>,
     pub(crate) range: EventRange,
     pub(crate) caps: Caps,
 }
@@ -106,13 +111,40 @@ fn caps_given(matches: &ArgMatches<'_>) -> Result<Caps, &'static str> {
     })
 }
 
+/// Returns how many milliseconds a number of seconds is: digits, or digits, a point and up to three more.
+fn milliseconds(word: &str) -> Option<u64> {
+    let (whole, decimals) = word.split_once('.').unwrap_or((word, "0"));
+    let scale = match decimals.len() {
+        1 => 100,
+        2 => 10,
+        3 => 1,
+        _ => return None,
+    };
+    let whole = digits(whole.as_bytes(), 0, MOST_SECONDS).ok()?;
+    let part = digits(decimals.as_bytes(), 0, 999).ok()?;
+    Some(1000 * whole + scale * part)
+}
+
+/// Returns the time after which a run is stopped.
+fn seconds_given(matches: &ArgMatches<'_>) -> Result<Option<Duration>, &'static str> {
+    let Some(word) = matches.get_str("seconds") else {
+        return Ok(None);
+    };
+    match milliseconds(word) {
+        Some(time) if 0 < time && time <= 1000 * MOST_SECONDS => {
+            Ok(Some(Duration::from_millis(time)))
+        }
+        _ => Err(SECONDS),
+    }
+}
+
 /// Returns the numbers of all options. Returns the line for the first option with a wrong value.
 pub(crate) fn numbers_given(matches: &ArgMatches<'_>) -> Result<Numbers, &'static str> {
     let layout = layout_given(matches)?;
     let limit = limit_given(matches)?;
     let jobs = number_given(matches, "jobs", 64, JOBS)?.unwrap_or(1);
     let seed = number_given(matches, "seed", u64::MAX, SEED)?;
-    let seconds = number_given(matches, "seconds", 4_294_967_295, SECONDS)?;
+    let seconds = seconds_given(matches)?;
     let range = range_given(matches)?;
     let caps = caps_given(matches)?;
     Ok(Numbers {

@@ -15,6 +15,7 @@ use crate::options::{
     assembly_given, check_given, disassembly_given, form_given, has_words, picture_answer,
     replay_answer, run_given, source_given,
 };
+use crate::page::with_files;
 use clap::error::ErrorKind;
 use clap::{ArgMatches, Error};
 use std::alloc::Global;
@@ -29,6 +30,20 @@ const NO_CODE: &str = "error: there is no such code; expected one such as A02, V
 
 const NO_COMMAND: &str = "error: there is no command\n";
 
+/// Returns the help or the version that was requested.
+fn help_of(alloc: Global, error: &Error) -> NoOrder
+    ensures { (rows : List Row) → HasReason rows result }
+{
+    let page = match error.to_string(alloc) {
+        Ok(text) => with_files(alloc, text.as_str()),
+        Err(_) => return NoOrder::NoMemory,
+    };
+    match page {
+        Ok(page) => NoOrder::Help(page),
+        Err(_) => NoOrder::NoMemory,
+    }
+}
+
 /// Returns the reason that clap's error is.
 fn reason_of(alloc: Global, words: &[String], error: &Error) -> NoOrder
     ensures { (rows : List Row) → HasReason rows result }
@@ -36,10 +51,7 @@ fn reason_of(alloc: Global, words: &[String], error: &Error) -> NoOrder
     let made = match error.kind() {
         ErrorKind::OutOfMemory => return NoOrder::NoMemory,
         ErrorKind::DisplayHelp | ErrorKind::DisplayVersion => {
-            return match error.to_string(alloc) {
-                Ok(text) => NoOrder::Help(text),
-                Err(_) => NoOrder::NoMemory,
-            };
+            return help_of(alloc, error);
         }
         _ => refused_line(alloc, words, error),
     };

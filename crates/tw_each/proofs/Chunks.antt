@@ -1,17 +1,6 @@
 -- One more chunk, and the end.
 use Rattle.std.proofs.Math.Dec.{eqb-suc-zero}
-use Rattle.std.proofs.Common.{◌≡◌, suc, take, ◌+◌, ◌++◌, ◌==◌, ◌∙◌, ℕ, Bool, Bor, false, List, [], ◌∷◌, Option, Result, Ok, Err, arith, ap, length, map, refl, subst, sym}
-use Rattle.std.specs.Prelude.{if◌then◌else◌}
-use Rattle.std.proofs.lemmas.List.{append-nil, length-append, map-append}
-use Rattle.std.specs.Io.KnownBytes.{Consumes, IsAtEnd, Keeps}
-use Rattle.tw_source.specs.Input.{most_bytes}
-use Rattle.tw_each.specs.Answers.{Way}
-use Rattle.tw_each.specs.Stream.{Adds, AnswersAll, AnswersLast, AreWritten, IsAt, Stops, TakesChunk, begun_line, ended_lines, kept, lines_in, parts_of}
-use Rattle.tw_each.specs.declared.stream.AnsweredLines.{AnsweredLines}
-use Rattle.tw_each.specs.declared.stream.StreamError.{StreamError}
-use Rattle.tw_each.specs.declared.stream.StreamError.TheVariants.{NoMemory, Read, Write}
-use Rattle.tw_each.specs.Worst.{worse}
-use Rattle.tw_each.specs.declared.worst.WorstEnd.{WorstEnd}
+use Rattle.tw_each.proofs.Names.{Adds, AnsweredLines, AnswersAll, AnswersLast, AreWritten, Bool, Bor, Consumes, Err, IsAt, IsAtEnd, Keeps, List, NoMemory, Ok, Option, Read, Result, Stops, StreamError, TakesChunk, Way, WorstEnd, Write, [], ap, append-nil, arith, begun_line, ended_lines, false, if◌then◌else◌, kept, length, length-append, lines_in, map, map-append, most_bytes, parts_of, refl, subst, suc, sym, take, worse, ℕ, ◌++◌, ◌+◌, ◌==◌, ◌∙◌, ◌∷◌, ◌≡◌}
 use Rattle.tw_each.specs.declared.worst.WorstEnd.TheVariants as ends
 use Rattle.tw_each.proofs.Worse.{worse_quiet}
 use Rattle.tw_each.proofs.Pieces.{ended_more, goes_on, kept_more, line_ends}

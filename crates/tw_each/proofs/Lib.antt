@@ -1,4 +1,5 @@
 pub mod LineAnswers
+pub mod Names
 pub mod Pieces
 pub mod Written
 pub mod Chunks

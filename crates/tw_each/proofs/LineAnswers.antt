@@ -1,12 +1,5 @@
 -- The answers to lines, one more after the others.
-use Rattle.std.proofs.Common.{◌≡◌, ◌+◌, ◌<◌, ◌++◌, ◌∙◌, ℕ, Bor, true, false, List, [], ◌∷◌, IsUtf8, arith, ap, append_assoc, get_or, inl, inr, length, map, nat_lt, refl, subst, sym, take}
-use Rattle.std.proofs.lemmas.List.{append-nil, length-map, length-take-le, map-append, take_more}
-use Rattle.tw_source.specs.Input.{most_bytes}
-use Rattle.tw_inputs.specs.JsonLines.{line_id}
-use Rattle.tw_json_output.specs.Lines.{IsJsonLine}
-use Rattle.tw_each.specs.Answers.{AreAnswers, IsAnswer, IsFullLine, IsLine, IsShortLine, Way, is_blank, labelled, numbered}
-use Rattle.tw_each.specs.Worst.{worse}
-use Rattle.tw_each.specs.declared.worst.WorstEnd.{WorstEnd}
+use Rattle.tw_each.proofs.Names.{AreAnswers, Bor, IsAnswer, IsFullLine, IsJsonLine, IsLine, IsShortLine, IsUtf8, List, Way, WorstEnd, [], ap, append-nil, append_assoc, arith, false, get_or, inl, inr, is_blank, labelled, length, length-map, length-take-le, line_id, map, map-append, most_bytes, nat_lt, numbered, refl, subst, sym, take, take_more, true, worse, ℕ, ◌++◌, ◌+◌, ◌<◌, ◌∙◌, ◌∷◌, ◌≡◌}
 use Rattle.tw_each.specs.declared.worst.WorstEnd.TheVariants as ends
 use Rattle.tw_each.proofs.Worse.{worse_assoc, worse_quiet}
 

@@ -1,9 +1,6 @@
 -- The lines of what was read, after one more chunk.
-use Rattle.std.proofs.Common.{◌≡◌, ◌+◌, ◌==◌, ◌++◌, ◌∙◌, ℕ, zero, suc, Bool, true, false, List, [], ◌∷◌, ap, cond, refl, take}
-use Rattle.std.proofs.lemmas.List.{append-nil}
+use Rattle.tw_each.proofs.Names.{Bool, List, [], ap, append-nil, begun_line, but_last, cond, ended_lines, false, kept, last_of, most_bytes, parts_of, refl, suc, take, true, zero, ℕ, ◌++◌, ◌+◌, ◌==◌, ◌∙◌, ◌∷◌, ◌≡◌}
 use Rattle.std.specs.List.{onto_first}
-use Rattle.tw_source.specs.Input.{most_bytes}
-use Rattle.tw_each.specs.Stream.{begun_line, but_last, ended_lines, kept, last_of, parts_of}
 
 -- ---- parts, and those of more bytes
 

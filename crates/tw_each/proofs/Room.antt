@@ -1,7 +1,5 @@
 -- The buffer into which bytes are read.
-use Rattle.std.proofs.Common.{◌≡◌, ◌<◌, ◌++◌, ℕ, List, [], Option, Ok, Result, drop, length, subst, take}
-use Rattle.std.proofs.Math.Seq.{take-append_seam}
-use Rattle.std.specs.Io.KnownBytes.{Consumes, IsAtEnd, ReadConsumes}
+use Rattle.tw_each.proofs.Names.{Consumes, IsAtEnd, List, Ok, Option, ReadConsumes, Result, [], drop, length, subst, take, take-append_seam, ℕ, ◌++◌, ◌<◌, ◌≡◌}
 
 -- all of it is passed to a read
 pub whole_room : (now old : List ℕ) (len : ℕ) → length now ≡ len → take len (now ++ drop (length now) old) ≡ now

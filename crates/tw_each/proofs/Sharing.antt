@@ -1,18 +1,10 @@
 -- Shares of lines, and what threads answer to them.
-use Rattle.std.proofs.Common.{◌≡◌, ◌+◌, ◌^◌, ◌<◌, ◌≤◌, ◌++◌, ◌∙◌, ℕ, zero, suc, Bor, List, [], ◌∷◌, Ok, Err, Result, arith, ap, append_assoc, drop, length, map, refl, subst, sym, take}
+use Rattle.tw_each.proofs.Names.{Answers, AreAnswers, AreMerged, AreShares, Bor, Err, List, Ok, Result, Share, Way, WorstEnd, [], ap, append-nil, append_assoc, arith, drop, length, length-append, length-map, length-take-le, map, map-append, refl, subst, suc, sym, take, take-add, take-append-drop, worse, zero, ℕ, ◌++◌, ◌+◌, ◌<◌, ◌^◌, ◌∙◌, ◌∷◌, ◌≡◌, ◌≤◌}
 use Rattle.std.specs.Prelude.{IfOk, slice_index_or}
-use Rattle.std.proofs.Math.Seq.{take-add}
-use Rattle.std.proofs.lemmas.List.{append-nil, length-append, length-map, length-take-le, map-append, take-append-drop}
 use Rattle.std.specs.declared.alloc.AllocError.{AllocError}
-use Rattle.tw_each.specs.Answers.{AreAnswers, Way}
-use Rattle.tw_each.specs.Shares.{AreMerged, AreShares}
-use Rattle.tw_each.specs.Worst.{worse}
-use Rattle.tw_each.specs.declared.worst.WorstEnd.{WorstEnd}
 use Rattle.tw_each.specs.declared.worst.WorstEnd.TheVariants as ends
 use Rattle.tw_each.proofs.Worse.{worse_assoc, worse_quiet}
 use Rattle.tw_each.proofs.LineAnswers.{answers_joined}
-use Rattle.tw_each.specs.declared.lines.Answers.{Answers}
-use Rattle.tw_each.specs.declared.shares.Share.{Share}
 
 -- one share more
 pub shares_more : (before : ℕ) (front : List (Bor (List ℕ))) (shares : List Share) (share : Share) → AreShares before front shares → share.before ≡ before + length front → AreShares before (front ++ share.lines.now) (shares ++ share ∷ [])

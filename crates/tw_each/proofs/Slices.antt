@@ -1,12 +1,5 @@
 -- Some of the lines that are answered, after others.
-use Rattle.std.proofs.Common.{◌≡◌, ◌+◌, ◌≤◌, ◌++◌, ◌∙◌, ℕ, Bor, List, Option, ap, drop, length, map, subst, sym, take}
-use Rattle.std.proofs.Math.Seq.{take-add}
-use Rattle.std.proofs.lemmas.List.{length-map, length-take-le, map-append, take-append-drop}
-use Rattle.tw_each.specs.Answers.{Way}
-use Rattle.tw_each.specs.Stream.{AreWritten, Stops}
-use Rattle.tw_each.specs.declared.stream.StreamError.{StreamError}
-use Rattle.tw_each.specs.Worst.{worse}
-use Rattle.tw_each.specs.declared.worst.WorstEnd.{WorstEnd}
+use Rattle.tw_each.proofs.Names.{AreWritten, Bor, List, Option, Stops, StreamError, Way, WorstEnd, ap, drop, length, length-map, length-take-le, map, map-append, subst, sym, take, take-add, take-append-drop, worse, ℕ, ◌++◌, ◌+◌, ◌∙◌, ◌≡◌, ◌≤◌}
 use Rattle.tw_each.proofs.Worse.{worse_assoc}
 use Rattle.tw_each.proofs.Written.{stops_on, stops_within, written_on}
 

@@ -1,24 +1,15 @@
 -- Replies to a program and the lines that are read with it.
-use Rattle.std.proofs.Common.{◌≡◌, ◌∙◌, Bor, ℕ, List, Option, ap, codes, inl, inr, map, subst, sym}
-use Rattle.std.specs.Prelude.{MatchOption}
+use Rattle.tw_each.proofs.Names.{AreAnswers, Bor, IsEachInput, IsReady, List, MatchOption, Option, RepliesByEach, RepliesByParts, Reply as MadeReply, Way, WorstEnd, ap, close_of, codes, inl, inr, map, source_text, subst, sym, text_of, way_of, ℕ, ◌∙◌, ◌≡◌}
 use Rattle.tw_order.specs.declared.order.Source.{Source}
 use Rattle.tw_order.specs.declared.runs.EachOrder.{EachOrder}
 use Rattle.tw_source.specs.Inputs.{lines_in}
-use Rattle.tw_source.specs.Program.{source_text}
 use Rattle.tw_source.specs.Reply.{Reply, reply}
-use Rattle.tw_source.specs.Source.{text_of}
 use Rattle.tw_source.specs.declared.close.Close.TheVariants.{CommandLine}
-use Rattle.tw_source.specs.declared.reply.Reply.{Reply as MadeReply}
 use Rattle.tw_source.specs.declared.source.SourceText.{SourceText}
 use Rattle.tw_verify.specs.Typed.{TypedProgram}
-use Rattle.tw_each.specs.Answers.{AreAnswers, Way}
-use Rattle.tw_each.specs.Ready.{IsEachInput, IsReady}
-use Rattle.tw_each.specs.Reply.{RepliesByEach, RepliesByParts, way_of}
 use Rattle.tw_each.specs.declared.together.LineParts.{LineParts}
 use Rattle.tw_each.specs.declared.reply.Ready.TheVariants as ready
 use Rattle.tw_each.specs.declared.together.EachInput.TheVariants.{Parts, Rejected}
-use Rattle.tw_each.specs.Worst.{close_of}
-use Rattle.tw_each.specs.declared.worst.WorstEnd.{WorstEnd}
 
 -- ---- a program
 

@@ -1,7 +1,5 @@
 -- The worst end of lines doesn't depend on how they are divided.
-use Rattle.std.proofs.Common.{◌≡◌, refl}
-use Rattle.tw_each.specs.Worst.{worse}
-use Rattle.tw_each.specs.declared.worst.WorstEnd.{WorstEnd}
+use Rattle.tw_each.proofs.Names.{WorstEnd, refl, worse, ◌≡◌}
 use Rattle.tw_each.specs.declared.worst.WorstEnd.TheVariants.{Quiet, Stuck, Limit, Refused}
 
 pub worse_quiet : (a : WorstEnd) → worse a Quiet ≡ a

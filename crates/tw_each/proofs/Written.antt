@@ -1,18 +1,7 @@
 -- Bytes that are read, and answers that are written.
-use Rattle.std.proofs.Common.{◌≡◌, ◌+◌, ◌++◌, ◌∙◌, ℕ, Bool, true, List, [], ◌∷◌, Option, None, Some, IfSome, Result, Ok, Err, arith, ap, append_assoc, drop, get_or, inl, inr, length, refl, subst, sym}
+use Rattle.tw_each.proofs.Names.{Adds, AnsweredLines, Appends, AreSomeWritten, AreWritten, Bool, Consumes, Err, IfSome, IsAtEnd, IsLine, IsShortLine, IsUnread, Keeps, List, NoMemory, None, Ok, Option, Read, Result, Some, Stops, StreamError, Way, WorstEnd, Write, [], ap, append-nil, append_assoc, arith, cases_lt, drop, get_or, inl, inr, kept, length, length-take-le, lt-ltb, most_bytes, refl, subst, sym, take_all, true, worse, ℕ, ◌++◌, ◌+◌, ◌∙◌, ◌∷◌, ◌≡◌}
 use Rattle.std.specs.Prelude.{MatchBool, nat_lt}
 use Rattle.std.proofs.lemmas.Bool.Decides.{when_true}
-use Rattle.std.proofs.lemmas.Bool.{cases_lt, lt-ltb}
-use Rattle.std.proofs.lemmas.List.{append-nil, length-take-le, take_all}
-use Rattle.std.specs.Io.KnownBytes.{Appends, Consumes, IsAtEnd, Keeps}
-use Rattle.tw_source.specs.Input.{most_bytes}
-use Rattle.tw_each.specs.Answers.{IsLine, IsShortLine, Way, IsUnread}
-use Rattle.tw_each.specs.Stream.{Adds, AreSomeWritten, AreWritten, Stops, kept}
-use Rattle.tw_each.specs.declared.stream.AnsweredLines.{AnsweredLines}
-use Rattle.tw_each.specs.declared.stream.StreamError.{StreamError}
-use Rattle.tw_each.specs.declared.stream.StreamError.TheVariants.{NoMemory, Read, Write}
-use Rattle.tw_each.specs.Worst.{worse}
-use Rattle.tw_each.specs.declared.worst.WorstEnd.{WorstEnd}
 use Rattle.tw_each.specs.declared.worst.WorstEnd.TheVariants as ends
 use Rattle.tw_each.proofs.LineAnswers.{answers_joined}
 

@@ -18,6 +18,7 @@ use crate::numbered::put_labelled_line;
 use crate::runs_line::RunsLine;
 use crate::worst::WorstEnd;
 use std::alloc::{AllocError, Global};
+use std::time::Duration;
 use tw_code::main_params;
 use tw_in_turn::{InTurnResult, StoppableResult};
 use tw_inputs::{InputLine, Place, Scratch, line_fault_text, read_line};
@@ -39,7 +40,7 @@ pub struct EachRun<'a> {
     /// The maximum number of events of each run.
     pub limit: usize,
     /// After how many seconds each run is stopped, if its time is limited.
-    pub seconds: Option<u64>,
+    pub seconds: Option<Duration>,
 }
 
 /// An object's line, and how the line that it answers ended.

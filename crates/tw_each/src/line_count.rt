@@ -18,9 +18,10 @@ impl LineCount {
         }
     }
 
-    /// Publishes that one more line is answered.
-    pub fn add(&self) {
-        self.answered.fetch_add(1, Ordering::SeqCst);
+    /// Publishes that this line is answered. An empty one, as after the last line feed, doesn't count.
+    pub fn add(&self, line: &[u8]) {
+        let lines = u64::from(!line.is_empty());
+        self.answered.fetch_add(lines, Ordering::SeqCst);
     }
 
     /// Publishes that no more lines are answered.

@@ -106,7 +106,7 @@ pub fn answer_lines<L: RunsLine>(
             &mut scratch,
         )?;
         worst = worst.worse(end);
-        count.add();
+        count.add(lines[index]);
     }
     Ok(Answers { text, worst })
 }

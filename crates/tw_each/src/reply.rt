@@ -24,6 +24,7 @@ pub(crate) fn json_reply(alloc: Global, error: Reply) -> Result<Reply, AllocErro
     Ok(Reply {
         text: line.into_bytes(),
         close: error.close,
+        more: None,
     })
 }
 

@@ -72,6 +72,7 @@ fn answered_reply(answers: Answers) -> Reply
     Reply {
         text: answers.text,
         close: close_of(answers.worst),
+        more: None,
     }
 }
 

@@ -70,10 +70,10 @@ pub fn complain_misfit(alloc: Global, stderr: &Stderr, path: &str, why: Misfit) 
     }
 }
 
-/// Prints that a word that is no input names no file, either.
+/// Prints that there is no file of this name.
 pub fn complain_missing(alloc: Global, stderr: &Stderr, word: &str) -> io::Result<()> {
     let word = shown(alloc, word)?;
-    eprintln!(stderr; "tw: there is no file {word}, either")
+    eprintln!(stderr; "tw: there is no file {word}")
 }
 
 /// Prints that `--each` has no lines to answer.

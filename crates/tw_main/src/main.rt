@@ -2,6 +2,7 @@
 #![tactic(auto)]
 
 mod bare_input;
+mod colours;
 mod exit;
 mod file_parts;
 mod hints;
@@ -14,7 +15,7 @@ mod tool;
 mod typed;
 
 use crate::exit::Exit;
-use crate::tool::{Streams, Tool};
+use crate::tool::{Settings, Streams, Tool};
 use std::io::ErrorKind;
 use std::rt::Env;
 use std::{env, io};
@@ -30,6 +31,23 @@ fn own_words(rt: &(impl Env + AllocGlobal)) -> io::Result<Vec<String>> {
 fn own_name(rt: &(impl Env + AllocGlobal)) -> Option<String> {
     let name = env::var(rt, "TW_NAME").ok()?;
     visible(rt.alloc(), Kind::Lines, name.as_bytes()).ok()
+}
+
+/// Returns whether lines on a terminal have colours: not if `NO_COLOR` has a text, nor if the terminal is dumb.
+fn has_colours(rt: &(impl Env + AllocGlobal)) -> bool {
+    let is_off = env::var(rt, "NO_COLOR").is_ok_and(|text| !text.is_empty());
+    let is_dumb = env::var(rt, "TERM").is_ok_and(|text| text.as_str() == "dumb");
+    !is_off && !is_dumb
+}
+
+/// Returns the name, or `tw` for none.
+fn named(name: &str) -> &str {
+    if name.is_empty() { "tw" } else { name }
+}
+
+/// Returns the path, if it isn't empty.
+fn path_of(path: &str) -> Option<&str> {
+    if path.is_empty() { None } else { Some(path) }
 }
 
 /// Ends the command, since an allocation failed, or an argument isn't UTF-8.
@@ -51,10 +69,17 @@ fn main(rt: HostRuntime) -> Exit {
         stderr: rt.stderr(),
     };
     match own_words(&rt) {
-        Ok(words) => match own_name(&rt) {
-            Some(name) => Tool::new(&rt, streams, name.as_str()).answer(&words),
-            None => Tool::new(&rt, streams, "tw").answer(&words),
-        },
+        Ok(words) => {
+            let name = own_name(&rt).unwrap_or(String::new(rt.alloc()));
+            let stop = env::var(&rt, "TW_STOP").unwrap_or(String::new(rt.alloc()));
+            let settings = Settings {
+                files: &rt,
+                name: named(name.as_str()),
+                stop: path_of(stop.as_str()),
+                has_colours: has_colours(&rt),
+            };
+            Tool::new(&rt, streams, settings).answer(&words)
+        }
         Err(error) => without_own_words(streams, error.kind()),
     }
 }

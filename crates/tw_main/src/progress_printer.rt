@@ -1,4 +1,4 @@
-//! Prints the progress of a run in threads, and of the runs of many lines.
+//! Prints the progress of a run, and of the runs of many lines, and stops a run.
 
 ghost use Rattle.std.specs.Prelude.{◌≡◌, false};
 
@@ -6,7 +6,7 @@ use std::io::IsTerminal;
 use std::rt::Stderr;
 use std::sync::Wait;
 use std::time::{Clock, Duration, Instant};
-use std::{io, thread};
+use std::{fs, io, thread};
 use tw_session::{Gate, Progress, SoFar};
 use tw_types::Actor;
 
@@ -70,19 +70,63 @@ impl Look {
 }
 
 /// A job observer that prints progress on standard error, once a second, if the work takes more than two seconds. It also prints there how many
-/// wakes of idle threads were lost; if any were, the host has a fault.
+/// wakes of idle threads were lost; if any were, the host has a fault. It stops the work at the sight of a file, if one is named.
 #[derive(Drop)]
-pub struct ProgressPrinter {
+pub struct ProgressPrinter<'a> {
+    files: &'a HostRuntime,
     stderr: Stderr,
     is_quiet: bool,
+    stop: Option<&'a str>,
 }
 
-impl ProgressPrinter {
+impl<'a> ProgressPrinter<'a> {
     /// Makes a printer of progress. It prints nothing if `is_quiet`, and no progress if standard error is no terminal.
-    pub fn new(stderr: Stderr, is_quiet: bool) -> ProgressPrinter
+    pub fn new(
+        files: &'a HostRuntime,
+        stderr: Stderr,
+        is_quiet: bool,
+        stop: Option<&'a str>,
+    ) -> ProgressPrinter<'a>
         ensures { result.is_quiet ≡ is_quiet }
     {
-        ProgressPrinter { stderr, is_quiet }
+        ProgressPrinter {
+            files,
+            stderr,
+            is_quiet,
+            stop,
+        }
+    }
+
+    /// Returns whether progress is printed.
+    pub fn shows(&self) -> bool {
+        !self.is_quiet && self.stderr.is_terminal()
+    }
+
+    /// Returns whether the file is there at whose sight the work is stopped.
+    fn is_stopped(&self) -> bool {
+        match self.stop {
+            Some(path) => fs::exists(self.files, path).unwrap_or(false),
+            None => false,
+        }
+    }
+
+    /// Checks work until it is over: stops it if that is requested, and prints its progress when due.
+    fn watch<R: Wait + Clock, P: Progress>(&self, rt: &R, work: &P) -> io::Result<()> {
+        let shows = self.shows();
+        let mut look = Look::new(rt)?;
+        for _ in rt.forever() {
+            let Some(so_far) = work.so_far() else {
+                return look.clear(&self.stderr);
+            };
+            if self.is_stopped() {
+                work.stop(rt);
+            }
+            if shows && look.is_due(rt)? {
+                print_so_far(&self.stderr, so_far, look.printed)?;
+            }
+            look.rest(rt);
+        }
+        unreachable!()
     }
 }
 
@@ -97,30 +141,12 @@ fn print_lines(terminal: &Stderr, answered: u64, seconds: u64) -> io::Result<()>
 fn print_so_far(terminal: &Stderr, so_far: SoFar, seconds: u64) -> io::Result<()> {
     match so_far {
         SoFar::Events(events) => eprint!(terminal; "{CLEAR}tw: {events} events so far"),
+        SoFar::Turns(turns) => eprint!(terminal; "{CLEAR}tw: {turns} turns so far"),
         SoFar::Lines(answered) => print_lines(terminal, answered, seconds),
     }
 }
 
-/// Checks work until it is over, and prints its progress when due.
-fn print_progress<R: Wait + Clock, P: Progress>(
-    rt: &R,
-    terminal: &Stderr,
-    work: &P,
-) -> io::Result<()> {
-    let mut look = Look::new(rt)?;
-    for _ in rt.forever() {
-        let Some(so_far) = work.so_far() else {
-            return look.clear(terminal);
-        };
-        if look.is_due(rt)? {
-            print_so_far(terminal, so_far, look.printed)?;
-        }
-        look.rest(rt);
-    }
-    unreachable!()
-}
-
-impl Gate for ProgressPrinter {
+impl Gate for ProgressPrinter<'_> {
     ghost unwatched = { Unit {0} };
 
     /// Returns that the printer of progress needn't see each job.
@@ -134,10 +160,10 @@ impl Gate for ProgressPrinter {
     /// Prints nothing after a job.
     fn after_job<R: Wait>(&self, _rt: &R, _actor: Actor, _task: u64) {}
 
-    /// Prints progress until the work is over. If the clock or the terminal fails, it stops.
+    /// Prints progress and looks for the file until the work is over. If the clock or the terminal fails, it ends.
     fn monitor<R: Wait + Clock, P: Progress>(&self, rt: &R, work: &P) {
-        if !self.is_quiet && self.stderr.is_terminal() {
-            let _printed = print_progress(rt, &self.stderr, work);
+        if self.stop.is_some() || self.shows() {
+            let _printed = self.watch(rt, work);
         }
     }
 

@@ -16,11 +16,11 @@ use std::io::{ErrorKind, IsTerminal, Read, Write};
 use std::rt::{Files, Stderr, Stdin, Stdout};
 use std::sync::Wait;
 use std::thread::Threads;
-use std::time::Clock;
+use std::time::{Clock, Duration};
 use std::{fs, io};
 use tw_cli::{Complaint, NoOrder, read_order, reads_program};
 use tw_files::{Contents, NoInput, SessionInput, session_input, words_without_files};
-use tw_order::Order;
+use tw_order::{Order, RunOptions};
 use tw_session::{
     Given, InStream, Status, each_session, given_session, session, unordered_session, without_words,
 };
@@ -33,6 +33,22 @@ pub struct Streams {
     pub stdout: Stdout,
     pub stderr: Stderr,
 }
+
+/// The settings of the environment.
+#[derive(Clone, Copy)]
+pub struct Settings<'a> {
+    /// Where the file is looked for at whose sight a run is stopped.
+    pub files: &'a HostRuntime,
+    /// Messages name the command so.
+    pub name: &'a str,
+    /// That file.
+    pub stop: Option<&'a str>,
+    /// Whether lines on a terminal have colours.
+    pub has_colours: bool,
+}
+
+/// The longest time of a run, in seconds.
+const LONGEST: u64 = 4_294_967_295;
 
 /// Returns the command and the arguments of a session.
 fn words_of(alloc: Global, command: &str, others: &[String]) -> Result<Vec<String>, AllocError> {
@@ -65,14 +81,17 @@ fn is_bare_word(command: &str, others: &[String], word: &str) -> bool {
 pub struct Tool<'a, H> {
     rt: &'a H,
     streams: Streams,
-    /// Messages name the command so.
-    name: &'a str,
+    settings: Settings<'a>,
 }
 
 impl<'a, H: AllocGlobal + Files + Threads + Wait + Clock + Sync> Tool<'a, H> {
-    /// Makes the command `tw` on a runtime and its streams; messages name it so.
-    pub fn new(rt: &'a H, streams: Streams, name: &'a str) -> Tool<'a, H> {
-        Tool { rt, streams, name }
+    /// Makes the command `tw` on a runtime and its streams.
+    pub fn new(rt: &'a H, streams: Streams, settings: Settings<'a>) -> Tool<'a, H> {
+        Tool {
+            rt,
+            streams,
+            settings,
+        }
     }
 
     /// Returns standard output: without hidden characters if it is a terminal, or JSON.
@@ -85,7 +104,8 @@ impl<'a, H: AllocGlobal + Files + Threads + Wait + Clock + Sync> Tool<'a, H> {
         } else {
             None
         };
-        Output::new(self.rt.alloc(), stdout, kind)
+        let has_colours = kind == Some(Kind::Lines) && self.settings.has_colours;
+        Output::new(self.rt.alloc(), stdout, kind, has_colours)
     }
 
     /// Prints why a file can't be read.
@@ -104,7 +124,7 @@ impl<'a, H: AllocGlobal + Files + Threads + Wait + Clock + Sync> Tool<'a, H> {
         reads_input: bool,
     ) {
         let answered = Answered {
-            name: self.name,
+            name: self.settings.name,
             status,
             words,
             is_each,
@@ -138,14 +158,45 @@ impl<'a, H: AllocGlobal + Files + Threads + Wait + Clock + Sync> Tool<'a, H> {
         }
     }
 
-    /// Returns the observer of runs that prints their progress.
-    fn reporter(&self, words: &[String]) -> ProgressPrinter {
-        ProgressPrinter::new(self.streams.stderr, has_word(words, "--quiet"))
+    /// Returns the observer of runs that prints their progress, and stops them.
+    fn reporter(&self, words: &[String]) -> ProgressPrinter<'a> {
+        let is_quiet = has_word(words, "--quiet");
+        ProgressPrinter::new(
+            self.settings.files,
+            self.streams.stderr,
+            is_quiet,
+            self.settings.stop,
+        )
+    }
+
+    /// Returns the options of a run that the observer can stop, or whose progress it shows: its time is limited.
+    fn watched_options(
+        &self,
+        mut options: RunOptions,
+        reporter: &ProgressPrinter<'a>,
+    ) -> RunOptions {
+        if self.settings.stop.is_some() || (options.in_turn && reporter.shows()) {
+            let longest = Duration::from_secs(LONGEST);
+            options.seconds = Some(options.seconds.unwrap_or(longest));
+        }
+        options
+    }
+
+    /// Returns an order whose run is watched so.
+    fn watched(&self, order: Order, reporter: &ProgressPrinter<'a>) -> Order {
+        match order {
+            Order::Run(source, options, inputs) => {
+                Order::Run(source, self.watched_options(options, reporter), inputs)
+            }
+            other => other,
+        }
     }
 
     /// Prints why arguments are rejected.
     fn complain(&self, complaint: &Complaint) {
-        let mut errors = Output::new(self.rt.alloc(), self.streams.stderr, Some(Kind::Lines));
+        let stderr = self.streams.stderr;
+        let has_colours = stderr.is_terminal() && self.settings.has_colours;
+        let mut errors = Output::new(self.rt.alloc(), stderr, Some(Kind::Lines), has_colours);
         let _printed = errors.write_all(complaint.line().as_bytes());
     }
 
@@ -171,7 +222,9 @@ impl<'a, H: AllocGlobal + Files + Threads + Wait + Clock + Sync> Tool<'a, H> {
         };
         let is_each = matches!(order, Order::Each(..));
         let mut writer = self.output(words);
-        let status = session(self.rt, &self.reporter(words), order, reader, &mut writer);
+        let reporter = self.reporter(words);
+        let order = self.watched(order, &reporter);
+        let status = session(self.rt, &reporter, order, reader, &mut writer);
         self.ended(words, status, is_each, None, reads_input, &writer)
     }
 
@@ -199,7 +252,9 @@ impl<'a, H: AllocGlobal + Files + Threads + Wait + Clock + Sync> Tool<'a, H> {
         };
         let misnamed = find_misnamed(typed.program_path(), given.program);
         let mut writer = self.output(words);
-        let status = given_session(self.rt, &self.reporter(words), order, given, &mut writer);
+        let reporter = self.reporter(words);
+        let order = self.watched(order, &reporter);
+        let status = given_session(self.rt, &reporter, order, given, &mut writer);
         self.ended(words, status, is_each, misnamed, false, &writer)
     }
 
@@ -269,9 +324,8 @@ impl<'a, H: AllocGlobal + Files + Threads + Wait + Clock + Sync> Tool<'a, H> {
             let mut stdout = self.streams.stdout;
             return Exit::Session(without_words(ErrorKind::OutOfMemory, &mut stdout));
         };
-        let exit = self.hold(&words, &mut { self.streams.stdin }, false);
         let _printed = complain_missing(self.rt.alloc(), &self.streams.stderr, path);
-        exit
+        self.hold(&words, &mut { self.streams.stdin }, false)
     }
 
     /// Answers a command that reads a program, if its arguments may be accepted.

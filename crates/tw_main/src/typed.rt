@@ -38,10 +38,10 @@ pub fn takes_inputs(command: &str) -> bool {
     command == "run" || command == "replay" || command == "picture"
 }
 
-/// Returns an option and the file after its `=`.
+/// Returns an option and the file after its `=`, if one is named there.
 fn parted(word: &str) -> Option<(&str, &str)> {
     let (option, file) = word.split_once('=')?;
-    if takes_file(option) {
+    if takes_file(option) && !file.is_empty() {
         Some((option, file))
     } else {
         None

@@ -3,6 +3,7 @@
 use crate::caps::Caps;
 use crate::limit::EventLimit;
 use crate::range::EventRange;
+use std::time::Duration;
 use tw_types::{Input, Items, Layout};
 
 /// The output of a run.
@@ -40,7 +41,7 @@ pub struct RunOptions {
     /// The seed of another order of their steps in one thread, if there is one.
     pub seed: Option<u64>,
     /// After how many seconds the run is stopped, if its time is limited.
-    pub seconds: Option<u64>,
+    pub seconds: Option<Duration>,
 }
 
 /// Where main's inputs are: one for each word or item, in their order.
@@ -71,7 +72,7 @@ pub struct EachOrder {
     /// How many threads answer the lines, from 1 to 64. The answers are the same.
     pub jobs: usize,
     /// After how many seconds each run is stopped, if its time is limited.
-    pub seconds: Option<u64>,
+    pub seconds: Option<Duration>,
     /// The caps above which the program isn't admitted.
     pub caps: Caps,
 }

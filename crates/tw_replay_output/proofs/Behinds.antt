@@ -15,11 +15,15 @@ use Rattle.tw_code.specs.machine.Inputs.{has_fitting_inputs, has_input_count}
 use Rattle.tw_source.specs.Failure.{code_text, failure_line, position_text}
 use Rattle.tw_source.specs.declared.failure.Position.TheVariants as position
 use Rattle.tw_replay_output.specs.Opening.{AreOpeningDetails, IsUnfitAt, IsWrongInput}
-use Rattle.tw_replay_output.specs.Replay.{ByOutcome, AreRejectionDetails}
+use Rattle.tw_replay_output.specs.Replay.{ByOutcome, AreRejectionDetails, MayExplain}
 use Rattle.tw_source.specs.declared.close.Close.TheVariants as close
 use Rattle.tw_source.specs.declared.source.SourceText.{SourceText}
 use Rattle.tw_replay_output.specs.declared.replaying.Replaying.{Replaying}
 use Rattle.tw_replay_output.proofs.Making.{from_there}
+use Rattle.std.specs.Str.Lossy.{utf8_lossy}
+use Rattle.tw_visible.proofs.Visibles.{nothing_is_hidden}
+use Rattle.tw_visible.specs.Visible.{HidesNothing, visible_bytes}
+use Rattle.tw_visible.specs.declared.characters.Kind.TheVariants.{Lines}
 
 -- ---- a program that isn't opened
 
@@ -84,7 +88,7 @@ IsReported Json = ⊥
 IsReported (Picture shown) = ⊥
 
 abbrev pub PrintsEnding : List ℕ → Start → List Event → Outcome State → List ℕ → Type 0
-PrintsEnding text start events o more = ByOutcome o (λ s. AreEndingDetails text start events s (ending s) more) (more ≡ [])
+PrintsEnding text start events o more = ByOutcome o (λ s. AreEndingDetails text start events s (ending s) more) (HidesNothing more)
 
 in_text : (answer : Answer) (text : List ℕ) (start : Start) (events : List Event) (more : List ℕ) → IsReported answer → PrintsEnding text start events (reached_from start events) more → AreAnswerDetails (Some text) answer start events more
 in_text Report text start events more is h = h
@@ -98,15 +102,20 @@ details_reached : (text : Option (List ℕ)) (answer : Answer) (start : Start) (
 details_reached None answer start events s more is leads h = h
 details_reached (Some text) answer start events s more is leads h = in_text answer text start events more is (subst (λ (o : Outcome State). PrintsEnding text start events o more) (sym leads) h)
 
-no_ending : (text : List ℕ) (start : Start) (events : List Event) (o : Outcome State) (X : Type 0) → ByOutcome o (λ s. ⊥) X → PrintsEnding text start events o []
-no_ending text start events (Went s) X h = absurd h
-no_ending text start events NotEnabled X h = refl
-no_ending text start events (Trap cause) X h = refl
+no_ending : (text : List ℕ) (start : Start) (events : List Event) (o : Outcome State) (X : Type 0) (more : List ℕ) → ByOutcome o (λ s. ⊥) X → HidesNothing more → PrintsEnding text start events o more
+no_ending text start events (Went s) X more h seen = absurd h
+no_ending text start events NotEnabled X more h seen = seen
+no_ending text start events (Trap cause) X more h seen = seen
 
--- there are none if an event failed
-details_stopped : (text : Option (List ℕ)) (answer : Answer) (start : Start) (events : List Event) (o : Outcome State) (X : Type 0) → IsReported answer → o ≡ reached_from start events → ByOutcome o (λ s. ⊥) X → AreAnswerDetails text answer start events []
-details_stopped None answer start events o X is same h = refl
-details_stopped (Some text) answer start events o X is same h = in_text answer text start events [] is (subst (λ (p : Outcome State). PrintsEnding text start events p []) same (no_ending text start events o X h))
+-- a visible text may explain why
+pub explains : (bytes : List ℕ) → HidesNothing (visible_bytes bytes)
+explains bytes = nothing_is_hidden Lines (utf8_lossy bytes)
+
+-- those of an event that failed
+details_stopped : (text : Option (List ℕ)) (answer : Answer) (start : Start) (events : List Event) (o : Outcome State) (X : Type 0) (more : List ℕ) → IsReported answer → o ≡ reached_from start events → ByOutcome o (λ s. ⊥) X → MayExplain text more
+    → AreAnswerDetails text answer start events more
+details_stopped None answer start events o X more is same h said = said
+details_stopped (Some text) answer start events o X more is same h said = in_text answer text start events more is (subst (λ (p : Outcome State). PrintsEnding text start events p more) same (no_ending text start events o X more h said))
 
 pub stopped_is : (o : Outcome State) (X : Type 0) → ByOutcome o (λ s. ⊥) X → X
 stopped_is (Went s) X h = absurd h
@@ -144,10 +153,10 @@ module _ (source : Option SourceText) (answer : Answer) (first : PlainView) (eve
       let (more, are, whole) = added start events may replay in
       (answered, more, is, details_reached (text_of source) answer start events replaying.plain.state more reported replay.leads are, whole)
 
-  pub from_stopped : (X : Type 0) → IsReported answer → IsAnswer answer first events r → ByOutcome (run first.program first.layout events first.state) (λ s. ⊥) X → IsAnswerFrom source answer first events r
-  from_stopped X reported is stopped = λ start opened may.
-      alone (λ (a : Reply). IsAnswer answer first events a) (text_of source) answer start events r is
-      (details_stopped (text_of source) answer start events (run first.program first.layout events first.state) X reported (from_there start first events opened) stopped)
+  pub from_stopped : (X : Type 0) (answered : Reply) → IsReported answer → IsAnswer answer first events answered → ByOutcome (run first.program first.layout events first.state) (λ s. ⊥) X
+      → ((more : List ℕ) × MayExplain (text_of source) more × (r ≡ reply (answered.text ++ more) answered.close)) → IsAnswerFrom source answer first events r
+  from_stopped X answered reported is stopped (more, said, whole) = λ start opened may.
+      (answered, more, is, details_stopped (text_of source) answer start events (run first.program first.layout events first.state) X more reported (from_there start first events opened) stopped said, whole)
 
 pub json_from : (source : Option SourceText) (first : PlainView) (events : List Event) (r : Reply) → IsAnswer Json first events r → IsAnswerFrom source Json first events r
 json_from source first events r is = λ start opened may. alone (λ (a : Reply). IsAnswer Json first events a) (text_of source) Json start events r is (json_details (text_of source) start events)

@@ -24,6 +24,7 @@ use Rattle.tw_machine.specs.declared.rejection.OpenError.{OpenError}
 use Rattle.tw_machine.specs.declared.rejection.OpenError.TheVariants.{MainShape}
 use Rattle.tw_machine.specs.Opening.{open_error_code, rejection_of}
 use Rattle.tw_timeline.specs.Xml.{IsPrinted, IsXml}
+use Rattle.tw_visible.specs.Visible.{HidesNothing}
 use Rattle.tw_report.specs.History.{IsTraceOf}
 use Rattle.tw_report.specs.Lines.{history_line, not_enabled_line, trap_line}
 use Rattle.tw_source.specs.Failure.{coded, failed_with, uncoded}
@@ -125,11 +126,16 @@ IsAnswer (Picture shown) first events r = IsDrawn first events r
 
 -- ---- details of an answer, if the program was read from a text
 
--- holds for the details of a report and of statistics; a timeline and a JSON line have none
+-- holds for what says why an event failed; without a text that isn't said
+abbrev pub MayExplain : Option (List ℕ) → List ℕ → Type 0
+MayExplain None more = more ≡ []
+MayExplain (Some text) more = HidesNothing more
+
+-- holds for the details of a report and of statistics, also if an event failed; a timeline and a JSON line have none
 abbrev pub AreReportDetails : Answer → List ℕ → Start → List Event → Outcome State → List ℕ → Type 0
 AreReportDetails (Picture shown) text start events o more = more ≡ []
 AreReportDetails Json text start events o more = more ≡ []
-AreReportDetails answer text start events o more = ByOutcome o (λ s. AreEndingDetails text start events s (machine.ending s) more) (more ≡ [])
+AreReportDetails answer text start events o more = ByOutcome o (λ s. AreEndingDetails text start events s (machine.ending s) more) (HidesNothing more)
 
 abbrev pub AreAnswerDetails : Option (List ℕ) → Answer → Start → List Event → List ℕ → Type 0
 AreAnswerDetails None answer start events more = more ≡ []

@@ -18,10 +18,10 @@ use Rattle.tw_machine.specs.PlainView.{PlainView}
 use Rattle.tw_order.specs.declared.runs.Answer.{Answer}
 use Rattle.tw_source.specs.Reply.{Reply, reply}
 use Rattle.tw_source.specs.Source.{MayBeSource, text_of}
-use Rattle.tw_source.specs.declared.reply.Reply.{Reply as StoppedReply}
 use Rattle.tw_source.specs.declared.source.SourceText.{SourceText}
 use Rattle.tw_replay_output.specs.Circle.{AreEndingDetails, IsMade, Start, reached_from}
 use Rattle.tw_replay_output.specs.Replay.{ByOutcome, IsAnswer, IsDetailed, played_from, state_reply}
+use Rattle.tw_replay_output.specs.declared.disabled.Unplayed.{Unplayed}
 use Rattle.tw_replay_output.specs.declared.replaying.Made.{Made}
 use Rattle.tw_replay_output.specs.declared.replaying.Replaying.{Replaying}
 use Rattle.tw_replay_output.specs.declared.stuck.Lookup.{Lookup}
@@ -93,9 +93,9 @@ pub record IsReplayFrom (first : PlainView) (events : List Event) (r : Replaying
   pub replay : (start : Start) → IsOpened start first → IsReplayOf start events r
 
 -- holds if all events were executed; or if one failed, and this is the reply
-abbrev pub IsPlayed : PlainView → List Event → Result Replaying StoppedReply → Type 0
+abbrev pub IsPlayed : PlainView → List Event → Result Replaying Unplayed → Type 0
 IsPlayed first events (Ok r) = IsReplayFrom first events r
-IsPlayed first events (Err r) = ByOutcome (run first.program first.layout events first.state) (λ s. ⊥) (reply r.text.items r.close ≡ played_from first events)
+IsPlayed first events (Err u) = ByOutcome (run first.program first.layout events first.state) (λ s. ⊥) (reply u.reply.text.items u.reply.close ≡ played_from first events)
 
 -- ---- details
 

@@ -30,7 +30,11 @@ fn picture_reply(
     let close = close_of(plain.ending());
     let drawing = timeline_builder.drawing(alloc, plain, names, cut)?;
     let text = timeline(alloc, &drawing, Settings::between(shown.from, shown.to))?;
-    Ok(Reply { text, close })
+    Ok(Reply {
+        text,
+        close,
+        more: None,
+    })
 }
 
 /// Executes the events and draws these of them, with the words on how the run was cut off, if it was. If an event isn't enabled or traps, the reply

@@ -1,6 +1,7 @@
 //! Output about traces: replays, their statistics and timelines, and details after them.
 #![tactic(auto)]
 
+mod disabled;
 mod drawn;
 mod numbers;
 mod opening;
@@ -10,6 +11,7 @@ mod replaying;
 mod state_json;
 mod stuck;
 
+pub use disabled::Unplayed;
 pub use drawn::draw;
 pub use numbers::{budgets_of, count, put_bytes};
 pub use opening::{first_unfit, inputs_refused_reply};

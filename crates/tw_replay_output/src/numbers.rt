@@ -8,9 +8,10 @@ ghost use Rattle.tw_replay_output.specs.Replay.{IsNumbered};
 ghost use Rattle.tw_replay_output.specs.Stuck.{IsAnswerFrom};
 ghost use Rattle.tw_source.specs.Reply.{reply};
 
-use crate::replay::{close_of, stopped_reply};
-use crate::replay_details::with_details;
-use crate::replaying::Replaying;
+use crate::disabled::Unplayed;
+use crate::replay::close_of;
+use crate::replay_details::{with_details, with_reason};
+use crate::replaying::{Replaying, unplayed};
 use std::alloc::{AllocError, Global};
 use tw_code::Program;
 use tw_machine::Plain;
@@ -87,7 +88,11 @@ fn numbers_reply(
     let mut text = report_state(alloc, plain)?;
     let numbers = stats.text(alloc, plain, names, budgets)?;
     put_bytes(&mut text, &numbers)?;
-    Ok(Reply { text, close })
+    Ok(Reply {
+        text,
+        close,
+        more: None,
+    })
 }
 
 /// Executes the events and counts them. If one isn't enabled or traps, returns the reply to the first such event.
@@ -95,7 +100,7 @@ pub fn count(
     alloc: Global,
     first: Plain,
     events: &[Event],
-) -> Result<Result<Counted, Reply>, AllocError>
+) -> Result<Result<Counted, Unplayed>, AllocError>
     requires below { AreBelow opening_bound first.state }
     requires sizes { AreShort events.now }
     requires few { length events.now ≤ 16777217 }
@@ -108,8 +113,8 @@ pub fn count(
         match replaying.step(alloc, *event) {
             Ok(()) => stats_builder.count_event(&replaying.plain, event, &pre_state)?,
             Err(stopped) => {
-                let reply = stopped_reply(alloc, stopped, index + 1)?;
-                return Ok(Err(reply));
+                let failed = unplayed(alloc, &replaying.plain, *event, stopped, index + 1)?;
+                return Ok(Err(failed));
             }
         }
     }
@@ -144,6 +149,6 @@ pub fn counted_reply(
             )?;
             with_details(alloc, source, &counted.replaying, answered)
         }
-        Err(reply) => Ok(reply),
+        Err(failed) => with_reason(alloc, source, failed),
     }
 }

@@ -19,7 +19,7 @@ ghost use Rattle.tw_source.specs.Reply.{Reply as AReply, reply};
 
 use crate::drawn::draw;
 use crate::numbers::{Budgeted, counted_reply, with_budgets};
-use crate::replay_details::{unopened_reply, with_details};
+use crate::replay_details::{unopened_reply, with_details, with_reason};
 use crate::replaying::play;
 use crate::state_json::json_reply;
 use std::alloc::{AllocError, Global};
@@ -49,7 +49,11 @@ fn state_reply(alloc: Global, plain: &Plain) -> Result<Reply, AllocError>
 {
     let close = close_of(plain.ending());
     let text = report_state(alloc, plain)?;
-    Ok(Reply { text, close })
+    Ok(Reply {
+        text,
+        close,
+        more: None,
+    })
 }
 
 /// Returns the reply that the event with this number isn't enabled.
@@ -71,6 +75,7 @@ fn trap_reply(alloc: Global, cause: Cause, event: usize) -> Result<Reply, AllocE
     Ok(Reply {
         text,
         close: Close::Trapped(failure),
+        more: None,
     })
 }
 
@@ -102,7 +107,7 @@ fn report_reply(
             let answered = state_reply(alloc, &replaying.plain)?;
             with_details(alloc, source, &replaying, answered)
         }
-        Err(reply) => Ok(reply),
+        Err(failed) => with_reason(alloc, source, failed),
     }
 }
 

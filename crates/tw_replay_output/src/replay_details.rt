@@ -8,9 +8,10 @@ ghost use Rattle.tw_source.specs.Failure.{coded, failed_with};
 ghost use Rattle.tw_source.specs.Reply.{reply};
 ghost use Rattle.tw_source.specs.Source.{IsSource, MayBeSource, text_of};
 ghost use Rattle.tw_replay_output.specs.Circle.{AreEndingDetails, Start};
-ghost use Rattle.tw_replay_output.specs.Replay.{AreRejectionDetails};
+ghost use Rattle.tw_replay_output.specs.Replay.{AreRejectionDetails, MayExplain};
 ghost use Rattle.tw_replay_output.specs.Stuck.{AreStateDetails, IsReplayOf};
 
+use crate::disabled::Unplayed;
 use crate::opening::{inputs_refused_reply, opening_failure};
 use crate::replaying::Replaying;
 use crate::stuck::put_circle;
@@ -19,6 +20,7 @@ use tw_machine::{OpenError, OpenRefused};
 use tw_order::ReplayOrder;
 use tw_source::{Position, Reply, SourceText, failed_reply};
 use tw_types::Ending;
+use tw_visible::put_visible;
 
 /// Returns the reply to a program that isn't opened.
 pub fn unopened_reply(
@@ -80,6 +82,39 @@ pub fn put_state_details(
     }
 }
 
+/// Adds why an event failed. Without a text that isn't said.
+fn put_reason(
+    alloc: Global,
+    out: &mut Vec<u8>,
+    source: &Option<SourceText<'_>>,
+    why: &str,
+) -> Result<(), AllocError>
+    ensures { OnOk result ((more : List ℕ) × MayExplain (text_of source.now) more × (out.new.items ≡ out.old.items ++ more)) }
+{
+    match source {
+        Some(_) => put_visible(alloc, out, why.as_bytes()),
+        None => Ok(()),
+    }
+}
+
+/// Returns the reply to an event that failed, with why it did.
+pub fn with_reason(
+    alloc: Global,
+    source: &Option<SourceText<'_>>,
+    failed: Unplayed,
+) -> Result<Reply, AllocError>
+    ensures { IfOk result (λ r. (more : List ℕ) × MayExplain (text_of source.now) more × (reply r.text.items r.close ≡ reply (failed.reply.text.items ++ more) failed.reply.close)) }
+{
+    let Unplayed { reply, why } = failed;
+    let Reply {
+        mut text,
+        close,
+        more,
+    } = reply;
+    put_reason(alloc, &mut text, source, why.as_str())?;
+    Ok(Reply { text, close, more })
+}
+
 /// Returns an answer with the details of the state that a replay has reached.
 pub fn with_details(
     alloc: Global,
@@ -91,7 +126,11 @@ pub fn with_details(
         → (more : List ℕ) × AreStateDetails (text_of source.now) start events replaying.now.plain.state more
         × (reply r.text.items r.close ≡ reply (answered.text.items ++ more) answered.close)) }
 {
-    let Reply { mut text, close } = answered;
+    let Reply {
+        mut text,
+        close,
+        more,
+    } = answered;
     put_state_details(alloc, &mut text, source, replaying)?;
-    Ok(Reply { text, close })
+    Ok(Reply { text, close, more })
 }

@@ -5,16 +5,20 @@ ghost use Rattle.std.specs.FinMap.{get};
 ghost use Rattle.tw_types.specs.declared.event.Event.{Event as AnEvent};
 ghost use Rattle.tw_code.specs.machine.Bounds.{AreBelow, opening_bound, size_of};
 ghost use Rattle.tw_code.specs.machine.Machine.{step};
-ghost use Rattle.tw_instr.specs.Attempts.{Changes};
+ghost use Rattle.tw_code.specs.machine.State.{State};
+ghost use Rattle.tw_instr.specs.Attempts.{Changes, IsStopped};
+ghost use Rattle.tw_types.specs.Outcome.{Outcome};
+ghost use Rattle.tw_source.specs.Reply.{Reply as AReply, reply};
+ghost use Rattle.tw_replay_output.specs.Replay.{ByOutcome, after_event};
 ghost use Rattle.tw_replay_output.specs.Circle.{Start};
 ghost use Rattle.tw_replay_output.specs.Counted.{AreShort};
 ghost use Rattle.tw_replay_output.specs.Stuck.{IsOpened, IsPlayed, IsReplayOf, rule_by, rule_done, rule_in};
 
+use crate::disabled::{Unplayed, why_stopped};
 use crate::replay::stopped_reply;
 use std::alloc::{AllocError, Global};
 use tw_code::Instr;
 use tw_machine::{Frame, Plain, Stopped};
-use tw_source::Reply;
 use tw_types::{Actor, Event};
 
 /// The place at which a rule was made, and the procedure that it runs.
@@ -114,12 +118,27 @@ impl Replaying {
     }
 }
 
+/// Returns the reply that an event failed in the machine's state, and why it did.
+pub fn unplayed(
+    alloc: Global,
+    plain: &Plain,
+    event: Event,
+    stopped: Stopped,
+    number: usize,
+) -> Result<Unplayed, AllocError>
+    ensures { IfOk result (λ u. (o : Outcome State) (next : State → AReply) → IsStopped o stopped → ByOutcome o (λ s. ⊥) (reply u.reply.text.items u.reply.close ≡ after_event number o next)) }
+{
+    let why = why_stopped(alloc, plain, event, stopped)?;
+    let reply = stopped_reply(alloc, stopped, number)?;
+    Ok(Unplayed { reply, why })
+}
+
 /// Executes the events. If one isn't enabled or traps, returns the reply to the first such event.
 pub fn play(
     alloc: Global,
     first: Plain,
     events: &[Event],
-) -> Result<Result<Replaying, Reply>, AllocError>
+) -> Result<Result<Replaying, Unplayed>, AllocError>
     requires below { AreBelow opening_bound first.state }
     requires sizes { AreShort events.now }
     requires few { length events.now ≤ 16777217 }
@@ -130,8 +149,8 @@ pub fn play(
         match replaying.step(alloc, *event) {
             Ok(()) => {}
             Err(stopped) => {
-                let reply = stopped_reply(alloc, stopped, index + 1)?;
-                return Ok(Err(reply));
+                let failed = unplayed(alloc, &replaying.plain, *event, stopped, index + 1)?;
+                return Ok(Err(failed));
             }
         }
     }

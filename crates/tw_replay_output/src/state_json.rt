@@ -85,6 +85,7 @@ fn shown_state(alloc: Global, plain: &Plain, events: &[Event]) -> Result<Reply, 
     Ok(Reply {
         text: line.into_bytes(),
         close,
+        more: None,
     })
 }
 
@@ -97,6 +98,6 @@ pub fn json_reply(alloc: Global, first: Plain, events: &[Event]) -> Result<Reply
 {
     match play(alloc, first, events)? {
         Ok(replaying) => shown_state(alloc, &replaying.plain, events),
-        Err(reply) => Ok(reply),
+        Err(failed) => Ok(failed.reply),
     }
 }

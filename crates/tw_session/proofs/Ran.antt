@@ -77,10 +77,10 @@ ends_as order history s stopped full closing at (inl (is, may)) = ends_so order 
 ends_as order history s stopped full closing at (inr (none, cut, limited)) = subst (EndsSo order history s) (sym cut) (limited, no_ending (ending s) stopped full none)
 
 -- for a run that ended so
-pub over : (verified : TypedProgram) (order : RunOrder) (p : PoolView) (final : FinalView) (history : HistoryView) (closing : Closing)
-    → run_of p ≡ run_as verified order → length p.history ≤ order.options.limit → IsClosedPool p final history → IsOrdered order.options.in_turn verified.program order p.history → IsEndOf order final.closing closing
-    → (o : IsRunOver verified.program order final history.events closing) × IsRun verified.program order history.events o.state closing
-over verified order p final history closing of_run few shut turns ended =
+pub over : (verified : TypedProgram) (order : RunOrder) (p : PoolView) (final : FinalView) (history : HistoryView) (cut : ℕ) (closing : Closing)
+    → run_of p ≡ run_as verified order → length p.history ≤ order.options.limit → IsClosedPool p final history → IsOrdered order.options.in_turn verified.program order p.history cut → IsEndOf order final.closing closing
+    → (o : IsRunOver verified.program order final history.events closing) × IsRun verified.program order history.events cut o.state closing
+over verified order p final history cut closing of_run few shut turns ended =
     let s = shut.state in
     let here : EndsSo order history.events s closing =
     ends_as order history.events s p.stopped (length p.history == p.limit) closing (λ full. ap (λ (es : List Event). length es) shut.events ∙ (eqb-true (length p.history) p.limit full ∙ ap (λ (r : Run). r.limit) of_run))
@@ -92,17 +92,17 @@ over verified order p final history closing of_run few shut turns ended =
     let reports : (printed : List ℕ) → IsReportAs final (Some closing) printed → printed ≡ end_report verified.program s (Some closing) = λ printed is_report. is_report p history shut ∙ ap (λ (r : Run). end_report r.program.program s (Some closing)) of_run in
     let shows : (cut : ℕ) (line : List ℕ) → IsEndLine final history.events cut closing line → line ≡ run_line verified.program history.events cut s closing = λ cut line is_line. is_line p history shut ∙ ap (λ (r : Run). run_line r.program.program history.events cut s closing) of_run in (
       record { state = s; few = short; reaches = there; reports = reports; members = λ cut found are. are p history shut ∙ ap (λ (r : Run). members_of r.program.program history.events cut s closing) of_run; shows = shows },
-      record { few = short; reaches = there; ends = here; turns = subst (λ (es : List Event). IsOrdered order.options.in_turn verified.program order es) (sym shut.events) turns },
+      record { few = short; reaches = there; ends = here; turns = subst (λ (es : List Event). IsOrdered order.options.in_turn verified.program order es cut) (sym shut.events) turns },
     )
 
 -- the output of a run is a reply of it
-pub replied : {E : Type 0} (made : Result MadeReply E) (text : Option (List ℕ)) (program : List Procedure) (order : RunOrder) (final : FinalView) (events : List Event) (closing : Closing)
-    → ((o : IsRunOver program order final events closing) × IsRun program order events o.state closing)
-    → IfOk made (λ r. (o : IsRunOver program order final events closing) → (printed : List ℕ) × (more : List ℕ) × IsRunText order.options.answer text program order events o.state closing printed
+pub replied : {E : Type 0} (made : Result MadeReply E) (text : Option (List ℕ)) (program : List Procedure) (order : RunOrder) (final : FinalView) (events : List Event) (cut : ℕ) (closing : Closing)
+    → ((o : IsRunOver program order final events closing) × IsRun program order events cut o.state closing)
+    → IfOk made (λ r. (o : IsRunOver program order final events closing) → (printed : List ℕ) × (more : List ℕ) × IsRunText order.options.answer text program order events cut o.state closing printed
     × AreRunDetails order.options.answer text program order events o.state closing more × (reply r.text.items r.close ≡ reply (trace_text order.options.trace events ++ (printed ++ more)) (close_of closing)))
     → IfOk made (λ r. RepliesByEnd text program order (reply r.text.items r.close))
-replied (Ok r) text program order final events closing (o, is) h = let t = h o in (events, o.state, closing, t.0, t.1, is, t.2, t.3, t.4)
-replied (Err e) text program order final events closing over h = tt
+replied (Ok r) text program order final events cut closing (o, is) h = let t = h o in (events, cut, o.state, closing, t.0, t.1, is, t.2, t.3, t.4)
+replied (Err e) text program order final events cut closing over h = tt
 
 -- such an output is a reply of `run`
 pub replied_run : {E : Type 0} (made : Result MadeReply E) (text : Option (List ℕ)) (program : List Procedure) (order : RunOrder) → IfOk made (λ r. RepliesByEnd text program order (reply r.text.items r.close))
@@ -126,13 +126,13 @@ closed_run (Ok r) text verified order closed threads (seats, closes) (inr h) =
 closed_run (Err e) text verified order closed threads closes h = tt
 
 -- with threads nothing more is required
-pub in_threads : (program : List Procedure) (order : RunOrder) (history : List Event) → order.options.in_turn ≡ false → IsOrdered order.options.in_turn program order history
-in_threads program order history threads = subst (λ b. IsOrdered b program order history) (sym threads) tt
+pub in_threads : (program : List Procedure) (order : RunOrder) (history : List Event) (cut : ℕ) → order.options.in_turn ≡ false → IsOrdered order.options.in_turn program order history cut
+in_threads program order history cut threads = subst (λ b. IsOrdered b program order history cut) (sym threads) tt
 
 -- single-threaded, the trace is the one that the actors make
-pub in_turn : (verified : TypedProgram) (order : RunOrder) (p : PoolView) → IsAtEnd order (opened verified order.inputs order.options.layout order.options.limit) p → IsOrdered order.options.in_turn verified.program order p.history
-in_turn verified order p comes = by order.options.in_turn
+pub in_turn : (verified : TypedProgram) (order : RunOrder) (p : PoolView) (cut : ℕ) → IsAtEnd order (opened verified order.inputs order.options.layout order.options.limit) p cut → IsOrdered order.options.in_turn verified.program order p.history cut
+in_turn verified order p cut comes = by order.options.in_turn
   where
-    by : (turns : Bool) → IsOrdered turns verified.program order p.history
+    by : (turns : Bool) → IsOrdered turns verified.program order p.history cut
     by true = record { verified = verified; is = refl; last = p; comes = comes; made = refl }
     by false = tt

@@ -98,6 +98,7 @@ pub fn act<'a>(
         Action::Disassemble(order) => Ok(Prepared::Finished(Reply {
             text: disassembled(alloc, order.places, &program)?,
             close: Close::Success,
+            more: None,
         })),
         Action::Check(order) => {
             let reply = checked_reply(alloc, &source, order, program)?;

@@ -6,7 +6,7 @@ ghost use Rattle.tw_in_turn.specs.InTurn.{IsLeft};
 ghost use Rattle.tw_in_turn.specs.Stopping.{IsLeftIf};
 ghost use Rattle.tw_pool.specs.Openings.{opened};
 ghost use Rattle.tw_source.specs.Reply.{reply};
-ghost use Rattle.tw_session.specs.Run.{RepliesByOpening, RepliesByRun};
+ghost use Rattle.tw_session.specs.Run.{IsRunInTime, RepliesByOpening, RepliesByRun};
 ghost use Rattle.tw_session.specs.Clockless.{AnswersWords, MayReplyClockless, clockless_reply, limits_time};
 ghost use Rattle.tw_session.specs.Parts.{seen_given};
 ghost use Rattle.tw_source.specs.Source.{MayBeSource, text_of};
@@ -20,7 +20,7 @@ use std::time::Clock;
 use tw_cli::read_order;
 use tw_in_turn::{InTurnResult, StoppableResult, run_in_turn, run_timed};
 use tw_order::{Order, RunOrder};
-use tw_pool::Closing;
+use tw_pool::{Closing, OpenError};
 use tw_run_output::ended_reply;
 use tw_source::{Close, Reply, SourceText, fixed_reply};
 use tw_verify::Verified;
@@ -106,29 +106,40 @@ pub fn reply_single_threaded(
     }
 }
 
-/// Like `reply_single_threaded`, but stops the run after the order's time, if that is limited.
-pub fn reply_in_time<C: Clock>(
+/// Opens an accepted program and runs it in this thread, to its end or until the order's time has passed, if that is limited.
+pub fn run_in_time<C: Clock>(
     clock: &C,
+    alloc: Global,
+    order: &RunOrder,
+    verified: &Verified,
+) -> Result<StoppableResult, OpenError>
+    ensures { IsRunInTime verified.now order.now result }
+{
+    run_timed(
+        clock,
+        alloc,
+        verified,
+        order.inputs.as_slice(),
+        order.options.layout,
+        order.options.limit.events(),
+        order.options.seed,
+        order.options.seconds,
+    )
+}
+
+/// Returns the reply of such a run.
+pub fn reply_after(
     alloc: Global,
     source: &Option<SourceText<'_>>,
     order: &RunOrder,
     verified: Verified,
+    made: Result<StoppableResult, OpenError>,
 ) -> Result<Reply, AllocError>
-    requires { MayBeSource source.now verified.program }
+    requires made { IsRunInTime verified order.now made }
+    requires source { MayBeSource source.now verified.program }
     ensures { IfOk result (λ r. RepliesByOpening (text_of source.now) verified.program order.now (reply r.text.items r.close)) }
 {
-    let inputs = order.inputs.as_slice();
-    let limit = order.options.limit.events();
-    match run_timed(
-        clock,
-        alloc,
-        &verified,
-        inputs,
-        order.options.layout,
-        limit,
-        order.options.seed,
-        order.options.seconds,
-    ) {
+    match made {
         Ok(left) => left_reply(alloc, source, order, verified, left),
         Err(why) => unopened_reply(alloc, source, order, &verified, why),
     }

@@ -119,6 +119,7 @@ fn json_reply(line: Result<String, AllocError>, close: Close) -> Result<Reply, A
         Ok(line) => Ok(Reply {
             text: line.into_bytes(),
             close,
+            more: None,
         }),
         Err(_) => Err(AllocError),
     }
@@ -150,6 +151,7 @@ pub fn explained_reply(alloc: Global, explained: Explained) -> Result<Reply, All
         Form::Text => Ok(Reply {
             text: explained.text,
             close: Close::Success,
+            more: None,
         }),
         Form::Json => {
             let line = explanation_line(alloc, &explained.code, &explained.text);

@@ -19,6 +19,7 @@ mod run;
 mod shell;
 mod status;
 mod streams;
+mod turns;
 
 pub use in_turn::answer_in_turn;
 pub use input::MOST_BYTES;

@@ -1,29 +1,78 @@
 //! Replies of a session to an order and what it reads.
 
 ghost use Rattle.std.specs.Prelude.{◌≡◌, ◌≤◌, IfOk, false, length};
+ghost use Rattle.std.specs.Thread.{IsSync};
 ghost use Rattle.tw_source.specs.Reply.{reply};
-ghost use Rattle.tw_session.specs.Run.{RepliesByOpening};
+ghost use Rattle.tw_session.specs.Run.{IsRunInTime, RepliesByOpening};
 ghost use Rattle.tw_source.specs.Source.{MayBeSource, text_of};
 ghost use Rattle.tw_session.specs.Parts.{seen, seen_given};
 ghost use Rattle.tw_session.specs.Session.{MayReplyOn, MayReplyTo};
 
-use crate::in_turn::{reply_in_time, reply_single_threaded};
+use crate::in_turn::{reply_after, reply_single_threaded, run_in_time};
 use crate::json::{in_form, rendering_of};
 use crate::line_threads::lines_reply;
 use crate::parts::{Given, Parts};
 use crate::prepare::prepare;
 use crate::programs::{Prepared, RunRequest};
 use crate::run::reply_threaded;
+use crate::turns::{TurnClock, Turns};
 use std::alloc::{AllocError, Global};
 use std::sync::Wait;
-use std::thread::Threads;
+use std::thread::{Threads, join};
 use std::time::Clock;
 use tw_each::each_reply_in_turn;
-use tw_order::Order;
+use tw_in_turn::StoppableResult;
+use tw_order::{Order, RunOrder};
+use tw_pool::OpenError;
 use tw_source::{Reply, SourceText};
+use tw_verify::Verified;
 use tw_workers::Gate;
 
-/// Runs an accepted program with threads, or single-threaded if that is ordered.
+/// Runs an accepted program in one thread, while the observer monitors its turns in another.
+fn run_watched<H: Threads + Wait + Clock + Sync, G: Gate + Sync>(
+    rt: &H,
+    alloc: Global,
+    gate: &G,
+    order: &RunOrder,
+    verified: &Verified,
+) -> Result<StoppableResult, OpenError>
+    ensures { IsRunInTime verified.now order.now result }
+{
+    let turns = Turns::new();
+    let turns = &turns;
+    let monitor = move ||
+        requires { IsSync H.row × IsSync G.row }
+    { gate.monitor(rt, turns) };
+    let work = move || -> Result<StoppableResult, OpenError>
+        requires { IsSync H.row }
+        ensures { IsRunInTime verified.entry.now order.entry.now result }
+    {
+        let clock = TurnClock { clock: rt, turns };
+        let made = run_in_time(&clock, alloc, order, verified);
+        turns.end();
+        made
+    };
+    let ((), made) = join(rt, monitor, work);
+    made
+}
+
+/// Returns the reply of a run in one thread that the observer monitors.
+fn reply_watched<H: Threads + Wait + Clock + Sync, G: Gate + Sync>(
+    rt: &H,
+    alloc: Global,
+    gate: &G,
+    source: &Option<SourceText<'_>>,
+    order: &RunOrder,
+    verified: Verified,
+) -> Result<Reply, AllocError>
+    requires { MayBeSource source.now verified.program }
+    ensures { IfOk result (λ r. RepliesByOpening (text_of source.now) verified.program order.now (reply r.text.items r.close)) }
+{
+    let made = run_watched(rt, alloc, gate, order, &verified);
+    reply_after(alloc, source, order, verified, made)
+}
+
+/// Runs an accepted program with threads, or single-threaded if that is ordered. A run in one thread is observed if its time is limited.
 fn run_as_ordered<H: Threads + Wait + Clock + Sync, G: Gate + Sync>(
     rt: &H,
     alloc: Global,
@@ -35,10 +84,12 @@ fn run_as_ordered<H: Threads + Wait + Clock + Sync, G: Gate + Sync>(
     ensures { IfOk result (λ r. RepliesByOpening (text_of source.now) ordered.verified.program ordered.order (reply r.text.items r.close)) }
 {
     let RunRequest { order, verified } = ordered;
-    if order.options.in_turn {
-        reply_in_time(rt, alloc, source, &order, verified)
-    } else {
+    if !order.options.in_turn {
         reply_threaded(rt, alloc, gate, source, &order, verified)
+    } else if order.options.seconds.is_some() {
+        reply_watched(rt, alloc, gate, source, &order, verified)
+    } else {
+        reply_single_threaded(alloc, source, &order, verified)
     }
 }
 

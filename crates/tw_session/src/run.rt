@@ -25,7 +25,7 @@ use tw_verify::Verified;
 use tw_workers::{Gate, Timed, run};
 
 /// Returns why a run has ended, unless it was stopped although its time isn't limited.
-pub fn stop_reason(closing: Option<Closing>, seconds: Option<u64>) -> Option<Closing>
+pub fn stop_reason(closing: Option<Closing>, seconds: Option<Duration>) -> Option<Closing>
     ensures same { IfSome result (λ c. closing ≡ Some c) }
     ensures unstopped { IfSome result (λ c. c ≡ Closing.Stopped → is_some seconds ≡ true) }
     ensures none { result ≡ None → HasEnded closing → ⊥ }
@@ -151,7 +151,7 @@ pub fn reply_threaded<H: Threads + Wait + Clock + Sync, G: Gate + Sync>(
     match order.options.seconds {
         None => reply_observed(rt, alloc, gate, source, order, verified),
         Some(seconds) => {
-            let deadline = Deadline::after(rt, Duration::from_secs(seconds));
+            let deadline = Deadline::after(rt, seconds);
             let timed = Timed::new(gate, &deadline);
             reply_observed(rt, alloc, &timed, source, order, verified)
         }

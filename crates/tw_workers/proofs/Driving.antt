@@ -1,11 +1,5 @@
 -- Steps of a driver, one after another.
-use Rattle.std.proofs.Common.{◌≡◌, Bool, List, [], ◌∷◌, ◌++◌, append_assoc, Option, None, sym, ap, subst, ◌∙◌}
-use Rattle.std.specs.List.{FoldsTo}
-use Rattle.tw_frame.specs.Jobs.{DoneView}
-use Rattle.tw_host.specs.Run.{Run}
-use Rattle.tw_host.specs.Seats.{SeatEvents}
-use Rattle.tw_workers.specs.AtHost.{AtSeat}
-use Rattle.tw_workers.specs.Driving.{Answer, Drives, Ends, Continues, Step, Turned, Held, Stopped, Before, Ran, Left, After, step_or_batch, ends, goes}
+use Rattle.tw_workers.proofs.Names.{After, Answer, AtSeat, Before, Bool, Continues, DoneView, Drives, Ends, FoldsTo, Held, Left, List, None, Option, Ran, Run, SeatEvents, Step, Stopped, Turned, [], ap, append_assoc, ends, goes, step_or_batch, subst, sym, ◌++◌, ◌∙◌, ◌∷◌, ◌≡◌}
 
 -- ---- lists of steps
 

@@ -1,3 +1,4 @@
 mod Crossing
 pub mod Driving
+pub mod Names
 mod Threading

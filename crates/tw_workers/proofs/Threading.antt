@@ -1,5 +1,5 @@
 -- Drivers of seats, one after another.
-use Rattle.std.proofs.Common.{◌≡◌, Bool, true, false, ◌||◌, List, [], ◌∷◌, ◌++◌, drop, get_or, length, map, refl, sym, ap, ◌∙◌, subst}
+use Rattle.tw_workers.proofs.Names.{AllDrove, Bool, Drove, List, Run, SeatEvents, [], actors_of, ap, drop, false, get_or, length, map, refl, seen_by, subst, sym, true, ◌++◌, ◌||◌, ◌∙◌, ◌∷◌, ◌≡◌}
 use Rattle.std.specs.Prelude.{reverse}
 use Rattle.std.proofs.lemmas.List.{reverse-append, reverse-reverse}
 use Rattle.std.proofs.lemmas.List.Sorted.{IsPermutation-refl}
@@ -7,10 +7,7 @@ use Rattle.std.specs.List.Sorted.{IsPermutation}
 use Rattle.tw_types.specs.declared.actor.Actor.{Actor}
 use Rattle.tw_types.specs.declared.event.Event.{Event}
 use Rattle.tw_host.specs.Ends.{IsOneEach}
-use Rattle.tw_host.specs.Run.{Run}
-use Rattle.tw_host.specs.Seats.{SeatEvents, actors_of, seen_by}
 use Rattle.tw_workers.proofs.Driving.{kept_actor}
-use Rattle.tw_workers.specs.Threads.{AllDrove, Drove}
 use Rattle.tw_workers.specs.Threads.AllDrove.{none, threaded, unthreaded}
 
 module _ {X : Type 0} (view : X → SeatEvents) (run : Run) (unwatched stoppable : Type 0) where

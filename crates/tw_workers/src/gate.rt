@@ -12,6 +12,8 @@ use tw_types::Actor;
 pub enum SoFar {
     /// A run has this many events.
     Events(u64),
+    /// In one thread, actors have taken this many turns, and 65,536 instructions of a task count as one, too.
+    Turns(u64),
     /// This many lines of inputs are answered.
     Lines(u64),
 }

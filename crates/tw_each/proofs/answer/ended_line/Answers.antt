@@ -1,9 +1,7 @@
-use Rattle.std.proofs.Common.{◌∙◌, None, string_bytes, subst, sym}
-use Rattle.std.proofs.lemmas.Result.{IfOk-weaker}
+use Rattle.tw_each.proofs.Names.{IfOk-weaker, IsLeftLine, None, string_bytes, subst, sym, ◌∙◌}
 use Rattle.tw_in_turn.specs.InTurn.{HasEnded, IsLeft}
 use Rattle.tw_in_turn.specs.declared.run.InTurnResult.{InTurnResult}
 use Rattle.tw_in_turn.specs.declared.run.StoppableResult.TheVariants.{Ended}
-use Rattle.tw_each.specs.Answers.{IsLeftLine}
 use Rattle.tw_each.proofs.answer.ended_line.Goals as goal
 
 pub returns-in-Some : goal.returns-in-Some

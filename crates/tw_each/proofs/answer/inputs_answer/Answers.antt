@@ -1,7 +1,5 @@
-use Rattle.std.proofs.Common.{inl, is_some, string_bytes}
-use Rattle.std.proofs.lemmas.Result.{IfOk-weaker}
+use Rattle.tw_each.proofs.Names.{IfOk-weaker, IsInputsAnswer, inl, is_some, string_bytes, way}
 use Rattle.tw_pool.specs.Openings.{opened}
-use Rattle.tw_each.specs.Answers.{IsInputsAnswer, way}
 use Rattle.tw_each.proofs.answer.inputs_answer.Goals as goal
 
 pub left_line-requires : goal.left_line-requires

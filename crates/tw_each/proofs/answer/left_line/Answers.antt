@@ -1,7 +1,6 @@
-use Rattle.std.proofs.Common.{IfOk, None, string_bytes, subst, sym}
+use Rattle.tw_each.proofs.Names.{IfOk, IsLeftLine, None, string_bytes, subst, sym}
 use Rattle.tw_in_turn.specs.Stopping.{IsLeftIf}
 use Rattle.tw_in_turn.specs.declared.run.StoppableResult.{StoppableResult}
-use Rattle.tw_each.specs.Answers.{IsLeftLine}
 use Rattle.tw_each.proofs.answer.left_line.Goals as goal
 
 pub ended_line-requires : goal.ended_line-requires

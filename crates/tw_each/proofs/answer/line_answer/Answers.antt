@@ -1,7 +1,5 @@
-use Rattle.std.proofs.Common.{inl, inr, List, string_bytes, subst}
-use Rattle.std.proofs.lemmas.Result.{IfOk-weaker}
+use Rattle.tw_each.proofs.Names.{IfOk-weaker, IsAnswer, IsInputsAnswer, List, inl, inr, string_bytes, subst, way}
 use Rattle.tw_types.specs.declared.input.Input.{Input}
-use Rattle.tw_each.specs.Answers.{IsAnswer, IsInputsAnswer, way}
 use Rattle.tw_each.proofs.answer.line_answer.Goals as goal
 
 pub returns-in-Ok : goal.returns-in-Ok

@@ -1,6 +1,4 @@
-use Rattle.std.proofs.Common.{◌++◌, ◌∙◌, ℕ, List, Option, ap, string_bytes}
-use Rattle.tw_inputs.specs.JsonLines.{line_id}
-use Rattle.tw_each.specs.Answers.{labelled}
+use Rattle.tw_each.proofs.Names.{List, Option, ap, labelled, line_id, string_bytes, ℕ, ◌++◌, ◌∙◌}
 use Rattle.tw_each.proofs.answer.put_answer.Goals as goal
 
 pub returns : goal.returns

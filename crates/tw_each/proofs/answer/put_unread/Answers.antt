@@ -1,5 +1,4 @@
-use Rattle.std.proofs.Common.{◌++◌, ◌∙◌, List, None, ap, refl, string_bytes, ℕ}
-use Rattle.tw_each.specs.Answers.{labelled}
+use Rattle.tw_each.proofs.Names.{List, None, ap, labelled, refl, string_bytes, ℕ, ◌++◌, ◌∙◌}
 use Rattle.tw_each.proofs.answer.put_unread.Goals as goal
 
 pub returns : goal.returns

@@ -1,6 +1,4 @@
-use Rattle.std.proofs.Common.{string_bytes}
-use Rattle.std.proofs.lemmas.Result.{IfOk-weaker}
-use Rattle.tw_each.specs.Answers.{IsRejectedLine, way}
+use Rattle.tw_each.proofs.Names.{IfOk-weaker, IsRejectedLine, string_bytes, way}
 use Rattle.tw_each.proofs.answer.rejected_line.Goals as goal
 
 pub returns : goal.returns

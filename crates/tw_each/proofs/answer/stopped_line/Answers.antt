@@ -1,7 +1,6 @@
-use Rattle.std.proofs.Common.{◌∙◌, IfOk, Option, ap, string_bytes, subst, unwrap_or}
+use Rattle.tw_each.proofs.Names.{IfOk, IsEnded, Option, ap, string_bytes, subst, unwrap_or, ◌∙◌}
 use Rattle.tw_pool.specs.declared.answer.Closing.{Closing}
 use Rattle.tw_pool.specs.declared.answer.Closing.TheVariants.{Stopped}
-use Rattle.tw_each.specs.Answers.{IsEnded}
 use Rattle.tw_each.proofs.answer.stopped_line.Goals as goal
 
 pub returns : goal.returns

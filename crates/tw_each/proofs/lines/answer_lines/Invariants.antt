@@ -1,5 +1,4 @@
-use Rattle.std.proofs.Common.{map, take}
-use Rattle.tw_each.specs.Answers.{AreAnswers, way}
+use Rattle.tw_each.proofs.Names.{AreAnswers, map, take, way}
 use Rattle.tw_each.proofs.lines.answer_lines.Given as goal
 
 abbrev pub invariant-loop-index : goal.invariant-loop-index

@@ -1,6 +1,4 @@
-use Rattle.std.proofs.lemmas.Bool.{lt-ltb}
-use Rattle.std.proofs.lemmas.Result.{IfOk-weaker}
-use Rattle.tw_each.specs.Answers.{way}
+use Rattle.tw_each.proofs.Names.{IfOk-weaker, lt-ltb, way}
 use Rattle.tw_each.proofs.LineAnswers.{long_line}
 use Rattle.tw_each.proofs.lines.put_line.Goals as goal
 

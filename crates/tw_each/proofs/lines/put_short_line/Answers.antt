@@ -1,7 +1,4 @@
-use Rattle.std.proofs.Common.{◌∙◌, [], sym}
-use Rattle.std.proofs.lemmas.List.{append-nil}
-use Rattle.std.proofs.lemmas.Result.{IfOk-weaker}
-use Rattle.tw_each.specs.Answers.{way}
+use Rattle.tw_each.proofs.Names.{IfOk-weaker, [], append-nil, sym, way, ◌∙◌}
 use Rattle.tw_each.proofs.LineAnswers.{blank_line, other_line, text_line}
 use Rattle.tw_each.proofs.lines.put_short_line.Goals as goal
 

@@ -1,5 +1,4 @@
-use Rattle.std.proofs.Common.{Global, Vec, refl, subst, sym, ℕ}
-use Rattle.tw_json_output.specs.Lines.{IsJsonLine}
+use Rattle.tw_each.proofs.Names.{Global, IsJsonLine, Vec, refl, subst, sym, ℕ}
 use Rattle.tw_each.proofs.reply.json_reply.Goals as goal
 
 pub returns : goal.returns

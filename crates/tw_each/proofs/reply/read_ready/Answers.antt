@@ -1,10 +1,7 @@
-use Rattle.std.proofs.Common.{List, Option, Some, inl, subst, ℕ}
+use Rattle.tw_each.proofs.Names.{List, Option, Some, inl, reply, source_text, subst, text_of, ℕ}
 use Rattle.tw_order.specs.declared.form.Places.TheVariants.{Hidden}
 use Rattle.tw_program_output.specs.Admission.{IsAdmittedOr, IsRejected}
 use Rattle.tw_source.proofs.Nones.{none_printed}
-use Rattle.tw_source.specs.Program.{source_text}
-use Rattle.tw_source.specs.Reply.{reply}
-use Rattle.tw_source.specs.Source.{text_of}
 use Rattle.tw_each.proofs.reply.read_ready.Goals as goal
 
 pub returns-in-Run : goal.returns-in-Run

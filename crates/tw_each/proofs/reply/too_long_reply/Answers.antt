@@ -1,8 +1,6 @@
-use Rattle.std.proofs.Common.{◌∙◌, ap}
-use Rattle.std.proofs.lemmas.Result.{IfOk-weaker}
+use Rattle.tw_each.proofs.Names.{IfOk-weaker, IsTooLongReply, ap, ◌∙◌}
 use Rattle.tw_source.specs.Failure.{failed}
 use Rattle.tw_source.specs.Reply.{Reply, reply}
-use Rattle.tw_each.specs.Reply.{IsTooLongReply}
 use Rattle.tw_each.proofs.reply.too_long_reply.Goals as goal
 
 pub returns : goal.returns

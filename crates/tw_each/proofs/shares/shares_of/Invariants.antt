@@ -1,5 +1,4 @@
-use Rattle.std.proofs.Common.{◌≡◌, ◌+◌, ◌≤◌, length, take}
-use Rattle.tw_each.specs.Shares.{AreShares}
+use Rattle.tw_each.proofs.Names.{AreShares, length, take, ◌+◌, ◌≡◌, ◌≤◌}
 use Rattle.tw_each.proofs.shares.shares_of.Given as goal
 
 -- so many lines are shared, in one share less than the next one's number

@@ -1,8 +1,4 @@
-use Rattle.std.proofs.Common.{◌≡◌, ◌<◌, ◌∙◌, ℕ, List, ap, arith, length, subst, sym, take}
-use Rattle.std.specs.Io.KnownBytes.{Consumes}
-use Rattle.std.proofs.lemmas.Result.{err_from_is_err_and}
-use Rattle.tw_each.specs.Answers.{way}
-use Rattle.tw_each.specs.declared.stream.StreamError.TheVariants.{Read}
+use Rattle.tw_each.proofs.Names.{Consumes, List, Read, ap, arith, err_from_is_err_and, length, subst, sym, take, way, ℕ, ◌<◌, ◌∙◌, ◌≡◌}
 use Rattle.tw_each.proofs.Chunks.{all_answered, as_far_same, chunk_stops, one_more_chunk, read_stops, still_as_far}
 use Rattle.tw_each.proofs.Room.{at_end, whole_room}
 use Rattle.tw_each.proofs.Written.{keeps_same}

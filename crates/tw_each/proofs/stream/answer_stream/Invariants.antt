@@ -1,5 +1,4 @@
-use Rattle.std.proofs.Common.{◌<◌, length}
-use Rattle.tw_each.specs.Answers.{way}
+use Rattle.tw_each.proofs.Names.{length, way, ◌<◌}
 use Rattle.tw_each.proofs.Chunks.{IsAsFar}
 use Rattle.tw_each.proofs.stream.answer_stream.Given as goal
 

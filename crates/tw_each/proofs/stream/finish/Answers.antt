@@ -1,7 +1,4 @@
-use Rattle.std.proofs.Common.{◌∙◌, length, sym}
-use Rattle.std.proofs.lemmas.Bool.{eqb-false, eqb-true}
-use Rattle.std.proofs.lemmas.Result.{err_from_is_err_and}
-use Rattle.tw_each.specs.Answers.{way}
+use Rattle.tw_each.proofs.Names.{eqb-false, eqb-true, err_from_is_err_and, length, sym, way, ◌∙◌}
 use Rattle.tw_each.proofs.Chunks.{last_line, last_stops, no_last}
 use Rattle.tw_each.proofs.stream.finish.Goals as goal
 

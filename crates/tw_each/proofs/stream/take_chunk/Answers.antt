@@ -1,6 +1,4 @@
-use Rattle.std.proofs.lemmas.Result.{err_from_is_err_and}
-use Rattle.tw_each.specs.Answers.{way}
-use Rattle.tw_each.specs.declared.stream.StreamError.TheVariants.{NoMemory}
+use Rattle.tw_each.proofs.Names.{NoMemory, err_from_is_err_and, way}
 use Rattle.tw_each.proofs.Chunks.{takes_nothing}
 use Rattle.tw_each.proofs.stream.take_chunk.Goals as goal
 

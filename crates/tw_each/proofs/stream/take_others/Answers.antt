@@ -1,8 +1,4 @@
-use Rattle.std.proofs.Common.{◌≡◌, ◌∷◌, ◌++◌, ◌∙◌, Bor, List, ℕ, ap, map, subst}
-use Rattle.std.proofs.lemmas.Result.{err_from_is_err_and}
-use Rattle.tw_each.specs.Answers.{way}
-use Rattle.tw_each.specs.Stream.{kept}
-use Rattle.tw_each.specs.declared.stream.StreamError.TheVariants.{NoMemory}
+use Rattle.tw_each.proofs.Names.{Bor, List, NoMemory, ap, err_from_is_err_and, kept, map, subst, way, ℕ, ◌++◌, ◌∙◌, ◌∷◌, ◌≡◌}
 use Rattle.tw_each.proofs.Chunks.{last_apart, no_texts, takes_all, takes_lines, takes_none, takes_some}
 use Rattle.tw_each.proofs.stream.take_others.Goals as goal
 

@@ -1,7 +1,4 @@
-use Rattle.std.proofs.Common.{◌≡◌, ◌∷◌, ◌∙◌, List, [], ℕ, sym}
-use Rattle.std.proofs.lemmas.Result.{err_from_is_err_and}
-use Rattle.tw_each.specs.Answers.{way}
-use Rattle.tw_each.specs.declared.stream.StreamError.TheVariants.{NoMemory}
+use Rattle.tw_each.proofs.Names.{List, NoMemory, [], err_from_is_err_and, sym, way, ℕ, ◌∙◌, ◌∷◌, ◌≡◌}
 use Rattle.tw_each.proofs.Chunks.{no_texts, takes_nothing}
 use Rattle.tw_each.proofs.Pieces.{has_first}
 use Rattle.tw_each.proofs.stream.take_parts.Goals as goal

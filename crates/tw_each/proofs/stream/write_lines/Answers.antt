@@ -1,6 +1,4 @@
-use Rattle.std.proofs.Common.{◌≡◌, arith, length, subst, sym, take}
-use Rattle.std.proofs.lemmas.Result.{err_from_is_err_and}
-use Rattle.tw_each.specs.Answers.{way}
+use Rattle.tw_each.proofs.Names.{arith, err_from_is_err_and, length, subst, sym, take, way, ◌≡◌}
 use Rattle.tw_each.proofs.Slices.{more_done, more_stops}
 use Rattle.tw_each.proofs.stream.write_lines.Goals as goal
 

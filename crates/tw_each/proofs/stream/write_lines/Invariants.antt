@@ -1,8 +1,4 @@
-use Rattle.std.proofs.Common.{◌≡◌, ◌≤◌, ◌-◌, length, map, take}
-use Rattle.tw_each.specs.Answers.{way}
-use Rattle.tw_each.specs.Stream.{AreWritten}
-use Rattle.tw_each.specs.Worst.{worse}
-use Rattle.tw_each.specs.declared.worst.WorstEnd.{WorstEnd}
+use Rattle.tw_each.proofs.Names.{AreWritten, WorstEnd, length, map, take, way, worse, ◌-◌, ◌≡◌, ◌≤◌}
 use Rattle.tw_each.proofs.stream.write_lines.Given as goal
 
 -- the answers to this many lines are written

@@ -1,9 +1,5 @@
-use Rattle.std.proofs.Common.{◌≡◌, ◌∙◌, Result, arith, length, map, subst, sym}
+use Rattle.tw_each.proofs.Names.{Answers, AreAnswers, IfOk-weaker, Result, Share, arith, length, map, subst, sym, way, ◌∙◌, ◌≡◌}
 use Rattle.std.specs.Prelude.{IfOk}
-use Rattle.std.proofs.lemmas.Result.{IfOk-weaker}
-use Rattle.tw_each.specs.Answers.{AreAnswers, way}
-use Rattle.tw_each.specs.declared.lines.Answers.{Answers}
-use Rattle.tw_each.specs.declared.shares.Share.{Share}
 use Rattle.tw_each.proofs.Sharing.{share_fits, shares_answered}
 use Rattle.tw_each.proofs.threads.divided.Goals as goal
 

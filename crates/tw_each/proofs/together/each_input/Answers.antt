@@ -1,8 +1,5 @@
-use Rattle.std.proofs.Common.{ap, inl, inr, ◌∙◌}
-use Rattle.std.proofs.lemmas.Result.{IfOk-weaker}
+use Rattle.tw_each.proofs.Names.{EachInput, IfOk-weaker, IsEachInput, ap, inl, inr, ◌∙◌}
 use Rattle.tw_source.specs.Reply.{Reply}
-use Rattle.tw_each.specs.Ready.{IsEachInput}
-use Rattle.tw_each.specs.declared.together.EachInput.{EachInput}
 use Rattle.tw_each.proofs.together.each_input.Goals as goal
 
 pub returns-in-Ok : goal.returns-in-Ok

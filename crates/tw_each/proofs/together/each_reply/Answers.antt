@@ -1,10 +1,4 @@
-use Rattle.std.proofs.Common.{subst}
-use Rattle.std.proofs.lemmas.Result.{IfOk-weaker}
-use Rattle.tw_source.specs.Reply.{reply}
-use Rattle.tw_source.specs.declared.reply.Reply.{Reply}
-use Rattle.tw_each.specs.Ready.{IsEachInput}
-use Rattle.tw_each.specs.Reply.{RepliesByEach}
-use Rattle.tw_each.specs.declared.together.EachInput.{EachInput}
+use Rattle.tw_each.proofs.Names.{EachInput, IfOk-weaker, IsEachInput, RepliesByEach, Reply, reply, subst}
 use Rattle.tw_each.proofs.WholeReplies.{no_parts, replied}
 use Rattle.tw_each.proofs.together.each_reply.Goals as goal
 

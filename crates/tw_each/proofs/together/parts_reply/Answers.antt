@@ -1,11 +1,4 @@
-use Rattle.std.proofs.Common.{◌≡◌, Bor, ℕ, List, ap, inr, map, subst}
-use Rattle.std.proofs.lemmas.Result.{IfOk-weaker}
-use Rattle.tw_source.specs.Reply.{reply}
-use Rattle.tw_source.specs.declared.reply.Reply.{Reply}
-use Rattle.tw_each.specs.Answers.{AreAnswers, way}
-use Rattle.tw_each.specs.Ready.{IsReady}
-use Rattle.tw_each.specs.Reply.{RepliesByParts}
-use Rattle.tw_each.specs.declared.reply.Ready.{Ready}
+use Rattle.tw_each.proofs.Names.{AreAnswers, Bor, IfOk-weaker, IsReady, List, Ready, RepliesByParts, Reply, ap, inr, map, reply, subst, way, ℕ, ◌≡◌}
 use Rattle.tw_each.proofs.WholeReplies.{answered}
 use Rattle.tw_each.proofs.together.parts_reply.Goals as goal
 

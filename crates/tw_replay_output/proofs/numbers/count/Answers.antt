@@ -10,10 +10,10 @@ step-requires-clause-small c = below_more (opening_bound + 1000000000 * c.loop-i
 
 pub returns-in-Err : goal.returns-in-Err
 returns-in-Err c =
-    let r = c.in_ok-reply-in-Err.reply in
+    let r = c.in_ok-failed-in-Err.failed.reply in
     let at = c.loop-index.invariant.at in
     not_made c.args.first c.loop-index.replaying.plain c.args.events.now c.loop-index.index c.index-events-index.result c.in-Err.stopped (reply r.text.items r.close) (λ s. ⊥) at.stays c.loop-index-test.true c.index-events-index.is
-    c.in-Err.ensures.steps.0 c.in_ok-reply-in-Err.ensures at.same at.runs
+    c.in-Err.ensures.steps.0 c.in_ok-failed-in-Err.ensures at.same at.runs
 
 pub loop-index-init : goal.loop-index-init
 loop-index-init c =

@@ -20,6 +20,9 @@ pub returns-in-Err : goal.returns-in-Err
 returns-in-Err c =
     let first = c.args.first in
     let events = c.args.events.now in
-    let r = reply c.in-Err.reply.text.items c.in-Err.reply.close in
+    let failed = c.in-Err.failed.reply in
+    let a = reply failed.text.items failed.close in
     let stopped = subst (IsCounting first events) c.in-Err.is c.in_ok-counted.ensures in
-    from_stopped c.args.source.now Numbers first events r (r ≡ played_from first events) tt (otherwise (run first.program first.layout events first.state) (λ s. IsNumbered first.program s r) (r ≡ played_from first events) stopped) stopped
+    IfOk-weaker _ _ _
+    (λ (r : Reply) added. from_stopped c.args.source.now Numbers first events (reply r.text.items r.close) (a ≡ played_from first events) a tt
+    (otherwise (run first.program first.layout events first.state) (λ s. IsNumbered first.program s a) (a ≡ played_from first events) stopped) stopped added) c.with_reason.ensures

@@ -1,4 +1,4 @@
-use Rattle.std.proofs.Common.{◌∙◌, ap, inl, subst, sym}
+use Rattle.std.proofs.Common.{◌∙◌, ap, inl, refl, subst, sym}
 use Rattle.tw_host.specs.Run.{run_of}
 use Rattle.tw_in_turn.specs.InTurn.{HasEnded, IsLeft}
 use Rattle.tw_in_turn.specs.declared.run.InTurnResult.{InTurnResult}
@@ -17,7 +17,7 @@ ended_reply-requires c =
     record {
       inputs = c.requires.inputs;
       source = c.requires.source;
-      over = (over verified order p c.in-Over.outcome c.in-Over.history c.in-Some.closing (ap run_of left.of_first) left.within left.shut (in_turn verified order p (inl is_over.1)) (inl (sym c.closing.ensures ∙ c.in-Some.ensures.same, c.in-Some.ensures.unstopped))).0;
+      over = (over verified order p c.in-Over.outcome c.in-Over.history 0 c.in-Some.closing (ap run_of left.of_first) left.within left.shut (in_turn verified order p 0 (inl (is_over.1, refl))) (inl (sym c.closing.ensures ∙ c.in-Some.ensures.same, c.in-Some.ensures.unstopped))).0;
     }
 
 pub returns-in-Some : goal.returns-in-Some
@@ -28,8 +28,8 @@ returns-in-Some c =
     let p = is_over.0 in
     let left = is_over.2 in
     replied_run c.ended_reply.result (text_of c.args.source.now) verified.program order
-    (replied c.ended_reply.result (text_of c.args.source.now) verified.program order c.in-Over.outcome c.in-Over.history.events c.in-Some.closing
-    (over verified order p c.in-Over.outcome c.in-Over.history c.in-Some.closing (ap run_of left.of_first) left.within left.shut (in_turn verified order p (inl is_over.1)) (inl (sym c.closing.ensures ∙ c.in-Some.ensures.same, c.in-Some.ensures.unstopped)))
+    (replied c.ended_reply.result (text_of c.args.source.now) verified.program order c.in-Over.outcome c.in-Over.history.events 0 c.in-Some.closing
+    (over verified order p c.in-Over.outcome c.in-Over.history 0 c.in-Some.closing (ap run_of left.of_first) left.within left.shut (in_turn verified order p 0 (inl (is_over.1, refl))) (inl (sym c.closing.ensures ∙ c.in-Some.ensures.same, c.in-Some.ensures.unstopped)))
     c.ended_reply.ensures)
 
 pub unreachable-requires : goal.unreachable-requires

@@ -30,7 +30,7 @@ ended_reply-requires c =
     record {
       inputs = c.requires.inputs;
       source = c.requires.source;
-      over = (over verified order p final c.in-Stopped.history c.unwrap_or-closing.result (ap run_of left.of_first) left.within left.shut (in_turn verified order p (inr (stopped.0, stopped.2, stopped.3))) ends).0;
+      over = (over verified order p final c.in-Stopped.history c.in-Stopped.cut c.unwrap_or-closing.result (ap run_of left.of_first) left.within left.shut (in_turn verified order p c.in-Stopped.cut (inr (stopped.0, stopped.2, stopped.3, stopped.5))) ends).0;
     }
 
 pub returns-in-Stopped : goal.returns-in-Stopped
@@ -43,6 +43,6 @@ returns-in-Stopped c =
     let left = stopped.4 in
     let ends : IsEndOf order final.closing c.unwrap_or-closing.result = subst (IsEndOf order final.closing) (sym c.unwrap_or-closing.ensures) (subst (λ o. IsEndOf order final.closing (unwrap_or o Stopped)) (sym c.closing.ensures) (stopped_end order final.closing stopped.2)) in
     replied_run c.ended_reply.result (text_of c.args.source.now) verified.program order
-    (replied c.ended_reply.result (text_of c.args.source.now) verified.program order final c.in-Stopped.history.events c.unwrap_or-closing.result
-    (over verified order p final c.in-Stopped.history c.unwrap_or-closing.result (ap run_of left.of_first) left.within left.shut (in_turn verified order p (inr (stopped.0, stopped.2, stopped.3))) ends)
+    (replied c.ended_reply.result (text_of c.args.source.now) verified.program order final c.in-Stopped.history.events c.in-Stopped.cut c.unwrap_or-closing.result
+    (over verified order p final c.in-Stopped.history c.in-Stopped.cut c.unwrap_or-closing.result (ap run_of left.of_first) left.within left.shut (in_turn verified order p c.in-Stopped.cut (inr (stopped.0, stopped.2, stopped.3, stopped.5))) ends)
     c.ended_reply.ensures)

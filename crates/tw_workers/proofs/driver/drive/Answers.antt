@@ -1,5 +1,4 @@
-use Rattle.tw_host.specs.Seats.{seen_by}
-use Rattle.tw_workers.specs.AtHost.{AtSeat}
+use Rattle.tw_workers.proofs.Names.{AtSeat, seen_by}
 use Rattle.tw_workers.proofs.Driving.{kept_actor, seen}
 use Rattle.tw_workers.proofs.driver.drive.Goals as goal
 

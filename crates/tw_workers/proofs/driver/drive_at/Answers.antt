@@ -1,5 +1,4 @@
-use Rattle.std.proofs.Common.{◌∷◌, ◌++◌, rules}
-use Rattle.tw_workers.specs.Driving.{step_or_batch}
+use Rattle.tw_workers.proofs.Names.{rules, step_or_batch, ◌++◌, ◌∷◌}
 use Rattle.tw_workers.proofs.Driving.{joined, on, over}
 use Rattle.tw_workers.proofs.driver.drive_at.Goals as goal
 

@@ -1,7 +1,5 @@
-use Rattle.std.proofs.Common.{◌++◌, Bool, List, None}
-use Rattle.std.specs.List.{FoldsTo}
+use Rattle.tw_workers.proofs.Names.{Bool, Drives, FoldsTo, List, None, Step, ◌++◌}
 use Rattle.tw_host.specs.Sees.{IsDoneOf}
-use Rattle.tw_workers.specs.Driving.{Drives, Step}
 use Rattle.tw_workers.proofs.driver.drive_at.Given as goal
 
 abbrev pub invariant-loop : goal.invariant-loop

@@ -1,6 +1,4 @@
-use Rattle.std.proofs.Common.{[], ◌∷◌, Option, Some, refl, subst, sym}
-use Rattle.tw_frame.specs.Jobs.{DoneView}
-use Rattle.tw_workers.specs.Driving.{GivesUp, Stopped, Turned}
+use Rattle.tw_workers.proofs.Names.{DoneView, GivesUp, Option, Some, Stopped, Turned, [], refl, subst, sym, ◌∷◌}
 use Rattle.tw_workers.proofs.driver.retry_and_stop.Goals as goal
 
 pub returns-in_default : goal.returns-in_default

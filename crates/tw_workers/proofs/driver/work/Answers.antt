@@ -1,5 +1,4 @@
-use Rattle.std.proofs.Common.{◌++◌, None, Some, refl, rules}
-use Rattle.tw_workers.specs.Driving.{working}
+use Rattle.tw_workers.proofs.Names.{None, Some, refl, rules, working, ◌++◌}
 use Rattle.tw_workers.proofs.Driving.{joined}
 use Rattle.tw_workers.proofs.driver.work.Goals as goal
 

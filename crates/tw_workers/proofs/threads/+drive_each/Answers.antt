@@ -1,6 +1,4 @@
-use Rattle.std.proofs.Common.{true, sym, ap, subst, ◌||◌, ◌∙◌}
-use Rattle.tw_host.specs.Seats.{seen_by}
-use Rattle.tw_workers.specs.Threads.{Drove}
+use Rattle.tw_workers.proofs.Names.{Drove, ap, seen_by, subst, sym, true, ◌||◌, ◌∙◌}
 use Rattle.tw_workers.proofs.Threading.{AllBack, no_seat, threaded_last, unthreaded_last}
 use Rattle.tw_workers.proofs.threads.+drive_each.Goals as goal
 

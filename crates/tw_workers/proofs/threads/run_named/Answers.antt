@@ -1,6 +1,4 @@
-use Rattle.std.proofs.Common.{[], map, sym, ap, subst}
-use Rattle.tw_host.specs.Seats.{actors_of, seen_by}
-use Rattle.tw_workers.specs.Threads.{AllDrove}
+use Rattle.tw_workers.proofs.Names.{AllDrove, [], actors_of, ap, map, seen_by, subst, sym}
 use Rattle.tw_workers.proofs.Threading.{one_each, opened}
 use Rattle.tw_workers.proofs.threads.run_named.Goals as goal
 
