@@ -1,7 +1,5 @@
 -- Statements of the same words differ only in skips.
-use Rattle.std.proofs.Common.{◌≡◌, ℕ, List, [], ◌∷◌, ◌++◌, codes, refl, sym, ap, subst, ◌∙◌}
-use Rattle.tw_asm.proofs.AsmNames.{Bare, Code, Goals, Head, Label, OfVersion, Registers, ParserState, EncodeParts, Encodes, EncodesDigits, Statement, Version, Word, after, append_cancel_right, statement_parts, version_parts}
-use Rattle.tw_lexer.proofs.Numerals.{one_size}
+use Rattle.tw_asm.proofs.AsmNames.{Bare, Code, EncodeParts, Encodes, EncodesDigits, Goals, Head, Label, List, OfVersion, ParserState, Registers, Statement, Version, Word, [], after, ap, append_cancel_right, codes, one_size, refl, statement_parts, subst, sym, version_parts, ℕ, ◌++◌, ◌∙◌, ◌∷◌, ◌≡◌}
 use Rattle.tw_asm.proofs.Once.{begins, class_of, same_class, same_word}
 use Rattle.tw_asm.proofs.Rows.{different}
 

@@ -1,13 +1,11 @@
 -- The words of a line are read as a statement that they denote, or they denote none.
 use Rattle.std.proofs.Common.{◌≡◌, ℕ, List, [], ◌∷◌, ◌++◌, map, codes, Option, Some, None, Result, Ok, Err, true, refl, sym, ap, subst, ◌∙◌}
-use Rattle.tw_asm.proofs.AsmNames.{AllByRecursion, AnyName, AnyShortName, Bare, Code, TokenError, Form, Goals, HasForm, HasInstr, Head, Instr, IsInLimits, IsName, IsRead, Label, Limit, Line, LineContent, Name, Natural, NoName, OfVersion, OnlyName, Opcode, Part, Read, Registers, EncodeParts, Encodes, Statement, Version, Word, as_is, before_colon, code_read, draft_in, flat_map, has_opcode, instr_parts, kind_word, label_in, line_in, opcode_in, param_parts, register_part, statement_parts}
+use Rattle.tw_asm.proofs.AsmNames.{AllByRecursion, AnyName, AnyShortName, Bare, Code, EncodeParts, Encodes, Form, Goals, HasForm, HasInstr, Head, Instr, IsFlawed, IsInLimits, IsName, IsRead, Label, Limit, Line, LineContent, Name, Natural, NoName, OfVersion, OnlyName, Opcode, Part, Read, Reads, Registers, Statement, TokenError, Version, Word, as_is, before_colon, code_read, draft_in, flat_map, has_opcode, instr_parts, kind_word, label_in, line_in, opcode_in, param_parts, register_part, statement_parts}
 use Rattle.tw_lexer.proofs.Colons.{before}
 use Rattle.tw_asm.proofs.Lined.{Had, HasLine, MayLine, found, goals_by, label_named, line_had, line_read, parts_may, parts_of, spelled, unnumbered}
 use Rattle.tw_asm.proofs.OperandWords.{IsFine}
-use Rattle.tw_lexer.proofs.Readings.{Reads}
 use Rattle.tw_asm.proofs.Spelled.{bare_is, parts_more}
 use Rattle.tw_asm.proofs.Table.{draft_is, found_back, had_made, instr_of, line_of, made, made_had, named_in, no_colon, parts_are, row_opcode, within, within_back}
-use Rattle.tw_asm.specs.LineAnswers.{IsFlawed}
 use Rattle.tw_code.specs.format.Table.{opcode_of, word_of}
 
 abbrev pub Judged : Version → Result Read TokenError → List Word → Type 0

@@ -1,8 +1,6 @@
 -- The statement that the first word of a line begins.
-use Rattle.std.proofs.Common.{◌≡◌, ℕ, List, ◌∷◌, refl, subst}
-use Rattle.tw_asm.proofs.AsmNames.{Bare, Begins, Code, First, Goals, Head, IsExpected, IsFirstWord, IsLine, Label, MayBegin, OfVersion, Registers, ParserState, Encodes, Statement, Version, Word}
+use Rattle.tw_asm.proofs.AsmNames.{Bare, Begins, Code, Encodes, First, Goals, Head, IsExpected, IsFirstWord, IsLine, Label, List, MayBegin, OfVersion, ParserState, Registers, Statement, Version, Word, expectation, refl, subst, ℕ, ◌∷◌, ◌≡◌}
 use Rattle.tw_asm.proofs.Once.{begins, first_word, expected_of, expected}
-use Rattle.tw_asm.specs.reading.Expected.{expectation}
 
 -- the kind of a statement, as its first word shows it
 expectation_is : (statement : Statement) → expected_of statement ≡ expectation statement

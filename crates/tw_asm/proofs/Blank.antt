@@ -1,7 +1,5 @@
 -- Lines without words.
-use Rattle.std.proofs.Common.{[], ◌≡◌, ℕ, true, List, ◌∷◌, refl}
-use Rattle.tw_lexer.specs.Words.{IsLine}
-use Rattle.tw_asm.specs.reading.Expected.{is_plainly_blank}
+use Rattle.tw_asm.proofs.AsmNames.{IsLine, List, [], is_plainly_blank, refl, true, ℕ, ◌∷◌, ◌≡◌}
 
 pub no_words : (line : List ℕ) → is_plainly_blank line ≡ true → IsLine [] line
 no_words [] e = ([], refl, record { gap = []; rest = []; parts = refl; is_gap = tt; is_end = tt })

@@ -1,24 +1,13 @@
 -- Operands that are read by their forms, one after another.
 use Rattle.std.proofs.Common.{arith, ◌≡◌, ◌∙◌, ◌-◌, ◌<◌, ◌≤◌, ℕ, List, [], ◌∷◌, Option, Result, Ok, Err, drop, get_or, length, map, refl, subst, sym, take, ap}
-use Rattle.std.proofs.lemmas.List.{take_all}
+use Rattle.tw_asm.proofs.AsmNames.{ArePlain, Instr, IsOfOneWord, IsPlain, Opcode, Operand, TokenError, Version, Word, a_row, as_is, both, forms_in, forms_of, gathered, gathered_in, holds, instr_in, instr_of, made_again, made_of, natural_in, number_in, of_goal, of_type, plain, register_in, take_all, with_one, word_in}
 use Rattle.tw_code.specs.declared.form.Form.{Form}
 use Rattle.tw_code.specs.declared.form.Form.TheVariants.{Value, Right, Number, Iterations, TypeOf, Skip}
-use Rattle.tw_code.specs.declared.instr.Instr.{Instr}
-use Rattle.tw_code.specs.declared.opcode.Opcode.{Opcode}
 use Rattle.tw_code.specs.declared.operands.Operands.{Operands}
-use Rattle.tw_code.specs.declared.version.Version.{Version}
 use Rattle.tw_code.specs.declared.operands.PlainOperand.{PlainOperand}
-use Rattle.tw_code.specs.format.Operands.{ArePlain, IsPlain, gathered, made_of, plain}
 use Rattle.tw_code.specs.format.Table as table
-use Rattle.tw_code.specs.format.Table.{Operand, a_row, forms_in, forms_of, holds}
-use Rattle.tw_code.proofs.TableRows.{instr_in, instr_of, made_again}
-use Rattle.tw_lexer.specs.Digits.{as_is}
-use Rattle.tw_lexer.specs.Words.{Word}
-use Rattle.tw_lexer.specs.declared.numbers.TokenError.{TokenError}
 use Rattle.tw_lexer.specs.declared.numbers.TokenError.TheVariants as error
-use Rattle.tw_asm.specs.reading.ByForms.{IsOfOneWord, gathered_in, of_goal, of_type, with_one, word_in}
 use Rattle.tw_asm.specs.reading.Lines.{LineContent, contents_of, draft_by, draft_in, goal, label_in, line_in, line_of, row_by, type_in}
-use Rattle.tw_asm.specs.reading.Operands.{both, natural_in, number_in, register_in}
 
 module _ {A B X Y Z : Type 0} (m : A → X) (f : B → Y) (h : X × Y → Z) where
   joins : (a : Result A TokenError) (b : Result B TokenError) → as_is (λ x. h (m x.0, f x.1)) (both a b) ≡ as_is h (both (as_is m a) (as_is f b))

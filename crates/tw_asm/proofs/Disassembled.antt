@@ -1,11 +1,7 @@
 -- The text of a program denotes it.
 use Rattle.std.proofs.Common.{◌≡◌, ◌≢◌, ◌==◌, ◌≤◌, ◌<◌, ℕ, zero, suc, ◌+◌, Bool, true, false, List, [], ◌∷◌, ◌++◌, length, get_or, map, codes, Option, Some, None, refl, sym, ap, subst, ◌∙◌, append_assoc, append-nil, arith}
 use Rattle.std.specs.Prelude.{IsUtf8, decimal, slice_index_or}
-use Rattle.tw_asm.proofs.AsmNames.{AllByRecursion, AllPairs, AreCode, Bare, Code, Contains, Four, Goals, SkipsTo, HaveWords, Head, Instr, IsInstrOf, IsLine, IsProcedure, IsProcedureOf, IsVersioned, Label, OfVersion, One, Placed, Procedure, Registers, EncodeProcedures, EncodesProcedure, EncodesProgram, EncodesVersion, Statement, Two, Version, Versioned, Word, code_lines, concat, disassembly, eqb-true, flat_map, goal_word, join_with_byte, label_at, label_line, label_places, line_of, lines, nat_tests, option_and_then, procedure_lines, skip_of, version_line, Five, version_number}
-use Rattle.std.proofs.lemmas.List.Elements.{Contains-append_left, Contains-append_right}
-use Rattle.std.proofs.lemmas.Str.{IsUtf8-append, IsUtf8-nil}
-use Rattle.tw_code.proofs.Widening.{instr_widened, widened}
-use Rattle.tw_lexer.proofs.Breaks.{IsOneLine, one_lines_back, with_line_feed}
+use Rattle.tw_asm.proofs.AsmNames.{AllByRecursion, AllPairs, AreCode, Bare, Code, Contains, Contains-append_left, Contains-append_right, EncodeProcedures, EncodesProcedure, EncodesProgram, EncodesVersion, Five, Four, Goals, HaveWords, Head, Instr, IsInstrOf, IsLine, IsOneLine, IsProcedure, IsProcedureOf, IsUtf8-append, IsUtf8-nil, IsVersioned, Label, OfVersion, One, Placed, Procedure, Registers, SkipsTo, Statement, Two, Version, Versioned, Word, code_lines, concat, disassembly, eqb-true, flat_map, goal_word, instr_widened, join_with_byte, label_at, label_line, label_places, line_of, lines, nat_tests, one_lines_back, option_and_then, procedure_lines, skip_of, version_line, version_number, widened, with_line_feed}
 use Rattle.tw_asm.proofs.Labels.{numbered_name, one_numbered}
 use Rattle.tw_asm.proofs.Once.{begins, first_word}
 use Rattle.tw_asm.proofs.Quotes.{after_ascii}

@@ -1,9 +1,7 @@
 -- For a text that can't be assembled its first fault is returned.
-use Rattle.std.proofs.Common.{◌≡◌, ◌⊎◌, ℕ, List, inl, inr, refl}
-use Rattle.tw_asm.proofs.AsmNames.{AreNotRead, AsmFault, FaultNo, GoalFault, HasSections, IsFirstFault, IsMemory, LineFault, Section, ParserState, Version, empty, flat_map, instructions, label_twice, limit, not_forward, operand, procedures, unknown, word}
+use Rattle.tw_asm.proofs.AsmNames.{AreNotRead, AsmFault, FaultNo, FirstUnlinked, GoalFault, HasSections, IsFirstFault, IsMemory, LineFault, List, ParserState, Section, Version, empty, flat_map, inl, inr, instructions, label_twice, limit, not_forward, operand, procedures, refl, section_goals, unknown, word, ℕ, ◌≡◌, ◌⊎◌}
 use Rattle.tw_asm.specs.Answers.{IsFault}
 use Rattle.tw_asm.specs.declared.fault.FaultNo.TheVariants as fault
-use Rattle.tw_asm.specs.reading.Goals.{FirstUnlinked, section_goals}
 use Rattle.tw_asm.proofs.FirstGoals.{first_goal_fault}
 use Rattle.tw_asm.proofs.Unspelled.{fault_none}
 

@@ -1,7 +1,5 @@
 -- The first goal that can't be resolved is the first fault of its text.
-use Rattle.std.proofs.Common.{◌≡◌, ℕ, zero, suc, ◌+◌, ◌<◌, ◌≤◌, List, [], ◌∷◌, ◌++◌, length, map, take, drop, Option, Some, None, inl, inr, refl, sym, subst, ap, ◌∙◌, arith}
-use Rattle.tw_asm.proofs.AsmNames.{AllByRecursion, AnyShortName, AsmFault, Code, Contains, FaultNo, GoalFault, HasSections, Head, Instr, IsFirstGoalFault, IsLine, IsRead, IsWhole, Label, LineRead, HasStatement, LinesRead, HaveStatements, MayFollow, NamesLabel, OfVersion, Placed, Progress, Read, Registers, Section, ParserState, Statement, Version, Word, after, after_line, at_start, flat_map, labels_ahead, line_once, line_step, lines, map-append, not_forward, outset, situation_from, situation_of, slice_get, slice_index_or, unknown}
-use Rattle.std.proofs.lemmas.List.Elements.{Contains-append_cases, Contains-append_left, Contains-append_right}
+use Rattle.tw_asm.proofs.AsmNames.{AllByRecursion, AnyShortName, AsmFault, Code, Contains, Contains-append_cases, Contains-append_left, Contains-append_right, FaultNo, GoalFault, HasSections, HasStatement, HaveStatements, Head, Instr, IsFirstGoalFault, IsLine, IsRead, IsWhole, Label, LineRead, LinesRead, List, MayFollow, NamesLabel, None, OfVersion, Option, ParserState, Placed, Progress, Read, Registers, Section, Some, Statement, Version, Word, [], after, after_line, ap, arith, at_start, drop, flat_map, inl, inr, labels_ahead, length, line_once, line_step, lines, map, map-append, not_forward, outset, refl, situation_from, situation_of, slice_get, slice_index_or, subst, suc, sym, take, unknown, zero, ℕ, ◌++◌, ◌+◌, ◌<◌, ◌∙◌, ◌∷◌, ◌≡◌, ◌≤◌}
 use Rattle.tw_asm.specs.reading.Goals.{FirstUnlinked, Goal, IsNoGoal, IsLabelAt, section_goals}
 use Rattle.tw_asm.proofs.Alike.{AreAlike, alike}
 use Rattle.tw_asm.proofs.NamedLabels.{named_once}

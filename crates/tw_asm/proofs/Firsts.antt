@@ -1,12 +1,10 @@
 -- The kind of statement that a first word begins.
-use Rattle.std.proofs.Common.{◌≡◌, ◌≢◌, ℕ, pos, Bool, true, false, List, [], ◌∷◌, ◌++◌, codes, Option, Some, None, sym, ap, subst, ◌∙◌, refl}
-use Rattle.tw_asm.proofs.AsmNames.{◌↔◌, Int, IsInstrWord, IsLabelWord, IsName, IsTrue, Name, Opcode, Part, Version, append_cancel_right, before_colon, flat_map, further, is_name, is_some, operand_parts, row, scalar_type, word_of}
+use Rattle.tw_asm.proofs.AsmNames.{Bool, Int, IsInstrWord, IsLabelWord, IsName, IsTrue, List, Name, None, Opcode, Option, Part, Some, Version, [], ap, append_cancel_right, before_colon, codes, false, flat_map, further, is_name, is_some, opcode_in, operand_parts, pos, refl, row, scalar_type, subst, sym, true, word_of, ℕ, ◌++◌, ◌↔◌, ◌∙◌, ◌∷◌, ◌≡◌, ◌≢◌}
 use Rattle.tw_asm.proofs.Lined.{Had, parts_of}
 use Rattle.tw_asm.proofs.Names.{name_decide}
 use Rattle.tw_asm.proofs.Table.{found_back, instr_of, is_sayable, line_of, made_had, named_in, parts_are, sayable, unsayable}
 use Rattle.tw_asm.specs.reading.Lines.{Content, Line, LineContent, Operand, args, goal, literal, more, natural, never, nothing, number, right, target, type, value}
 use Rattle.tw_code.specs.declared.opcode.Opcode.TheVariants as opcode
-use Rattle.tw_code.specs.format.Table.{opcode_in}
 
 pub label_by : (word name : List ℕ) (r : Bool) → word ≡ name ++ codes ":" → r ≡ is_name name → IsTrue r ↔ IsLabelWord word
 label_by word name r is test = (

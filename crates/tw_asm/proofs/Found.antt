@@ -1,7 +1,5 @@
 -- All goals of a text, in the order of its lines.
-use Rattle.std.proofs.Common.{◌≡◌, ℕ, suc, ◌+◌, List, [], ◌∷◌, ◌++◌, length, Option, Some, None, refl, sym, ap, ◌∙◌, append_assoc, arith}
-use Rattle.std.proofs.lemmas.Grind.{flat_map-append}
-use Rattle.tw_asm.proofs.AsmNames.{AtStart, HeadRead, VersionRead, Code, Drafted, Head, Instr, Label, LinesRead, MayFollow, OfVersion, Place, Placed, Progress, Read, Registers, Section, Statement, Version, Within, append-nil, drafts_at, ended, flat_map, labels_at, length-append, line_step, progress_from, situation_of, step}
+use Rattle.tw_asm.proofs.AsmNames.{AtStart, Code, Drafted, Head, HeadRead, Instr, Label, LinesRead, List, MayFollow, None, OfVersion, Option, Place, Placed, Progress, Read, Registers, Section, Some, Statement, Version, VersionRead, Within, [], ap, append-nil, append_assoc, arith, drafts_at, ended, flat_map, flat_map-append, labels_at, length, length-append, line_step, progress_from, refl, situation_of, step, suc, sym, ℕ, ◌++◌, ◌+◌, ◌∙◌, ◌∷◌, ◌≡◌}
 use Rattle.tw_asm.specs.reading.Goals.{Goal, goals_in, section_goals}
 use Rattle.tw_asm.proofs.Stages.{body_head, body_start, head_body, head_start, progress, start_body, start_head, version_body, version_head, version_start}
 

@@ -1,7 +1,6 @@
 -- A map of labels is a list of labels.
-use Rattle.std.proofs.Common.{◌≡◌, ℕ, zero, suc, ◌<◌, Bool, true, false, cond, List, [], ◌∷◌, ◌++◌, length, map, Option, Some, None, refl, sym, ap, ◌∙◌, arith}
+use Rattle.tw_asm.proofs.AsmNames.{Bool, Contains, List, None, Option, Placed, Some, [], ap, arith, bytes_eq, bytes_eq-Decides, cond, false, is_some, length, map, map-append, refl, seen_label, slice_index_or, suc, sym, true, zero, ℕ, ◌++◌, ◌<◌, ◌∙◌, ◌∷◌, ◌≡◌}
 use denote.Ref.{Bor}
-use Rattle.tw_asm.proofs.AsmNames.{Contains, Placed, bytes_eq, bytes_eq-Decides, is_some, map-append, seen_label, slice_index_or}
 use Rattle.std.specs.Map.{lookup}
 
 abbrev pub found_in : List ℕ → List (Bor (List ℕ) × ℕ) → Option ℕ

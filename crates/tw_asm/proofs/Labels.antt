@@ -1,9 +1,5 @@
 -- The names of written labels: `L` and a number.
-use Rattle.std.proofs.Common.{◌≡◌, ◌≤◌, ◌<◌, ◌^◌, inl, inr, ℕ, List, [], ◌∷◌, ◌++◌, length, codes, arith}
-use Rattle.tw_asm.proofs.AsmNames.{AllByRecursion, IsInName, IsShortName, append_cancel_left, decimal}
-use Rattle.std.specs.Str.Parse.{AllDigits}
-use Rattle.std.proofs.lemmas.Fmt.{decimal_injective, decimal_is_IsNumeral, length-decimal-le}
-use Rattle.std.proofs.lemmas.Str.Parse.{digit_from_value}
+use Rattle.tw_asm.proofs.AsmNames.{AllByRecursion, AllDigits, IsInName, IsShortName, List, [], append_cancel_left, arith, codes, decimal, decimal_injective, decimal_is_IsNumeral, digit_from_value, inl, inr, length, length-decimal-le, ℕ, ◌++◌, ◌<◌, ◌^◌, ◌∷◌, ◌≡◌, ◌≤◌}
 
 digits_in_name : (digits : List ℕ) → AllDigits 10 digits → AllByRecursion IsInName digits
 digits_in_name [] h = tt

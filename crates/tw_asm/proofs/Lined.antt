@@ -1,9 +1,8 @@
 -- Reading the operands of a line, whatever the instruction.
 use Rattle.std.proofs.Common.{◌≡◌, ℕ, ◌≤◌, List, [], ◌∷◌, ◌++◌, length, map, codes, Option, Some, None, inl, inr, refl, sym, ap, subst, ◌∙◌, arith, append-nil}
-use Rattle.tw_asm.proofs.AsmNames.{AllByRecursion, Bare, Four, Goals, HasType, IsList, IsName, IsRegister, IsSkip, IsTypeOf, Natural, NoName, OnlyName, Part, Skip, EncodeParts, EncodesPart, EncodesWith, TypeOf, Word, at_label, further, natural_in, last_version}
+use Rattle.tw_asm.proofs.AsmNames.{AllByRecursion, Bare, EncodeParts, EncodesPart, EncodesWith, Four, Goals, HasType, IsList, IsName, IsRegister, IsSkip, IsTypeOf, Natural, NoName, OnlyName, Part, Reads, Skip, TypeOf, Word, at_label, further, last_version, natural_in}
 use Rattle.tw_asm.proofs.Names.{HasGoal, MayGoal, goal_read, no_letter}
 use Rattle.tw_asm.proofs.OperandWords.{Has, IsFine, May, natural_read, operand_read, part_of}
-use Rattle.tw_lexer.proofs.Readings.{Reads}
 use Rattle.tw_asm.proofs.Readings.{both_read}
 use Rattle.tw_asm.proofs.Sequences.{HaveEach, IsShallow, IsTypeIn, each_long, each_read, few_read, type_read}
 use Rattle.tw_asm.proofs.Versions.{any_type}

@@ -1,15 +1,6 @@
 -- Lines as they are written from left to right.
 use Rattle.std.proofs.Common.{arith, ◌≡◌, ℕ, ◌+◌, ◌<◌, ◌≤◌, suc, List, [], ◌∷◌, ◌++◌, length, map, take, get_or, codes, if◌then◌else◌, Some, None, refl, sym, ap, ◌∙◌, append_assoc, append-nil}
-use Rattle.tw_asm.proofs.AsmNames.{Err, Natural, Ok, OnOk, Part, Result, spaced_all, decimal, flat_map, join_with_byte, operand_parts, operand_words, part_words, spaced, take_all}
-use Rattle.std.proofs.Math.Seq.{take-suc}
-use Rattle.std.proofs.lemmas.Grind.{flat_map-append}
-use Rattle.tw_types.specs.DataType.{by_of, element_of, has_sums, is_container_by}
-use Rattle.tw_types.specs.Nesting.{NestedScalar}
-use Rattle.tw_types.specs.declared.data_type.MapKind.{MapKind}
-use Rattle.tw_types.specs.declared.data_type.MapKind.TheVariants.{NoMap, Values, Sums}
-use Rattle.tw_types.specs.declared.data_type.Scalar.{Scalar}
-use Rattle.tw_types.specs.declared.data_type.Scalar.TheVariants.{Int, Text}
-use Rattle.tw_asm.specs.Parts.{container_word, leaf_words, map_word, scalar_word, sum_word, type_words}
+use Rattle.tw_asm.proofs.AsmNames.{Err, Int, MapKind, Natural, NestedScalar, NoMap, Ok, OnOk, Part, Result, Scalar, Sums, Text, Values, by_of, container_word, decimal, element_of, flat_map, flat_map-append, has_sums, is_container_by, join_with_byte, leaf_words, map_word, operand_parts, operand_words, part_words, scalar_word, spaced, spaced_all, sum_word, take-suc, take_all, type_words}
 use Rattle.tw_code.specs.declared.sink.Operand as operands
 use Rattle.tw_code.specs.format.Sink.{seen}
 

@@ -1,7 +1,5 @@
 -- Goals, resolved one by one.
-use Rattle.std.proofs.Common.{◌≡◌, ℕ, suc, ◌+◌, ◌<◌, List, [], ◌∷◌, ◌++◌, length, map, get_or, take, drop, inl, inr, refl, sym, subst, ap, ◌∙◌, arith}
-use Rattle.std.proofs.Math.Seq.{split_at}
-use Rattle.tw_asm.proofs.AsmNames.{AllByRecursion, AsmFault, Drafted, Instr, Placed, Procedure, Section, flat_map, map-append, map-id}
+use Rattle.tw_asm.proofs.AsmNames.{AllByRecursion, AsmFault, Drafted, Instr, List, Placed, Procedure, Section, [], ap, arith, drop, flat_map, get_or, inl, inr, length, map, map-append, map-id, refl, split_at, subst, suc, sym, take, ℕ, ◌++◌, ◌+◌, ◌<◌, ◌∙◌, ◌∷◌, ◌≡◌}
 use Rattle.tw_asm.specs.reading.Goals.{AreLinkedCode, AreLinkedProcedures, FirstUnlinked, Goal, HasLabelsWithin, IsLinked, IsLinkedProcedure, IsUnlinked, goals_in, section_goals}
 
 abbrev goal_at : List Placed → ℕ → Drafted → Goal

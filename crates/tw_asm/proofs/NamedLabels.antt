@@ -1,6 +1,5 @@
 -- The label that an instruction's words name.
-use Rattle.std.proofs.Common.{◌≡◌, ℕ, Bool, true, false, List, [], ◌∷◌, ◌++◌, Some, None, inl, inr, refl, sym, subst, ap, ◌∙◌, append_assoc}
-use Rattle.tw_asm.proofs.AsmNames.{Bare, Code, Goals, Instr, NamesLabel, Part, Skip, EncodeParts, Encodes, EncodesPart, Target, Version, Word, instr_parts}
+use Rattle.tw_asm.proofs.AsmNames.{Bare, Bool, Code, EncodeParts, Encodes, EncodesPart, Goals, Instr, List, NamesLabel, None, Part, Skip, Some, Target, Version, Word, [], ap, append_assoc, false, inl, inr, instr_parts, refl, subst, sym, true, ℕ, ◌++◌, ◌∙◌, ◌∷◌, ◌≡◌}
 use Rattle.tw_asm.proofs.Rows.{row, skips_last}
 use Rattle.tw_asm.proofs.Spelled.{bare_is}
 

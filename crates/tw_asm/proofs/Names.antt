@@ -1,11 +1,8 @@
 -- Reading names and goals.
 use Rattle.std.proofs.Common.{◌≡◌, ◌==◌, ℕ, ◌≤◌, Bool, true, false, cond, List, [], ◌∷◌, length, codes, Option, Some, None, inl, inr, Ok, Err, Decides, refl, sym, ap, subst, ◌∙◌, arith}
-use Rattle.tw_asm.proofs.AsmNames.{◌||◌, AllByRecursion, Bare, Decides-and, Decides-eqb, Decides-or, Form, IsInName, IsInRange, IsLetter, IsName, IsSkip, Limit, Quoted, EncodesDigits, EncodesWith, Word, eqb-true, ltb-true, nat_lt, nat_tests}
+use Rattle.tw_asm.proofs.AsmNames.{AllByRecursion, Bare, Decides-and, Decides-eqb, Decides-or, EncodesDigits, EncodesWith, Form, IsInName, IsInRange, IsLetter, IsName, IsSkip, Limit, Quoted, Reads, Word, all_in_name, as_is, carried, digits_in, digits_read, eqb-true, is_in_name, is_letter, is_name, is_within, ltb-true, nat_lt, nat_tests, ◌||◌}
 use Rattle.tw_lexer.proofs.Decided.{within_decide}
-use Rattle.tw_lexer.specs.Digits.{is_within, as_is, digits_in}
-use Rattle.tw_lexer.proofs.Readings.{digits_read, Reads, carried}
 use Rattle.tw_asm.proofs.OperandWords.{apart}
-use Rattle.tw_lexer.specs.Names.{all_in_name, is_in_name, is_letter, is_name}
 use Rattle.tw_asm.specs.reading.Operands.{at_label, further, goal_in, name_in}
 
 no : false ≡ true → ⊥

@@ -1,9 +1,7 @@
 -- Words denote at most one statement, whose kind their first word shows.
-use Rattle.std.proofs.Common.{◌≡◌, inl, inr, ℕ, Bool, true, List, [], ◌∷◌, ◌++◌, map, codes, Some, refl, sym, ap, subst, ◌∙◌}
-use Rattle.tw_asm.proofs.AsmNames.{◌==◌, AllByRecursion, Bare, Closed, Code, First, Goals, HasForm, HasInstr, HasOperand, Head, Instr, Int, IsExpected, IsRead, Kind, Label, Mode, Name, Natural, OfVersion, Opcode, Operand, Param, Part, Ref, Registers, Scalar, EncodeParts, Encodes, Statement, Text, TypeOf, Val, Version, Word, Write, append_cancel_right, flat_map, has_opcode, head_parts, holds, if◌then◌else◌, instr_parts, kind_word, mode_word, param_parts, register_part, registers_parts, scalar_word, statement_parts, version_parts, with_skip}
+use Rattle.tw_asm.proofs.AsmNames.{AllByRecursion, Bare, Bool, Closed, Code, Control, EncodeParts, Encodes, First, Goals, HasForm, HasInstr, HasOperand, Head, Instr, Int, IsExpected, IsRead, Kind, Label, Leaf, List, Mode, Name, Natural, OfVersion, Opcode, Operand, Param, Part, Ref, Registers, Scalar, Some, Statement, Text, TypeOf, Val, Version, Word, Write, [], ap, append_cancel_right, codes, flat_map, has_opcode, head_parts, holds, if◌then◌else◌, inl, inr, instr_parts, kind_word, map, mode_word, param_parts, refl, register_part, registers_parts, scalar_word, statement_parts, subst, sym, true, version_parts, with_skip, ℕ, ◌++◌, ◌==◌, ◌∙◌, ◌∷◌, ◌≡◌}
 use Rattle.tw_code.specs.declared.form.Form.TheVariants as form
 use Rattle.tw_code.specs.format.Table as table
-use Rattle.tw_types.specs.declared.actor.Kind.TheVariants.{Control, Leaf}
 use Rattle.tw_asm.specs.declared.statement.First.TheVariants as first
 use Rattle.tw_asm.proofs.Rows.{AreAlike, alike_by_sorts, after_first, class_of_word, different, ends_in_colon, first_name, have_sorts, name_of, operands_of, others, reskip_operand, row, row_among, rows, same}
 use Rattle.tw_asm.proofs.Spelled.{AreNames, Resolved, all_tied, as_is, bare_is, cons_is, parts_more, resolved, tied_are, with_goal}

@@ -1,6 +1,5 @@
 -- A text has one first fault.
-use Rattle.std.proofs.Common.{◌≡◌, ℕ, zero, suc, ◌+◌, ◌<◌, ◌≤◌, ◌⊎◌, List, [], ◌∷◌, ◌++◌, length, take, drop, Option, inl, inr, refl, sym, subst, ap, ◌∙◌, arith}
-use Rattle.tw_asm.proofs.AsmNames.{AnyShortName, Bare, Begins, Code, Contains, FaultNo, First, GoalFault, HasWords, InBody, Instr, IsEmpty, IsEndFault, IsExpected, IsFirstFault, IsFirstGoalFault, IsLine, IsLineFault, IsUnfinished, Label, LineFault, HasStatement, HaveStatements, MayBegin, NamesLabel, EncodesInLimits, ParserState, Stage, Statement, Version, Word, after_line, at_start, cases_lt, first_word_once, labels_ahead, line_once, lines, not_forward, situation, situation_from, slice_get, unknown}
+use Rattle.tw_asm.proofs.AsmNames.{AnyShortName, Bare, Begins, Code, Contains, EncodesInLimits, FaultNo, First, GoalFault, HasStatement, HasWords, HaveStatements, InBody, Instr, IsEmpty, IsEndFault, IsExpected, IsFirstFault, IsFirstGoalFault, IsLine, IsLineFault, IsUnfinished, Label, LineFault, List, MayBegin, NamesLabel, Option, ParserState, Stage, Statement, Version, Word, [], after_line, ap, arith, at_start, cases_lt, drop, first_word_once, inl, inr, labels_ahead, length, line_once, lines, not_forward, refl, situation, situation_from, slice_get, subst, suc, sym, take, unknown, zero, ℕ, ◌++◌, ◌+◌, ◌<◌, ◌∙◌, ◌∷◌, ◌≡◌, ◌≤◌, ◌⊎◌}
 use Rattle.tw_asm.specs.declared.statement.First.TheVariants as first
 use Rattle.tw_asm.specs.declared.fault.FaultNo.TheVariants as fault
 use Rattle.tw_asm.proofs.Begins.{line_begins}

@@ -1,6 +1,5 @@
 -- An instruction comes from one line.
-use Rattle.std.proofs.Common.{◌≡◌, ◌⊎◌, ℕ, suc, ◌+◌, ◌<◌, ◌≤◌, List, [], ◌∷◌, ◌++◌, length, Option, Some, None, inl, inr, refl, sym, subst, ap, ◌∙◌, arith}
-use Rattle.tw_asm.proofs.AsmNames.{Code, Head, Instr, Label, HasStatement, HaveStatements, OfVersion, Registers, ParserState, Statement, after_line, at_start, lines, situation_from}
+use Rattle.tw_asm.proofs.AsmNames.{Code, HasStatement, HaveStatements, Head, Instr, Label, List, None, OfVersion, Option, ParserState, Registers, Some, Statement, [], after_line, ap, arith, at_start, inl, inr, length, lines, refl, situation_from, subst, suc, sym, ℕ, ◌++◌, ◌+◌, ◌<◌, ◌∙◌, ◌∷◌, ◌≡◌, ◌≤◌, ◌⊎◌}
 use Rattle.tw_asm.specs.Theorems.{OneLine}
 use Rattle.tw_asm.proofs.Twice.{both_alike, others_say}
 

@@ -1,12 +1,10 @@
 -- Reading single words.
 use Rattle.std.proofs.Common.{◌≡◌, ◌==◌, ℕ, ◌≤◌, Bool, true, false, cond, List, [], ◌∷◌, length, codes, Option, Some, None, Ok, Err, refl, sym, ap, subst, ◌∙◌, arith}
-use Rattle.tw_asm.proofs.AsmNames.{Bare, Closed, FitsSigned, Form, Four, IsIn64, IsInRange, IsRegister, IsSubscriptOf, IsTarget, IsUtf8, IsWithin, Limit, Literal, Natural, NoName, Number, One, Part, Quoted, Ref, Right, Scalar, EncodesDigits, EncodesNumber, EncodesPart, EncodesWith, Target, Two, Val, Value, Version, Word, Write, as_is, bytes_eq, bytes_eq-Decides, container_in, container_word, digits_in, eqb-true, is_sum, kind_word, literal_in, ltb-true, map_in, map_word, mode_in, mode_word, nat_lt, nat_tests, natural_in, number_in, register_in, scalar_in, scalar_word, signed_in, sum_word, target_in, text_container, w64, Five, has_maps, map_word_in}
-use Rattle.tw_lexer.proofs.Readings.{digits_read, signed_read, Reads, carried}
+use Rattle.tw_asm.proofs.AsmNames.{Bare, Closed, Control, EncodesDigits, EncodesNumber, EncodesPart, EncodesWith, FitsSigned, Five, Form, Four, IsIn64, IsInRange, IsRegister, IsSubscriptOf, IsTarget, IsUtf8, IsWithin, Leaf, Limit, Literal, Natural, NoName, Number, One, Part, Quoted, Reads, Ref, Right, Scalar, Target, Two, Val, Value, Version, Word, Write, as_is, bytes_eq, bytes_eq-Decides, carried, container_in, container_word, digits_in, digits_read, eqb-true, has_maps, is_sum, kind_word, literal_in, ltb-true, map_in, map_word, map_word_in, mode_in, mode_word, nat_lt, nat_tests, natural_in, number_in, register_in, scalar_in, scalar_word, signed_in, signed_read, sum_word, target_in, text_container, w64}
 use Rattle.tw_asm.proofs.Readings.{likewise}
 use Rattle.tw_asm.proofs.TypeWords.{other_bytes}
 use Rattle.tw_asm.specs.reading.Lines.{Content, Operand, kind_in, literal, natural, number, operand_in, right, target, value}
 use Rattle.tw_types.specs.Text.{IsText}
-use Rattle.tw_types.specs.declared.actor.Kind.TheVariants.{Control, Leaf}
 use Rattle.tw_types.specs.declared.data_type.Scalar.TheVariants as scalar
 
 -- holds if the text between quotes is UTF-8

@@ -1,8 +1,6 @@
 -- The line numbers that are kept for instructions are those of their lines.
-use Rattle.std.proofs.Common.{◌≡◌, ◌⊎◌, ℕ, zero, suc, ◌+◌, ◌<◌, List, [], ◌∷◌, ◌++◌, length, map, get_or, take, Option, Some, None, MatchOption, inl, inr, refl, sym, subst, ap, ◌∙◌, append_assoc, arith}
-use Rattle.tw_asm.proofs.AsmNames.{AtStart, HeadRead, VersionRead, Code, Drafted, HasSections, Head, Instr, Kind, Label, LineRead, LinesRead, MayFollow, OfVersion, Param, Place, Procedure, Progress, Read, Registers, Section, ParserState, Statement, Version, Within, after_line, append-nil, ended, length-append, length-map, line_step, lines, map-append, outset, progress_from, section_numbers, situation, situation_from, situation_of, slice_get, step}
+use Rattle.tw_asm.proofs.AsmNames.{AreLinkedProcedures, AtStart, Code, Drafted, HasSections, Head, HeadRead, Instr, Kind, Label, LineRead, LinesRead, List, MatchOption, MayFollow, None, OfVersion, Option, Param, ParserState, Place, Procedure, Progress, Read, Registers, Section, Some, Statement, Version, VersionRead, Within, [], after_line, ap, append-nil, append_assoc, arith, ended, get_or, inl, inr, length, length-append, length-map, line_step, lines, map, map-append, outset, progress_from, refl, section_numbers, situation, situation_from, situation_of, slice_get, step, subst, suc, sym, take, zero, ℕ, ◌++◌, ◌+◌, ◌<◌, ◌∙◌, ◌∷◌, ◌≡◌, ◌⊎◌}
 use Rattle.tw_asm.specs.Origins.{AreOrigins, ComesFrom, at_place, instr_at}
-use Rattle.tw_asm.specs.reading.Goals.{AreLinkedProcedures}
 use Rattle.tw_asm.proofs.Linked.{linked_length}
 use Rattle.tw_asm.proofs.Stages.{body_head, body_start, head_body, head_start, progress, start_body, start_head, version_body, version_head, version_start}
 use Rattle.tw_asm.proofs.Steps.{line_after, lines_say, said_by, statement_of}

@@ -1,6 +1,5 @@
 -- The line of an instruction depends only on the word of its own skip.
-use Rattle.std.proofs.Common.{◌≡◌, ◌++◌, ℕ, ◌+◌, true, List, [], ◌∷◌, codes, Option, Some, None, refl, ap, ◌∙◌}
-use Rattle.tw_asm.proofs.AsmNames.{Code, Instr, Part, Skip, Target, decimal, flat_map, goal_word, instr_parts, join_with_byte, label_at, line_of, option_and_then, part_words, skip_among, skip_of}
+use Rattle.tw_asm.proofs.AsmNames.{Code, Instr, List, None, Option, Part, Skip, Some, Target, [], ap, codes, decimal, flat_map, goal_word, instr_parts, join_with_byte, label_at, line_of, option_and_then, part_words, refl, skip_among, skip_of, true, ℕ, ◌++◌, ◌+◌, ◌∙◌, ◌∷◌, ◌≡◌}
 use Rattle.tw_asm.proofs.Rows.{is_last, row, skips_last}
 
 module _ (f g : ℕ → List ℕ) where

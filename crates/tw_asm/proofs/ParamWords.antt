@@ -1,10 +1,8 @@
 -- Reading parameters, from the last word on.
 use Rattle.std.proofs.Common.{◌≡◌, suc, ◌≤◌, Bool, true, false, cond, List, [], ◌∷◌, ◌++◌, length, Result, Ok, Err, refl, sym, ap, subst, ◌∙◌, arith}
-use Rattle.tw_asm.proofs.AsmNames.{AllByRecursion, as_is, Bare, both, Closed, container_in, container_of, container_word, depth_of, flat_map, Form, HasParam, HasType, if◌then◌else◌, Int, is_scalar, is_sum, IsMapOf, Limit, ltb-true, map_in, map_of, map_word, MapKind, mapped, Mode, mode_in, mode_word, nat_lt, nat_tests, NestedScalar, NoMap, Param, Ref, Scalar, scalar_in, scalar_type, scalar_word, sum_word, Sums, sums_of, TokenError, Val, Values, Version, with_type, Word, Write}
-use Rattle.tw_asm.specs.declared.gathering.Begun.{Begun}
+use Rattle.tw_asm.proofs.AsmNames.{AllByRecursion, Bare, Begun, Closed, Form, HasParam, HasType, Int, IsMapOf, Limit, MapKind, Mode, NestedScalar, NoMap, Param, Reads, Ref, Scalar, Sums, TokenError, Val, Values, Version, Word, Write, as_is, both, carried, container_in, container_of, container_word, depth_of, flat_map, if◌then◌else◌, is_scalar, is_sum, ltb-true, map_in, map_of, map_word, mapped, mode_in, mode_word, nat_lt, nat_tests, scalar_in, scalar_type, scalar_word, sum_word, sums_of, with_type}
 use Rattle.tw_asm.specs.declared.gathering.Begun.TheVariants as so_far
 use Rattle.tw_asm.proofs.OperandWords.{Free, IsContainerOf, IsMapWordOf, container_read, map_read, mode_read, scalar_read, sum_is, sum_isnt}
-use Rattle.tw_lexer.proofs.Readings.{Reads, carried}
 use Rattle.tw_asm.proofs.Readings.{both_read}
 use Rattle.tw_asm.proofs.Sequences.{IsShallow}
 use Rattle.tw_asm.proofs.TypeWords.{first_is, first_no_mode, first_no_sum, has_map, has_sums_of, map_no_container, map_no_scalar, map_since, mode_no_map, mode_no_sum, one_mode, one_type, rest_is, some_words, sum_no_scalar, sums_since, words_of}

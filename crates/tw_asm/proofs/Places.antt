@@ -1,8 +1,6 @@
 -- The labels of a procedure's code: their numbers fit in the machine, and none is past the code's length.
 use Rattle.std.proofs.Common.{◌≡◌, ◌==◌, ◌≤◌, ◌<◌, ◌^◌, ℕ, ◌+◌, Bool, true, false, cond, filter, List, [], ◌∷◌, ◌++◌, length, get_or, Option, Some, None, refl, subst, arith}
-use Rattle.tw_asm.proofs.AsmNames.{AllByRecursion, Instr, IsProcedure, Procedure, eqb-true, first_ones, goal_from, goals_from, label_at, label_places, nat_lt, nat_tests, not, skip_of}
-use Rattle.std.proofs.lemmas.List.Elements.{All-from_recursion}
-use Rattle.std.proofs.lemmas.List.Quantifiers.{position-Some}
+use Rattle.tw_asm.proofs.AsmNames.{All-from_recursion, AllByRecursion, Instr, IsProcedure, Procedure, eqb-true, first_ones, goal_from, goals_from, label_at, label_places, nat_lt, nat_tests, not, position-Some, skip_of}
 
 -- holds if the numbers of the labels fit in the machine
 abbrev pub AreNumbered : List ℕ → Type 0

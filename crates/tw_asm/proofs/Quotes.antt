@@ -1,9 +1,6 @@
 -- The quoted form of a text in UTF-8 is UTF-8.
 use Rattle.std.proofs.Common.{◌≡◌, ◌==◌, ◌||◌, ◌<◌, ◌/◌, ◌%◌, ℕ, Bool, true, false, List, [], ◌∷◌, ◌++◌, codes, refl, sym, subst, append_assoc, arith}
-use Rattle.tw_asm.proofs.AsmNames.{AllByRecursion, IsUtf8, flat_map, if◌then◌else◌, nat_lt, nat_tests}
-use Rattle.std.proofs.lemmas.Str.{IsUtf8-append, IsUtf8-from_ascii, IsUtf8-nil}
-use Rattle.std.proofs.lemmas.Str.Ascii.{IsAscii-cons, IsAscii-nil}
-use Rattle.tw_lexer.specs.Quoted.{escaped, hex_digit, quoted}
+use Rattle.tw_asm.proofs.AsmNames.{AllByRecursion, IsAscii-cons, IsAscii-nil, IsUtf8, IsUtf8-append, IsUtf8-from_ascii, IsUtf8-nil, escaped, flat_map, hex_digit, if◌then◌else◌, nat_lt, nat_tests, quoted}
 use Rattle.tw_lexer.proofs.Utf8.{cut_front, cut_rest}
 
 pub after_ascii : (b : ℕ) (text : List ℕ) → b < 128 → IsUtf8 text → IsUtf8 (b ∷ text)

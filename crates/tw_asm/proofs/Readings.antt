@@ -1,7 +1,6 @@
 -- Lemmas on `Reads`, which says that a result of reading is right about the words of values and about their limits.
 use Rattle.std.proofs.Common.{Result, Ok, Err}
-use Rattle.tw_asm.proofs.AsmNames.{TokenError, Form, Limit, both}
-use Rattle.tw_lexer.proofs.Readings.{Reads}
+use Rattle.tw_asm.proofs.AsmNames.{Form, Limit, Reads, TokenError, both}
 
 -- readings of equivalent properties
 pub likewise : {A : Type 0} (Has May Has' May' : A → Type 0) → ((a : A) → Has a → Has' a) → ((a : A) → Has' a → Has a) → ((a : A) → Has a → May a → May' a) → ((a : A) → Has' a → May' a → May a) → (r : Result A TokenError) → Reads Has May r → Reads Has' May' r

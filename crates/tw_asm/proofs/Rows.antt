@@ -1,24 +1,15 @@
 -- The table of instructions with parts: the sorts of parts after a name, and the instruction that they make. Facts on the parts of each instruction
 -- are proved once, in `row`.
 use Rattle.std.proofs.Common.{◌≡◌, ◌==◌, ℕ, ℤ, pos, Bool, true, false, List, [], ◌∷◌, ◌++◌, map, codes, Option, None, refl, sym, ap, ◌∙◌, eq-eqb}
-use Rattle.tw_asm.proofs.AsmNames.{◌&&◌, Contents, Instr, Int, Literal, Name, Natural, NestedScalar, Number, Opcode, Operand, Part, Right, Skip, Target, Text, TypeOf, Value, eqb-true, forms_of, holds, if◌then◌else◌, instr_parts, scalar_type, with_skip, word_of}
+use Rattle.tw_asm.proofs.AsmNames.{Add, Arithmetic, Computed, Constant, Contents, DataInstr, Instr, Int, Literal, LocalInstr, Name, Natural, NestedScalar, Number, OPCODES, Opcode, Operand, Part, Priority, Right, Skip, Sought, Target, Text, TypeOf, Value, eqb-true, forms_of, holds, if◌then◌else◌, instr_of, instr_parts, scalar_type, with_skip, word_of, ◌&&◌}
 use Rattle.tw_code.specs.declared.form.Form.{Form}
 use Rattle.tw_code.specs.declared.form.Form.TheVariants as form
-use Rattle.tw_code.specs.declared.instr.Arithmetic.{Arithmetic}
-use Rattle.tw_code.specs.declared.instr.Arithmetic.TheVariants.{Add}
-use Rattle.tw_code.specs.declared.instr.Sought.{Sought}
 use Rattle.tw_code.specs.declared.instr.Sought.TheVariants as sought
-use Rattle.tw_code.specs.declared.instr.DataInstr.{DataInstr}
 use Rattle.tw_code.specs.declared.instr.DataInstr.TheVariants as on_data
 use Rattle.tw_code.specs.declared.instr.Instr.TheVariants as instr
-use Rattle.tw_code.specs.declared.instr.LocalInstr.{LocalInstr}
 use Rattle.tw_code.specs.declared.instr.LocalInstr.TheVariants as local
-use Rattle.tw_code.specs.declared.instr.Priority.{Priority}
-use Rattle.tw_code.specs.declared.instr.Priority.TheVariants.{Constant, Computed}
 use Rattle.tw_code.specs.declared.opcode.Opcode.TheVariants as op
-use Rattle.tw_code.specs.declared.opcode.TheConstants.{OPCODES}
 use Rattle.tw_code.specs.format.Table as table
-use Rattle.tw_code.proofs.TableRows.{instr_of}
 
 -- ---- a word among names
 

@@ -1,19 +1,16 @@
 -- Registers, the version and labels: the words are read as a statement that they denote, or they denote none.
 use Rattle.std.proofs.Common.{◌≡◌, ◌≢◌, ◌==◌, ℕ, zero, suc, ◌≤◌, Bool, true, false, inl, inr, arith, List, [], ◌∷◌, ◌++◌, length, map, codes, Option, Some, None, Result, Ok, Err, refl, sym, ap, subst, ◌∙◌}
-use Rattle.tw_asm.proofs.AsmNames.{AllByRecursion, AnyName, AnyShortName, Bare, Code, TokenError, Form, Goals, HasForm, Head, Instr, IsInLimits, IsList, IsName, IsRead, IsVersionNumber, IsWithin, Label, Limit, Name, Natural, NoName, OfVersion, Opcode, Part, Registers, Scalar, EncodeParts, Encodes, EncodesWith, Statement, Version, Word, as_is, eqb-true, flat_map, if◌then◌else◌, kind_word, name_in, natural_in, operand_parts, param_parts, register_part, row, scalar_in, scalar_word, version_known, word_of}
+use Rattle.tw_asm.proofs.AsmNames.{AllByRecursion, AnyName, AnyShortName, Bare, Code, EncodeParts, Encodes, EncodesWith, Form, Goals, HasForm, Head, Instr, IsInLimits, IsList, IsName, IsRead, IsVersionNumber, IsWithin, Label, Limit, Name, Natural, NoName, OfVersion, Opcode, Part, Reads, Registers, Scalar, Statement, TokenError, Version, Word, as_is, before_colon, eqb-true, flat_map, if◌then◌else◌, kind_word, name_in, natural_in, opcode_in, operand_parts, param_parts, register_part, row, scalar_in, scalar_word, version_known, word_of}
 use Rattle.tw_asm.proofs.Answered.{Judged, first_is, none_some, regs_is_none, version_is_none}
 use Rattle.tw_lexer.proofs.Colons.{before, found_before}
 use Rattle.tw_asm.proofs.Names.{IsThisName, name_read}
 use Rattle.tw_asm.proofs.OperandWords.{Free, natural_read, scalar_read}
-use Rattle.tw_lexer.proofs.Readings.{Reads}
 use Rattle.tw_asm.proofs.Sequences.{HaveEach, each_long, each_read, few_read}
 use Rattle.tw_asm.proofs.Spelled.{bare_is, digits_same}
 use Rattle.tw_asm.proofs.Table as tables
 use Rattle.tw_asm.proofs.TypeWords.{other_bytes}
 use Rattle.tw_asm.proofs.Versions.{by_number}
-use Rattle.tw_lexer.specs.Names.{before_colon}
 use Rattle.tw_asm.specs.reading.Lines.{each, few, label_line, label_read, named_in, registers_in, registers_read, version_in, version_read}
-use Rattle.tw_code.specs.format.Table.{opcode_in}
 
 -- the table finds the name of an instruction
 pub code_first : (version : Version) (G : Goals) (i : Instr) (word : List ℕ) (ws : List Word) → Encodes version G (Code i) (Bare word ∷ ws) → (o : Opcode) × (opcode_in version word ≡ Some o)

@@ -1,10 +1,8 @@
 -- Reading lists of items, and types.
 use Rattle.std.proofs.Common.{◌≡◌, ℕ, suc, ◌≤◌, Bool, true, false, cond, List, [], ◌∷◌, ◌++◌, length, Result, Ok, Err, refl, sym, ap, subst, ◌∙◌, arith, append_assoc, append-nil}
-use Rattle.tw_asm.proofs.AsmNames.{AllByRecursion, Bare, TokenError, Form, HasType, Int, IsList, IsMapOf, IsSubscriptOf, Limit, MapKind, NestedScalar, NoMap, Scalar, Sums, Values, Version, Word, around, as_is, before, both, contained, container_in, container_of, container_word, depth_of, each, each_from, few, if◌then◌else◌, is_scalar, is_sum, joined, ltb-true, map_in, map_of, map_word, mapped, nat_lt, nat_tests, put_first, scalar_in, scalar_type, scalar_word, sum_word, sums_of, type_from, type_in, typed, whole_type}
-use Rattle.tw_asm.specs.declared.gathering.Begun.{Begun}
+use Rattle.tw_asm.proofs.AsmNames.{AllByRecursion, Bare, Begun, Form, HasType, Int, IsList, IsMapOf, IsSubscriptOf, Limit, MapKind, NestedScalar, NoMap, Reads, Scalar, Sums, TokenError, Values, Version, Word, around, as_is, before, both, carried, contained, container_in, container_of, container_word, depth_of, each, each_from, few, if◌then◌else◌, is_scalar, is_sum, joined, ltb-true, map_in, map_of, map_word, mapped, nat_lt, nat_tests, put_first, scalar_in, scalar_type, scalar_word, sum_word, sums_of, type_from, type_in, typed, whole_type}
 use Rattle.tw_asm.specs.declared.gathering.Begun.TheVariants as so_far
 use Rattle.tw_asm.proofs.OperandWords.{Free, IsContainerOf, IsMapWordOf, container_read, map_read, scalar_read, sum_is, sum_isnt}
-use Rattle.tw_lexer.proofs.Readings.{Reads, carried}
 use Rattle.tw_asm.proofs.Readings.{both_read, likewise}
 use Rattle.tw_asm.proofs.TypeWords.{first_is, first_no_sum, has_map, has_sums_of, leaf_apart, map_no_container, map_no_scalar, map_since, one_container, one_map, one_type, rest_is, some_words, sum_no_scalar, sums_since, words_of}
 

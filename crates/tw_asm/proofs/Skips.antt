@@ -1,15 +1,10 @@
 -- The skips of instructions.
-use Rattle.std.proofs.Common.{◌≡◌, ℕ, List, [], ◌∷◌, ◌++◌, map, Option, None, refl, sym, ap, ◌∙◌}
+use Rattle.tw_asm.proofs.AsmNames.{Computed, Constant, DataInstr, Instr, List, LocalInstr, Natural, None, Option, Priority, Target, [], ap, map, operand_parts, priority_operand, refl, skip_among, skip_of, sym, ℕ, ◌++◌, ◌∙◌, ◌∷◌, ◌≡◌}
 use Rattle.tw_code.specs.accepting.Flow.{data_flow, flow_of, local_flow}
 use Rattle.tw_code.specs.declared.flow.Flow.{Flow}
-use Rattle.tw_code.specs.declared.instr.DataInstr.{DataInstr}
 use Rattle.tw_code.specs.declared.instr.DataInstr.TheVariants as on_data
-use Rattle.tw_asm.proofs.AsmNames.{Instr, Natural, Target, operand_parts, priority_operand, skip_among, skip_of}
 use Rattle.tw_code.specs.declared.instr.Instr.TheVariants as instr
-use Rattle.tw_code.specs.declared.instr.LocalInstr.{LocalInstr}
 use Rattle.tw_code.specs.declared.instr.LocalInstr.TheVariants as local
-use Rattle.tw_code.specs.declared.instr.Priority.{Priority}
-use Rattle.tw_code.specs.declared.instr.Priority.TheVariants.{Constant, Computed}
 use Rattle.tw_asm.specs.words.Skips.{skip_in}
 
 args_without : (args : List ℕ) → skip_among (map Natural args ++ []) ≡ None

@@ -1,7 +1,5 @@
 -- Words denote one list of parts, except for skips by name.
-use Rattle.std.proofs.Common.{◌≡◌, ◌⊎◌, inl, inr, ℕ, true, List, [], ◌∷◌, ◌++◌, map, codes, Option, Some, None, refl, sym, ap, subst, ◌∙◌, arith}
-use Rattle.tw_asm.proofs.AsmNames.{Bare, Goals, IsInRange, IsName, Literal, Name, Natural, NestedScalar, NoName, Number, OnlyName, Part, Quoted, Right, Skip, EncodeParts, EncodesDigits, EncodesNumber, EncodesPart, EncodesWith, Target, TypeOf, Value, Word, append_cancel_left}
-use Rattle.tw_lexer.proofs.Numerals.{one_number, one_size}
+use Rattle.tw_asm.proofs.AsmNames.{Bare, EncodeParts, EncodesDigits, EncodesNumber, EncodesPart, EncodesWith, Goals, IsInRange, IsName, List, Literal, Name, Natural, NestedScalar, NoName, None, Number, OnlyName, Option, Part, Quoted, Right, Skip, Some, Target, TypeOf, Value, Word, [], ap, append_cancel_left, arith, codes, inl, inr, map, one_number, one_size, refl, subst, sym, true, ℕ, ◌++◌, ◌∙◌, ◌∷◌, ◌≡◌, ◌⊎◌}
 use Rattle.tw_asm.proofs.Rows.{AreAlike, different, is_last, reskip, skips_last, sort_of}
 use Rattle.tw_asm.proofs.TypeWords.{one_type, some_words, words_of}
 

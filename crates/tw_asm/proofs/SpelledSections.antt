@@ -1,9 +1,6 @@
 -- The procedures that are read, and the words that denote them.
-use Rattle.std.proofs.Common.{true, ◌≡◌, ◌≢◌, ℕ, suc, ◌+◌, ◌<◌, ◌≤◌, List, [], ◌∷◌, ◌++◌, length, map, Option, Some, None, inl, inr, refl, sym, subst, ap, ◌∙◌, append_assoc, arith}
-use Rattle.tw_asm.proofs.AsmNames.{AllByRecursion, AllPairs, AnyShortName, AreCode, AtStart, Bare, HeadRead, VersionRead, Code, Contains, Drafted, Four, Goals, SkipsTo, HasInstr, HasSections, HaveWords, Head, Instr, IsGoalOf, IsInLimits, IsInstr, IsInstrOf, IsLine, IsOperand, IsProcedureOf, IsProgramOf, IsRead, IsWhole, Kind, Label, LinesRead, MayFollow, NoName, OfVersion, One, Opcode, Operand, Param, Place, Placed, Procedure, Progress, Read, Registers, Scalar, Section, EncodeProcedures, Encodes, EncodesProcedure, EncodesProgram, EncodesVersion, Statement, Version, Within, Word, append-nil, begun, ended, get_or_default, has_opcode, holds, length-append, line_step, lines, map-append, outset, progress_from, row, situation_of, step, version_by, with_skip, last_version}
-use Rattle.std.proofs.lemmas.List.Quantifiers.{all_pairs_push}
+use Rattle.tw_asm.proofs.AsmNames.{AllByRecursion, AllPairs, AnyShortName, AreCode, AreLinkedCode, AreLinkedProcedures, AtStart, Bare, Code, Contains, Drafted, EncodeProcedures, Encodes, EncodesProcedure, EncodesProgram, EncodesVersion, Four, Goals, HasInstr, HasLabelsWithin, HasSections, HaveWords, Head, HeadRead, Instr, IsGoalOf, IsInLimits, IsInstr, IsInstrOf, IsLine, IsLinkedProcedure, IsLinkedTo, IsOperand, IsProcedureOf, IsProgramOf, IsRead, IsWhole, Kind, Label, LinesRead, List, MayFollow, NoName, None, OfVersion, One, Opcode, Operand, Option, Param, Place, Placed, Procedure, Progress, Read, Registers, Scalar, Section, SkipsTo, Some, Statement, Version, VersionRead, Within, Word, [], all_pairs_push, ap, append-nil, append_assoc, arith, begun, ended, get_or_default, goals_in, has_opcode, holds, inl, inr, last_version, length, length-append, line_step, lines, map, map-append, outset, progress_from, refl, row, situation_of, step, subst, suc, sym, true, version_by, with_skip, ℕ, ◌++◌, ◌+◌, ◌<◌, ◌∙◌, ◌∷◌, ◌≡◌, ◌≢◌, ◌≤◌}
 use Rattle.tw_code.specs.declared.form.Form.TheVariants as form
-use Rattle.tw_asm.specs.reading.Goals.{AreLinkedCode, AreLinkedProcedures, HasLabelsWithin, IsLinkedProcedure, IsLinkedTo, goals_in}
 use Rattle.tw_asm.proofs.Once.{had_still, resolved_encodes, encodes_more}
 use Rattle.tw_asm.proofs.Begins.{first_of_words}
 use Rattle.tw_asm.proofs.Rows.{others, reskip_operand}

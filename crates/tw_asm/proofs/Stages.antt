@@ -1,6 +1,5 @@
 -- The progress of reading, from its fields, and stages that differ.
-use Rattle.std.proofs.Common.{◌≡◌, ℕ, List}
-use Rattle.tw_asm.proofs.AsmNames.{AfterHead, AfterVersion, InBody, Place, Progress, Section, Stage, Start, Version}
+use Rattle.tw_asm.proofs.AsmNames.{AfterHead, AfterVersion, InBody, List, Place, Progress, Section, Stage, Start, Version, ℕ, ◌≡◌}
 
 abbrev pub progress : Version → List Section → ℕ → Place → Progress
 progress version sections head_line place = record { version = version; sections = sections; head_line = head_line; place = place }

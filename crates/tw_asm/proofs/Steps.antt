@@ -1,8 +1,7 @@
 -- Reading one more line.
 use Rattle.std.proofs.Common.{◌≡◌, ◌⊎◌, ℕ, suc, ◌+◌, List, [], ◌∷◌, ◌++◌, length, map, Option, Some, None, Result, Ok, Err, MatchResult, inl, inr, refl, sym, subst, ap, ◌∙◌, arith}
-use Rattle.tw_asm.proofs.AsmNames.{AfterHead, AnyShortName, AreNotRead, AreTextRead, AsmFault, AtStart, HeadRead, VersionRead, Code, FaultNo, Head, InBody, IsLineFault, IsMemory, IsNotFinished, IsRead, IsShortName, IsUnfinished, Label, LineFault, LineRead, HasStatement, LinesRead, HaveStatements, MayFollow, NoName, OfVersion, OnlyName, Place, Placed, Progress, Read, Registers, EncodesInLimits, Section, ParserState, Stage, Statement, Version, Within, Word, after, after_line, enumerate_from, length-append, line_step, lines, map-append, outset, progress_from, situation_from, situation_of, step}
+use Rattle.tw_asm.proofs.AsmNames.{AfterHead, AnyShortName, AreNotRead, AreTextRead, AsmFault, AtStart, Code, EncodesInLimits, FaultNo, HasStatement, HaveStatements, Head, HeadRead, InBody, IsAtLine, IsLineFault, IsMemory, IsNotFinished, IsRead, IsShortName, IsUnfinished, Label, LineFault, LineRead, LinesRead, MayFollow, NoName, OfVersion, OnlyName, ParserState, Place, Placed, Progress, Read, Registers, Section, Stage, Statement, Version, VersionRead, Within, Word, after, after_line, all_lines, enumerate_from, length-append, line_step, lines, map-append, outset, progress_from, situation_from, situation_of, step}
 use denote.Ref.{Bor}
-use Rattle.tw_lexer.proofs.LineLoops.{IsAtLine, all_lines}
 use Rattle.tw_asm.proofs.Once.{encodes_more}
 use Rattle.tw_asm.proofs.Stages.{body_head, body_start, head_body, head_start, progress, start_body, start_head, version_body, version_head, version_start}
 

@@ -1,25 +1,16 @@
 -- The table of instructions, as it is read and as it is defined.
 use Rattle.std.proofs.Common.{◌≡◌, ℕ, pos, Bool, true, false, cond, List, [], ◌∷◌, append-nil, map, Option, Some, None, refl, sym, ap, subst, ◌∙◌}
-use Rattle.tw_asm.proofs.AsmNames.{Goal, HasInstr, Instr, Int, IsInstr, Name, Natural, NestedScalar, Number, Opcode, Operand as Item, Part, Target, Text, Value, Version, Word, as_is, bytes_eq, bytes_eq-Decides, find, further, has_opcode, holds, if_had, instr_parts, scalar_type}
+use Rattle.tw_asm.proofs.AsmNames.{Add, Arithmetic, Computed, Constant, DataInstr, Goal, HasInstr, Instr, Int, IsInstr, LocalInstr, Name, Natural, NestedScalar, Number, OPCODES, Opcode, Operand as Item, Part, Priority, Sought, Target, Text, Value, Version, Word, as_is, before_colon, bytes_eq, bytes_eq-Decides, find, further, has_opcode, holds, if_had, instr_parts, scalar_type}
 use Rattle.tw_code.specs.declared.form.Form.TheVariants as form
-use Rattle.tw_code.specs.declared.instr.Arithmetic.{Arithmetic}
-use Rattle.tw_code.specs.declared.instr.Arithmetic.TheVariants.{Add}
-use Rattle.tw_code.specs.declared.instr.Sought.{Sought}
 use Rattle.tw_code.specs.declared.instr.Sought.TheVariants as sought
-use Rattle.tw_code.specs.declared.instr.DataInstr.{DataInstr}
 use Rattle.tw_code.specs.declared.instr.DataInstr.TheVariants as on_data
 use Rattle.tw_code.specs.declared.instr.Instr.TheVariants as instr
-use Rattle.tw_code.specs.declared.instr.LocalInstr.{LocalInstr}
 use Rattle.tw_code.specs.declared.instr.LocalInstr.TheVariants as local
-use Rattle.tw_code.specs.declared.instr.Priority.{Priority}
-use Rattle.tw_code.specs.declared.instr.Priority.TheVariants.{Constant, Computed}
 use Rattle.tw_code.specs.format.Table as table
 use Rattle.tw_asm.proofs.Lined.{Had, MayParts, parts_of}
 use Rattle.tw_code.specs.declared.opcode.Opcode.TheVariants as op
-use Rattle.tw_code.specs.declared.opcode.TheConstants.{OPCODES}
 use Rattle.tw_code.specs.format.Table.{opcode_of, word_of, opcode_in}
 use Rattle.tw_asm.specs.reading.Lines.{Content, Line, LineContent, Operand, Row, args, draft_by, draft_in, goal, label_in, line_in, literal, more, natural, never, nothing, number, right, row, row_of, target, type, value}
-use Rattle.tw_lexer.specs.Names.{before_colon}
 
 -- ---- a row's parts
 

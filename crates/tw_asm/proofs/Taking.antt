@@ -1,5 +1,5 @@
 -- The fault of a line, by its words.
-use Rattle.tw_asm.proofs.AsmNames.{AnyName, AnyShortName, AreClosed, AreFinished, AsmFault, AtStart, Bare, Begins, HeadRead, VersionRead, Code, Contains, FaultNo, First, HasWords, HaveForm, Head, InBody, Instr, IsBrokenLine, IsEmptyAt, IsExpected, IsFirstWord, IsGoalOf, IsLimit, IsLimitLine, IsLine, IsLineRead, IsMemory, IsNotClosed, IsNotFinished, IsOutset, Kind, Label, LineFault, MayBegin, MayFollow, Param, Place, Progress, Quoted, EncodesInLimits, Section, ParserState, Stage, Statement, Stopped, TakenLine, TakenStatement, Version, Within, Word, WordsRead, begun, blank_no_word, broken_here, broken_no_line, drafts_at, empty, ended, first_word_once, instructions, label_twice, length-append, limit, line_blank, line_once, operand, procedures, situation_of, slice_get, stage_of, step, word}
+use Rattle.tw_asm.proofs.AsmNames.{AnyName, AnyShortName, AreClosed, AreFinished, AsmFault, AtStart, Bare, Begins, Code, Contains, EncodesInLimits, FaultNo, First, HasWords, HaveForm, Head, HeadRead, InBody, Instr, IsBrokenLine, IsEmptyAt, IsExpected, IsExpectedBy, IsFirstWord, IsFlawFault, IsFlawed, IsGoalOf, IsLimit, IsLimitLine, IsLine, IsLineRead, IsMemory, IsNotClosed, IsNotFinished, IsOutset, Kind, Label, LineFault, MayBegin, MayFollow, Param, ParserState, Place, Progress, Quoted, Section, Stage, Statement, Stopped, TakenLine, TakenStatement, TokenError, Version, VersionRead, Within, Word, WordsRead, begun, blank_no_word, broken_here, broken_no_line, drafts_at, empty, ended, expectation, first_word_once, instructions, label_twice, length-append, limit, line_blank, line_once, operand, procedures, situation_of, slice_get, stage_of, step, word}
 use Rattle.tw_asm.specs.declared.statement.Statement as statements
 use Rattle.tw_asm.specs.declared.statement.Statement.TheVariants as statement
 use Rattle.tw_asm.specs.declared.reading.Reading as readings
@@ -7,10 +7,6 @@ use Rattle.std.proofs.Common.{◌≡◌, ◌⊎◌, ℕ, zero, suc, ◌+◌, ◌
 use Rattle.tw_asm.specs.declared.statement.First.TheVariants as first
 use Rattle.tw_asm.specs.Seen.{IsRead, Read, seen}
 use Rattle.tw_asm.specs.declared.fault.FaultNo.TheVariants as fault
-use Rattle.tw_asm.specs.reading.Expected.{IsExpectedBy, expectation}
-use Rattle.tw_asm.specs.reading.Progress.{IsFlawFault}
-use Rattle.tw_asm.specs.LineAnswers.{IsFlawed}
-use Rattle.tw_lexer.specs.declared.numbers.TokenError.{TokenError}
 use Rattle.tw_lexer.specs.declared.numbers.TokenError.TheVariants as flaw
 use Rattle.tw_asm.proofs.Begins.{first_of_words, front_of, line_begins}
 use Rattle.tw_asm.proofs.Stages.{head_body, progress, start_body, version_body}

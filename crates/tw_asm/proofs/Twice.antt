@@ -1,6 +1,5 @@
 -- Two readings of the same lines are equal.
-use Rattle.std.proofs.Common.{◌≡◌, ℕ, ◌+◌, List, [], ◌∷◌, Option, Some, None, refl, sym, subst, ap, ◌∙◌}
-use Rattle.tw_asm.proofs.AsmNames.{AnyShortName, Bare, Code, Goals, Head, IsLine, Label, HasStatement, HaveStatements, OfVersion, Registers, EncodesInLimits, ParserState, Encodes, Statement, Version, Word, after_line, labels_ahead, line_once}
+use Rattle.tw_asm.proofs.AsmNames.{AnyShortName, Bare, Code, Encodes, EncodesInLimits, Goals, HasStatement, HaveStatements, Head, IsLine, Label, List, None, OfVersion, Option, ParserState, Registers, Some, Statement, Version, Word, [], after_line, ap, labels_ahead, line_once, refl, subst, sym, ℕ, ◌+◌, ◌∙◌, ◌∷◌, ◌≡◌}
 use Rattle.tw_asm.proofs.Once.{begins, first_word}
 use Rattle.tw_asm.proofs.Spelled.{never_cons}
 use Rattle.tw_asm.proofs.Alike.{AreAlike, after_alike, alike}

@@ -1,6 +1,5 @@
 -- The words of types: each has one meaning.
-use Rattle.std.proofs.Common.{◌≡◌, ℕ, false, true, List, [], ◌∷◌, ◌++◌, map, codes, refl, sym, ap, ◌∙◌}
-use Rattle.tw_asm.proofs.AsmNames.{Bare, Closed, Four, Int, IsMapOf, MapKind, Mode, NestedScalar, NoMap, One, Ref, Scalar, Sums, Text, Two, Val, Values, Version, Word, Write, bytes_eq, bytes_eq-Decides, container_word, leaf_words, map_word, mode_word, scalar_word, sum_word, Five, has_maps}
+use Rattle.tw_asm.proofs.AsmNames.{Bare, Closed, Five, Four, Int, IsMapOf, List, MapKind, Mode, NestedScalar, NoMap, One, Ref, Scalar, Sums, Text, Two, Val, Values, Version, Word, Write, [], ap, bytes_eq, bytes_eq-Decides, codes, container_word, false, has_maps, leaf_words, map, map_word, mode_word, refl, scalar_word, sum_word, sym, true, ℕ, ◌++◌, ◌∙◌, ◌∷◌, ◌≡◌}
 
 pub other_bytes : (text word : List ℕ) → bytes_eq text word ≡ false → Bare text ≡ Bare word → ⊥
 other_bytes text word isnt e = no (sym isnt ∙ (bytes_eq-Decides text word).1 (inner e))

@@ -1,6 +1,5 @@
 -- A text denotes at most one program.
-use Rattle.std.proofs.Common.{◌≡◌, ◌⊎◌, ℕ, ◌+◌, List, [], ◌∷◌, ◌++◌, inl, inr, refl, sym, subst, ap, ◌∙◌, arith}
-use Rattle.tw_asm.proofs.AsmNames.{AreCode, Code, Contains, Goals, SkipsTo, HaveWords, Head, Instr, IsShortName, Kind, Label, OfVersion, One, Param, Placed, Procedure, Registers, Scalar, EncodeProcedures, Encodes, EncodesProcedure, EncodesProgram, EncodesVersion, Statement, Version, Versioned, Word, line_once, lines, version_by, version_number}
+use Rattle.tw_asm.proofs.AsmNames.{AreCode, Code, Contains, EncodeProcedures, Encodes, EncodesProcedure, EncodesProgram, EncodesVersion, Goals, HaveWords, Head, Instr, IsShortName, Kind, Label, List, OfVersion, One, Param, Placed, Procedure, Registers, Scalar, SkipsTo, Statement, Version, Versioned, Word, [], ap, arith, inl, inr, line_once, lines, refl, subst, sym, version_by, version_number, ℕ, ◌++◌, ◌+◌, ◌∙◌, ◌∷◌, ◌≡◌, ◌⊎◌}
 use Rattle.tw_asm.proofs.Alike.{alike}
 use Rattle.tw_asm.proofs.Spelled.{AreNames, cons_is, never_cons}
 use Rattle.tw_asm.proofs.Once.{encoded_once}

@@ -1,9 +1,6 @@
 -- A text with a fault denotes no program.
-use Rattle.std.proofs.Common.{◌≡◌, ◌⊎◌, ℕ, zero, suc, ◌+◌, ◌<◌, List, [], ◌∷◌, ◌++◌, length, take, drop, Option, Some, None, inl, inr, refl, sym, subst, arith}
-use Rattle.tw_asm.proofs.AsmNames.{AfterHead, AfterVersion, AnyName, AnyShortName, Bare, Begins, Code, Contains, FaultNo, First, GoalFault, HasWords, Head, InBody, Instr, IsEmpty, IsExpected, IsFirstFault, IsLine, IsLineFault, IsOutset, IsUnfinished, IsWhole, Label, LineFault, HasStatement, HaveStatements, MayBegin, MayFollow, NamesLabel, OfVersion, Registers, EncodesInLimits, ParserState, EncodesProgram, Stage, Start, Statement, Version, Versioned, Word, after_line, at_start, blank_no_word, first_word_once, labels_ahead, line_blank, lines, not_forward, situation, situation_from, slice_get, unknown}
-use Rattle.tw_code.proofs.Widening.{widened}
+use Rattle.tw_asm.proofs.AsmNames.{AfterHead, AfterVersion, AnyName, AnyShortName, Bare, Begins, Code, Contains, EncodesInLimits, EncodesProgram, FaultNo, First, GoalFault, HasStatement, HasWords, HaveStatements, Head, InBody, Instr, IsEmpty, IsExpected, IsFirstFault, IsLine, IsLineFault, IsOutset, IsUnfinished, IsWhole, Label, LineFault, List, MayBegin, MayFollow, NamesLabel, None, OfVersion, Option, ParserState, Registers, Some, Stage, Start, Statement, Version, Versioned, Word, [], after_line, arith, at_start, blank_no_word, drop, expectation, first_word_once, inl, inr, labels_ahead, length, line_blank, lines, not_forward, refl, situation, situation_from, slice_get, subst, suc, sym, take, unknown, widened, zero, ℕ, ◌++◌, ◌+◌, ◌<◌, ◌∷◌, ◌≡◌, ◌⊎◌}
 use Rattle.tw_asm.specs.declared.statement.First.TheVariants as first
-use Rattle.tw_asm.specs.reading.Expected.{expectation}
 use Rattle.tw_asm.proofs.Alike.{AreAlike}
 use Rattle.tw_asm.proofs.Begins.{first_in_line, line_begins}
 use Rattle.tw_asm.proofs.Twice.{both_alike, line_is_same, nothing_says, others_say, same_ahead, says_alike}

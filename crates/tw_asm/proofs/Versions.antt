@@ -1,6 +1,5 @@
 -- The instructions and types of each version, within the limits.
-use Rattle.std.proofs.Common.{◌≡◌, ℕ, zero, suc, ◌≤◌, true, List, [], ◌∷◌, inl, inr, refl, sym, subst, arith}
-use Rattle.tw_asm.proofs.AsmNames.{AllByRecursion, Closed, Four, HasInstr, HasOperand, HasParam, HasType, Instr, Int, IsInstr, IsInstrOf, IsMapOf, IsOperand, IsOperandOf, IsParam, IsParamOf, IsSubscriptOf, IsTypeOfMode, IsTypeUnderOf, IsVersionNumber, IsWithin, MapKind, Mode, NestedScalar, NoMap, One, Operand, Param, Ref, Scalar, Sums, Text, Two, Val, Values, Version, Write, depth_of, holds, is_scalar, row, version_by, version_number, Five, last_version}
+use Rattle.tw_asm.proofs.AsmNames.{AllByRecursion, Closed, Five, Four, HasInstr, HasOperand, HasParam, HasType, Instr, Int, IsInstr, IsInstrOf, IsMapOf, IsOperand, IsOperandOf, IsParam, IsParamOf, IsSubscriptOf, IsTypeOfMode, IsTypeUnderOf, IsVersionNumber, IsWithin, List, MapKind, Mode, NestedScalar, NoMap, One, Operand, Param, Ref, Scalar, Sums, Text, Two, Val, Values, Version, Write, [], arith, depth_of, holds, inl, inr, is_scalar, last_version, refl, row, subst, suc, sym, true, version_by, version_number, zero, ℕ, ◌∷◌, ◌≡◌, ◌≤◌}
 use Rattle.tw_code.specs.declared.form.Form.TheVariants as form
 
 -- ---- numbers

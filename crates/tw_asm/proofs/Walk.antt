@@ -1,7 +1,5 @@
 -- The lines of a text that denotes a program are allowed, one after another, and each goal is a later label.
-use Rattle.std.proofs.Common.{◌≡◌, ◌≢◌, ◌⊎◌, ℕ, zero, suc, ◌+◌, ◌<◌, ◌≤◌, List, [], ◌∷◌, ◌++◌, length, map, Option, Some, None, inl, inr, refl, sym, subst, ap, ◌∙◌, arith}
-use Rattle.std.proofs.lemmas.List.Elements.{All-contains, All-from_recursion, Contains-push_cases}
-use Rattle.tw_asm.proofs.AsmNames.{AllByRecursion, AllPairs, AnyShortName, AreCode, Code, Contains, Goals, SkipsTo, HaveWords, Head, InBody, Instr, IsInstr, IsLine, IsOutset, IsProcedure, IsShortName, IsWhole, Label, HasStatement, MayFollow, NamesLabel, OfVersion, One, Placed, Procedure, Registers, EncodesInLimits, ParserState, EncodeProcedures, Encodes, EncodesProcedure, EncodesVersion, Statement, Version, Word, after, after_line, at_start, labels_ahead, line_once, slice_index_or, version_number}
+use Rattle.tw_asm.proofs.AsmNames.{All-contains, All-from_recursion, AllByRecursion, AllPairs, AnyShortName, AreCode, Code, Contains, Contains-push_cases, EncodeProcedures, Encodes, EncodesInLimits, EncodesProcedure, EncodesVersion, Goals, HasStatement, HaveWords, Head, InBody, Instr, IsInstr, IsLine, IsOutset, IsProcedure, IsShortName, IsWhole, Label, List, MayFollow, NamesLabel, None, OfVersion, One, Option, ParserState, Placed, Procedure, Registers, SkipsTo, Some, Statement, Version, Word, [], after, after_line, ap, arith, at_start, inl, inr, labels_ahead, length, line_once, map, refl, slice_index_or, subst, suc, sym, version_number, zero, ℕ, ◌++◌, ◌+◌, ◌<◌, ◌∙◌, ◌∷◌, ◌≡◌, ◌≢◌, ◌≤◌, ◌⊎◌}
 use Rattle.tw_asm.proofs.Alike.{AreAlike, alike}
 use Rattle.tw_asm.proofs.NamedLabels.{named_goal}
 use Rattle.tw_asm.proofs.Twice.{none_encoded}

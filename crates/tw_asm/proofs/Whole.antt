@@ -1,7 +1,6 @@
 -- Whole lines: the words are read as a statement that they denote, or they denote none.
 use Rattle.std.proofs.Common.{◌≡◌, ◌≢◌, Bool, true, false, cond, ℕ, List, [], ◌∷◌, ◌++◌, map, codes, Option, Some, None, Result, Ok, Err, refl, sym, subst, ◌∙◌}
-use Rattle.tw_asm.proofs.AsmNames.{AllByRecursion, AnyName, Bare, Code, TokenError, Goals, Head, Label, Name, Natural, OfVersion, Opcode, Part, Quoted, Registers, EncodeParts, Statement, Version, Word, bytes_eq, bytes_eq-Decides, flat_map, kind_word, operand_parts, param_parts, register_part, row, statement_parts, word_of}
-use Rattle.std.proofs.lemmas.Str.{IsUtf8-string_bytes}
+use Rattle.tw_asm.proofs.AsmNames.{AllByRecursion, Answers, AnyName, Bare, Code, EncodeParts, Goals, Head, IsUtf8-string_bytes, Label, Name, Natural, OfVersion, Opcode, Part, Quoted, Registers, Rejection, Statement, TokenError, Version, Word, bytes_eq, bytes_eq-Decides, flat_map, kind_word, opcode_in, operand_parts, param_parts, register_part, row, statement_parts, word_of}
 use Rattle.tw_lexer.specs.Seen as lines
 use Rattle.tw_lexer.specs.declared.word.Word as words
 use Rattle.tw_lexer.specs.declared.word.Word.TheVariants as word
@@ -10,12 +9,9 @@ use Rattle.tw_asm.proofs.HeadWords.{head_answered}
 use Rattle.tw_asm.proofs.OperandWords.{IsFine}
 use Rattle.tw_asm.proofs.Sayings.{label_answered, nonempty, registers_answered, version_answered}
 use Rattle.tw_asm.specs.Seen.{Read, seen}
-use Rattle.tw_asm.specs.LineAnswers.{Answers}
-use Rattle.tw_asm.specs.declared.rejection.Rejection.{Rejection}
 use Rattle.tw_asm.specs.declared.rejection.Rejection.TheVariants as rejection
 use Rattle.tw_asm.specs.declared.statement.Statement as statements
 use Rattle.tw_asm.specs.reading.Lines.{Gives, body_in, head_in, registers_in, statement_in, version_in}
-use Rattle.tw_code.specs.format.Table.{opcode_in}
 
 -- each statement begins with a fixed word
 begins : (statement : Statement) → (name : List ℕ) × (rest : List Part) × (statement_parts statement ≡ Name name ∷ rest)

@@ -1,20 +1,11 @@
 -- The written line of a statement denotes it.
 use Rattle.std.proofs.Common.{◌≡◌, ◌≢◌, inl, inr, ◌≤◌, ◌<◌, ◌^◌, ◌==◌, ℕ, suc, ℤ, pos, negsuc, Bool, true, false, List, [], ◌∷◌, ◌++◌, map, length, codes, Option, Some, None, refl, ap, subst, ◌∙◌, arith}
-use Rattle.tw_asm.proofs.AsmNames.{◌&&◌, ◌||◌, AllByRecursion, Bare, Closed, Code, FitsSigned, Goals, HasForm, HasInstr, Head, Instr, Int, IsAscii, IsInLimits, IsInName, IsInstr, IsLine, IsName, IsOperand, IsRegister, IsSkip, IsTarget, IsUtf8, IsVersionNumber, IsWord, Kind, Label, Literal, MapKind, Mode, Name, Natural, NoMap, Number, OfVersion, Opcode, Operand, Param, Part, Quoted, Ref, Registers, Right, Scalar, Skip, EncodeParts, Encodes, EncodesPart, EncodesWith, Statement, Sums, Target, Text, TypeOf, Val, Value, Values, Version, Word, Write, container_word, decimal, flat_map, goal_word, holds, if◌then◌else◌, instr_parts, is_edge, join_with_byte, kind_word, leaf_words, ltb-true, map-append, map_word, mode_word, nat_lt, nat_tests, operand_parts, param_parts, part_words, register_part, scalar_word, skip_among, skip_of, statement_parts, sum_word, w64, word_of}
+use Rattle.tw_asm.proofs.AsmNames.{AllByRecursion, AllDigits, Bare, Closed, Code, Control, EncodeParts, Encodes, EncodesPart, EncodesWith, FitsSigned, Goals, HasForm, HasInstr, Head, Instr, Int, IsAscii, IsAscii-cons, IsAscii-nil, IsInLimits, IsInName, IsInstr, IsLine, IsName, IsNumeral, IsOneLine, IsOperand, IsRegister, IsSkip, IsTarget, IsUtf8, IsUtf8-append, IsUtf8-from_ascii, IsUtf8-nil, IsVersionNumber, IsWord, Kind, Label, Leaf, Literal, MapKind, Mode, Name, Natural, NoMap, Number, OfVersion, Opcode, Operand, Param, Part, Quoted, Ref, Registers, Right, Scalar, Skip, Statement, Sums, Target, Text, TypeOf, Val, Value, Values, Version, Word, Write, container_word, decimal, decimal_is_IsNumeral, digit_from_value, flat_map, goal_word, holds, if◌then◌else◌, instr_parts, is_edge, join_with_byte, kind_word, leaf_words, ltb-true, map-append, map_word, mode_word, nat_lt, nat_tests, operand_parts, param_parts, part_words, quoted, register_part, scalar_word, shown, skip_among, skip_of, statement_parts, sum_word, w64, word_of, ◌&&◌, ◌||◌}
 use Rattle.std.specs.Fmt.{signed_decimal}
-use Rattle.std.specs.Str.Parse.{AllDigits, IsNumeral}
-use Rattle.std.proofs.lemmas.Fmt.{decimal_is_IsNumeral}
-use Rattle.std.proofs.lemmas.Str.{IsUtf8-append, IsUtf8-from_ascii, IsUtf8-nil}
-use Rattle.std.proofs.lemmas.Str.Ascii.{IsAscii-cons, IsAscii-nil}
-use Rattle.std.proofs.lemmas.Str.Parse.{digit_from_value}
 use Rattle.tw_code.specs.declared.form.Form.TheVariants as form
 use Rattle.tw_code.specs.declared.opcode.Opcode.TheVariants as op
 use Rattle.tw_code.specs.format.Table as table
-use Rattle.tw_types.specs.declared.actor.Kind.TheVariants.{Control, Leaf}
-use Rattle.tw_lexer.specs.Quoted.{quoted}
-use Rattle.tw_lexer.proofs.Numerals.{shown}
 use Rattle.tw_lexer.proofs.Written.{quoted_encodes}
-use Rattle.tw_lexer.proofs.Breaks.{IsOneLine}
 use Rattle.tw_lexer.proofs.Writing.{AreWords, joined_line, joined_one_line, quoted_one_line}
 use Rattle.tw_asm.proofs.Quotes.{after_ascii, quoted_utf8}
 use Rattle.tw_asm.proofs.Rows.{both_true, different, is_last, row, skips_last, sort_of}

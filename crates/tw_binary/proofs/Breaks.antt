@@ -1,13 +1,6 @@
 -- Where a parser fails: whole items of an encoding are before the item, and the item is wrong or cut off. Theorems for joined parsers.
-use Rattle.std.proofs.Common.{◌≡◌, ℕ, zero, suc, ◌<◌, ◌⊎◌, Bool, true, false, cond, List, [], ◌∷◌, ◌++◌, length, Result, Ok, Err, refl, sym, ap, subst, ◌∙◌, append_assoc, inl, inr}
-use Rattle.std.specs.List.{concat, flat_map, AllByRecursion}
-use Rattle.tw_binary.specs.declared.fault.Broken.{Broken}
-use Rattle.tw_binary.specs.declared.fault.FaultNo.{FaultNo}
+use Rattle.tw_binary.proofs.Names.{AllByRecursion, Bool, Broken, Err, FaultNo, IsList, IsWithin, Item, List, Ok, Reading, Result, [], ap, append_assoc, as_is, both, concat, cond, counted, false, flat_map, inl, inr, length, many, refl, subst, suc, sym, then_at, true, zero, ℕ, ◌++◌, ◌<◌, ◌>>=◌, ◌∙◌, ◌∷◌, ◌≡◌, ◌⊎◌}
 use Rattle.tw_binary.specs.declared.fault.FaultNo.TheVariants.{Magic, Version, Missing, Limit, Unknown, Nesting, Utf8, Trailing, NoMemory}
-use Rattle.tw_code.specs.format.Program.{IsWithin, IsList}
-use Rattle.tw_binary.specs.Spelling.{Item}
-use Rattle.tw_types.specs.Result.{◌>>=◌}
-use Rattle.tw_binary.specs.Reading.{Reading, both, then_at, as_is, many, counted}
 use Rattle.tw_binary.proofs.Formats.{IsBytes, IsFormat, then_format, counted_format, IsMade, as_is_format}
 use Rattle.tw_binary.proofs.Joined.{joined}
 

@@ -1,22 +1,8 @@
 -- Items of one byte: each is parsed as it was written, and a wrong one is reported.
-use Rattle.std.proofs.Common.{◌≡◌, ℕ, suc, ◌≤◌, Bool, true, false, cond, eqb, Option, Some, None, List, [], ◌∷◌, ◌++◌, length, Result, Ok, Err, refl, sym, ap, subst, ◌∙◌, arith, inl, inr}
-use Rattle.std.specs.List.{concat}
-use Rattle.std.proofs.lemmas.Bool.{le-ltb, eqb-true}
+use Rattle.tw_binary.proofs.Names.{Bool, Broken, Closed, Err, FaultNo, Five, Four, Int, IsRegister, IsWithin, Item, Kind, Limit, List, Mode, None, Ok, One, Option, Ref, Result, Scalar, Some, Text, Two, Unknown, Val, Version, Write, [], ap, arith, byte, concat, cond, eqb, eqb-true, false, inl, inr, kind_code, le-ltb, length, mode_code, refl, scalar_items, subst, suc, sym, true, values_items, version_items, ℕ, ◌++◌, ◌∙◌, ◌∷◌, ◌≡◌, ◌≤◌}
 use Rattle.std.proofs.lemmas.Bool.Decides.{nat_tests}
-use Rattle.tw_types.specs.declared.actor.Kind.{Kind}
 use Rattle.tw_types.specs.declared.actor.Kind.TheVariants.{Control, Leaf}
-use Rattle.tw_types.specs.declared.data_type.Scalar.{Scalar}
-use Rattle.tw_types.specs.declared.data_type.Scalar.TheVariants.{Int, Text}
-use Rattle.tw_types.specs.declared.param.Mode.{Mode}
-use Rattle.tw_types.specs.declared.param.Mode.TheVariants.{Val, Closed, Ref, Write}
-use Rattle.tw_binary.specs.declared.fault.Broken.{Broken}
-use Rattle.tw_binary.specs.declared.fault.FaultNo.{FaultNo}
 use Rattle.tw_binary.specs.declared.fault.FaultNo.TheVariants as fault
-use Rattle.tw_binary.specs.declared.fault.FaultNo.TheVariants.{Limit, Unknown}
-use Rattle.tw_code.specs.declared.version.Version.{Version}
-use Rattle.tw_code.specs.declared.version.Version.TheVariants.{One, Two, Four, Five}
-use Rattle.tw_code.specs.format.Program.{IsWithin, IsRegister}
-use Rattle.tw_binary.specs.Spelling.{Item, byte, kind_code, mode_code, scalar_items, values_items, version_items}
 use Rattle.tw_binary.specs.Reading.{Reading, is_within, byte_at, register_at, exactly_at, kind_at, scalar_at, mode_at, values_at, version_at}
 use Rattle.tw_binary.proofs.Formats.{IsBytes, IsBytes-rest, chosen, passed, ok_is, Takes}
 use Rattle.tw_binary.proofs.Breaks.{IsStrict, IsOfItem, Lacks, Breaks, FailsAt, ended, no_err, err_is, refused}

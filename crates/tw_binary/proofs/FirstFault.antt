@@ -1,12 +1,7 @@
 -- The first fault of the input, in terms of the encodings of programs.
-use Rattle.std.proofs.Common.{◌≡◌, ℕ, suc, ◌-◌, cond, eqb, List, [], ◌∷◌, ◌++◌, length, Ok, Err, sym, ap, subst, ◌∙◌, arith, inl, inr}
-use Rattle.std.proofs.lemmas.List.{length-append}
-use Rattle.tw_binary.specs.declared.fault.Broken.{Broken}
-use Rattle.tw_binary.specs.declared.fault.FaultNo.{FaultNo}
+use Rattle.tw_binary.proofs.Names.{Broken, Err, FaultNo, IsVersioned, List, Ok, Versioned, [], ap, arith, cond, encoding, eqb, inl, inr, length, length-append, subst, suc, sym, ℕ, ◌++◌, ◌-◌, ◌∙◌, ◌∷◌, ◌≡◌}
 use Rattle.tw_binary.specs.declared.fault.FaultNo.TheVariants.{Magic, Version, Missing, Limit, Unknown, Nesting, Utf8, Trailing, NoMemory}
 use Rattle.tw_binary.specs.Fault.{IsDue, IsWrongItem, IsFirstFault}
-use Rattle.tw_code.specs.format.Program.{IsVersioned, Versioned}
-use Rattle.tw_binary.specs.Spelling.{encoding}
 use Rattle.tw_binary.specs.Reading.{front_at, whole, wrong}
 use Rattle.tw_binary.proofs.Formats.{IsBytes}
 use Rattle.tw_binary.proofs.Breaks.{IsOfItem, IsDueIn, FailsAt, bind_err, no_err, refused}

@@ -1,13 +1,5 @@
 -- A parsed value was written so, and a written value is parsed again: theorems for joined parsers.
-use Rattle.std.proofs.Common.{◌≡◌, ℕ, zero, suc, ◌+◌, ◌<◌, ◌⊎◌, Bool, true, false, cond, List, [], ◌∷◌, ◌++◌, length, get_or, take, drop, Result, Ok, Err, refl, sym, ap, subst, ◌∙◌, append_assoc, arith, inl, inr}
-use Rattle.std.specs.List.{concat, flat_map, AllByRecursion}
-use Rattle.std.proofs.lemmas.Bool.{cases_lt}
-use Rattle.std.proofs.lemmas.List.{length-take, get_or-drop, get_or-take, get_or_past}
-use Rattle.tw_binary.specs.declared.fault.Broken.{Broken}
-use Rattle.tw_code.specs.format.Program.{IsWithin, IsList}
-use Rattle.tw_binary.specs.Spelling.{Item}
-use Rattle.tw_types.specs.Result.{◌>>=◌}
-use Rattle.tw_binary.specs.Reading.{Reading, then_at, as_is, many, counted}
+use Rattle.tw_binary.proofs.Names.{AllByRecursion, Bool, Broken, Err, IsList, IsWithin, Item, List, Ok, Reading, Result, [], ap, append_assoc, arith, as_is, cases_lt, concat, cond, counted, drop, false, flat_map, get_or, get_or-drop, get_or-take, get_or_past, inl, inr, length, length-take, many, refl, subst, suc, sym, take, then_at, true, zero, ℕ, ◌++◌, ◌+◌, ◌<◌, ◌>>=◌, ◌∙◌, ◌∷◌, ◌≡◌, ◌⊎◌}
 use Rattle.tw_binary.proofs.Joined.{joined}
 
 -- ---- bytes

@@ -1,17 +1,7 @@
 -- Operands that are parsed one by one.
-use Rattle.std.proofs.Common.{arith, ◌≡◌, ◌∙◌, ◌<◌, ℕ, List, [], ◌∷◌, Ok, length, refl, sym, ap}
-use Rattle.tw_binary.specs.declared.fault.Stop.{Stop}
+use Rattle.tw_binary.proofs.Names.{Fails, Form, Instr, List, Ok, Opcode, Operand, Operands, Stop, Value, Version, [], ap, arith, as_is, content_at, contents_at, forms_of, gathers, holds, length, made_again, made_at, operand_at, refl, row_of, sym, ℕ, ◌<◌, ◌∙◌, ◌∷◌, ◌≡◌}
 use Rattle.tw_binary.specs.declared.fault.Stop.TheVariants as stop
-use Rattle.tw_code.specs.declared.form.Form.{Form}
-use Rattle.tw_code.specs.declared.form.Form.TheVariants.{Value}
-use Rattle.tw_code.specs.declared.instr.Instr.{Instr}
-use Rattle.tw_code.specs.declared.opcode.Opcode.{Opcode}
-use Rattle.tw_code.specs.declared.operands.Operands.{Operands}
-use Rattle.tw_code.specs.declared.version.Version.{Version}
 use Rattle.tw_code.specs.format.Operands.{ArePlain, gathered, made_of, none, with_operand}
-use Rattle.tw_code.specs.format.Table.{Operand, forms_of, holds, row_of}
-use Rattle.tw_code.proofs.TableRows.{made_again}
-use Rattle.tw_binary.specs.Reading.{Fails, as_is, content_at, contents_at, gathers, made_at, operand_at}
 use Rattle.tw_binary.proofs.Breaks.{as_is_fails}
 use Rattle.tw_binary.proofs.Formats.{bind_ok, ok_is}
 use Rattle.tw_binary.proofs.Instructions.{by_row}

@@ -1,26 +1,12 @@
 -- Instructions: each is parsed as it was written, and one that is wrong or cut off is reported.
-use Rattle.std.proofs.Common.{◌≡◌, ◌==◌, ℕ, zero, suc, Bool, Option, Some, None, true, cond, List, [], ◌∷◌, ◌++◌, Ok, Err, refl, sym, ap, subst, ◌∙◌, arith, inl, inr}
-use Rattle.std.specs.List.{AllByRecursion, concat, find, flat_map}
-use Rattle.std.proofs.lemmas.Bool.{eqb-true}
-use Rattle.tw_binary.specs.declared.fault.Broken.{Broken}
-use Rattle.tw_binary.specs.declared.fault.FaultNo.TheVariants.{Unknown}
-use Rattle.tw_code.specs.declared.form.Form.{Form}
-use Rattle.tw_code.specs.declared.form.Form.TheVariants.{Value, Right, Number, Iterations, Literal, TypeOf, Skip, Callee, Target, Args}
-use Rattle.tw_code.specs.declared.instr.Instr.{Instr}
+use Rattle.tw_binary.proofs.Names.{AllByRecursion, Args, Bool, Broken, Callee, Content, Contents, Err, Five, Form, Four, Instr, IsInstrOf, IsList, IsOperandOf, IsRegister, IsTarget, IsWithin, Item, Iterations, List, Literal, None, Number, Ok, One, Opcode, Operand, Option, Right, Row, Skip, Some, Target, Two, TypeOf, Unknown, Value, Version, [], a_row, ap, arith, byte, code_known, code_of, concat, cond, counted_items, eqb-true, find, flat_map, forms_in, forms_of, has_opcode, holds, if_had, inl, inr, instr_in, instr_items, instr_of, is_made, made_row, opcode_at, operand_items, operands_of, refl, register_items, row, row_of, subst, suc, sym, target_code, true, zero, ℕ, ◌++◌, ◌==◌, ◌∙◌, ◌∷◌, ◌≡◌}
 use Rattle.tw_code.specs.declared.instr.Instr.TheVariants as instr
-use Rattle.tw_code.specs.declared.opcode.Opcode.{Opcode}
 use Rattle.tw_code.specs.declared.opcode.TheConstants.{OPCODES}
-use Rattle.tw_code.specs.declared.version.Version.{Version}
-use Rattle.tw_code.specs.declared.version.Version.TheVariants.{One, Two, Four, Five}
-use Rattle.tw_code.specs.format.Program.{IsInstrOf, IsList, IsOperandOf, IsRegister, IsTarget, IsWithin}
-use Rattle.tw_binary.specs.Spelling.{Item, byte, counted_items, instr_items, operand_items, register_items, target_code}
-use Rattle.tw_code.specs.format.Table.{Content, Contents, Operand, Row, a_row, code_of, forms_in, forms_of, has_opcode, holds, if_had, opcode_at, row, row_of}
 use Rattle.tw_binary.specs.Reading.{as_is, args_at, after_code, content_at, contents_at, instr_at, made_at, target_in, target_at}
 use Rattle.tw_binary.proofs.Formats.{chosen, IsBytes, IsBytes-rest, Takes, IsMade, as_is_takes, as_is_again, ok_is}
 use Rattle.tw_binary.proofs.Breaks.{IsStrict, FailsAt, GoesOn, carried, due_after, no_err, err_is, both_strict, counted_strict, as_is_strict, as_is_fails}
 use Rattle.tw_binary.proofs.Bytes.{a_byte, nothing_left, wrong_byte, byte_strict, register_strict}
 use Rattle.tw_binary.proofs.Numbers.{number_strict, wide_strict}
-use Rattle.tw_code.proofs.TableRows.{code_known, instr_in, instr_of, is_made, made_row, operands_of}
 use Rattle.tw_binary.proofs.TextFormat.{text_strict}
 use Rattle.tw_binary.proofs.Types.{type_strict}
 

@@ -1,14 +1,7 @@
 -- Items that are written one after the other.
-use Rattle.std.proofs.Common.{◌≡◌, ℕ, ◌+◌, ◌<◌, List, [], ◌∷◌, ◌++◌, length, get_or, map, take, refl, sym, ap, ◌∙◌, append_assoc}
-use Rattle.std.specs.List.{concat, flat_map}
-use Rattle.std.proofs.lemmas.List.{append-nil, take_more}
+use Rattle.tw_binary.proofs.Names.{Instr, Item, List, Param, Procedure, Scalar, [], ap, append-nil, append_assoc, byte, concat, counted_items, flat_map, get_or, instr_items, kind_code, length, map, param_items, procedure_items, refl, register_items, scalar_items, sym, take, take_more, wide, ℕ, ◌++◌, ◌+◌, ◌<◌, ◌∙◌, ◌∷◌, ◌≡◌}
 use Rattle.std.proofs.lemmas.List.Concat.{flat_map-append}
 use Rattle.std.proofs.lemmas.List.Folds.{concat-append}
-use Rattle.tw_types.specs.declared.data_type.Scalar.{Scalar}
-use Rattle.tw_types.specs.declared.param.Param.{Param}
-use Rattle.tw_code.specs.declared.instr.Instr.{Instr}
-use Rattle.tw_code.specs.declared.procedure.Procedure.{Procedure}
-use Rattle.tw_binary.specs.Spelling.{Item, byte, wide, kind_code, param_items, scalar_items, register_items, instr_items, counted_items, procedure_items}
 
 pub joined : (xs ys : List Item) → concat (xs ++ ys) ≡ concat xs ++ concat ys
 joined xs ys = concat-append xs ys

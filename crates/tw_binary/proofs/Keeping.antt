@@ -1,21 +1,5 @@
 -- A program of a version is one of each later version.
-use Rattle.std.proofs.Common.{◌≡◌, List, [], ◌∷◌, true, refl}
-use Rattle.std.specs.List.{AllByRecursion}
-use Rattle.tw_types.specs.declared.data_type.MapKind.{MapKind}
-use Rattle.tw_types.specs.declared.data_type.MapKind.TheVariants.{NoMap, Values, Sums}
-use Rattle.tw_types.specs.declared.data_type.Scalar.{Scalar}
-use Rattle.tw_types.specs.declared.data_type.Scalar.TheVariants.{Int, Text}
-use Rattle.tw_types.specs.declared.param.Mode.{Mode}
-use Rattle.tw_types.specs.declared.param.Mode.TheVariants.{Val, Closed, Ref, Write}
-use Rattle.tw_types.specs.Nesting.{NestedScalar}
-use Rattle.tw_code.specs.declared.form.Form.TheVariants.{TypeOf}
-use Rattle.tw_code.specs.declared.instr.Instr.{Instr}
-use Rattle.tw_code.specs.declared.procedure.Procedure.{Procedure}
-use Rattle.tw_code.specs.declared.version.Version.{Version}
-use Rattle.tw_code.specs.declared.version.Version.TheVariants.{One, Two, Four, Five}
-use Rattle.tw_code.specs.format.Program.{IsInstrOf, IsMapOf, IsOperandOf, IsParamOf, IsProcedureOf, IsSubscriptOf, IsTypeOf, IsTypeUnderOf}
-use Rattle.tw_code.specs.format.Table.{Operand, holds, row, since}
-use Rattle.tw_code.specs.format.Versions.{has_since}
+use Rattle.tw_binary.proofs.Names.{AllByRecursion, Closed, Five, Four, Instr, Int, IsInstrOf, IsMapOf, IsOperandOf, IsParamOf, IsProcedureOf, IsSubscriptOf, IsTypeOf, IsTypeUnderOf, List, MapKind, Mode, NestedScalar, NoMap, One, Operand, Procedure, Ref, Scalar, Sums, Text, Two, TypeOf, Val, Values, Version, Write, [], has_since, holds, refl, row, since, true, ◌∷◌, ◌≡◌}
 use Rattle.tw_binary.specs.Versions.{HasInstr, HasOperand, HasParam, HasProcedure, HasTypeUnder, KeepsVersions}
 
 -- ---- lists

@@ -6,6 +6,7 @@ pub mod Gathering
 pub mod Instructions
 pub mod Joined
 pub mod Loop
+pub mod Names
 pub mod Numbers
 pub mod Programs
 pub mod TextFormat

@@ -1,10 +1,7 @@
 -- Parsing values in sequence, as a loop does, for any parser.
 use Rattle.std.proofs.Common.{◌≡◌, ℕ, suc, ◌-◌, ◌+◌, ◌<◌, ◌≤◌, List, [], ◌∷◌, ◌++◌, Result, Ok, Err, refl, sym, ap, ◌∙◌, append_assoc, append-nil, arith}
-use Rattle.tw_binary.specs.declared.fault.Broken.{Broken}
-use Rattle.tw_binary.specs.declared.fault.Stop.{Stop}
+use Rattle.tw_binary.proofs.Names.{Broken, Fails, Reading, Stop, many, ◌>>=◌}
 use Rattle.tw_binary.specs.declared.fault.Stop.TheVariants as stops
-use Rattle.tw_types.specs.Result.{◌>>=◌}
-use Rattle.tw_binary.specs.Reading.{Reading, Fails, many}
 
 -- the values parsed so far, and those still parsed
 abbrev pub with_front : {A : Type 0} → List A → Result (List A × List ℕ) Broken → Result (List A × List ℕ) Broken

@@ -1,18 +1,10 @@
 -- Items of two and of eight bytes: each is parsed as it was written, and one that is wrong or cut off is reported.
-use Rattle.std.proofs.Common.{◌≡◌, ℕ, ℤ, ◌<◌, ◌≤◌, ◌^◌, ◌⊎◌, Bool, true, false, cond, ltb, List, [], ◌∷◌, ◌++◌, length, take, drop, Result, Ok, Err, refl, sym, ap, subst, ◌∙◌, arith, inl, inr, lit<}
+use Rattle.tw_binary.proofs.Names.{Bool, Broken, Err, FaultNo, IsWithin, Item, Limit, List, Ok, Result, [], ap, append-nil, arith, concat, cond, drop, drop_at, false, inl, inr, le-ltb, length, length-append, length-take, lit<, ltb, ltb-false, ltb-true, number, refl, subst, sym, take, take-append-drop, take_at, true, wide, ℕ, ℤ, ◌++◌, ◌<◌, ◌^◌, ◌∙◌, ◌∷◌, ◌≡◌, ◌≤◌, ◌⊎◌}
 use Rattle.std.specs.Prelude.{FitsSigned}
 use Rattle.std.specs.Int.{w16, w64, from_be_bytes, to_be_bytes, cast_signed, cast_unsigned}
-use Rattle.std.specs.List.{concat}
-use Rattle.std.proofs.lemmas.Bool.{ltb-false, ltb-true, le-ltb}
-use Rattle.std.proofs.lemmas.List.{append-nil, take_at, drop_at, take-append-drop, length-append, length-take}
 use Rattle.std.proofs.lemmas.Nat.{be_bytes_2, be_bytes_8, from_be_bytes-to_be_bytes_2, from_be_bytes-to_be_bytes_8}
 use Rattle.std.proofs.lemmas.Int.{to_z-of_z, of_z-to_z}
 use Rattle.std.proofs.Math.Facts.{sfits_to_z, Fits-of_z}
-use Rattle.tw_binary.specs.declared.fault.Broken.{Broken}
-use Rattle.tw_binary.specs.declared.fault.FaultNo.{FaultNo}
-use Rattle.tw_binary.specs.declared.fault.FaultNo.TheVariants.{Limit}
-use Rattle.tw_code.specs.format.Program.{IsWithin}
-use Rattle.tw_binary.specs.Spelling.{Item, wide, number}
 use Rattle.tw_binary.specs.Reading.{is_within, wide_at, number_at, wrong}
 use Rattle.tw_binary.proofs.Formats.{IsBytes, IsBytes-take, IsBytes-drop, passed, ok_is, Takes, IsFormat}
 use Rattle.tw_binary.proofs.Breaks.{IsStrict, IsOfItem, Lacks, FailsAt, ended, no_err, refused}

@@ -1,18 +1,5 @@
 -- Procedures and whole programs: a parsed value has this encoding, and an encoded value is parsed.
-use Rattle.std.proofs.Common.{◌≡◌, ℕ, cond, eqb, List, [], ◌∷◌, ◌++◌, length, Ok, Err, refl, sym, ap, subst, ◌∙◌, arith}
-use Rattle.std.specs.List.{AllByRecursion}
-use Rattle.std.proofs.lemmas.Bool.{eqb-true}
-use Rattle.std.proofs.lemmas.List.{append-nil, nil_from_length}
-use Rattle.tw_types.specs.declared.actor.Kind.{Kind}
-use Rattle.tw_types.specs.declared.data_type.Scalar.{Scalar}
-use Rattle.tw_types.specs.declared.param.Param.{Param}
-use Rattle.tw_binary.specs.declared.fault.Broken.{Broken}
-use Rattle.tw_binary.specs.declared.fault.FaultNo.TheVariants.{Magic, Trailing}
-use Rattle.tw_code.specs.declared.version.Version.{Version}
-use Rattle.tw_code.specs.declared.instr.Instr.{Instr}
-use Rattle.tw_code.specs.declared.procedure.Procedure.{Procedure}
-use Rattle.tw_code.specs.format.Program.{IsList, IsInstrOf, IsParamOf, IsProcedureOf, IsProgramOf, IsVersioned, Versioned}
-use Rattle.tw_binary.specs.Spelling.{Item, byte, wide, param_items, scalar_items, instr_items, counted_items, procedure_items, magic, version_items, encoding}
+use Rattle.tw_binary.proofs.Names.{AllByRecursion, Broken, Err, Instr, IsInstrOf, IsList, IsParamOf, IsProcedureOf, IsProgramOf, IsVersioned, Item, Kind, List, Magic, Ok, Param, Procedure, Scalar, Trailing, Version, Versioned, [], ap, append-nil, arith, byte, cond, counted_items, encoding, eqb, eqb-true, instr_items, length, magic, nil_from_length, param_items, procedure_items, refl, scalar_items, subst, sym, version_items, wide, ℕ, ◌++◌, ◌∙◌, ◌∷◌, ◌≡◌}
 use Rattle.tw_binary.specs.Reading.{counted, byte_at, wide_at, scalar_at, param_at, instr_at, procedure_at, header_at, front_at, whole, wrong}
 use Rattle.tw_binary.proofs.Formats.{IsBytes, bind_ok, passed, ok_is, IsMade}
 use Rattle.tw_binary.proofs.Breaks.{IsStrict, both_strict, then_strict, counted_strict, as_is_strict}

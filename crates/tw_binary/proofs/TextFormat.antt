@@ -1,17 +1,8 @@
 -- Texts: each is parsed as it was written, and one that is wrong or cut off is reported.
-use Rattle.std.proofs.Common.{◌≡◌, ℕ, zero, suc, ◌≤◌, Bool, true, false, cond, ltb, List, [], ◌∷◌, ◌++◌, length, take, drop, Ok, Err, refl, sym, ap, subst, ◌∙◌, arith, inl, inr}
-use Rattle.std.specs.List.{concat}
+use Rattle.tw_binary.proofs.Names.{Bool, Broken, Err, FaultNo, IsWithin, Item, List, Ok, Utf8, [], ap, append-nil, arith, concat, cond, drop, drop_at, false, inl, inr, le-ltb, length, length-append, length-take, ltb, ltb-false, refl, subst, suc, sym, take, take-append-drop, take_at, text_items, true, wide, zero, ℕ, ◌++◌, ◌>>=◌, ◌∙◌, ◌∷◌, ◌≡◌, ◌≤◌}
 use Rattle.std.specs.Str.{IsAscii, IsUtf8, is_utf8}
-use Rattle.std.proofs.lemmas.Bool.{ltb-false, le-ltb}
-use Rattle.std.proofs.lemmas.List.{append-nil, take_at, drop_at, take-append-drop, length-append, length-take}
 use Rattle.std.proofs.lemmas.Str.{IsUtf8-from_is_utf8, is_utf8-from_IsUtf8, IsUtf8-nil, IsUtf8-from_ascii}
 use Rattle.tw_types.specs.Text.{IsText}
-use Rattle.tw_binary.specs.declared.fault.Broken.{Broken}
-use Rattle.tw_binary.specs.declared.fault.FaultNo.{FaultNo}
-use Rattle.tw_binary.specs.declared.fault.FaultNo.TheVariants.{Utf8}
-use Rattle.tw_code.specs.format.Program.{IsWithin}
-use Rattle.tw_binary.specs.Spelling.{Item, wide, text_items}
-use Rattle.tw_types.specs.Result.{◌>>=◌}
 use Rattle.tw_binary.specs.Reading.{wide_at, utf8_at, text_at, wrong}
 use Rattle.tw_binary.proofs.Formats.{IsBytes, bind_ok, passed, Takes, Takes-then, goes_after}
 use Rattle.tw_binary.proofs.Breaks.{IsStrict, IsOfItem, FailsAt, GoesOn, ended, carried, due_first, due_after, bind_err, refused}

@@ -1,27 +1,8 @@
 -- Types and parameters: each is parsed as it was written, and one that is wrong or cut off is reported.
-use Rattle.std.proofs.Common.{◌≡◌, ℕ, zero, suc, ◌-◌, ◌<◌, ◌≤◌, ◌⊎◌, Bool, true, false, cond, if◌then◌else◌, eqb, Option, Some, None, List, [], ◌∷◌, ◌++◌, length, Result, Ok, Err, refl, sym, ap, ◌∙◌, subst, arith, inl, inr}
-use Rattle.std.specs.List.{concat, AllByRecursion}
+use Rattle.tw_binary.proofs.Names.{AllByRecursion, Bool, Broken, Closed, Err, Five, Four, Int, IsMapOf, IsParamOf, IsSubscriptOf, IsTypeUnderOf, List, MapKind, Mode, NestedScalar, Nesting, NoMap, None, Ok, One, Option, Param, Ref, Result, Scalar, Some, Stop, Sums, Text, Two, Unknown, Val, Values, Version, Write, [], ap, arith, by_of, concat, cond, container_code, container_of, depth_of, eqb, eqb-true, false, has_maps, has_sums, has_texts, if◌then◌else◌, inl, inr, is_scalar, leaf_items, length, map_code, nested_items, param_items, refl, scalar_code, scalar_type, subst, suc, sym, true, type_items, values_items, zero, ℕ, ◌++◌, ◌-◌, ◌<◌, ◌∙◌, ◌∷◌, ◌≡◌, ◌≤◌, ◌⊎◌}
 use Rattle.std.specs.Option.{option_map_or}
 use Rattle.std.specs.Result.{is_ok, OnOk}
-use Rattle.std.proofs.lemmas.Bool.{eqb-true}
-use Rattle.tw_types.specs.Nesting.{NestedScalar}
-use Rattle.tw_types.specs.DataType.{by_of, container_of, depth_of, has_sums, is_scalar, scalar_type}
-use Rattle.tw_types.specs.declared.data_type.MapKind.{MapKind}
-use Rattle.tw_types.specs.declared.data_type.MapKind.TheVariants.{NoMap, Values, Sums}
-use Rattle.tw_types.specs.declared.data_type.Scalar.{Scalar}
-use Rattle.tw_types.specs.declared.data_type.Scalar.TheVariants.{Int, Text}
-use Rattle.tw_types.specs.declared.param.Mode.{Mode}
-use Rattle.tw_types.specs.declared.param.Mode.TheVariants.{Val, Closed, Ref, Write}
-use Rattle.tw_types.specs.declared.param.Param.{Param}
-use Rattle.tw_binary.specs.declared.fault.Broken.{Broken}
-use Rattle.tw_binary.specs.declared.fault.FaultNo.TheVariants.{Unknown, Nesting}
-use Rattle.tw_binary.specs.declared.fault.Stop.{Stop}
 use Rattle.tw_binary.specs.declared.fault.Stop.TheVariants as stop
-use Rattle.tw_code.specs.declared.version.Version.{Version}
-use Rattle.tw_code.specs.declared.version.Version.TheVariants.{One, Two, Four, Five}
-use Rattle.tw_code.specs.format.Program.{IsMapOf, IsParamOf, IsSubscriptOf, IsTypeUnderOf}
-use Rattle.tw_code.specs.format.Versions.{has_maps, has_texts}
-use Rattle.tw_binary.specs.Spelling.{container_code, leaf_items, map_code, nested_items, scalar_code, type_items, param_items, values_items}
 use Rattle.tw_binary.specs.Reading.{Fails, Reading, as_is, container_in, leaf_at, map_from, map_in, scalar_at, type_at, values_at, type_under, param_at, missing, wrong}
 use Rattle.tw_binary.proofs.Formats.{IsBytes, IsBytes-rest, bind_ok, chosen, ok_is, Takes, Takes-then, as_is_takes, as_is_again, IsMade}
 use Rattle.tw_binary.proofs.Breaks.{IsStrict, FailsAt, GoesOn, carried, due_after, err_is, refused, as_is_fails, as_is_strict, then_strict}

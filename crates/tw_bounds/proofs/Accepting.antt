@@ -1,21 +1,9 @@
 -- An accepted program can be bounded, and a budget is the bound of a walk where each place costs 1.
 use Rattle.std.proofs.Common.{◌≡◌, ℕ, ◌<◌, Bool, true, false, List, [], ◌∷◌, length, slice_get, Some, refl, sym, ◌∙◌, subst, arith, ◌⊎◌, inl, inr}
-use Rattle.std.proofs.lemmas.Option.{slice_get_within}
-use Rattle.tw_code.specs.declared.flow.Flow.{Flow}
-use Rattle.tw_code.specs.declared.instr.Action.{Action}
+use Rattle.tw_bounds.proofs.Names.{Action, AllYes, AreRight, Calls, Flow, IsBoundable, IsBudget, IsGreatestCost, IsProgram, Procedure, Typings, cost_of, requires_action, requires_priority, slice_get_within, typing_at, yes_after}
 use Rattle.tw_code.specs.declared.instr.Instr.TheVariants as instr
-use Rattle.tw_code.specs.declared.procedure.Procedure.{Procedure}
-use Rattle.tw_code.specs.accepting.Typing.{requires_action, requires_priority}
-use Rattle.tw_code.specs.accepting.Walk.{IsBudget}
-use Rattle.tw_code.specs.format.Program.{IsProgram}
-use Rattle.tw_code.specs.machine.Holders.{Typings, typing_at}
-use Rattle.tw_soundness.specs.NoTrap.{AreRight}
 use Rattle.tw_soundness.proofs.Called.{callee_met}
 use Rattle.tw_soundness.proofs.Running.{asked_at}
-use Rattle.tw_soundness.proofs.Values.{AllYes, yes_after}
-use Rattle.tw_bounds.specs.Bounds.{Calls}
-use Rattle.tw_bounds.specs.Cost.{cost_of, IsGreatestCost}
-use Rattle.tw_bounds.specs.Solving.{IsBoundable}
 
 pub is_boundable : (program : List Procedure) (typings : Typings) → IsProgram program → AreRight program typings → IsBoundable program
 is_boundable program typings is are = record { structured = λ k p here. (are.accepted.each k p here).structured; inside = inside }

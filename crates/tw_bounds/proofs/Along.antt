@@ -1,37 +1,9 @@
 -- Along a run from the opening, what is owed pays for all.
-use Rattle.std.proofs.Common.{◌≡◌, ℕ, zero, suc, ◌+◌, ◌*◌, ◌≤◌, List, [], ◌∷◌, length, Option, Some, refl, ap, subst, arith}
-use Rattle.std.proofs.lemmas.List.Sums.{sum_by-cons}
-use Rattle.std.specs.Cmp.{nat_cmp_total}
-use Rattle.std.specs.FinMap.{empty, get-empty, nat_cmp-IsAntisymmetric}
-use Rattle.std.specs.Ordering.{nat_cmp}
-use Rattle.tw_types.specs.declared.event.Event.{Event}
-use Rattle.tw_types.specs.declared.event.Event.TheVariants.{Take, Local, Call, End, Ask, Deliver, Release}
-use Rattle.tw_types.specs.declared.input.Input.{Input}
-use Rattle.tw_types.specs.Actor.{actor_cmp}
-use Rattle.tw_types.specs.Layout.{ActorCounts}
-use Rattle.tw_types.specs.Outcome.{Went}
-use Rattle.tw_types.proofs.Each.{each_empty, each_insert}
-use Rattle.tw_types.proofs.Outcomes.{same_went, went_first, went_of}
-use Rattle.tw_types.proofs.Totals.{total-empty}
-use Rattle.tw_code.specs.declared.procedure.Procedure.{Procedure}
-use Rattle.tw_code.specs.format.Program.{IsProgram}
-use Rattle.tw_code.specs.machine.Holders.{Typings}
-use Rattle.tw_code.specs.machine.Inputs.{AreInputsOf}
+use Rattle.tw_bounds.proofs.Names.{ActorCounts, AreBounds, AreInputsOf, AreRight, AreRunBounds, Ask, Call, Deliver, End, Event, Input, IsBoundOfMain, IsHeld, IsProgram, IsRunWithin, IsWithinBound, List, Local, Option, Procedure, Release, RunBounds, Some, State, Take, Typings, Weights, Went, [], actor_cmp, ap, arith, bound_at, bytes_alone, data_alone, each_empty, each_insert, empty, events_alone, get-empty, instructions_alone, instructions_by, instructions_in, kept_by, length, members_alone, nat_cmp, nat_cmp-IsAntisymmetric, nat_cmp_total, opened_held, reached_is_held, refl, rule_events_by, rule_events_in, rules_alone, same_went, subst, suc, sum_by-cons, sum_new, tasks_alone, tasks_by, tasks_in, texts_held, total-empty, weight_made, went_first, went_of, zero, ℕ, ◌*◌, ◌+◌, ◌∷◌, ◌≡◌, ◌≤◌}
 use Rattle.tw_code.specs.machine.Machine.{run, step}
 use Rattle.tw_code.specs.machine.Opening.{Opened, main_params, main_task, nothing_opened, opened, opening, opening_of, reached}
-use Rattle.tw_code.specs.machine.State.{State}
-use Rattle.tw_soundness.specs.Invariant.{IsHeld}
-use Rattle.tw_soundness.specs.NoTrap.{AreRight}
-use Rattle.tw_soundness.proofs.Safe.{kept_by, opened_held, reached_is_held}
-use Rattle.tw_soundness.proofs.Sums.{sum_new}
-use Rattle.tw_bounds.specs.declared.weights.Weights.{Weights}
-use Rattle.tw_bounds.specs.Bounds.{AreBounds, bound_at}
 use Rattle.tw_bounds.proofs.Numbers.{num_at, of_known}
-use Rattle.tw_bounds.specs.declared.bound.RunBounds.{RunBounds}
-use Rattle.tw_bounds.specs.Reports.{AreRunBounds, IsRunWithin}
-use Rattle.tw_bounds.specs.Runs.{IsBoundOfMain, IsWithinBound, bytes_alone, data_alone, events_alone, instructions_alone, instructions_by, instructions_in, members_alone, rule_events_by, rule_events_in, rules_alone, tasks_alone, tasks_by, tasks_in, weight_made}
 use Rattle.tw_bounds.proofs.Reporting.{main_bound}
-use Rattle.tw_bounds.specs.Contents.{texts_held}
 use Rattle.tw_bounds.proofs.Paying.{AreBounded, HasBound, IsPaid, event_paid, frame_owes, owes, rule_owes, task_owes, weight_stored}
 use Rattle.tw_bounds.proofs.TextsHeld.{texts_owed}
 

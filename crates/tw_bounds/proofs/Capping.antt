@@ -1,20 +1,6 @@
 -- The greatest cost of a walk with capped costs is the greatest cost, capped.
-use Rattle.std.proofs.Common.{◌≡◌, ℕ, zero, suc, ◌+◌, ◌*◌, ◌-◌, min, List, [], ◌∷◌, map, Option, Some, None, refl, sym, ap, ◌∙◌, arith}
-use Rattle.std.specs.Prelude.{slice_get}
-use Rattle.std.specs.Option.{option_flatten, option_map}
-use Rattle.std.proofs.lemmas.Option.{same_Some, slice_get-map}
-use Rattle.tw_code.specs.declared.flow.Flow.{Flow}
-use Rattle.tw_code.specs.declared.flow.Flow.TheVariants.{Straight, Branch, Jump, Begin, Close, Stop}
-use Rattle.tw_types.specs.declared.data_type.Scalar.{Scalar}
-use Rattle.tw_code.specs.declared.instr.Instr.{Instr}
+use Rattle.tw_bounds.proofs.Names.{AreCapped, AreCosts, Begin, Branch, Close, Flow, Instr, Jump, List, None, Option, Procedure, Scalar, Some, Stop, Straight, Weights, [], after_loop, ap, arith, bound_at, by_flow, cap, cost_in, end_from, greatest_cost, greatest_cost_in, map, min, option_flatten, option_map, refl, same_Some, slice_get, slice_get-map, suc, sym, weight_of, zero, ℕ, ◌*◌, ◌+◌, ◌-◌, ◌∙◌, ◌∷◌, ◌≡◌}
 use Rattle.tw_code.specs.declared.instr.Instr.TheVariants as instr
-use Rattle.tw_code.specs.declared.procedure.Procedure.{Procedure}
-use Rattle.tw_code.specs.accepting.Structure.{end_from}
-use Rattle.tw_bounds.specs.declared.weights.Weights.{Weights}
-use Rattle.tw_bounds.specs.Bounds.{AreCosts, bound_at, cost_in, weight_of}
-use Rattle.tw_bounds.specs.GreatestCost.{after_loop, by_flow, greatest_cost, greatest_cost_in}
-use Rattle.tw_bounds.specs.Rows.{cap}
-use Rattle.tw_bounds.specs.Solving.{AreCapped}
 use Rattle.tw_bounds.proofs.Numbers.{same_parts}
 
 abbrev pub AreAlike : ℕ → ℕ → Type 0

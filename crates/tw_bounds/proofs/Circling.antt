@@ -1,23 +1,8 @@
 -- Following main's calls until one leads back takes at most as many steps as there are procedures.
-use Rattle.std.proofs.Common.{◌≡◌, ℕ, Bool, true, false, ◌<◌, List, [], ◌∷◌, ◌++◌, length, Option, Some, None, refl, sym, ap, ◌∙◌, subst, arith, ◌⊎◌, inl, inr, ◌||◌, if◌then◌else◌}
-use Rattle.std.specs.Prelude.{nat_le, slice_get}
-use Rattle.std.specs.Option.{option_flatten, option_map}
+use Rattle.tw_bounds.proofs.Names.{AreReported, AtMost, Bool, Bound, Calls, CallsEnd, CallsEndless, Endless, Instr, IsBoundable, IsCall, IsCircle, IsEndless, LeadsTo, List, None, Option, Over, Procedure, Some, Weights, [], ap, arith, bound_at, eqb, eqb-false, eqb-true, false, greatest_bound, if◌then◌else◌, inl, inr, length, nat_le, option_flatten, option_map, refl, reported, same_Some, slice_get, slice_get-get_or, slice_get-map, slice_get_within, subst, sym, true, ℕ, ◌++◌, ◌<◌, ◌||◌, ◌∙◌, ◌∷◌, ◌≡◌, ◌⊎◌}
 use Rattle.std.specs.List.{AllByRecursion, IsDistinct, list_any}
-use Rattle.std.proofs.lemmas.Bool.{eqb-false, eqb-true}
-use Rattle.std.proofs.Math.Dec.{eqb}
 use Rattle.std.proofs.lemmas.Map.Steps.{length-le_from_distinct_below}
-use Rattle.std.proofs.lemmas.Option.{same_Some, slice_get-map, slice_get_within, slice_get-get_or}
-use Rattle.tw_code.specs.declared.instr.Instr.{Instr}
 use Rattle.tw_code.specs.declared.instr.Instr.TheVariants as instr
-use Rattle.tw_code.specs.declared.procedure.Procedure.{Procedure}
-use Rattle.tw_bounds.specs.declared.bound.Bound.{Bound}
-use Rattle.tw_bounds.specs.declared.bound.Bound.TheVariants.{AtMost, Over, Endless}
-use Rattle.tw_bounds.specs.declared.weights.Weights.{Weights}
-use Rattle.tw_bounds.specs.Bounds.{Calls, CallsEnd, bound_at}
-use Rattle.tw_bounds.specs.Circles.{CallsEndless, IsCall, IsCircle, IsEndless, LeadsTo}
-use Rattle.tw_bounds.specs.Reports.{AreReported, reported}
-use Rattle.tw_bounds.specs.Rows.{greatest_bound}
-use Rattle.tw_bounds.specs.Solving.{IsBoundable}
 
 -- a call of an instruction is one of its procedure
 pub call_at : (program : List Procedure) (k place q : ℕ) (p : Procedure) (i : Instr) → slice_get program k ≡ Some p → slice_get p.code place ≡ Some i → IsCall i q → (call : Calls program k q) × (call.1 ≡ place)

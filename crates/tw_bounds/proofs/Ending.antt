@@ -1,24 +1,11 @@
 -- Runs of a program with a bound end.
-use Rattle.std.proofs.Common.{◌≡◌, ◌≢◌, ℕ, zero, suc, ◌+◌, ◌≤◌, Bool, true, false, List, [], ◌∷◌, ◌++◌, length, refl, ap, ◌∙◌, arith, length-append}
-use Rattle.tw_types.specs.declared.event.Event.{Event}
-use Rattle.tw_types.specs.declared.input.Input.{Input}
-use Rattle.tw_types.specs.Layout.{ActorCounts, IsLayout}
-use Rattle.tw_types.specs.Outcome.{Outcome, Went, NotEnabled, Trap, ◌>>=◌}
-use Rattle.tw_code.specs.declared.procedure.Procedure.{Procedure}
+use Rattle.tw_bounds.proofs.Names.{ActorCounts, AreInputsOf, AreRight, Bool, Event, Input, IsBoundOfMain, IsLayout, IsProgram, List, NotEnabled, Outcome, Procedure, State, Trap, Typings, Went, [], ap, arith, events_alone, false, length, length-append, opening, reached, reached_is_held, refl, safe, suc, true, zero, ℕ, ◌++◌, ◌+◌, ◌>>=◌, ◌∙◌, ◌∷◌, ◌≡◌, ◌≢◌, ◌≤◌}
 use Rattle.tw_code.specs.accepting.Needs.{HasTargets}
-use Rattle.tw_code.specs.format.Program.{IsProgram}
 use Rattle.tw_code.specs.machine.Ending.{is_quiet}
-use Rattle.tw_code.specs.machine.Holders.{Typings}
-use Rattle.tw_code.specs.machine.Inputs.{AreInputsOf}
 use Rattle.tw_code.specs.machine.Machine.{run, step}
-use Rattle.tw_code.specs.machine.Opening.{opening, reached}
-use Rattle.tw_code.specs.machine.State.{State}
 use Rattle.tw_code.proofs.Runs.{run_more}
 use Rattle.tw_code.proofs.Next.{some_enabled}
-use Rattle.tw_soundness.specs.NoTrap.{AreRight}
-use Rattle.tw_soundness.proofs.Safe.{reached_is_held, safe}
 use Rattle.tw_bounds.specs.Ends.{RunsEnd}
-use Rattle.tw_bounds.specs.Runs.{IsBoundOfMain, events_alone}
 use Rattle.tw_bounds.proofs.Along.{few_events}
 
 module _ (program : List Procedure) (typings : Typings) (is : IsProgram program) (are : AreRight program typings) (steps : ℕ) (bound : IsBoundOfMain program events_alone steps) where

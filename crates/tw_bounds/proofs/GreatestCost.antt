@@ -1,20 +1,6 @@
 -- The greatest cost of a path from a place to the END of its own loop, computed from the code's end. Also the budget that a task
 -- has left, which pays for each move.
-use Rattle.std.proofs.Common.{◌≡◌, ℕ, zero, suc, ◌+◌, ◌*◌, ◌-◌, ◌<◌, ◌≤◌, max, List, [], ◌∷◌, drop, Option, Some, refl, sym, ap, ◌∙◌, subst, arith}
-use Rattle.std.specs.Prelude.{slice_get, unwrap_or}
-use Rattle.tw_code.specs.declared.flow.Flow.{Flow}
-use Rattle.tw_code.specs.declared.flow.Flow.TheVariants.{Straight, Branch, Jump, Begin, Close, Stop}
-use Rattle.tw_code.specs.declared.flow.Way.{Way}
-use Rattle.tw_code.specs.declared.flow.Way.TheVariants.{Completed, Skipped}
-use Rattle.tw_code.specs.machine.Position.{goal_of, Loop, Cursor, turned, with_last}
-use Rattle.tw_code.specs.accepting.Structure.{end_of}
-use Rattle.tw_bounds.specs.GreatestCost.{by_flow}
-use Rattle.tw_code.specs.accepting.Walk.{moved}
-use Rattle.tw_budget.specs.Frames.{LoopsFit}
-use Rattle.tw_budget.specs.Sound.{IsSound}
-use Rattle.tw_budget.proofs.Lengths.{same_cursor, branch_goal, jump_goal}
-use Rattle.tw_bounds.specs.GreatestCost.{after_loop, greatest_cost, greatest_cost_in}
-use Rattle.tw_budget.proofs.Places.{drop_at, straight_end, branch_end, close_end, begun}
+use Rattle.tw_bounds.proofs.Names.{Begin, Branch, Close, Completed, Cursor, Flow, IsSound, Jump, List, Loop, LoopsFit, Option, Skipped, Some, Stop, Straight, Way, [], after_loop, ap, arith, begun, branch_end, branch_goal, by_flow, close_end, drop, drop_at, end_of, goal_of, greatest_cost, greatest_cost_in, jump_goal, max, moved, refl, same_cursor, slice_get, straight_end, subst, suc, sym, turned, unwrap_or, with_last, zero, ℕ, ◌*◌, ◌+◌, ◌-◌, ◌<◌, ◌∙◌, ◌∷◌, ◌≡◌, ◌≤◌}
 
 shifted : (cost : ℕ → ℕ) (b : ℕ) (code : List Flow) (j k : ℕ) → greatest_cost_in cost b code (j + k) ≡ greatest_cost_in cost (b + j) (drop j code) k
 shifted cost b code zero k =

@@ -1,32 +1,11 @@
 -- Bounds on the members and texts that a change of a store adds.
-use Rattle.std.proofs.Common.{◌≡◌, ℕ, zero, suc, ◌+◌, ◌-◌, ◌≤◌, ◌==◌, Bool, true, false, ◌&&◌, cond, if◌then◌else◌, List, [], ◌∷◌, fold, Option, Some, None, refl, sym, ap, subst, arith}
-use Rattle.std.proofs.lemmas.Bool.{and_parts}
-use Rattle.std.proofs.lemmas.Option.{same_Some}
-use Rattle.std.specs.Cmp.{nat_cmp_total}
+use Rattle.tw_bounds.proofs.Names.{Bool, Contains, Content, Data, Datum, List, Maps, Members, None, Ok, Option, Scalar, Set, Some, Store, Subscript, Unset, Value, Values, WrongType, [], added, and_parts, ap, arith, by_container, changed, cond, container_only, contains_key, count_in, created, drop_read_within, entries_in, false, fold, get, has_subscripts_by, if◌then◌else◌, insert, inserted, is_closed, is_container_by, is_element_of, is_map, is_map_by, is_map_of, is_map_to_texts, is_plain_map, is_scalar, is_sums, is_text, is_text_scalar, is_unheld, len, len-empty, len-insert, may_add, may_insert, may_put, member_count, members_held, members_in, members_of, must_then, nat_cmp, nat_cmp-IsAntisymmetric, nat_cmp_total, new_datum, one_write_less, read_dropped, read_taken_by, refl, remove, same_Some, same_scalar, same_scalars, scalar_of, set_to, settled_by, store_after, subscribers_cleared, subst, suc, sum_apart, sum_replaced, sym, text_count, texts_stored, total, total-insert, true, value_cmp, value_put, with_entry, with_member, zero, ℕ, ◌&&◌, ◌+◌, ◌-◌, ◌==◌, ◌∷◌, ◌≡◌, ◌≤◌}
 use Rattle.std.specs.FinMap as fin
-use Rattle.std.specs.FinMap.{contains_key, get, insert, remove, len, len-empty, len-insert, nat_cmp-IsAntisymmetric}
-use Rattle.std.specs.Ordering.{nat_cmp}
-use Rattle.std.specs.Prelude.{Ok}
-use Rattle.tw_types.specs.declared.cause.Cause.TheVariants.{WrongType}
-use Rattle.tw_types.specs.declared.data_type.Scalar.{Scalar}
 use Rattle.tw_types.specs.declared.data_type.Scalar.TheVariants as scalar
-use Rattle.tw_types.specs.declared.value.Value.{Value}
-use Rattle.tw_types.specs.DataType.{has_subscripts_by, is_container_by, is_element_of, is_map, is_map_by, is_map_of, is_plain_map, is_scalar, is_sums, same_scalar}
 use Rattle.tw_types.specs.Nesting.{NestedScalar}
-use Rattle.tw_types.specs.Store.{Members, Values, Content, Unset, Set, Contains, Maps, Datum, Data, Store, added, drop_read_within, is_closed, is_unheld, members_of, new_datum, read_taken_by, settled_by, subscribers_cleared}
-use Rattle.tw_types.specs.StoreCalls.{changed, count_in, created, entries_in, inserted, members_in, one_write_less, read_dropped, set_to, store_after, value_put, with_entry, with_member}
-use Rattle.tw_types.specs.StoreChecks.{may_add, may_insert, may_put}
-use Rattle.tw_types.specs.Totals.{total}
-use Rattle.tw_types.specs.ValueOrder.{Subscript, value_cmp}
-use Rattle.tw_types.specs.Value.{scalar_of}
 use Rattle.tw_types.specs.declared.data_type.MapKind.{MapKind}
 use Rattle.tw_types.specs.declared.data_type.MapKind.TheVariants as kinds
-use Rattle.tw_types.proofs.Results.{must_then}
-use Rattle.tw_types.proofs.SameTypes.{by_container, container_only, same_scalars}
-use Rattle.tw_types.proofs.Totals.{total-insert}
 use Rattle.tw_types.proofs.ValueOrder.{value_cmp_total}
-use Rattle.tw_soundness.proofs.Sums.{sum_apart, sum_replaced}
-use Rattle.tw_bounds.specs.Contents.{is_map_to_texts, is_text, is_text_scalar, member_count, members_held, text_count, texts_stored}
 
 -- ---- a sum over the live data, by types and contents
 

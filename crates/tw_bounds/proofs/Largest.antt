@@ -1,13 +1,6 @@
 -- The largest budget, one procedure after another.
 use Rattle.std.proofs.Common.{◌≡◌, ℕ, ◌+◌, ◌<◌, ◌≤◌, ◌⊎◌, inl, inr, max, List, slice_get, Option, Some, None, refl, sym, subst, ◌∙◌, arith}
-use Rattle.std.proofs.lemmas.Option.{same_Some}
-use Rattle.std.specs.Option.{IsSomeAnd}
-use Rattle.std.proofs.lemmas.Bool.{cases_lt}
-use Rattle.tw_code.specs.declared.flow.Flow.{Flow}
-use Rattle.tw_code.specs.declared.procedure.Procedure.{Procedure}
-use Rattle.tw_code.specs.accepting.Flow.{flows}
-use Rattle.tw_code.specs.accepting.Walk.{IsBudget}
-use Rattle.tw_bounds.specs.Limited.{IsLargestOf}
+use Rattle.tw_bounds.proofs.Names.{Flow, IsBudget, IsLargestOf, IsSomeAnd, Procedure, cases_lt, flows, same_Some}
 
 one_budget : (code : List Flow) (a b : ℕ) → IsBudget code a → IsBudget code b → a ≤ b
 one_budget code a b is other = let m = other.most is.some.0 is.some.1 in omega (arith, is.some.2, m)

@@ -1,17 +1,6 @@
 -- The smaller of two bounds of a run bounds it.
 use Rattle.std.proofs.Common.{◌≡◌, ℕ, Bool, true, false, min, List, Option, Some, None, refl, ap, subst, arith, leb, slice_get, unwrap_or}
-use Rattle.std.proofs.lemmas.Bool.{leb-true, leb-false}
-use Rattle.tw_types.specs.declared.event.Event.{Event}
-use Rattle.tw_types.specs.declared.input.Input.{Input}
-use Rattle.tw_code.specs.declared.procedure.Procedure.{Procedure}
-use Rattle.tw_code.specs.machine.State.{State}
-use Rattle.tw_bounds.specs.declared.bound.Bound.{Bound}
-use Rattle.tw_bounds.specs.declared.bound.Bound.TheVariants.{AtMost, Over, Endless}
-use Rattle.tw_bounds.specs.declared.bound.RunBounds.{RunBounds}
-use Rattle.tw_bounds.specs.declared.limited.LimitedBounds.{LimitedBounds}
-use Rattle.tw_bounds.specs.Least.{LeastRuns, least, lesser, main_in, main_of}
-use Rattle.tw_bounds.specs.Limited.{IsRunWithinLimited, LimitsRuns}
-use Rattle.tw_bounds.specs.Reports.{BoundsRuns, IsAtMost, IsRunWithin}
+use Rattle.tw_bounds.proofs.Names.{AtMost, Bound, BoundsRuns, Endless, Event, Input, IsAtMost, IsRunWithin, IsRunWithinLimited, LeastRuns, LimitedBounds, LimitsRuns, Over, Procedure, RunBounds, State, least, leb-false, leb-true, lesser, main_in, main_of}
 use Rattle.tw_bounds.proofs.Reporting.{number_of}
 
 main_at : (bounds : List Bound) (n : ℕ) → main_in bounds ≡ AtMost n → IsAtMost bounds n

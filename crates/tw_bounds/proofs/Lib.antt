@@ -1,4 +1,5 @@
 pub mod GreatestCost
+pub mod Names
 pub mod Reached
 pub mod Holding
 pub mod Moved

@@ -1,61 +1,10 @@
 -- Each event does at most what the limit counts for it.
 use Rattle.std.proofs.Common.{◌≡◌, ℕ, zero, suc, ◌+◌, ◌*◌, ◌<◌, ◌≤◌, ◌||◌, Bool, true, false, if◌then◌else◌, is_none, List, [], ◌∷◌, length, map, slice_get, Some, refl, sym, ap, ◌∙◌, subst, arith}
-use Rattle.std.proofs.lemmas.List.Sums.{sum_by-cons}
-use Rattle.std.proofs.lemmas.Option.{same_Some, slice_get_within}
-use Rattle.std.specs.Cmp.{nat_cmp_total}
-use Rattle.std.specs.FinMap.{get, insert, nat_cmp-IsAntisymmetric}
-use Rattle.std.specs.List.{list_all, list_any}
-use Rattle.std.specs.Option.{option_map_or}
-use Rattle.std.specs.Ordering.{nat_cmp}
-use Rattle.std.specs.Prelude.{nat_le}
-use Rattle.tw_types.specs.declared.actor.Actor.{Actor}
-use Rattle.tw_types.specs.declared.cause.Cause.TheVariants.{RightLeft}
-use Rattle.tw_types.specs.declared.data_type.Scalar.{Scalar}
-use Rattle.tw_types.specs.declared.stage.Stage.{Stage}
-use Rattle.tw_types.specs.declared.stage.Stage.TheVariants.{Waiting, Ready}
-use Rattle.tw_types.specs.Actor.{actor_cmp, number_in_kind}
-use Rattle.tw_types.specs.Value.{scalar_of}
-use Rattle.tw_types.specs.declared.event.Event.{Event}
-use Rattle.tw_types.specs.declared.event.Event.TheVariants.{Take, Local, Call, End, Ask, Deliver, Release}
-use Rattle.tw_types.specs.Layout.{ActorCounts}
-use Rattle.tw_types.specs.Outcome.{Went, outcome_of}
-use Rattle.tw_types.specs.Result.{must}
-use Rattle.tw_types.specs.Rule.{Rule, at_stage, task_from}
-use Rattle.tw_types.specs.Store.{Store}
-use Rattle.tw_types.specs.Task.{Task}
-use Rattle.tw_types.specs.Totals.{total}
-use Rattle.tw_types.proofs.ActorOrder.{actor_cmp-IsAntisymmetric, actor_cmp_total}
+use Rattle.tw_bounds.proofs.Names.{Actor, ActorCounts, AreLimitedBounds, AreRight, Ask, AtMost, Bound, Call, DataInstr, Deliver, End, Event, Frame, IfWent, Instr, IsHeld, IsLargestBudget, IsProgram, IsRunningAt, LimitedBounds, LimitsRuns, Local, Procedure, Ready, Release, RightLeft, Rule, Scalar, Stage, State, Store, Take, Task, Typings, Waiting, Went, accepts, actor_cmp, actor_cmp-IsAntisymmetric, actor_cmp_total, adds_member, adds_texts, ask_leaves, at_stage, below_budget, called, context_of, data_instr, deliver_leaves, end_leaves, flows, frame_after_call, get, has_instr, if_both, if_ok, if_only, if_then, insert, instructions_by, instructions_in, is_on_data, is_running_at, is_text, is_text_scalar, kept_by, list_all, list_any, local_leaves, makes_datum, makes_rule, members_held, most_text_registers, most_texts, must, nat_cmp, nat_cmp-IsAntisymmetric, nat_cmp_total, nat_le, new_rule, number_in_kind, ok_of, one_each, opened_held, opening, option_map_or, outcome_of, put_called, reached_is_held, release_leaves, reported, rule_texts, same_Some, same_went, scalar_of, slice_get_within, sum_apart, sum_by-cons, sum_replaced, take_leaves, task_from, task_texts, tasks_by, tasks_in, texts_added, total, total-insert, total-remove, went_first, went_of}
 use Rattle.tw_types.proofs.Maps.{get_here}
-use Rattle.tw_types.proofs.Outcomes.{IfWent, if_both, if_ok, if_only, if_then, same_went, went_first, went_of}
-use Rattle.tw_types.proofs.Results.{ok_of}
-use Rattle.tw_types.proofs.Totals.{total-insert, total-remove}
-use Rattle.tw_code.specs.declared.instr.DataInstr.{DataInstr}
 use Rattle.tw_code.specs.declared.instr.DataInstr.TheVariants as on_data
-use Rattle.tw_code.specs.declared.instr.Instr.{Instr}
 use Rattle.tw_code.specs.declared.instr.Instr.TheVariants as instr
-use Rattle.tw_code.specs.declared.procedure.Procedure.{Procedure}
-use Rattle.tw_code.specs.accepting.Flow.{flows}
-use Rattle.tw_code.specs.format.Program.{IsProgram}
-use Rattle.tw_code.specs.machine.Arguments.{called, put_called}
-use Rattle.tw_code.specs.machine.Data.{data_instr}
-use Rattle.tw_code.specs.machine.Holders.{Typings}
 use Rattle.tw_code.specs.machine.Machine.{RunningInstr, call_by, call_event, end_event, is_ret, local_event, run, running_instr_of, step}
-use Rattle.tw_code.specs.machine.Opening.{opening}
-use Rattle.tw_code.specs.machine.State.{Frame, State, context_of, frame_after_call, new_rule}
-use Rattle.tw_code.proofs.Leaving.{IsRunningAt, is_running_at, ask_leaves, deliver_leaves, end_leaves, local_leaves, release_leaves, take_leaves}
-use Rattle.tw_budget.proofs.FrameTheorems.{below_budget}
-use Rattle.tw_soundness.specs.Invariant.{IsHeld}
-use Rattle.tw_soundness.specs.NoTrap.{AreRight}
-use Rattle.tw_soundness.proofs.Safe.{accepts, kept_by, opened_held, reached_is_held}
-use Rattle.tw_soundness.proofs.Sums.{sum_apart, sum_replaced}
-use Rattle.tw_bounds.specs.declared.bound.Bound.{Bound}
-use Rattle.tw_bounds.specs.declared.bound.Bound.TheVariants.{AtMost}
-use Rattle.tw_bounds.specs.declared.limited.LimitedBounds.{LimitedBounds}
-use Rattle.tw_bounds.specs.Limited.{AreLimitedBounds, IsLargestBudget, LimitsRuns, adds_member, adds_texts, has_instr, is_on_data, makes_datum, makes_rule, most_text_registers, most_texts, one_each}
-use Rattle.tw_bounds.specs.Bounds.{texts_added}
-use Rattle.tw_bounds.specs.Contents.{is_text, is_text_scalar, members_held, rule_texts, task_texts}
-use Rattle.tw_bounds.specs.Reports.{reported}
-use Rattle.tw_bounds.specs.Runs.{instructions_by, instructions_in, tasks_by, tasks_in}
 use Rattle.tw_bounds.proofs.Holding.{Gains, no_gain, one_if}
 use Rattle.tw_bounds.proofs.Moved.{DataGoes, data_goes, for_new, subscribed_gains, subscribed_next, types_fit}
 use Rattle.tw_bounds.proofs.Reporting.{is_exact}

@@ -1,17 +1,6 @@
 -- Bounds as numbers, 0 if there is none.
-use Rattle.std.proofs.Common.{◌≡◌, ℕ, zero, suc, ◌+◌, ◌*◌, List, [], ◌∷◌, map, Option, Some, None, refl, sym, ap, ◌∙◌, arith}
-use Rattle.std.specs.Prelude.{slice_get, unwrap_or}
-use Rattle.std.specs.Option.{option_map}
-use Rattle.std.proofs.lemmas.Option.{same_Some}
-use Rattle.tw_types.specs.declared.data_type.Scalar.{Scalar}
-use Rattle.tw_code.specs.declared.flow.Flow.{Flow}
-use Rattle.tw_code.specs.declared.instr.Instr.{Instr}
+use Rattle.tw_bounds.proofs.Names.{AreCosts, Flow, Instr, IsGreatestCost, List, None, Option, Procedure, Scalar, Some, Weights, [], ap, arith, bound_at, cost_in, cost_of, data_weight, map, option_map, params_of, refl, rule_events, same_Some, slice_get, suc, sym, unwrap_or, weight_of, zero, ℕ, ◌*◌, ◌+◌, ◌∙◌, ◌∷◌, ◌≡◌}
 use Rattle.tw_code.specs.declared.instr.Instr.TheVariants as instr
-use Rattle.tw_bounds.specs.declared.weights.Weights.{Weights}
-use Rattle.tw_bounds.specs.Bounds.{AreCosts, bound_at, cost_in, data_weight, weight_of, rule_events}
-use Rattle.tw_code.specs.declared.procedure.Procedure.{Procedure}
-use Rattle.tw_code.specs.machine.Arguments.{params_of}
-use Rattle.tw_bounds.specs.Cost.{cost_of, IsGreatestCost}
 
 abbrev pub num_at : List (Option ℕ) → ℕ → ℕ
 num_at bounds q = unwrap_or (bound_at bounds q) 0

@@ -1,24 +1,8 @@
 -- One more bound is known; if none can be, some procedures call one another in a circle.
-use Rattle.std.proofs.Common.{◌≡◌, ◌≢◌, ℕ, Bool, true, false, not, zero, suc, ◌+◌, ◌*◌, ◌<◌, ◌≤◌, List, [], ◌∷◌, ◌++◌, length, map, min, replicate, set, get_or, Option, Some, None, refl, sym, ap, ◌∙◌, subst, arith, ◌⊎◌, inl, inr}
-use Rattle.std.specs.Prelude.{slice_get}
-use Rattle.std.specs.Option.{is_some}
-use Rattle.std.specs.Option.{option_flatten, option_map}
-use Rattle.std.proofs.lemmas.Bool.{cases_eq}
-use Rattle.std.proofs.lemmas.List.{length-map, length-set, map-set}
-use Rattle.std.proofs.lemmas.Option.{same_Some, slice_get-get_or, slice_get-map}
-use Rattle.tw_types.specs.declared.data_type.Scalar.{Scalar}
-use Rattle.tw_code.specs.declared.instr.Instr.{Instr}
+use Rattle.tw_bounds.proofs.Names.{AreBounds, AreCapped, AreCappedBounds, AreCosts, AreWithin, Bool, Calls, CallsEnd, CallsUnknown, Instr, IsBoundOf, IsBoundable, IsCappedBound, IsFixpoint, IsNext, IsSound, List, None, Option, Procedure, Scalar, Some, Weights, [], ap, arith, bound_at, cap, cases_eq, cost_in, false, flows, get_or, greatest_cost, inl, inr, is_some, length, length-map, length-set, map, map-set, min, not, option_flatten, option_map, refl, replicate, same_Some, set, slice_get, slice_get-get_or, slice_get-map, subst, suc, sym, text_registers, true, weight_of, zero, ℕ, ◌*◌, ◌++◌, ◌+◌, ◌<◌, ◌∙◌, ◌∷◌, ◌≡◌, ◌≢◌, ◌≤◌, ◌⊎◌}
 use Rattle.tw_code.specs.declared.instr.Instr.TheVariants as instr
-use Rattle.tw_code.specs.declared.procedure.Procedure.{Procedure}
-use Rattle.tw_code.specs.accepting.Flow.{flows}
-use Rattle.tw_budget.specs.Sound.{IsSound}
-use Rattle.tw_bounds.specs.declared.weights.Weights.{Weights}
-use Rattle.tw_bounds.specs.GreatestCost.{greatest_cost}
-use Rattle.tw_bounds.specs.Bounds.{AreBounds, AreCosts, Calls, CallsEnd, IsBoundOf, bound_at, cost_in, text_registers, weight_of}
 use Rattle.tw_bounds.proofs.Reached.{is_greatest_cost}
-use Rattle.tw_bounds.specs.Solving.{AreCapped, AreCappedBounds, AreWithin, CallsUnknown, IsBoundable, IsCappedBound, IsFixpoint, IsNext}
 use Rattle.tw_bounds.proofs.Numbers.{mapped_some, weighted, same_parts}
-use Rattle.tw_bounds.specs.Rows.{cap}
 use Rattle.tw_bounds.proofs.Capping.{capped_at, costs_alike, greatest_alike, none_alike}
 
 -- the exact bounds that are known are right

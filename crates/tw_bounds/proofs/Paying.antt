@@ -1,72 +1,17 @@
 -- Each event is paid for by what a state still owes.
 use Rattle.std.proofs.Common.{◌≡◌, ℕ, zero, suc, ◌+◌, ◌*◌, ◌<◌, ◌≤◌, ◌==◌, Bool, true, false, not, ◌&&◌, is_none, List, [], ◌∷◌, length, map, slice_get, slice_set, Option, Some, None, refl, sym, ap, ◌∙◌, subst, arith}
-use Rattle.std.specs.FinMap.{get, insert, nat_cmp-IsAntisymmetric}
-use Rattle.std.specs.Cmp.{nat_cmp_total}
-use Rattle.std.specs.List.{list_all}
-use Rattle.std.specs.Ordering.{nat_cmp}
+use Rattle.tw_bounds.proofs.Names.{Action, Actor, ActorCounts, AreBounds, AreRight, Ask, Call, Closed, Completed, DataInstr, Deliver, Each, End, Event, Flow, Frame, Free, IfWent, Instr, IsHeld, IsProgram, IsRunningAt, IsSound, Local, Loop, LoopsFit, Param, Position, Procedure, Ready, Ref, Release, RightLeft, Rule, Stage, State, Store, Take, Task, Typings, Unasked, Val, Waiting, Weights, Went, Write, WrongCall, accepts, actor_cmp, actor_cmp-IsAntisymmetric, actor_cmp_total, adds_member, ask_leaves, at_stage, best, bound_at, called, context_of, cost_in, data_instr, deliver_leaves, each_insert, each_remove, filled, first_stage, fits_next, flow_of, flows, frame_after_call, frame_of, get, greatest_cost, if_both, if_enabled, if_ok, if_only, if_then, if_there, insert, instructions_by, is_closed_mode, is_in, is_running_at, left_too, list_all, members_held, mul-le-mul_left, must, nat_cmp, nat_cmp-IsAntisymmetric, nat_cmp_total, new_rule, number_in_kind, ok_both, ok_of, ok_there, option_map, outcome_of, params_in, params_of, put_called, release_leaves, rule_events, rule_events_by, same_Some, slice_get-map, sum_apart, sum_new, sum_replaced, task_from, tasks_by, text_registers, texts_added, texts_stored, total, values_in, weight_added, went_first, went_of, with_stage}
 use Rattle.std.specs.Prelude.{Ok, filter, if◌then◌else◌}
-use Rattle.std.proofs.Math.Nat.{mul-le-mul_left}
-use Rattle.std.proofs.lemmas.Option.{same_Some, slice_get-map}
-use Rattle.std.specs.Option.{option_map}
-use Rattle.tw_types.specs.declared.actor.Actor.{Actor}
-use Rattle.tw_types.specs.declared.cause.Cause.TheVariants.{RightLeft, WrongCall}
-use Rattle.tw_types.specs.declared.event.Event.{Event}
-use Rattle.tw_types.specs.declared.stage.Stage.{Stage}
-use Rattle.tw_types.specs.declared.stage.Stage.TheVariants.{Free, Unasked, Waiting, Ready}
-use Rattle.tw_types.specs.declared.param.Param.{Param}
 use Rattle.tw_types.specs.declared.param.Mode.{Mode}
-use Rattle.tw_types.specs.declared.param.Mode.TheVariants.{Val, Closed, Ref, Write}
-use Rattle.tw_types.specs.Mode.{is_closed_mode}
-use Rattle.tw_types.specs.declared.event.Event.TheVariants.{Take, Local, Call, End, Ask, Deliver, Release}
-use Rattle.tw_types.specs.Actor.{actor_cmp, is_in, number_in_kind}
-use Rattle.tw_types.specs.Layout.{ActorCounts}
-use Rattle.tw_types.specs.Outcome.{Went, outcome_of}
-use Rattle.tw_types.specs.Result.{must}
-use Rattle.tw_types.specs.Rule.{Rule, at_stage, first_stage, task_from}
-use Rattle.tw_types.specs.Store.{Store}
-use Rattle.tw_types.specs.Task.{Task, best}
-use Rattle.tw_types.specs.Totals.{total}
-use Rattle.tw_types.proofs.ActorOrder.{actor_cmp-IsAntisymmetric, actor_cmp_total}
 use Rattle.tw_types.proofs.Best.{best_waits}
-use Rattle.tw_types.proofs.Each.{Each, each_insert, each_remove}
-use Rattle.tw_types.proofs.Outcomes.{IfWent, if_both, if_enabled, if_ok, if_only, if_then, if_there, went_of, went_first}
-use Rattle.tw_types.proofs.Results.{ok_both, ok_of, ok_there}
-use Rattle.tw_code.specs.declared.flow.Flow.{Flow}
-use Rattle.tw_code.specs.declared.flow.Way.TheVariants.{Completed}
-use Rattle.tw_code.specs.declared.instr.Action.{Action}
-use Rattle.tw_code.specs.declared.instr.DataInstr.{DataInstr}
 use Rattle.tw_code.specs.declared.instr.DataInstr.TheVariants as on_data
-use Rattle.tw_code.specs.declared.instr.Instr.{Instr}
 use Rattle.tw_code.specs.declared.instr.Instr.TheVariants as instr
-use Rattle.tw_code.specs.declared.procedure.Procedure.{Procedure}
-use Rattle.tw_code.specs.accepting.Flow.{flow_of, flows}
-use Rattle.tw_code.specs.format.Program.{IsProgram}
-use Rattle.tw_code.specs.machine.Arguments.{called, params_in, params_of, put_called}
-use Rattle.tw_code.specs.machine.Data.{data_instr}
-use Rattle.tw_code.specs.machine.Holders.{Typings}
 use Rattle.tw_code.specs.machine.Machine.{RunningInstr, ask_event, call_by, deliver_event, release_event, call_event, end_event, is_ret, local_event, local_step, local_steps, running_instr_of, step, take_event}
-use Rattle.tw_code.specs.machine.Position.{Loop, Position}
-use Rattle.tw_code.specs.machine.State.{Frame, State, context_of, filled, frame_of, frame_after_call, new_rule, values_in, with_stage}
-use Rattle.tw_code.proofs.Leaving.{IsRunningAt, is_running_at, ask_leaves, deliver_leaves, release_leaves}
 use Rattle.tw_code.proofs.Placed.{IsCalled, called_is, put_called_is}
-use Rattle.tw_budget.specs.Frames.{LoopsFit}
-use Rattle.tw_budget.specs.Sound.{IsSound}
-use Rattle.tw_budget.proofs.FrameTheorems.{fits_next}
 use Rattle.tw_budget.proofs.Shortened.{fits_last}
-use Rattle.tw_soundness.specs.Invariant.{IsHeld}
-use Rattle.tw_soundness.specs.NoTrap.{AreRight}
-use Rattle.tw_soundness.proofs.Safe.{accepts}
 use Rattle.tw_soundness.proofs.Asked.{noted}
-use Rattle.tw_soundness.proofs.Sums.{sum_apart, sum_new, sum_replaced}
 use Rattle.tw_soundness.proofs.TaskEvents.{fresh_rule, fresh_task}
-use Rattle.tw_soundness.proofs.Values.{left_too}
-use Rattle.tw_bounds.specs.GreatestCost.{greatest_cost}
-use Rattle.tw_bounds.specs.declared.weights.Weights.{Weights}
-use Rattle.tw_bounds.specs.Bounds.{AreBounds, bound_at, cost_in, rule_events, text_registers, texts_added, weight_added}
 use Rattle.tw_bounds.proofs.Numbers.{costs_true, greatest_same, mapped_some, num_at, of_known, weight_at, weight_in, weight_num, weighted}
-use Rattle.tw_bounds.specs.Contents.{members_held, texts_stored}
-use Rattle.tw_bounds.specs.Limited.{adds_member}
-use Rattle.tw_bounds.specs.Runs.{rule_events_by, instructions_by, tasks_by}
 use Rattle.tw_bounds.proofs.GreatestCost.{left, left_last, pays, stop_at}
 use Rattle.tw_bounds.proofs.Holding.{Gains, one_if}
 use Rattle.tw_bounds.proofs.Moved.{DataGoes, GoesBy, StepsBy, by_way, data_goes, for_new, step_goes, subscribed_gains, subscribed_next, types_fit}

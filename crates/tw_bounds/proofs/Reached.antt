@@ -1,21 +1,5 @@
 -- Some walk costs what is computed, and none costs more.
-use Rattle.std.proofs.Common.{◌≡◌, ℕ, zero, suc, ◌+◌, ◌*◌, ◌<◌, ◌≤◌, Bool, true, false, List, [], ◌∷◌, length, Option, Some, None, refl, sym, ap, ◌∙◌, subst, arith, leb, ◌⊎◌, inl, inr}
-use Rattle.std.proofs.lemmas.Bool.{leb-true, leb-false, cases_lt}
-use Rattle.std.specs.Prelude.{slice_get}
-use Rattle.tw_code.specs.declared.flow.Flow.{Flow}
-use Rattle.tw_code.specs.declared.flow.Flow.TheVariants.{Straight, Branch, Jump, Begin, Close, Stop}
-use Rattle.tw_code.specs.declared.flow.Way.{Way}
-use Rattle.tw_code.specs.declared.flow.Way.TheVariants.{Completed, Skipped}
-use Rattle.tw_code.specs.machine.Position.{goal_of, Loop}
-use Rattle.tw_code.specs.accepting.Structure.{end_of}
-use Rattle.tw_code.specs.accepting.Walk.{IsWalk, moved, Rest}
-use Rattle.tw_budget.specs.Frames.{LoopsFit}
-use Rattle.tw_budget.specs.Sound.{IsSound}
-use Rattle.tw_budget.proofs.FrameTheorems.{fits_next}
-use Rattle.tw_budget.proofs.Lengths.{step_of, next_close, branch_goal, jump_goal, there}
-use Rattle.tw_budget.proofs.Places.{straight_end, branch_end, close_end, start_outside, stop_outside, begun, not_last}
-use Rattle.tw_bounds.specs.GreatestCost.{greatest_cost}
-use Rattle.tw_bounds.specs.Cost.{cost_of, IsGreatestCost}
+use Rattle.tw_bounds.proofs.Names.{Begin, Bool, Branch, Close, Completed, Flow, IsGreatestCost, IsSound, IsWalk, Jump, List, Loop, LoopsFit, None, Option, Rest, Skipped, Some, Stop, Straight, Way, [], ap, arith, begun, branch_end, branch_goal, cases_lt, close_end, cost_of, end_of, false, fits_next, goal_of, greatest_cost, inl, inr, jump_goal, leb, leb-false, leb-true, length, moved, next_close, not_last, refl, slice_get, start_outside, step_of, stop_outside, straight_end, subst, suc, sym, there, true, zero, ℕ, ◌*◌, ◌+◌, ◌<◌, ◌∙◌, ◌∷◌, ◌≡◌, ◌≤◌, ◌⊎◌}
 use Rattle.tw_bounds.proofs.GreatestCost.{straight_at, branch_at, jump_at, begin_at, close_at, stop_at, left, pays}
 
 module _ (cost : ℕ → ℕ) (code : List Flow) (s : IsSound code) where

@@ -1,17 +1,5 @@
 -- A bound that is reported is the number itself.
-use Rattle.std.proofs.Common.{◌≡◌, ℕ, Bool, true, false, if◌then◌else◌, List, [], ◌∷◌, map, min, Option, Some, None, refl, sym, ap, ◌∙◌, arith}
-use Rattle.std.specs.Prelude.{nat_le, slice_get}
-use Rattle.std.specs.Option.{option_flatten, option_map}
-use Rattle.std.proofs.lemmas.Bool.{le-leb, leb-true}
-use Rattle.std.proofs.lemmas.Option.{same_Some, slice_get-map}
-use Rattle.tw_code.specs.declared.procedure.Procedure.{Procedure}
-use Rattle.tw_bounds.specs.declared.bound.Bound.{Bound}
-use Rattle.tw_bounds.specs.declared.bound.Bound.TheVariants.{AtMost, Over, Endless}
-use Rattle.tw_bounds.specs.declared.weights.Weights.{Weights}
-use Rattle.tw_bounds.specs.Bounds.{bound_at}
-use Rattle.tw_bounds.specs.Reports.{AreReported, IsAtMost, reported}
-use Rattle.tw_bounds.specs.Rows.{cap, greatest_bound}
-use Rattle.tw_bounds.specs.Runs.{IsBoundOfMain}
+use Rattle.tw_bounds.proofs.Names.{AreReported, AtMost, Bool, Bound, Endless, IsAtMost, IsBoundOfMain, List, None, Option, Over, Procedure, Some, Weights, [], ap, arith, bound_at, cap, false, greatest_bound, if◌then◌else◌, le-leb, leb-true, map, min, nat_le, option_flatten, option_map, refl, reported, same_Some, slice_get, slice_get-map, sym, true, ℕ, ◌∙◌, ◌∷◌, ◌≡◌}
 
 abbrev pub number_of : Bound → ℕ
 number_of (AtMost n) = n

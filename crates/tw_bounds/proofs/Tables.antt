@@ -1,19 +1,6 @@
 -- A row is computed from the rows after it, one lemma for each form of flow.
-use Rattle.std.proofs.Common.{◌≡◌, ℕ, zero, suc, ◌+◌, ◌*◌, ◌<◌, ◌≤◌, min, max, List, length, set, Option, Some, None, sym, ap, ◌∙◌, arith, get_or}
-use Rattle.std.specs.Prelude.{slice_get}
-use Rattle.std.proofs.lemmas.Option.{slice_get-get_or}
-use Rattle.std.proofs.lemmas.List.{length-set}
-use Rattle.tw_code.specs.declared.flow.Flow.{Flow}
-use Rattle.tw_code.specs.declared.flow.Flow.TheVariants.{Straight, Branch, Jump, Begin, Close, Stop}
-use Rattle.tw_code.specs.machine.Position.{goal_of}
-use Rattle.tw_code.specs.accepting.Structure.{end_of}
-use Rattle.tw_budget.specs.Sound.{IsSound}
-use Rattle.tw_budget.proofs.Lengths.{jump_goal}
-use Rattle.tw_budget.proofs.Places.{straight_end, branch_end, close_end, stop_outside, begun}
+use Rattle.tw_bounds.proofs.Names.{Begin, Branch, Close, Flow, IsRow, IsSound, Jump, List, None, Option, Row, RowsFrom, Some, Stop, Straight, ap, arith, begun, branch_end, cap, close_end, end_of, get_or, goal_of, greatest_cost, jump_goal, length, length-set, max, min, set, slice_get, slice_get-get_or, stop_outside, straight_end, suc, sym, zero, ℕ, ◌*◌, ◌+◌, ◌<◌, ◌∙◌, ◌≡◌, ◌≤◌}
 use Rattle.tw_budget.proofs.Tables.{set_from}
-use Rattle.tw_bounds.specs.declared.row.Row.{Row}
-use Rattle.tw_bounds.specs.GreatestCost.{greatest_cost}
-use Rattle.tw_bounds.specs.Rows.{IsRow, RowsFrom, cap}
 use Rattle.tw_bounds.proofs.GreatestCost.{straight_at, branch_at, jump_at, begin_at, close_at, stop_at}
 
 module _ (cost : ℕ → ℕ) (code : List Flow) where

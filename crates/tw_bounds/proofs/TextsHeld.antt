@@ -1,44 +1,10 @@
 -- The texts of tasks and rules are at most as many as their procedures have registers of texts.
 use Rattle.std.proofs.Common.{◌≡◌, ℕ, suc, ◌+◌, ◌*◌, ◌≤◌, Bool, true, false, if◌then◌else◌, List, [], ◌∷◌, filter, length, map, slice_get, Option, Some, None, refl, sym, ap, ◌∙◌, arith, inl, inr}
 use Rattle.std.specs.declared.cmp.Ordering.{Ordering}
-use Rattle.std.specs.Cmp.{IsTotalOrder, nat_cmp_total}
-use Rattle.std.specs.FinMap.{FinMap, entries, get}
-use Rattle.std.specs.Ordering.{nat_cmp}
-use Rattle.std.proofs.Math.Nat.{mul-le-mul_left}
-use Rattle.std.proofs.lemmas.Bool.{and_parts}
-use Rattle.tw_types.specs.declared.actor.Actor.{Actor}
-use Rattle.tw_types.specs.declared.data_type.Scalar.{Scalar}
-use Rattle.tw_types.specs.declared.param.Mode.TheVariants.{Ref}
-use Rattle.tw_types.specs.declared.param.Param.{Param}
-use Rattle.tw_types.specs.declared.stage.Stage.{Stage}
-use Rattle.tw_types.specs.declared.stage.Stage.TheVariants.{Free, Unasked, Waiting, Ready}
-use Rattle.tw_types.specs.declared.value.Value.{Value}
-use Rattle.tw_types.specs.Actor.{actor_cmp}
-use Rattle.tw_types.specs.DataType.{same_scalar}
-use Rattle.tw_types.specs.Mode.{is_val}
-use Rattle.tw_types.specs.Rule.{Rule}
-use Rattle.tw_types.specs.Store.{Store}
-use Rattle.tw_types.specs.Task.{Arg, ValueArg, RightArg, Task}
+use Rattle.tw_bounds.proofs.Names.{Actor, AreBounds, AreRight, Arg, ArgFits, FinMap, Frame, Free, IsEntry, IsHeld, IsProgram, IsTotalOrder, Param, Procedure, Ready, Ref, RightArg, RightType, Rule, RuleArgsFit, Scalar, Stage, State, Store, Task, Typings, Unasked, Value, ValueArg, ValuesFit, Waiting, Weights, accepted, accepts, actor_cmp, actor_cmp_total, and_parts, entries, frame_texts, get, get_entry, is_text, is_val, mul-le-mul_left, nat_cmp, nat_cmp_total, rule_texts, same_scalar, same_scalars, scalar_of, task_texts, text_registers, texts_among, texts_held, texts_stored, value_types, values_fit, values_in}
 use Rattle.tw_types.specs.Totals.{sum_of, total}
-use Rattle.tw_types.specs.Value.{scalar_of}
-use Rattle.tw_types.proofs.ActorOrder.{actor_cmp_total}
-use Rattle.tw_types.proofs.SameTypes.{same_scalars}
-use Rattle.tw_types.proofs.Totals.{IsEntry, get_entry}
-use Rattle.tw_code.specs.declared.procedure.Procedure.{Procedure}
-use Rattle.tw_code.specs.accepting.Typing.{value_types, values_fit}
-use Rattle.tw_code.specs.format.Program.{IsProgram}
-use Rattle.tw_code.specs.machine.Holders.{Typings}
-use Rattle.tw_code.specs.machine.Rights.{RightType}
-use Rattle.tw_code.specs.machine.State.{Frame, State, values_in}
 use Rattle.tw_soundness.specs.InOrder.{right_until}
-use Rattle.tw_soundness.specs.Invariant.{ArgFits, IsHeld, RuleArgsFit, ValuesFit}
-use Rattle.tw_soundness.specs.NoTrap.{AreRight}
-use Rattle.tw_soundness.proofs.Accepted.{accepted}
-use Rattle.tw_soundness.proofs.Safe.{accepts}
 use Rattle.tw_soundness.proofs.Taking.{args_values}
-use Rattle.tw_bounds.specs.declared.weights.Weights.{Weights}
-use Rattle.tw_bounds.specs.Bounds.{AreBounds, text_registers}
-use Rattle.tw_bounds.specs.Contents.{frame_texts, is_text, rule_texts, task_texts, texts_among, texts_held, texts_stored}
 use Rattle.tw_bounds.proofs.Holding.{one_if}
 use Rattle.tw_bounds.proofs.Moved.{types_fit}
 use Rattle.tw_bounds.proofs.Paying.{AreBounded, frame_owes, owed_in, owes, rule_owes, starts, task_owes}

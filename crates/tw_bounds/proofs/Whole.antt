@@ -1,12 +1,5 @@
 -- Main's bounds hold for each run.
-use Rattle.std.proofs.Common.{List}
-use Rattle.tw_code.specs.declared.procedure.Procedure.{Procedure}
-use Rattle.tw_code.specs.format.Program.{IsProgram}
-use Rattle.tw_code.specs.machine.Holders.{Typings}
-use Rattle.tw_soundness.specs.NoTrap.{AreRight}
-use Rattle.tw_bounds.specs.declared.bound.RunBounds.{RunBounds}
-use Rattle.tw_bounds.specs.Reports.{AreRunBounds, BoundsRuns}
-use Rattle.tw_bounds.specs.Runs.{events_alone}
+use Rattle.tw_bounds.proofs.Names.{AreRight, AreRunBounds, BoundsRuns, IsProgram, List, Procedure, RunBounds, Typings, events_alone}
 use Rattle.tw_bounds.proofs.Along.{run_within}
 use Rattle.tw_bounds.proofs.Ending.{runs_end}
 use Rattle.tw_bounds.proofs.Reporting.{main_bound}

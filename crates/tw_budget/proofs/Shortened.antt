@@ -1,19 +1,8 @@
 -- A loop whose iterations end earlier: no rest of a walk gets longer.
-use Rattle.std.proofs.Common.{◌≡◌, ℕ, zero, suc, ◌+◌, ◌*◌, ◌<◌, ◌≤◌, List, [], ◌∷◌, ◌++◌, length, Option, Some, None, refl, sym, ap, ◌∙◌, subst, arith}
-use Rattle.std.specs.Prelude.{slice_get}
-use Rattle.tw_code.specs.declared.flow.Flow.{Flow}
-use Rattle.tw_code.specs.declared.flow.Flow.TheVariants.{Straight, Branch, Jump, Begin, Close, Stop}
-use Rattle.tw_code.specs.declared.flow.Way.{Way}
-use Rattle.tw_code.specs.declared.flow.Way.TheVariants.{Completed, Skipped}
-use Rattle.tw_code.specs.machine.Position.{goal_of, Loop, Cursor, turned, with_last}
-use Rattle.tw_code.specs.accepting.Structure.{end_of}
-use Rattle.tw_code.specs.accepting.Walk.{moved, next, Rest}
-use Rattle.tw_budget.specs.Frames.{LoopsFit, IsWithinBudget}
-use Rattle.tw_budget.specs.Longest.{Reaches}
+use Rattle.tw_budget.proofs.Names.{Begin, Branch, Close, Completed, Cursor, Flow, IsSound, IsWithinBudget, Jump, List, Loop, LoopsFit, None, Option, Reaches, Rest, Skipped, Some, Stop, Straight, Way, [], ap, arith, end_of, goal_of, length, moved, next, refl, slice_get, subst, suc, sym, turned, with_last, zero, ℕ, ◌*◌, ◌++◌, ◌+◌, ◌<◌, ◌∙◌, ◌∷◌, ◌≡◌, ◌≤◌}
 use Rattle.tw_budget.proofs.Lengths.{same_cursor, step_of, next_close, reaches_turns, there, longest_at}
 use Rattle.tw_budget.proofs.Places.{close_end, end_within}
 use Rattle.tw_budget.proofs.FrameTheorems.{fits_next}
-use Rattle.tw_budget.specs.Sound.{IsSound}
 
 abbrev at_place : ℕ → List Loop → Cursor
 at_place place loops = record { place = place; loops = loops }

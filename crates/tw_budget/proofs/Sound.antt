@@ -1,21 +1,13 @@
 -- The flows of a structured procedure are sound.
-use Rattle.std.proofs.Common.{◌≡◌, ℕ, zero, suc, ◌<◌, List, [], ◌∷◌, Option, Some, None, ap, arith}
-use Rattle.std.specs.Prelude.{slice_get}
+use Rattle.tw_budget.proofs.Names.{Begin, Branch, Close, Flow, Instr, IsSound, IsStructured, Jump, List, None, Option, Some, Stop, Straight, [], ap, arith, data_flow, flow_of, flows, length-map, local_flow, slice_get, suc, zero, ℕ, ◌<◌, ◌∷◌, ◌≡◌}
 use Rattle.std.specs.List.{AllByRecursion}
-use Rattle.std.proofs.lemmas.List.{length-map}
-use Rattle.tw_code.specs.declared.flow.Flow.{Flow}
-use Rattle.tw_code.specs.declared.flow.Flow.TheVariants.{Straight, Branch, Jump, Begin, Close, Stop}
 use Rattle.tw_code.specs.declared.instr.DataInstr.{DataInstr}
 use Rattle.tw_code.specs.declared.instr.DataInstr.TheVariants as on_data
 use Rattle.tw_code.specs.declared.instr.LocalInstr.{LocalInstr}
 use Rattle.tw_code.specs.declared.instr.LocalInstr.TheVariants as local
-use Rattle.tw_code.specs.declared.instr.Instr.{Instr}
 use Rattle.tw_code.specs.declared.instr.Instr.TheVariants as instr
 use Rattle.tw_code.specs.declared.procedure.Procedure.{Procedure}
-use Rattle.tw_code.specs.accepting.Flow.{data_flow, flow_of, flows, local_flow}
 use Rattle.tw_code.specs.format.Program.{IsInstr, IsProcedure}
-use Rattle.tw_code.specs.accepting.Structure.{IsStructured}
-use Rattle.tw_budget.specs.Sound.{IsSound}
 
 -- a REPEAT has iterations, and nothing else begins a loop
 local_turns : (i : LocalInstr) (iterations : ℕ) → IsInstr (instr.Local i) → local_flow i ≡ Begin iterations → 0 < iterations

@@ -31,7 +31,7 @@ pub enum Arithmetic {
     WrappingAdd,
 }
 
-/// What a search in a text looks for.
+/// The aim of a search in a text.
 #[derive(Clone, Copy)]
 pub enum Sought {
     /// FIND: the least place at which the pattern begins.

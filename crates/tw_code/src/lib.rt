@@ -25,7 +25,7 @@ pub use inputs::{
 pub use instr::{Action, Arithmetic, DataInstr, Instr, LocalInstr, Priority, Sought};
 pub use main_shape::{has_main_shape, main_params};
 pub use memory::NoMemory;
-pub use opcode::{OPCODES, Opcode, form_at, opcode_at, opcode_in, word_of};
+pub use opcode::{OPCODES, Opcode, opcode_at, opcode_in, word_of};
 pub use operands::{Operands, PlainOperand, make};
 pub use procedure::Procedure;
 pub use program::Program;

@@ -1,8 +1,7 @@
 //! The instruction set: of each instruction its code, the versions that have it, the forms of its operands, and its name in assembly.
 
-ghost use Rattle.std.specs.Prelude.{◌≡◌, ◌==◌, slice_get};
+ghost use Rattle.std.specs.Prelude.{◌≡◌, ◌==◌};
 ghost use Rattle.std.specs.List.{find};
-ghost use Rattle.std.specs.Option.{option_and_then};
 ghost use Rattle.tw_code.specs.format.Table.{code_of, forms_of, has_opcode, opcode_at, opcode_in, opcode_of, since, word_of};
 
 use crate::form::Form;
@@ -238,16 +237,5 @@ pub fn opcode_in(version: Version, name: &[u8]) -> Option<Opcode>
     match opcode_named(name) {
         Some(opcode) if opcode.is_in(version) => Some(opcode),
         _ => None,
-    }
-}
-
-/// Returns the form of the operand at an index, from 0, in a line with this name. Returns `None` if the version has no such
-/// instruction or it has fewer operands. A type and arguments may be several words of the line, all that are left.
-pub fn form_at(version: Version, name: &[u8], place: usize) -> Option<Form>
-    ensures { result ≡ option_and_then (λ o. slice_get (forms_of o) place) (opcode_in version name.now) }
-{
-    match opcode_in(version, name) {
-        Some(opcode) => opcode.forms().get(place).copied(),
-        None => None,
     }
 }

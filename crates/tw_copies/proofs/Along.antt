@@ -1,36 +1,17 @@
 -- Marks are carried along local steps, through jumps and loops.
-use Rattle.std.proofs.Common.{◌≡◌, ◌⊎◌, inl, inr, ℕ, zero, suc, ◌+◌, true, List, [], ◌∷◌, slice_get, Some, refl, sym, ap, subst, ◌∙◌}
-use Rattle.std.proofs.lemmas.Option.{same_Some, slice_get-map}
-use Rattle.std.specs.Option.{option_map}
-use Rattle.std.specs.Prelude.{Ok, Result}
-use Rattle.tw_types.specs.declared.cause.Cause.{Cause}
-use Rattle.tw_types.specs.declared.cause.Cause.TheVariants.{OutsideCode}
-use Rattle.tw_types.specs.Outcome.{Went, enabled, outcome_of}
-use Rattle.tw_types.proofs.Outcomes.{same_went, went_enabled, went_first, went_ok}
-use Rattle.tw_types.proofs.Results.{there_ok}
+use Rattle.tw_copies.proofs.Names.{AreBegun, Cause, Completed, Cursor, Instr, IsEndOf, List, Loop, Moves, Ok, OutsideCode, Position, Procedure, Result, Skipped, Some, Typing, Way, Went, [], ap, enabled, flow_of, flows, inl, inr, instr_at, local_flow, local_moves, local_of, local_step, local_steps, onward, option_map, outcome_of, refl, same_Some, same_went, slice_get, slice_get-map, subst, suc, sym, there_ok, true, turned, went_enabled, went_first, went_ok, zero, ℕ, ◌+◌, ◌∙◌, ◌∷◌, ◌≡◌, ◌⊎◌}
 use Rattle.tw_code.specs.declared.flow.Flow.{Flow}
 use Rattle.tw_code.specs.declared.flow.Flow.TheVariants.{Straight, Branch, Jump, Begin, Close, Stop}
-use Rattle.tw_code.specs.declared.flow.Way.{Way}
-use Rattle.tw_code.specs.declared.flow.Way.TheVariants.{Completed, Skipped}
-use Rattle.tw_code.specs.declared.instr.Instr.{Instr}
 use Rattle.tw_code.specs.declared.instr.Instr.TheVariants as instr
 use Rattle.tw_code.specs.declared.instr.LocalInstr.{LocalInstr}
-use Rattle.tw_code.specs.declared.procedure.Procedure.{Procedure}
-use Rattle.tw_code.specs.accepting.Flow.{flow_of, flows, local_flow, onward}
 use Rattle.tw_code.specs.accepting.Structure.{end_of}
 use Rattle.tw_code.specs.accepting.Walk.{moved}
-use Rattle.tw_code.specs.accepting.WellTyped.{IsEndOf}
 use Rattle.tw_code.specs.machine.Local.{local_instr}
-use Rattle.tw_code.specs.machine.Machine.{instr_at, local_of, local_step, local_steps}
-use Rattle.tw_code.specs.machine.Position.{Cursor, Loop, Position, turned}
-use Rattle.tw_code.specs.machine.Rights.{Typing}
 use Rattle.tw_budget.specs.Frames.{LoopsFit}
 use Rattle.tw_budget.proofs.Places.{close_end}
 use Rattle.tw_soundness.specs.AtPlace.{Accepts, IsAtPosition}
-use Rattle.tw_soundness.specs.Invariant.{AreBegun}
 use Rattle.tw_soundness.proofs.Moving.{GoesBack, asked, has_loop, position_next}
 use Rattle.tw_soundness.proofs.Steps.{Goes}
-use Rattle.tw_soundness.proofs.Values.{Moves, local_moves}
 use Rattle.tw_copies.proofs.Marking.{Marks}
 use Rattle.tw_copies.proofs.Summing.{IsCarried}
 

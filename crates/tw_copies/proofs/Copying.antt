@@ -1,8 +1,7 @@
 -- The instructions that copy write rights.
 use Rattle.std.specs.Prelude.{Bool, true, false}
-use Rattle.tw_code.specs.declared.instr.DataInstr.{DataInstr}
+use Rattle.tw_copies.proofs.Names.{DataInstr, Instr}
 use Rattle.tw_code.specs.declared.instr.DataInstr.TheVariants as on_data
-use Rattle.tw_code.specs.declared.instr.Instr.{Instr}
 use Rattle.tw_code.specs.declared.instr.Instr.TheVariants as instr
 
 abbrev pub is_copy : DataInstr → Bool

@@ -1,36 +1,14 @@
 -- Each instruction on data leaves no more unmarked write rights in the registers, except for a new one; and DUPW makes one more.
-use Rattle.std.proofs.Common.{◌≡◌, ℕ, ◌+◌, ◌<◌, ◌≤◌, ◌==◌, Bool, true, false, not, ◌||◌, if◌then◌else◌, List, slice_get, slice_set, Option, Some, None, refl, sym, ap, subst, ◌∙◌, arith}
-use Rattle.std.proofs.lemmas.Bool.{and_from, eq-eqb, ne_eqb, or_left, or_right}
-use Rattle.std.specs.Option.{option_and_then}
-use Rattle.std.specs.Prelude.{Ok, Result}
-use Rattle.tw_types.specs.declared.cause.Cause.{Cause}
-use Rattle.tw_types.specs.declared.cause.Cause.TheVariants.{EmptyRegister, UnsetDatum, WrongRegister}
-use Rattle.tw_types.specs.declared.data_type.Scalar.{Scalar}
+use Rattle.tw_copies.proofs.Names.{AllYes, Bool, Cause, Completed, Context, DataInstr, EmptyRegister, List, None, Ok, Option, Result, RightType, Scalar, Skipped, Some, Typing, UnsetDatum, Value, Way, WrongRegister, a_member_read, a_read, a_write, after_data, after_insert, after_look, after_put, and_from, ap, arith, data_flow, data_instr, datum_at, datum_of, element_of, eq-eqb, false, hits, hits_other, hits_same, if_absent, if◌then◌else◌, int_at, is_read, is_write, must_be_empty, must_have_type, must_then, ne_eqb, not, of_type_at, ok_after, ok_first, onward, option_and_then, or_left, or_right, passed, reads, refl, requires_data, right_at, slice_get, slice_set, subst, suits, suits_entry, suits_subscript, sym, there_then, true, with_result, write_by, writes, ℕ, ◌+◌, ◌<◌, ◌==◌, ◌||◌, ◌∙◌, ◌≡◌, ◌≤◌}
 use Rattle.tw_types.specs.declared.data_type.Scalar.TheVariants as scalar
 use Rattle.tw_types.specs.declared.param.Mode.{Mode}
 use Rattle.tw_types.specs.declared.param.Mode.TheVariants.{Closed, Ref, Val, Write}
-use Rattle.tw_types.specs.declared.value.Value.{Value}
-use Rattle.tw_types.specs.Counts.{hits}
-use Rattle.tw_types.specs.DataType.{element_of}
-use Rattle.tw_types.specs.Mode.{is_read, is_write}
 use Rattle.tw_types.specs.Nesting.{NestedScalar}
 use Rattle.tw_types.specs.Value.{scalar_of}
 use Rattle.tw_types.specs.StoreCalls as calls
 use Rattle.tw_types.specs.StoreCalls.{entry_at, member_at, subscript_after, subscripts_at}
 use Rattle.tw_types.specs.StoreChecks.{may_be_read, may_copy_write, may_drop_read, may_drop_write, may_add, may_insert, may_look, may_put, may_read_entry, may_read_members, may_read_subscripts_by, may_retrieve, may_store}
-use Rattle.tw_types.proofs.Freeing.{hits_other, hits_same}
-use Rattle.tw_types.proofs.Results.{must_then, ok_after, ok_first, there_then}
-use Rattle.tw_code.specs.declared.flow.Way.{Way}
-use Rattle.tw_code.specs.declared.flow.Way.TheVariants.{Completed, Skipped}
-use Rattle.tw_code.specs.declared.instr.DataInstr.{DataInstr}
 use Rattle.tw_code.specs.declared.instr.DataInstr.TheVariants as on_data
-use Rattle.tw_code.specs.accepting.Flow.{data_flow, onward}
-use Rattle.tw_code.specs.accepting.Typing.{a_member_read, a_read, a_write, after_data, requires_data, reads, writes}
-use Rattle.tw_code.specs.machine.Holders.{write_by}
-use Rattle.tw_code.specs.machine.Data.{Context, after_insert, after_look, after_put, data_instr, datum_at, datum_of, if_absent, suits, suits_entry, suits_subscript}
-use Rattle.tw_code.specs.machine.Position.{int_at, must_have_type, of_type_at, with_result}
-use Rattle.tw_code.specs.machine.Rights.{RightType, Typing, must_be_empty, right_at}
-use Rattle.tw_soundness.proofs.Values.{AllYes, passed}
 use Rattle.tw_copies.proofs.Marking.{Marked, marked_by}
 use Rattle.tw_copies.proofs.Handing.{filled_at}
 use Rattle.tw_copies.proofs.Spare.{one_at_most, one_spare, spare, spare_less, spare_marked, spare_set, unmarked}

@@ -1,45 +1,11 @@
 -- No event makes more unmarked write rights, except NEW and DUPW.
-use Rattle.std.proofs.Common.{◌≡◌, ℕ, ◌+◌, ◌≤◌, ◌==◌, Bool, true, false, not, List, slice_get, Some, refl, sym, ap, subst, ◌∙◌, arith, nat_cmp}
-use Rattle.std.specs.FinMap.{get}
-use Rattle.std.specs.Prelude.{Ok, Result}
-use Rattle.tw_types.specs.declared.cause.Cause.{Cause}
+use Rattle.tw_copies.proofs.Names.{Action, Actor, ActorCounts, AllYes, AreRight, Bool, Called, Cause, Completed, Context, DataInstr, Frame, IfWent, IsCall, IsHeld, IsProgram, List, Ok, Procedure, Result, Some, State, Task, Typing, Typings, WrongCall, accepts, actor_cmp, actor_cmp-IsAntisymmetric, actor_cmp_total, after_context, ap, arith, ask_event, ask_leaves, asked_at, at_stage, called, context_of, data_instr, deliver_event, deliver_leaves, end_event, end_leaves, false, filled, first_rights, frame_after_call, get, ids_in, if_both, if_enabled, if_only, if_there, is_call, local_event, local_steps, nat_cmp, nat_cmp-IsAntisymmetric, nat_cmp_total, new_rule, not, ok_first, params_in, params_of, position_there, put_call, put_called, refl, release_event, release_leaves, requires_args, requires_callee, requires_priority, same_Some, slice_get, start_typing, steps_leave, subst, sym, take_event, take_leaves, task_from, there_then, true, typed_after, typed_at_start, typing_at, typing_of, values_in, with_frame, with_rule, with_task, without_args, yes_after, ℕ, ◌+◌, ◌==◌, ◌∙◌, ◌≡◌, ◌≤◌}
 use Rattle.tw_types.specs.declared.stage.Stage.TheVariants.{Ready, Waiting}
-use Rattle.tw_types.specs.Rule.{at_stage, task_from}
-use Rattle.tw_types.specs.declared.actor.Actor.{Actor}
 use Rattle.tw_types.specs.declared.actor.Kind.{Kind}
-use Rattle.tw_types.specs.declared.cause.Cause.TheVariants.{WrongCall}
 use Rattle.tw_types.specs.declared.notice.Notice.{Notice}
-use Rattle.tw_types.specs.Layout.{ActorCounts}
-use Rattle.tw_types.specs.Task.{Task}
 use Rattle.tw_types.proofs.Best.{best_waits}
-use Rattle.tw_types.proofs.Outcomes.{IfWent, if_both, if_enabled, if_only, if_there}
-use Rattle.tw_types.proofs.Results.{ok_first, there_then}
-use Rattle.tw_code.specs.declared.flow.Way.TheVariants.{Completed}
-use Rattle.tw_code.specs.declared.instr.Action.{Action}
-use Rattle.tw_code.specs.declared.instr.DataInstr.{DataInstr}
 use Rattle.tw_code.specs.declared.instr.Instr.TheVariants as instr
-use Rattle.tw_code.specs.declared.procedure.Procedure.{Procedure}
-use Rattle.tw_code.specs.accepting.Typing.{requires_args, requires_callee, requires_priority, start_typing, without_args}
-use Rattle.tw_code.specs.format.Program.{IsProgram}
-use Rattle.tw_code.specs.machine.Arguments.{Called, called, params_in, params_of, put_called}
-use Rattle.tw_code.specs.machine.Data.{Context, data_instr}
-use Rattle.tw_code.specs.machine.Holders.{Typings, typing_at, typing_of}
-use Rattle.tw_code.specs.machine.Machine.{ask_event, deliver_event, end_event, local_event, local_steps, release_event, take_event}
-use Rattle.tw_code.specs.machine.Rights.{Typing, first_rights}
-use Rattle.tw_code.specs.machine.State.{Frame, State, after_context, context_of, filled, frame_after_call, ids_in, new_rule, values_in, with_frame, with_rule, with_task}
-use Rattle.tw_code.proofs.Leaving.{ask_leaves, deliver_leaves, end_leaves, release_leaves, take_leaves}
-use Rattle.tw_soundness.specs.Invariant.{IsHeld}
-use Rattle.tw_soundness.specs.NoTrap.{AreRight}
 use Rattle.tw_soundness.proofs.Called.{callee_met}
-use Rattle.tw_soundness.proofs.Running.{asked_at, position_there, steps_leave, typed_after, typed_at_start}
-use Rattle.tw_soundness.proofs.Safe.{accepts}
-use Rattle.tw_soundness.proofs.Values.{AllYes, yes_after}
-use Rattle.tw_determinism.proofs.RuleFollows.{IsCall, is_call, put_call}
-use Rattle.std.proofs.lemmas.Option.{same_Some}
-use Rattle.tw_types.proofs.ActorOrder.{actor_cmp-IsAntisymmetric, actor_cmp_total}
-use Rattle.tw_types.specs.Actor.{actor_cmp}
-use Rattle.std.specs.Cmp.{nat_cmp_total}
-use Rattle.std.specs.FinMap.{nat_cmp-IsAntisymmetric}
 use Rattle.tw_copies.proofs.Marking.{AreHanded, Marked, Marks, marked_by}
 use Rattle.tw_copies.proofs.Along.{steps_marks}
 use Rattle.tw_copies.proofs.DataSpare.{DataSpare, data_spare, new_writes}

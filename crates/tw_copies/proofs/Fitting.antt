@@ -1,23 +1,8 @@
 -- Marks that are as the program requires, with no insertion by a marked register, are marks by places that fit.
-use Rattle.std.proofs.Common.{◌≡◌, inl, inr, ℕ, suc, ◌+◌, ◌==◌, Bool, true, false, not, ◌||◌, if◌then◌else◌, List, [], ◌∷◌, Option, Some, None, refl, subst, arith}
-use Rattle.std.specs.Prelude.{MatchOption}
-use Rattle.std.proofs.lemmas.Bool.{and_parts, eqb-true}
-use Rattle.tw_types.specs.declared.param.Param.{Param}
-use Rattle.tw_types.specs.Mode.{is_val}
-use Rattle.tw_code.specs.declared.instr.Action.{Action}
-use Rattle.tw_code.specs.declared.instr.DataInstr.{DataInstr}
+use Rattle.tw_copies.proofs.Names.{Action, AllMet, AreRight, ArgsRequire, Bool, CopyRequires, DataInstr, Instr, IsCopyInsertion, IsFirst, IsMarked, IsMarkedInsertion, IsMet, IsProgram, List, MatchOption, NeverContests, None, Nowhere, OnlyCopies, Option, Param, Passes, Procedure, Requires, Some, Typings, [], and_parts, arith, eqb-true, false, if◌then◌else◌, inl, inr, is_marked, is_val, not, params_of, refl, subst, suc, true, ℕ, ◌+◌, ◌==◌, ◌||◌, ◌∷◌, ◌≡◌}
 use Rattle.tw_code.specs.declared.instr.DataInstr.TheVariants as on_data
-use Rattle.tw_code.specs.declared.instr.Instr.{Instr}
 use Rattle.tw_code.specs.declared.instr.Instr.TheVariants as instr
-use Rattle.tw_code.specs.declared.procedure.Procedure.{Procedure}
-use Rattle.tw_code.specs.machine.Arguments.{params_of}
-use Rattle.tw_code.specs.format.Program.{IsProgram}
-use Rattle.tw_code.specs.machine.Holders.{Typings}
-use Rattle.tw_soundness.specs.NoTrap.{AreRight}
-use Rattle.tw_determinism.specs.OneResult.{NeverContests}
 use Rattle.tw_copies.specs.declared.check.CopyInsertion.{CopyInsertion}
-use Rattle.tw_copies.specs.Copies.{IsCopyInsertion, IsFirst, Nowhere, Passes}
-use Rattle.tw_copies.specs.Marks.{AllMet, ArgsRequire, CopyRequires, IsMarked, IsMarkedInsertion, IsMet, OnlyCopies, Requires, is_marked}
 use Rattle.tw_copies.proofs.Marked.{first_is, nowhere_is}
 use Rattle.tw_copies.proofs.Tracking.{never_contests}
 use Rattle.tw_copies.proofs.Marking.{AreHanded, IsMarkable, Marked, marked_after, marked_by}

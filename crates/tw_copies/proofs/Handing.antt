@@ -1,24 +1,7 @@
 -- RULE and PUT hand over no more unmarked write rights than leave the registers.
-use Rattle.std.proofs.Common.{◌≡◌, inl, inr, ℕ, zero, suc, ◌+◌, ◌≤◌, Bool, if◌then◌else◌, List, [], ◌∷◌, ◌++◌, slice_get, slice_set, Option, Some, None, sym, ap, subst, arith}
-use Rattle.std.proofs.lemmas.Bool.{and_parts, cases_Bool}
-use Rattle.std.specs.Option.{ok_or}
-use Rattle.std.specs.Prelude.{Ok}
-use Rattle.tw_types.specs.declared.cause.Cause.TheVariants.{EmptyRegister, WrongRegister}
-use Rattle.tw_types.specs.declared.data_type.Scalar.{Scalar}
-use Rattle.tw_types.specs.declared.param.Param.{Param}
-use Rattle.tw_types.specs.declared.value.Value.{Value}
-use Rattle.tw_types.specs.Counts.{hits}
-use Rattle.tw_types.specs.DataType.{same_type}
-use Rattle.tw_types.specs.Mode.{is_val, is_write}
+use Rattle.tw_copies.proofs.Names.{AllYes, Bool, EmptyRegister, List, MovedArgs, None, Ok, Option, Param, RightArg, Rights, Scalar, Some, Typing, Value, ValueArg, WrongRegister, [], and_parts, ap, arith, cases_Bool, held, hits, if◌then◌else◌, inl, inr, is_val, is_write, moved_args, ok_first, ok_or, passed, requires_args, requires_value, right_at, right_fits_param, same_handed, same_type, slice_get, slice_set, subst, suc, suits_mode, suits_write, sym, there_then, with_arg, without_args, zero, ℕ, ◌++◌, ◌+◌, ◌∷◌, ◌≡◌, ◌≤◌}
 use Rattle.tw_types.specs.Result.{◌>>=◌}
-use Rattle.tw_types.specs.Task.{ValueArg, RightArg}
-use Rattle.tw_types.proofs.Results.{ok_first, there_then}
 use Rattle.tw_code.specs.accepting.Question.{passes}
-use Rattle.tw_code.specs.accepting.Typing.{requires_args, requires_value, right_fits_param, suits_mode, without_args}
-use Rattle.tw_code.specs.machine.Arguments.{MovedArgs, moved_args, with_arg}
-use Rattle.tw_code.specs.machine.Rights.{Rights, Typing, held, right_at}
-use Rattle.tw_soundness.proofs.Values.{AllYes, passed}
-use Rattle.tw_determinism.proofs.RuleFollows.{same_handed, suits_write}
 use Rattle.tw_copies.proofs.Marking.{AreHanded, Marked}
 use Rattle.tw_copies.proofs.Spare.{one_empty, one_less, one_spare, spare, spare_args, spare_emptied}
 

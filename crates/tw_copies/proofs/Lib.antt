@@ -1,5 +1,6 @@
 mod Copying
 mod Marking
+pub mod Names
 mod Spare
 mod Handing
 mod DataSpare

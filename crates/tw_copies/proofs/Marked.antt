@@ -1,16 +1,7 @@
 -- Marks that grow until all requirements are met are exactly the registers that may hold copies.
-use Rattle.std.proofs.Common.{◌≡◌, ◌⊎◌, inl, inr, ℕ, zero, suc, ◌+◌, ◌*◌, ◌<◌, Bool, true, false, List, [], ◌∷◌, length, set, Some, slice_get, refl, sym, ap, subst, ◌∙◌, arith}
-use Rattle.std.proofs.lemmas.Bool.{cases_eq}
-use Rattle.std.proofs.lemmas.Option.{same_Some, slice_get_within}
-use Rattle.tw_code.specs.declared.instr.DataInstr.{DataInstr}
+use Rattle.tw_copies.proofs.Names.{AllMet, Bool, CodeMet, CopyRequires, DataInstr, InsertsMarked, Instr, IsAt, IsCopyInsertion, IsFirst, IsMarked, IsMarkedInsertion, IsMet, IsProgram, IsUnmet, List, MayBeCopy, Nowhere, OnlyCopies, Procedure, Requires, Some, SomeUnmet, [], ap, arith, by_put, by_rule, cases_eq, copied_from, copied_to, false, inl, inr, is_set, length, params_of, refl, same_Some, set, slice_get, slice_get_within, slot, subst, suc, sym, true, zero, ℕ, ◌*◌, ◌+◌, ◌<◌, ◌∙◌, ◌∷◌, ◌≡◌, ◌⊎◌}
 use Rattle.tw_code.specs.declared.instr.DataInstr.TheVariants as on_data
-use Rattle.tw_code.specs.declared.instr.Instr.{Instr}
 use Rattle.tw_code.specs.declared.instr.Instr.TheVariants as instr
-use Rattle.tw_code.specs.declared.procedure.Procedure.{Procedure}
-use Rattle.tw_code.specs.format.Program.{IsProgram}
-use Rattle.tw_code.specs.machine.Arguments.{params_of}
-use Rattle.tw_copies.specs.Copies.{IsAt, IsCopyInsertion, IsFirst, MayBeCopy, Nowhere, by_put, by_rule, copied_from, copied_to}
-use Rattle.tw_copies.specs.Marks.{AllMet, CodeMet, CopyRequires, InsertsMarked, IsMarked, IsMarkedInsertion, IsMet, IsUnmet, OnlyCopies, Requires, SomeUnmet, is_set, slot}
 use Rattle.tw_copies.proofs.Registers.{callee_within, copy_within, from_within, inserted_within, into_within, params_few, put_args, rule_args}
 
 -- ---- lists of marks

@@ -1,19 +1,9 @@
 -- Marks of right registers by places: at a marked register and place, the right may be a copy, or may have been copied. A program that
 -- inserts only by rights that aren't marked has no contested insertion.
 use Rattle.std.specs.Prelude.{◌≡◌, ℕ, suc, ◌==◌, Bool, true, false, not, ◌&&◌, ◌||◌, if◌then◌else◌, List, [], ◌∷◌, Some, slice_get}
-use Rattle.tw_types.specs.declared.param.Param.{Param}
-use Rattle.tw_types.specs.Mode.{is_val}
-use Rattle.tw_code.specs.declared.flow.Way.{Way}
-use Rattle.tw_code.specs.declared.instr.Action.{Action}
-use Rattle.tw_code.specs.declared.instr.DataInstr.{DataInstr}
+use Rattle.tw_copies.proofs.Names.{Action, DataInstr, InsertsInto, Instr, IsEndOf, Param, Procedure, Way, flow_of, is_val, onward, params_of}
 use Rattle.tw_code.specs.declared.instr.DataInstr.TheVariants as on_data
-use Rattle.tw_code.specs.declared.instr.Instr.{Instr}
 use Rattle.tw_code.specs.declared.instr.Instr.TheVariants as instr
-use Rattle.tw_code.specs.declared.procedure.Procedure.{Procedure}
-use Rattle.tw_copies.specs.Copies.{InsertsInto}
-use Rattle.tw_code.specs.accepting.Flow.{flow_of, onward}
-use Rattle.tw_code.specs.accepting.WellTyped.{IsEndOf}
-use Rattle.tw_code.specs.machine.Arguments.{params_of}
 
 -- ---- marks
 

@@ -1,17 +1,8 @@
 -- Operands that are right registers are below 16.
-use Rattle.std.proofs.Common.{◌≡◌, ◌⊎◌, inl, inr, ℕ, suc, ◌+◌, ◌<◌, ◌≤◌, Bool, true, false, if◌then◌else◌, List, [], ◌∷◌, length, Option, Some, None, slice_get, refl, subst, arith}
+use Rattle.tw_copies.proofs.Names.{Action, Bool, InsertsInto, Instr, IsAt, IsInstr, IsProcedure, IsProgram, IsRegister, List, None, Option, Param, Passes, Procedure, Some, [], all_found, arith, false, if◌then◌else◌, inl, inr, is_val, length, params_in, params_of, refl, slice_get, subst, suc, true, ℕ, ◌+◌, ◌<◌, ◌∷◌, ◌≡◌, ◌≤◌, ◌⊎◌}
 use Rattle.std.specs.List.{AllByRecursion}
-use Rattle.tw_types.specs.declared.param.Param.{Param}
-use Rattle.tw_types.specs.Mode.{is_val}
-use Rattle.tw_code.specs.declared.instr.Action.{Action}
 use Rattle.tw_code.specs.declared.instr.DataInstr.TheVariants as on_data
-use Rattle.tw_code.specs.declared.instr.Instr.{Instr}
 use Rattle.tw_code.specs.declared.instr.Instr.TheVariants as instr
-use Rattle.tw_code.specs.declared.procedure.Procedure.{Procedure}
-use Rattle.tw_code.specs.format.Program.{IsInstr, IsProcedure, IsProgram, IsRegister}
-use Rattle.tw_code.specs.machine.Arguments.{params_in, params_of}
-use Rattle.tw_soundness.proofs.Accepted.{all_found}
-use Rattle.tw_copies.specs.Copies.{InsertsInto, IsAt, Passes}
 
 module _ (program : List Procedure) (proper : IsProgram program) where
   instr_is : (number place : ℕ) (i : Instr) → IsAt program number place i → IsInstr i

@@ -1,15 +1,5 @@
 -- Write rights in registers that aren't marked, by their number.
-use Rattle.std.proofs.Common.{◌≡◌, ℕ, zero, suc, ◌+◌, ◌-◌, ◌≤◌, Bool, true, false, if◌then◌else◌, List, [], ◌∷◌, ◌++◌, map, length, replicate, slice_get, slice_set, Option, Some, None, refl, ap, arith}
-use Rattle.tw_types.specs.declared.param.Param.{Param}
-use Rattle.tw_types.specs.Mode.{is_val}
-use Rattle.tw_types.specs.Store.{Store}
-use Rattle.tw_types.specs.Task.{Arg, ValueArg, RightArg}
-use Rattle.std.specs.Option.{option_to_list}
-use Rattle.tw_code.specs.accepting.Typing.{rights_given, start_typing}
-use Rattle.tw_code.specs.machine.Holders.{id_of, write_by}
-use Rattle.tw_code.specs.machine.Rights.{RightType, Rights, Typing, first_rights, right_of}
-use Rattle.tw_code.specs.machine.State.{ids_in}
-use Rattle.tw_soundness.specs.Invariant.{ArgFits, ArgsFit}
+use Rattle.tw_copies.proofs.Names.{Arg, ArgFits, ArgsFit, Bool, List, None, Option, Param, RightArg, RightType, Rights, Some, Store, Typing, ValueArg, [], ap, arith, false, first_rights, id_of, ids_in, if◌then◌else◌, is_val, length, map, option_to_list, refl, replicate, right_of, rights_given, slice_get, slice_set, start_typing, suc, true, write_by, zero, ℕ, ◌++◌, ◌+◌, ◌-◌, ◌∷◌, ◌≡◌, ◌≤◌}
 use Rattle.tw_copies.proofs.Marking.{Marked}
 
 abbrev pub unmarked : Marked

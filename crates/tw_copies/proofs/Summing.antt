@@ -1,27 +1,8 @@
 -- Unmarked write rights of a whole state, and what an event does to their number.
-use Rattle.std.proofs.lemmas.Bool.{and_parts}
-use Rattle.std.proofs.Common.{◌≡◌, ◌==◌, not, ℕ, suc, ◌+◌, ◌≤◌, true, false, if◌then◌else◌, List, [], ◌∷◌, slice_get, Some, ap, arith}
-use Rattle.std.specs.Cmp.{IsTotalOrder}
-use Rattle.std.specs.declared.cmp.Ordering.{Ordering}
-use Rattle.std.specs.FinMap.{FinMap, IsAntisymmetric, get, insert, remove}
-use Rattle.tw_types.specs.declared.param.Param.{Param}
-use Rattle.tw_types.specs.Mode.{is_val}
-use Rattle.tw_types.specs.Rule.{Rule}
-use Rattle.tw_types.specs.Task.{Task}
+use Rattle.tw_copies.proofs.Names.{Action, DataInstr, FinMap, Frame, Instr, IsAntisymmetric, IsEndOf, IsTotalOrder, List, Ordering, Param, Procedure, Rule, Some, State, Task, Typings, Way, [], and_parts, ap, arith, false, flow_of, get, if◌then◌else◌, insert, is_val, not, onward, params_of, part, remove, slice_get, suc, total-insert, total-remove, true, typing_of, ℕ, ◌+◌, ◌==◌, ◌∷◌, ◌≡◌, ◌≤◌}
 use Rattle.tw_types.specs.Totals.{total}
-use Rattle.tw_types.proofs.Totals.{part, total-insert, total-remove}
-use Rattle.tw_code.specs.declared.flow.Way.{Way}
-use Rattle.tw_code.specs.declared.instr.Action.{Action}
-use Rattle.tw_code.specs.declared.instr.DataInstr.{DataInstr}
 use Rattle.tw_code.specs.declared.instr.DataInstr.TheVariants as on_data
-use Rattle.tw_code.specs.declared.instr.Instr.{Instr}
 use Rattle.tw_code.specs.declared.instr.Instr.TheVariants as instr
-use Rattle.tw_code.specs.declared.procedure.Procedure.{Procedure}
-use Rattle.tw_code.specs.accepting.Flow.{flow_of, onward}
-use Rattle.tw_code.specs.accepting.WellTyped.{IsEndOf}
-use Rattle.tw_code.specs.machine.Arguments.{params_of}
-use Rattle.tw_code.specs.machine.Holders.{Typings, typing_of}
-use Rattle.tw_code.specs.machine.State.{Frame, State}
 use Rattle.tw_copies.proofs.Copying.{copies_write, is_copy}
 use Rattle.tw_copies.proofs.Marking.{AreClosed, AreHanded, HandsMarks, Marked, Marks, marked_after, marked_by}
 use Rattle.tw_copies.proofs.Spare.{spare, spare_args, unmarked}

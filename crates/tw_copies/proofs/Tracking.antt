@@ -1,58 +1,19 @@
 -- Each write right on a datum that has been copied is marked, along every run. So nothing is contested.
-use Rattle.std.proofs.Common.{◌≡◌, ◌⊎◌, inl, inr, ℕ, suc, ◌+◌, ◌<◌, ◌≤◌, ◌==◌, Bool, true, false, not, ◌&&◌, ◌||◌, if◌then◌else◌, List, [], ◌∷◌, map, slice_get, slice_set, Option, Some, None, refl, sym, ap, subst, ◌∙◌, arith}
-use Rattle.std.proofs.lemmas.Bool.{and_parts, cases_lt, eq-eqb, eqb-true, ne_eqb, or_left, or_right}
-use Rattle.std.proofs.lemmas.Option.{same_Some}
-use Rattle.std.specs.declared.cmp.Ordering.{Ordering}
-use Rattle.std.specs.FinMap.{FinMap, entries, get, remove}
-use Rattle.std.specs.Option.{option_and_then}
-use Rattle.std.specs.Prelude.{Ok}
-use Rattle.tw_types.specs.declared.actor.Actor.{Actor}
+use Rattle.tw_copies.proofs.Names.{Actor, ActorCounts, AllYes, AreRight, Arg, Bool, Context, DataInstr, Datum, FinMap, Frame, InsertsInto, Instr, IsHeld, IsProgram, IsRunningAt, List, NeverContests, None, Ok, Option, Ordering, Param, Procedure, RightType, Rights, Some, State, Typing, Typings, Went, [], accepted, accepts, actor_cmp, actor_cmp-IsAntisymmetric, actor_cmp_total, after_context, and_parts, ap, arith, asked_at, balanced_none, balanced_some, called, cases_lt, context_of, data_instr, entries, eq-eqb, eqb-true, false, frame_writes, get, hits, hits_same, id_of, if◌then◌else◌, inl, inr, is_container_by, is_plain_map, is_running_at, is_val, is_write, kept_by, map, ne_eqb, not, number_in_kind, opened_held, option_and_then, or_left, or_right, outcome_of, over, params_of, part, part-le-total, passed, put_called, reads_of, refl, register_holds, remove, requires_data, right_at, right_of, rule_writes, same_Some, same_went, slice_get, slice_set, subst, suc, sym, task_writes, true, typed_after, typing_at, typing_of, went_first, went_of, went_ok, write_by, writes, writes_container_by, writes_map, writes_of, ℕ, ◌&&◌, ◌+◌, ◌<◌, ◌==◌, ◌||◌, ◌∙◌, ◌∷◌, ◌≡◌, ◌≤◌, ◌⊎◌}
 use Rattle.tw_types.specs.declared.event.Event.{Event}
 use Rattle.tw_types.specs.declared.event.Event.TheVariants.{Take, Local, Call, End, Ask, Deliver, Release}
 use Rattle.tw_types.specs.declared.input.Input.{Input}
-use Rattle.tw_types.specs.declared.param.Param.{Param}
-use Rattle.tw_types.specs.Actor.{actor_cmp, number_in_kind}
-use Rattle.tw_types.specs.Counts.{hits}
-use Rattle.tw_types.specs.DataType.{is_container_by, is_plain_map}
-use Rattle.tw_types.specs.Layout.{ActorCounts}
-use Rattle.tw_types.specs.Mode.{is_val, is_write}
-use Rattle.tw_types.specs.Outcome.{Went, outcome_of}
-use Rattle.tw_types.specs.Store.{Datum}
-use Rattle.tw_types.specs.Task.{Arg}
 use Rattle.tw_types.specs.Totals.{sum_of, total}
-use Rattle.tw_types.proofs.ActorOrder.{actor_cmp-IsAntisymmetric, actor_cmp_total}
-use Rattle.tw_types.proofs.Freeing.{balanced_none, balanced_some, hits_same}
-use Rattle.tw_types.proofs.Outcomes.{same_went, went_first, went_of, went_ok}
-use Rattle.tw_types.proofs.Totals.{part, part-le-total}
-use Rattle.tw_code.specs.declared.instr.DataInstr.{DataInstr}
 use Rattle.tw_code.specs.declared.instr.DataInstr.TheVariants as on_data
-use Rattle.tw_code.specs.declared.instr.Instr.{Instr}
 use Rattle.tw_code.specs.declared.instr.Instr.TheVariants as instr
-use Rattle.tw_code.specs.declared.procedure.Procedure.{Procedure}
-use Rattle.tw_code.specs.accepting.Typing.{requires_data, writes, writes_container_by, writes_map}
-use Rattle.tw_code.specs.format.Program.{IsProgram}
-use Rattle.tw_code.specs.machine.Arguments.{called, params_of, put_called}
-use Rattle.tw_code.specs.machine.Data.{Context, data_instr}
 use Rattle.tw_code.specs.machine.Due.{instr_here}
-use Rattle.tw_code.specs.machine.Holders.{Typings, frame_writes, id_of, over, reads_of, rule_writes, task_writes, typing_at, typing_of, write_by, writes_of}
 use Rattle.tw_code.specs.machine.Inputs.{AreInputsOf}
 use Rattle.tw_code.specs.machine.Machine.{RunningInstr, call_by, running_instr_of, step}
 use Rattle.tw_code.specs.machine.Opening.{opening}
-use Rattle.tw_code.specs.machine.Rights.{RightType, Rights, Typing, right_at, right_of}
-use Rattle.tw_code.specs.machine.State.{Frame, State, after_context, context_of}
-use Rattle.tw_code.proofs.Leaving.{IsRunningAt, is_running_at}
-use Rattle.tw_soundness.specs.Invariant.{IsHeld}
-use Rattle.tw_soundness.specs.NoTrap.{AreRight}
-use Rattle.tw_soundness.proofs.Accepted.{accepted}
 use Rattle.tw_soundness.proofs.Lasting.{Lasts, step_lasts}
-use Rattle.tw_soundness.proofs.Running.{asked_at, register_holds, typed_after}
-use Rattle.tw_soundness.proofs.Safe.{accepts, kept_by, opened_held}
 use Rattle.tw_soundness.proofs.Sums.{sum_apart}
-use Rattle.tw_soundness.proofs.Values.{AllYes, passed}
 use Rattle.tw_determinism.specs.Contested.{ContestsNone, Copied, contests, copied_by, copy_in, copy_of, is_contest, is_contest_of, is_copied, none_copied, with_copy}
-use Rattle.tw_determinism.specs.OneResult.{NeverContests}
 use Rattle.tw_determinism.specs.Refused.{is_taken, is_value_taken}
-use Rattle.tw_copies.specs.Copies.{InsertsInto}
 use Rattle.tw_determinism.proofs.Begun.{begins}
 use Rattle.tw_determinism.proofs.Options.{some_first}
 use Rattle.tw_copies.proofs.Copying.{is_copy}

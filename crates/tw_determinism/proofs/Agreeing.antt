@@ -1,14 +1,7 @@
 -- Names matter only for ids in use: other names for later ones show the same.
 use Rattle.std.proofs.Common.{◌≡◌, ℕ, suc, ◌<◌, List, [], ◌∷◌, Option, Some, None, refl, sym, ap, ◌∙◌, slice_get, if◌then◌else◌}
-use Rattle.std.specs.FinMap.{get, same_map}
-use Rattle.std.specs.Option.{option_map}
-use Rattle.tw_types.proofs.Mapped.{get_mapped}
-use Rattle.tw_types.proofs.ValueOrder.{value_cmp_total, value_cmp-IsAntisymmetric}
-use Rattle.tw_types.specs.Mapped.{mapped}
-use Rattle.tw_types.specs.Nesting.{NestedScalar}
+use Rattle.tw_determinism.proofs.MachineNames.{Arg, Content, Frame, IsHeld, IsLive, Members, NestedScalar, Param, Procedure, RightArg, RightType, Rights, Rule, State, Subscript, Task, Typing, Typings, ValueArg, get, get_mapped, is_closed_mode, is_write, mapped, option_map, params_of, register_is_live, right_at, rule_is_live, same_map, task_is_live, typing_of, value_cmp-IsAntisymmetric, value_cmp_total}
 use Rattle.tw_types.specs.Store as store
-use Rattle.tw_soundness.proofs.Live.{IsLive, register_is_live, rule_is_live, task_is_live}
-use Rattle.tw_determinism.proofs.MachineNames.{Arg, Content, Frame, IsHeld, Members, Param, Procedure, RightArg, RightType, Rights, Rule, State, Subscript, Task, Typing, Typings, ValueArg, is_closed_mode, is_write, params_of, right_at, typing_of}
 use Rattle.tw_determinism.proofs.Names.{Name}
 use Rattle.tw_determinism.proofs.CoreEffects.{Contains, Waits, Runs}
 use Rattle.tw_determinism.proofs.Showing.{Holder, OfFrame, OfTask, OfRule, awaits_in, cell_of, named, named_one, rights_in, running, thread_in, waiting}

@@ -1,20 +1,7 @@
 -- All runs from one state have one end, if the core machine follows each event: a path of a whole run leads every other run.
 use Rattle.std.proofs.Common.{◌≡◌, ◌⊎◌, inl, inr, ℕ, zero, suc, ◌<◌, ◌≤◌, true, false, List, [], ◌∷◌, refl, sym, ap, subst, ◌∙◌, arith}
-use Rattle.tw_types.specs.declared.event.Event.{Event}
-use Rattle.tw_types.specs.Layout.{ActorCounts}
-use Rattle.tw_types.specs.Outcome.{Went, ◌>>=◌}
-use Rattle.tw_types.proofs.Outcomes.{same_went, went_first}
-use Rattle.tw_code.specs.declared.procedure.Procedure.{Procedure}
-use Rattle.tw_code.specs.format.Program.{IsProgram}
-use Rattle.tw_code.specs.machine.Holders.{Typings}
+use Rattle.tw_determinism.proofs.MachineNames.{ActorCounts, AreRight, ContestsNone, Event, IsHeld, IsProgram, Procedure, State, Typings, Went, accepted, accepts, contests, copied_by, kept_by, run_lasts, same_went, went_first, with_copy, ◌>>=◌}
 use Rattle.tw_code.specs.machine.Machine.{run, step}
-use Rattle.tw_code.specs.machine.State.{State}
-use Rattle.tw_soundness.specs.NoTrap.{AreRight}
-use Rattle.tw_soundness.specs.Invariant.{IsHeld}
-use Rattle.tw_soundness.proofs.Lasting.{run_lasts}
-use Rattle.tw_soundness.proofs.Accepted.{accepted}
-use Rattle.tw_soundness.proofs.Safe.{accepts, kept_by}
-use Rattle.tw_determinism.specs.Contested.{ContestsNone, contests, copied_by, with_copy}
 use Rattle.tw_determinism.proofs.Names.{Name}
 use Rattle.tw_determinism.proofs.CoreEffects.{Net}
 use Rattle.tw_determinism.proofs.CoreMachine.{IsMade, IsOver, Path, Steps, Wills}

@@ -1,20 +1,9 @@
 -- The opening shows a core machine in which main waits, with each datum by its id alone. No datum has two write rights.
 use Rattle.std.proofs.Common.{◌≡◌, inl, inr, ℕ, zero, suc, ◌+◌, ◌<◌, ◌≤◌, Bool, true, false, List, [], ◌∷◌, Option, Some, None, refl, sym, ap, subst, ◌∙◌, arith, nat_cmp, slice_get, drop, fold, if◌then◌else◌}
-use Rattle.std.specs.FinMap.{get, insert, empty, get-empty}
-use Rattle.std.specs.Option.{option_map}
-use Rattle.tw_types.specs.declared.input.Input.{Input}
+use Rattle.tw_determinism.proofs.MachineNames.{Datum, Frame, Input, IsHeld, NestedScalar, Param, Procedure, Rule, Store, Subscript, Task, Typings, Value, actor_cmp, added, cases_eq, container_of, data_insert_other, data_insert_same, empty, empty_store, get, get-empty, insert, insert_other, insert_same, is_write, nat_cmp-IsAntisymmetric, nat_cmp_total, new_datum, option_map, part, put_or_before, same_Some, scalar_type, total, total-empty, total-insert}
 use Rattle.tw_code.specs.machine.Opening.{Opened, added_given, closed_map, closed_scalar, main_params, main_task, nothing_opened, numbered, opened, opening, opening_of, with_given, with_output}
-use Rattle.tw_types.specs.DataType.{container_of, scalar_type}
-use Rattle.tw_types.specs.declared.param.Param.{Param}
-use Rattle.tw_types.specs.declared.value.Value.{Value}
 use Rattle.tw_types.specs.Given.{Given, Single, Container, Entries, given_for}
-use Rattle.tw_types.specs.Mode.{is_write}
 use Rattle.tw_types.specs.Store as store
-use Rattle.tw_types.specs.Store.{added, empty_store, new_datum}
-use Rattle.tw_types.specs.ValueOrder.{Subscript}
-use Rattle.tw_types.proofs.Freeing.{data_insert_other, data_insert_same}
-use Rattle.tw_types.specs.Totals.{total}
-use Rattle.tw_determinism.proofs.MachineNames.{Datum, Frame, IsHeld, NestedScalar, Procedure, Rule, Store, Task, Typings, actor_cmp, cases_eq, insert_other, insert_same, nat_cmp-IsAntisymmetric, nat_cmp_total, part, put_or_before, same_Some, total-empty, total-insert}
 use Rattle.tw_determinism.proofs.Names.{Name, name_cmp, name_cmp-same, name_cmp_total}
 use Rattle.tw_determinism.proofs.CoreEffects.{Cell, Unset, Cells, Threads, Thread, Waits, Waiting, Net}
 use Rattle.tw_determinism.proofs.CoreMachine.{IsMade, WasMade}

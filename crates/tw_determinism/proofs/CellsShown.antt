@@ -1,13 +1,7 @@
 -- Changes of the store, and their cells in the core machine.
 use Rattle.std.proofs.Common.{◌≡◌, ◌⊎◌, inl, inr, ℕ, ◌+◌, ◌<◌, Bool, true, false, eqb, [], Some, refl, sym, ap, subst, ◌∙◌, arith, if◌then◌else◌}
 use Rattle.std.specs.FinMap as fin
-use Rattle.std.specs.FinMap.{get, insert}
-use Rattle.std.proofs.lemmas.Bool.{cases_eq, eq-eqb, ne_eqb}
-use Rattle.std.proofs.lemmas.Option.{same_Some}
-use Rattle.tw_types.proofs.Freeing.{data_insert_other, data_insert_same}
-use Rattle.tw_types.proofs.Mapped.{empty_mapped}
-use Rattle.tw_types.proofs.Totals.{insert_other, insert_same}
-use Rattle.tw_determinism.proofs.MachineNames.{Datum, NestedScalar, Members, Store, Subscript, added, empty_content, is_map, is_scalar, new_datum}
+use Rattle.tw_determinism.proofs.MachineNames.{Datum, Members, NestedScalar, Store, Subscript, added, cases_eq, data_insert_other, data_insert_same, empty_content, empty_mapped, eq-eqb, get, insert, insert_other, insert_same, is_map, is_scalar, ne_eqb, new_datum, same_Some}
 use Rattle.tw_types.specs.Store as store
 use Rattle.tw_determinism.proofs.Names.{Name, name_cmp, name_cmp_total, name_cmp-same}
 use Rattle.tw_determinism.proofs.CoreEffects.{Cell, Cells, Unset, Contains, empty_cell, map_cell}

@@ -1,15 +1,8 @@
 -- A datum is closed in a state exactly if it is in its core machine.
 use Rattle.std.proofs.Common.{◌≡◌, inl, inr, ℕ, zero, suc, Bool, ◌+◌, ◌<◌, ◌≤◌, ◌==◌, true, false, if◌then◌else◌, List, [], ◌∷◌, Option, Some, None, refl, sym, ap, subst, ◌∙◌, slice_get, arith, nat_cmp}
-use Rattle.std.specs.FinMap.{get, remove}
-use Rattle.std.specs.Option.{option_flatten}
-use Rattle.tw_types.proofs.Totals.{remove_other, total-remove}
-use Rattle.tw_determinism.proofs.MachineNames.{Actor, Arg, Content, Mode, Val, Closed, Ref, Write, eqb-true, is_val, reads_of, Datum, IsHeld, NestedScalar, is_sums, Param, Procedure, RightArg, RightType, Rights, RightsFit, State, Store, Typing, Typings, ValueArg, actor_cmp, actor_cmp-IsAntisymmetric, actor_cmp_total, balanced_some, frame_writes, hits_same, is_closed, is_write, nat_cmp-IsAntisymmetric, nat_cmp_total, over, params_of, part, part-le-total, right_at, right_of, rule_writes, same_Some, task_writes, total, typing_of, write_by, writes_of}
+use Rattle.tw_determinism.proofs.MachineNames.{Actor, Arg, Closed, Content, Datum, IsHeld, IsLive, Mode, NestedScalar, Param, Procedure, Ref, RightArg, RightType, Rights, RightsFit, State, Store, Typing, Typings, Val, ValueArg, Values, Write, actor_cmp, actor_cmp-IsAntisymmetric, actor_cmp_total, balanced_some, eqb-true, frame_writes, get, hits_same, is_closed, is_sums, is_val, is_write, mapped, nat_cmp-IsAntisymmetric, nat_cmp_total, option_flatten, over, over_params, params_of, part, part-le-total, reads_of, register_is_live, remove, remove_other, right_at, right_of, rule_is_live, rule_writes, same_Some, task_is_live, task_writes, total, total-remove, typing_of, write_by, writes_of}
 use Rattle.tw_types.specs.Store as store
-use Rattle.tw_types.specs.Store.{Values}
 use Rattle.tw_soundness.proofs.Registers.{emptied, found}
-use Rattle.tw_types.specs.Mapped.{mapped}
-use Rattle.tw_soundness.proofs.Live.{IsLive, register_is_live, rule_is_live, task_is_live}
-use Rattle.tw_soundness.proofs.Over.{over_params}
 use Rattle.tw_determinism.proofs.Names.{Name}
 use Rattle.tw_determinism.proofs.CoreEffects.{Set, Contains, Maps, Sums, Thread, Threads, Waits, Runs, Net, HasWrite, HoldsWrite, IsWritable, IsClosedPool, IsClosed, map_cell}
 use Rattle.tw_determinism.proofs.CoreMachine.{IsAlone}

@@ -1,23 +1,10 @@
 -- If all data count as copied, an insertion that is refused is contested; and where no write right is copied, none is contested.
 use Rattle.std.proofs.Common.{◌≡◌, ℕ, ◌==◌, true, false, ◌&&◌, List, [], ◌∷◌, Option, Some, None, is_some, refl, sym, ap, subst, ◌∙◌, slice_get}
 use Rattle.std.specs.FinMap as fin
-use Rattle.std.specs.Option.{option_and_then}
-use Rattle.tw_types.specs.declared.event.Event.{Event}
-use Rattle.tw_types.specs.declared.event.Event.TheVariants.{Take, Local, Call, End, Ask, Deliver, Release}
-use Rattle.tw_types.specs.Layout.{ActorCounts}
-use Rattle.tw_types.specs.Store.{Store}
-use Rattle.tw_types.specs.StoreCalls.{entry_at, member_at}
-use Rattle.tw_code.specs.declared.instr.DataInstr.{DataInstr}
+use Rattle.tw_determinism.proofs.MachineNames.{ActorCounts, Ask, Call, ContestsNone, Copied, CopiesNone, DataInstr, Deliver, End, Event, Frame, Instr, Local, Procedure, RefusesNone, Release, State, Store, Take, contests, copied_by, copy_in, copy_of, entry_at, is_contest, is_contest_of, is_copied, is_refused, is_refused_of, is_taken, is_value_taken, member_at, option_and_then, refuses, right_at, with_copy}
 use Rattle.tw_code.specs.declared.instr.DataInstr.TheVariants as on_data
-use Rattle.tw_code.specs.declared.instr.Instr.{Instr}
 use Rattle.tw_code.specs.declared.instr.Instr.TheVariants as instr
-use Rattle.tw_code.specs.declared.procedure.Procedure.{Procedure}
 use Rattle.tw_code.specs.machine.Due.{instr_here}
-use Rattle.tw_code.specs.machine.Rights.{right_at}
-use Rattle.tw_code.specs.machine.State.{Frame, State}
-use Rattle.tw_determinism.specs.Contested.{ContestsNone, Copied, contests, copied_by, copy_in, copy_of, is_contest, is_contest_of, is_copied, with_copy}
-use Rattle.tw_determinism.specs.OneResult.{CopiesNone}
-use Rattle.tw_determinism.specs.Refused.{RefusesNone, is_refused, is_refused_of, is_taken, is_value_taken, refuses}
 use Rattle.tw_determinism.proofs.Options.{some_first}
 use Rattle.tw_determinism.proofs.Persisting.{or_right}
 

@@ -2,29 +2,10 @@
 use Rattle.std.proofs.Common.{◌≡◌, ℕ, ◌+◌, Bool, true, false, if◌then◌else◌, List, [], ◌∷◌, Option, Some, None, slice_get, slice_set}
 use Rattle.std.specs.Prelude.{pos, ℤ, Result, Ok, Err}
 use Rattle.std.specs.FinMap as fin
-use Rattle.std.specs.FinMap.{FinMap}
-use Rattle.std.specs.Option.{option_and_then, option_map}
-use Rattle.tw_types.specs.declared.cause.Cause.{Cause}
-use Rattle.tw_types.specs.declared.param.Param.{Param}
-use Rattle.tw_types.specs.declared.value.Value.{Value}
+use Rattle.tw_determinism.proofs.MachineNames.{Action, Cause, DataInstr, FinMap, Instr, NestedScalar, Param, Position, Procedure, Subscript, Value, Values, at_goal, at_next_place, filled, first_rights, int_at, is_closed_mode, is_map, is_scalar, is_sums, is_val, local_instr, of_type_at, option_and_then, option_map, right_at, subscript_after, sum_with, value_at, value_cmp, with_result, with_value}
 use Rattle.tw_types.specs.declared.value.Value.TheVariants as value
-use Rattle.tw_types.specs.DataType.{is_map, is_scalar, is_sums}
-use Rattle.tw_types.specs.Mode.{is_val, is_closed_mode}
-use Rattle.tw_types.specs.Nesting.{NestedScalar}
-use Rattle.tw_types.specs.Store.{Values}
-use Rattle.tw_types.specs.StoreCalls.{subscript_after}
-use Rattle.tw_types.specs.ValueOrder.{Subscript, value_cmp}
-use Rattle.tw_code.specs.declared.instr.Action.{Action}
-use Rattle.tw_code.specs.declared.instr.DataInstr.{DataInstr}
 use Rattle.tw_code.specs.declared.instr.DataInstr.TheVariants as on_data
-use Rattle.tw_code.specs.declared.instr.Instr.{Instr}
 use Rattle.tw_code.specs.declared.instr.Instr.TheVariants as instr
-use Rattle.tw_code.specs.declared.procedure.Procedure.{Procedure}
-use Rattle.tw_code.specs.machine.Data.{sum_with}
-use Rattle.tw_code.specs.machine.Local.{local_instr}
-use Rattle.tw_code.specs.machine.Position.{Position, value_at, int_at, of_type_at, with_value, with_result, at_next_place, at_goal}
-use Rattle.tw_code.specs.machine.Rights.{first_rights, right_at}
-use Rattle.tw_code.specs.machine.State.{filled}
 use Rattle.tw_determinism.proofs.Names.{Name, name_cmp}
 
 -- ---- what there is

@@ -3,9 +3,7 @@
 -- machine.
 use Rattle.std.proofs.Common.{◌≡◌, ℕ, zero, suc, ◌<◌, false, ◌||◌, List, [], ◌∷◌, Option, Some, None, slice_get}
 use Rattle.std.specs.FinMap as fin
-use Rattle.std.specs.Option.{option_and_then, option_map}
-use Rattle.std.specs.Ordering.{eq_by_cmp}
-use Rattle.tw_code.specs.declared.procedure.Procedure.{Procedure}
+use Rattle.tw_determinism.proofs.MachineNames.{Procedure, eq_by_cmp, option_and_then, option_map}
 use Rattle.tw_determinism.proofs.Names.{Name, name_cmp}
 use Rattle.tw_determinism.proofs.CoreEffects.{Act, Bears, Cell, Cells, Effect, Ended, HoldsWrite, Into, IsClosed, Makes, Net, Nothing, Reads, Runs, Shared, Shares, Thread, Threads, Waiting, Waits, Writes, Writing, awaits_of, cell_at, effect_of, next_name, subject_of, written}
 

@@ -1,15 +1,7 @@
 -- The core machine follows an instruction on data.
 use Rattle.std.proofs.Common.{◌≡◌, ◌⊎◌, inl, inr, ℕ, ◌+◌, ◌<◌, true, false, List, Option, Some, None, refl, sym, ap, subst, ◌∙◌, slice_get, arith}
-use Rattle.std.specs.FinMap.{FinMap, get, insert}
-use Rattle.std.specs.Cmp.{IsTotalOrder}
-use Rattle.std.specs.declared.cmp.Ordering.{Ordering}
-use Rattle.tw_types.specs.declared.event.Event.{Event}
-use Rattle.tw_types.specs.declared.event.Event.TheVariants.{Call}
+use Rattle.tw_determinism.proofs.MachineNames.{Actor, AreRight, Call, Context, DataInstr, Event, FinMap, Frame, Instr, IsHeld, IsProgram, IsTotalOrder, Ok, Ordering, Procedure, State, Typings, actor_cmp, actor_cmp-IsAntisymmetric, actor_cmp_total, after, after_context, contests, context_of, copied_by, copy_in, copy_of, data_instr, get, insert, insert_other, insert_same, is_contest, is_contest_of, option_and_then, option_map, part, total, total-insert, typed_after, typing_of, with_copy, with_frame}
 use Rattle.tw_code.specs.declared.instr.Instr.TheVariants as instr
-use Rattle.tw_soundness.proofs.Running.{typed_after}
-use Rattle.tw_determinism.proofs.MachineNames.{Actor, AreRight, Context, DataInstr, Frame, Instr, IsHeld, IsProgram, Ok, Procedure, State, Typings, actor_cmp, actor_cmp-IsAntisymmetric, actor_cmp_total, after, after_context, context_of, data_instr, option_and_then, option_map, part, total, total-insert, typing_of, with_frame}
-use Rattle.tw_types.proofs.Totals.{insert_other, insert_same}
-use Rattle.tw_determinism.specs.Contested.{contests, copied_by, copy_in, copy_of, is_contest, is_contest_of, with_copy}
 use Rattle.tw_determinism.proofs.Names.{Name, name_cmp_total}
 use Rattle.tw_determinism.proofs.CoreEffects.{Done, Effect, Net, Running, Runs, by_instr, cell_at, instr_of, next_name, subject_of, subject_of_data, subject_of_instr}
 use Rattle.tw_determinism.proofs.CoreMachine.{Path, Steps, Wills, share_of, with_child, with_share}

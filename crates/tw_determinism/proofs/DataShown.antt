@@ -2,29 +2,15 @@
 -- insertion, and no step there.
 use Rattle.std.proofs.Common.{◌≡◌, ◌⊎◌, inl, inr, ℕ, pos, ◌<◌, ◌≤◌, ◌==◌, Bool, true, false, not, ◌&&◌, if◌then◌else◌, List, [], ◌∷◌, map as each, Option, Some, None, is_some, refl, sym, ap, subst, ◌∙◌, slice_get, slice_set, arith}
 use Rattle.std.specs.FinMap as fin
-use Rattle.std.specs.FinMap.{get, insert}
+use Rattle.tw_determinism.proofs.MachineNames.{Actor, AllYes, AlreadySet, AreRight, Cause, Completed, Content, Context, DataInstr, Datum, EmptyRegister, Frame, IsHeld, IsOfType, IsProgram, Members, NestedScalar, Ok, Procedure, Result, RightType, Scalar, Skipped, State, Store, Subscript, Typing, Typings, UnsetDatum, Value, Values, WrongRegister, WrongType, a_member_read, a_read, a_write, after_data, after_insert, after_look, after_put, and_parts, asked_at, at_goal, at_next_place, by_container, changed, container_only, context_of, copy_of, data_flow, data_instr, datum_at, datum_of, element_of, entries_mapped, entry_at, entry_by, fits_of, get, get_mapped, has_subscripts_by, has_sums, if_absent, insert, insert_mapped, inserted, int_at, is_closed, is_closed_mode, is_container, is_container_by, is_contest, is_copied, is_map, is_of, is_plain_map, is_scalar, is_sums, is_taken, is_unset, is_value_taken, is_write, len_mapped, map_only, mapped, may_add, may_be_read, may_copy_write, may_drop_read, may_drop_write, may_insert, may_look, may_put, may_read_entry, may_read_members, may_read_subscripts_by, may_retrieve, may_store, member_at, member_there, must_be_empty, must_have_type, must_then, of_type_at, ok_after, ok_first, ok_or, one_read_more, one_write_less, one_write_more, onward, option_and_then, option_map, other_reads, other_writes, passed, passes, read_dropped, reads, reads_closed_by, reads_closed_container, reads_closed_container_by, reads_closed_map, reads_closed_scalar, reads_member_of, register_holds, register_is_live, requires_data, right_at, same_Some, same_scalar, scalar_of, set_to, settled, size_at, store_after, subscribers_cleared, subscript_after, subscripts_at, suits, suits_entry, suits_subscript, sum_with, there_then, typing_of, value_at, value_cmp-IsAntisymmetric, value_cmp_total, value_put, with_copy, with_entry, with_member, with_result, with_value, writes, writes_container_by, writes_map, writes_scalar, writes_sums}
 use Rattle.tw_types.proofs.Maps as maps
-use Rattle.tw_types.proofs.Mapped.{entries_mapped, get_mapped, insert_mapped, len_mapped}
-use Rattle.tw_types.proofs.ValueOrder.{value_cmp_total, value_cmp-IsAntisymmetric}
 use Rattle.tw_types.specs.declared.data_type.Scalar.TheVariants as scalar
 use Rattle.tw_types.specs.declared.value.Value.TheVariants as value
-use Rattle.tw_types.specs.Mapped.{entry_by, mapped}
 use Rattle.tw_types.specs.Store as store
-use Rattle.tw_types.specs.Store.{Values}
-use Rattle.tw_types.specs.DataType.{has_sums, is_container}
-use Rattle.tw_types.proofs.SameTypes.{by_container, container_only, map_only}
 use Rattle.tw_types.specs.StoreCalls as calls
 use Rattle.tw_code.specs.declared.instr.DataInstr.TheVariants as on_data
 use Rattle.tw_code.specs.declared.instr.Instr.TheVariants as instr
 use Rattle.tw_code.specs.declared.flow.Way.{Way}
-use Rattle.tw_soundness.proofs.DataInsert.{member_there}
-use Rattle.tw_soundness.proofs.Running.{asked_at, register_holds}
-use Rattle.tw_soundness.proofs.TaskEvents.{fits_of, other_reads, other_writes}
-use Rattle.tw_soundness.proofs.Values.{AllYes, passed}
-use Rattle.tw_soundness.proofs.Live.{register_is_live}
-use Rattle.tw_determinism.proofs.MachineNames.{Actor, AlreadySet, AreRight, Cause, IsOfType, Result, WrongType, is_of, same_scalar, scalar_of, Completed, Content, Context, DataInstr, Datum, EmptyRegister, Frame, IsHeld, IsProgram, Members, NestedScalar, Ok, Procedure, RightType, Scalar, Skipped, State, Store, Subscript, Typing, Typings, UnsetDatum, Value, WrongRegister, a_member_read, a_read, a_write, after_data, after_insert, after_look, after_put, and_parts, requires_data, at_goal, at_next_place, changed, context_of, data_flow, data_instr, datum_at, datum_of, element_of, entry_at, has_subscripts_by, if_absent, int_at, inserted, is_closed, is_closed_mode, is_container_by, is_map, is_plain_map, is_scalar, is_sums, is_unset, is_write, may_add, may_put, may_read_entry, may_be_read, may_copy_write, may_drop_read, may_drop_write, may_insert, may_look, may_read_members, may_read_subscripts_by, may_retrieve, may_store, member_at, must_be_empty, must_have_type, must_then, of_type_at, ok_after, ok_first, ok_or, one_read_more, one_write_less, one_write_more, onward, option_and_then, option_map, passes, read_dropped, reads, reads_closed_by, reads_closed_container, reads_closed_container_by, reads_closed_map, reads_closed_scalar, reads_member_of, right_at, same_Some, set_to, settled, store_after, subscribers_cleared, size_at, subscript_after, subscripts_at, suits, suits_entry, suits_subscript, sum_with, there_then, typing_of, value_at, value_put, with_entry, with_member, with_result, with_value, writes, writes_container_by, writes_map, writes_scalar, writes_sums}
-use Rattle.tw_determinism.specs.Contested.{copy_of, is_contest, is_copied, with_copy}
-use Rattle.tw_determinism.specs.Refused.{is_taken, is_value_taken}
 use Rattle.tw_determinism.proofs.Names.{Name, name_cmp_total, name_cmp-same}
 use Rattle.tw_determinism.proofs.CoreEffects.{Add, Bears, Cell, Cells, Contains, Done, HasWrite, HoldsWrite, Into, IsClosed, Maps, Net, Nothing, Put, PutValue, Reads, Right, Running, Runs, Set, SetTo, Shares, Sums, Unset, Writes, cell_at, count_in, done, empty_cell, entries_in, entry_seen, looked, member_seen, members_in, ok, on_cells, placed, put_if_free, reading, reads_at, subject_of_data, subscripts_in, to_write, value_if_free, value_in, value_placed, writing, written}
 use Rattle.tw_determinism.proofs.CoreMachine.{IsAlone, IsMade, IsPast, IsThere, WasMade, child_of, edit_of, edited, share_of, with_share}

@@ -1,27 +1,11 @@
 -- The core machine follows each event, and so a whole run.
 use Rattle.std.proofs.Common.{◌≡◌, inl, inr, ℕ, ◌==◌, false, not, List, Some, None, refl, sym, ap, subst, ◌∙◌, slice_get, arith, nat_cmp}
-use Rattle.std.specs.FinMap.{get, remove}
+use Rattle.tw_determinism.proofs.MachineNames.{Actor, ActorCounts, AreRight, Ask, Call, Deliver, End, Event, IfWent, Instr, IsHeld, IsProgram, Local, Notice, Procedure, Ready, Release, RightLeft, Rule, Stage, State, Take, Task, Typings, Went, WrongCall, at_stage, called, contests, context_of, copied_by, copy_in, copy_of, data_instr, enabled, fresh_task, get, get-remove_same, if_both, if_ok, insert_other, insert_same, is_contest, is_contest_of, is_none, is_ret, list_all, local_steps, must, nat_cmp-IsAntisymmetric, nat_cmp_total, number_in_kind, only_if, option_and_then, option_map, outcome_of, part, procedure_of, put_called, remove, remove_other, same_went, subscribed, task_from, there_ok, total, total-insert, total-remove, went_after, went_enabled, went_first, went_of, went_ok, went_only, with_stage, with_subscriber, with_task}
 use Rattle.std.specs.FinSet as set
-use Rattle.std.specs.List.{list_all}
-use Rattle.tw_types.proofs.Outcomes.{IfWent, if_both, if_ok, same_went, went_after, went_enabled, went_first, went_of, went_ok, went_only}
-use Rattle.tw_types.proofs.Results.{there_ok}
-use Rattle.tw_types.proofs.Totals.{get-remove_same, insert_other, insert_same, remove_other, total-remove}
-use Rattle.tw_types.specs.declared.event.Event.{Event}
-use Rattle.tw_types.specs.declared.event.Event.TheVariants.{Take, Local, Call, End, Ask, Deliver, Release}
-use Rattle.tw_types.specs.declared.notice.Notice.{Notice}
-use Rattle.tw_types.specs.declared.stage.Stage.{Stage}
-use Rattle.tw_types.specs.declared.stage.Stage.TheVariants.{Ready}
 use Rattle.tw_types.specs.declared.stage.Stage.TheVariants as stages
-use Rattle.tw_types.specs.Layout.{ActorCounts}
-use Rattle.tw_code.specs.declared.instr.Instr.{Instr}
 use Rattle.tw_code.specs.declared.instr.Instr.TheVariants as instr
-use Rattle.tw_code.specs.declared.procedure.Procedure.{Procedure}
 use Rattle.tw_code.specs.machine.Machine.{RunningInstr, ask_event, call_by, call_event, deliver_event, end_event, local_event, release_event, running_instr_of, step}
 use Rattle.tw_code.proofs.Leaving.{IsRunningAt, ask_leaves, deliver_leaves, is_running_at, release_leaves}
-use Rattle.tw_soundness.proofs.TaskEvents.{fresh_task}
-use Rattle.tw_determinism.proofs.MachineNames.{Actor, AreRight, IsHeld, IsProgram, RightLeft, Rule, State, Task, Typings, Went, WrongCall, at_stage, called, context_of, data_instr, enabled, is_none, is_ret, local_steps, must, nat_cmp-IsAntisymmetric, nat_cmp_total, number_in_kind, only_if, option_map, outcome_of, part, procedure_of, put_called, subscribed, task_from, total, total-insert, with_stage, with_subscriber, with_task}
-use Rattle.std.specs.Option.{option_and_then}
-use Rattle.tw_determinism.specs.Contested.{contests, copied_by, copy_in, copy_of, is_contest, is_contest_of}
 use Rattle.tw_determinism.proofs.Alike.{FollowsEach}
 use Rattle.tw_determinism.proofs.CoreEffects.{Net, Waits}
 use Rattle.tw_determinism.proofs.CellsShown.{shows_kept}

@@ -1,20 +1,8 @@
 -- The outputs of a state are a part of those of another whose core machine is later, if they have the same names.
 use Rattle.std.proofs.Common.{◌≡◌, ℕ, ◌≤◌, Bool, true, false, if◌then◌else◌, List, [], ◌∷◌, Option, Some, None, refl, sym, ap, subst, ◌∙◌, slice_get, arith, nat_cmp}
-use Rattle.std.specs.Prelude.{map as each}
+use Rattle.tw_determinism.proofs.MachineNames.{Content, Datum, Ending, IsHeld, Members, NestedScalar, Procedure, State, Subscript, Typings, Values, balanced_none, ending, entries_mapped, entry_by, found_inside, get, get-empty, get_mapped, inside, is_closed, is_sums, map as each, mapped, member_at, members_in, nat_cmp-IsAntisymmetric, nat_cmp_total, option_and_then, option_map, output_is_live, part, part-le-total, reads_of, same_Some, subscripts_in, value_cmp, writes_of}
 use Rattle.std.specs.FinMap as fin
-use Rattle.std.specs.FinMap.{get, get-empty}
-use Rattle.std.specs.Option.{option_and_then, option_map}
-use Rattle.tw_types.specs.declared.ending.Ending.{Ending}
-use Rattle.tw_types.specs.Mapped.{entry_by, mapped}
-use Rattle.tw_types.proofs.Mapped.{entries_mapped, get_mapped}
 use Rattle.tw_types.specs.Store as store
-use Rattle.tw_types.specs.Store.{Values}
-use Rattle.tw_types.specs.StoreCalls.{member_at, members_in}
-use Rattle.tw_types.specs.ValueOrder.{Subscript, value_cmp}
-use Rattle.tw_code.specs.machine.Ending.{ending}
-use Rattle.tw_soundness.proofs.DataInsert.{found_inside}
-use Rattle.tw_soundness.proofs.Live.{output_is_live}
-use Rattle.tw_determinism.proofs.MachineNames.{Content, Datum, IsHeld, Members, NestedScalar, is_sums, Procedure, State, Typings, balanced_none, inside, is_closed, nat_cmp-IsAntisymmetric, nat_cmp_total, part, part-le-total, reads_of, same_Some, subscripts_in, writes_of}
 use Rattle.tw_determinism.specs.Found.{Nothing, Single, Members as Subscripts, Entries, Sums as Added, ArePartOf, IsFoundAlso, IsPartOf, Look, SameOutputs, at_path, found, look_of, shown}
 use Rattle.tw_determinism.proofs.Names.{Name}
 use Rattle.tw_determinism.proofs.CoreEffects.{Cell, Unset, Set, Contains, Maps, Sums, IsClosed, Net}

@@ -1,16 +1,7 @@
 -- A step leaves names made: each name in use was made by a task that has gone on since.
 use Rattle.std.proofs.Common.{◌≡◌, ◌⊎◌, inl, inr, ℕ, ◌+◌, List, [], ◌∷◌, Option, Some, None, refl, sym, ap, subst, ◌∙◌, slice_get, arith}
-use Rattle.std.specs.FinMap.{get, insert}
-use Rattle.std.specs.Option.{option_and_then}
-use Rattle.std.proofs.lemmas.Option.{same_Some}
-use Rattle.tw_types.proofs.Parts.{put_or_before}
-use Rattle.tw_types.proofs.Totals.{insert_other, insert_same}
-use Rattle.tw_code.specs.declared.instr.Action.{Action}
-use Rattle.tw_code.specs.declared.instr.Instr.{Instr}
+use Rattle.tw_determinism.proofs.MachineNames.{Action, Instr, Procedure, filled, get, insert, insert_other, insert_same, local_instr, option_and_then, put_or_before, same_Some}
 use Rattle.tw_code.specs.declared.instr.Instr.TheVariants as instr
-use Rattle.tw_code.specs.declared.procedure.Procedure.{Procedure}
-use Rattle.tw_code.specs.machine.Local.{local_instr}
-use Rattle.tw_code.specs.machine.State.{filled}
 use Rattle.tw_determinism.proofs.Names.{Name, name_cmp, name_cmp_total, name_cmp-same}
 use Rattle.tw_determinism.proofs.CoreEffects.{Cell, Cells, Thread, Waits, Runs, Ended, Waiting, Running, Act, Nothing, Bears, Makes, Writes, Shares, Effect, written, Net, effect_of, next_name, spent_of, ok, on_cells, handed, by_instr, instr_of}
 use Rattle.tw_determinism.proofs.CoreMachine.{Edit, Leaves, Adds, Changes, edit_of, child_of, edited, with_child, IsMade, IsPast, WasMade, Steps}

@@ -1,13 +1,6 @@
 -- The tasks that a state shows, after an event: one changes or ends, one is new, or one is somewhere else.
 use Rattle.std.proofs.Common.{◌≡◌, ◌⊎◌, inl, inr, Bool, true, false, eqb, Option, Some, None, refl, sym, ap, subst, ◌∙◌, if◌then◌else◌}
-use Rattle.std.specs.FinMap.{get, insert}
-use Rattle.std.specs.Ordering.{eq_by_cmp}
-use Rattle.std.proofs.lemmas.Bool.{cases_Bool, eqb-true, eq-eqb}
-use Rattle.tw_types.proofs.ActorOrder.{actor_cmp-IsAntisymmetric, actor_cmp_total}
-use Rattle.tw_types.proofs.Orders.{own_key, tied}
-use Rattle.tw_types.proofs.Totals.{insert_other, insert_same}
-use Rattle.tw_types.proofs.Parts.{put_or_before}
-use Rattle.tw_types.specs.Actor.{actor_cmp}
+use Rattle.tw_determinism.proofs.MachineNames.{actor_cmp, actor_cmp-IsAntisymmetric, actor_cmp_total, cases_Bool, eq-eqb, eq_by_cmp, eqb-true, get, insert, insert_other, insert_same, own_key, put_or_before, tied}
 use Rattle.tw_determinism.proofs.Names.{Name, name_cmp, name_cmp_total, name_cmp-same}
 use Rattle.tw_determinism.proofs.CoreEffects.{Thread, Threads, Ended}
 use Rattle.tw_determinism.proofs.Persisting.{name_dec}

@@ -1,20 +1,9 @@
 -- After a step a task and its child have only the write rights that the task had, or one on the datum that it made; and it writes only
 -- where it has the write right.
 use Rattle.std.proofs.Common.{◌≡◌, ◌⊎◌, inl, inr, ℕ, zero, suc, ◌+◌, Bool, true, false, if◌then◌else◌, List, [], ◌∷◌, ◌++◌, map, replicate, Option, Some, None, refl, sym, subst, slice_get, slice_set}
-use Rattle.std.specs.Option.{option_and_then, option_map}
-use Rattle.tw_types.specs.declared.param.Param.{Param}
-use Rattle.tw_types.specs.declared.value.Value.{Value}
-use Rattle.tw_types.specs.Mode.{is_val, is_closed_mode}
-use Rattle.tw_code.specs.declared.instr.Action.{Action}
-use Rattle.tw_code.specs.declared.instr.DataInstr.{DataInstr}
+use Rattle.tw_determinism.proofs.MachineNames.{Action, DataInstr, Instr, Param, Procedure, Value, filled, int_at, is_closed_mode, is_val, local_instr, of_type_at, option_and_then, option_map, right_at, value_at}
 use Rattle.tw_code.specs.declared.instr.DataInstr.TheVariants as on_data
-use Rattle.tw_code.specs.declared.instr.Instr.{Instr}
 use Rattle.tw_code.specs.declared.instr.Instr.TheVariants as instr
-use Rattle.tw_code.specs.declared.procedure.Procedure.{Procedure}
-use Rattle.tw_code.specs.machine.Local.{local_instr}
-use Rattle.tw_code.specs.machine.Position.{value_at, int_at, of_type_at}
-use Rattle.tw_code.specs.machine.Rights.{right_at}
-use Rattle.tw_code.specs.machine.State.{filled}
 use Rattle.tw_determinism.proofs.Names.{Name}
 use Rattle.tw_determinism.proofs.CoreEffects.{Right, Registers, Cell, Waiting, Running, Thread, Waits, Runs, Ended, HasWrite, HoldsWrite, Writing, Nothing, Bears, Makes, Writes, Shares, Effect, Handed, handed, with_given, with_moved, Done, ok, on_cells, done, looked, placed, value_placed, member_seen, entry_seen, to_write, by_instr, instr_of, effect_of}
 use Rattle.tw_determinism.proofs.Options.{WhereSome, some_here, some_both, some_map, some_of}

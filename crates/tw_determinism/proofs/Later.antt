@@ -1,13 +1,6 @@
 -- From one state of the core machine to a later one data stay, and their contents grow; what is closed stays as it is.
 use Rattle.std.proofs.Common.{◌≡◌, inl, inr, ℕ, zero, suc, List, Option, Some, None, refl, sym, ap, subst, ◌∙◌}
-use Rattle.std.specs.FinMap.{get, insert}
-use Rattle.std.specs.Option.{option_and_then}
-use Rattle.tw_types.specs.ValueOrder.{Subscript, value_cmp}
-use Rattle.tw_types.specs.Store.{Values}
-use Rattle.tw_code.specs.machine.Data.{sum_with}
-use Rattle.tw_determinism.specs.Found.{HasEach, HasSumOfEach}
-use Rattle.tw_determinism.proofs.MachineNames.{Procedure, Value, insert_other, insert_same, same_Some}
-use Rattle.tw_types.proofs.ValueOrder.{value_cmp-IsAntisymmetric, value_cmp_total}
+use Rattle.tw_determinism.proofs.MachineNames.{HasEach, HasSumOfEach, Procedure, Subscript, Value, Values, get, insert, insert_other, insert_same, option_and_then, same_Some, sum_with, value_cmp, value_cmp-IsAntisymmetric, value_cmp_total}
 use Rattle.tw_determinism.proofs.Names.{Name, name_cmp, name_cmp-same, name_cmp_total}
 use Rattle.tw_determinism.proofs.CoreEffects.{Cell, Unset, Set, Contains, Maps, Sums, MemberNames, Writing, SetTo, Put, PutValue, Add, Net, IsClosed, next_name, put_if_free, value_if_free, written}
 use Rattle.tw_determinism.proofs.CoreMachine.{Edit, Leaves, Adds, Changes, Steps, Path, IsMade, edited, edit_of}

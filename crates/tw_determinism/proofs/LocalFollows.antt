@@ -1,18 +1,10 @@
 -- The core machine follows local instructions, one step for each, and the end of a task.
 use Rattle.std.proofs.Common.{◌≡◌, inl, inr, ℕ, zero, suc, ◌+◌, true, List, Some, refl, sym, ap, subst, ◌∙◌, slice_get, arith}
-use Rattle.std.specs.FinMap.{get, insert, remove}
+use Rattle.tw_determinism.proofs.MachineNames.{Actor, AreRight, Cause, Frame, Instr, IsHeld, IsProgram, Ok, OutsideCode, Position, Procedure, Result, State, Typings, Went, actor_cmp, actor_cmp-IsAntisymmetric, actor_cmp_total, enabled, get, get-remove_same, insert, insert_same, instr_at, is_ret, local_instr, local_of, local_step, local_steps, option_and_then, option_map, outcome_of, part, remove, remove_other, same_went, steps_leave, there_ok, total-insert, total-remove, typing_of, went_enabled, went_first, went_ok, with_frame}
 use Rattle.tw_types.proofs.Maps as maps
-use Rattle.tw_types.proofs.Outcomes.{same_went, went_enabled, went_first, went_ok}
-use Rattle.tw_types.proofs.Results.{there_ok}
-use Rattle.tw_types.proofs.Totals.{get-remove_same, insert_same, remove_other, total-remove}
 use Rattle.tw_code.specs.declared.instr.Instr.TheVariants as instr
-use Rattle.tw_code.specs.machine.Local.{local_instr}
 use Rattle.tw_code.specs.declared.instr.LocalInstr.{LocalInstr}
-use Rattle.tw_code.specs.machine.Machine.{instr_at}
-use Rattle.tw_soundness.proofs.Running.{steps_leave}
-use Rattle.tw_determinism.proofs.MachineNames.{Actor, AreRight, Cause, Frame, Instr, IsHeld, IsProgram, Ok, Position, Procedure, Result, State, Typings, Went, actor_cmp, actor_cmp-IsAntisymmetric, actor_cmp_total, enabled, is_ret, local_of, local_step, local_steps, option_and_then, option_map, outcome_of, part, total-insert, typing_of, with_frame}
 use Rattle.tw_code.specs.declared.instr.Instr.TheVariants.{Ret}
-use Rattle.tw_types.specs.declared.cause.Cause.TheVariants.{OutsideCode}
 use Rattle.tw_determinism.proofs.Names.{Name, insert_twice, name_cmp, name_cmp_total, name_cmp-same}
 use Rattle.tw_determinism.proofs.CoreEffects.{Blind, Ended, Net, Nothing, Running, Runs, Thread, by_instr, cell_at, instr_of, next_name, ok, subject_of, subject_of_instr}
 use Rattle.tw_determinism.proofs.CoreMachine.{IsMade, Path, Steps}

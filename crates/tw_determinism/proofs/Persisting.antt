@@ -1,14 +1,6 @@
 -- A step that a task can make is possible after another's step, too: closed data stay closed, with the same content.
 use Rattle.std.proofs.Common.{◌≡◌, ◌⊎◌, inl, inr, Bool, true, false, ◌||◌, if◌then◌else◌, List, [], ◌∷◌, Option, Some, None, refl, sym, ap, subst, ◌∙◌, arith}
-use Rattle.std.specs.FinMap.{get, insert}
-use Rattle.std.specs.Option.{option_and_then}
-use Rattle.std.specs.Ordering.{eq_by_cmp}
-use Rattle.std.proofs.lemmas.Bool.{cases_Bool}
-use Rattle.std.proofs.lemmas.Option.{same_Some}
-use Rattle.tw_types.proofs.Orders.{own_key, tied}
-use Rattle.tw_types.proofs.Parts.{put_or_before}
-use Rattle.tw_types.proofs.Totals.{insert_other, insert_same}
-use Rattle.tw_code.specs.declared.procedure.Procedure.{Procedure}
+use Rattle.tw_determinism.proofs.MachineNames.{Procedure, cases_Bool, eq_by_cmp, get, insert, insert_other, insert_same, option_and_then, own_key, put_or_before, same_Some, tied}
 use Rattle.tw_determinism.proofs.Names.{Name, name_cmp, name_cmp_total, name_cmp-same}
 use Rattle.tw_determinism.proofs.CoreEffects.{Cell, Unset, Set, Contains, Maps, Sums, Threads, Thread, Waits, Runs, Ended, Waiting, Writing, SetTo, Put, PutValue, Add, Act, Nothing, Bears, Makes, Writes, Shares, Subject, Blind, Reads, Into, Effect, written, Net, HoldsWrite, IsWritable, IsClosedPool, IsClosed, effect_of, cell_at, subject_of, next_name, spent_of}
 use Rattle.tw_determinism.proofs.CoreMachine.{Edit, Leaves, Adds, Changes, edit_of, child_of, share_of, with_share, edited, with_child, threads_after, IsAlone, IsThere, IsMade, IsPast, WasMade, Steps, Wills}

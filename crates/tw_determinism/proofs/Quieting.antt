@@ -1,18 +1,12 @@
 -- A state that has ended shows a core machine in which no task can make a step, and what is closed in the one is closed in the other.
 use Rattle.std.proofs.Common.{◌≡◌, inl, inr, ℕ, suc, ◌+◌, ◌<◌, ◌==◌, Bool, true, false, if◌then◌else◌, List, [], ◌∷◌, length, Some, None, refl, sym, ap, subst, ◌∙◌, slice_get, arith, nat_cmp}
-use Rattle.std.specs.declared.cmp.Ordering.{Ordering}
-use Rattle.std.specs.FinMap.{FinMap, get, len, empty_of_len, get-empty}
-use Rattle.std.specs.Option.{option_map}
-use Rattle.tw_types.specs.declared.ending.Ending.{Ending}
+use Rattle.tw_determinism.proofs.MachineNames.{Arg, Closed, Content, Datum, Ending, FinMap, Free, IsHeld, Mode, Ordering, Param, Procedure, Ready, Ref, RightArg, Rule, RuleArgsFit, Stage, State, Store, Typings, Unasked, Val, ValueArg, Waiting, Write, actor_cmp, and_parts, balanced_some, cases_eq, empty_of_len, ending, entries, eq-eqb, eqb-true, frame_writes, get, get-empty, hits, is_asked_for, is_closed, is_closed_mode, is_quiet, is_write, len, len-entries, nat_cmp_total, option_map, over_params, params_in, params_of, reads_of, right_of, rule_writes, same_Some, task_writes, write_by, writes_of}
 use Rattle.tw_types.specs.declared.ending.Ending.TheVariants.{Quiet, Stuck}
 use Rattle.tw_types.specs.Store as store
-use Rattle.tw_code.specs.machine.Ending.{ending, is_quiet}
 use Rattle.tw_code.specs.machine.Pending.{waited_for}
 use Rattle.tw_soundness.proofs.Ends.{ends_well}
 use Rattle.tw_soundness.proofs.Entries.{none_of, some_part}
-use Rattle.tw_soundness.proofs.Over.{over_params}
 use Rattle.tw_types.specs.Totals.{sum_of, total}
-use Rattle.tw_determinism.proofs.MachineNames.{entries, len-entries, Arg, Content, Mode, Val, Closed, Ref, Write, Free, Unasked, Waiting, Ready, RuleArgsFit, Datum, IsHeld, Param, Procedure, RightArg, Rule, Stage, State, Store, Typings, ValueArg, actor_cmp, and_parts, balanced_some, cases_eq, eq-eqb, eqb-true, frame_writes, hits, is_closed, is_asked_for, is_closed_mode, is_write, nat_cmp_total, params_in, params_of, right_of, reads_of, rule_writes, same_Some, task_writes, write_by, writes_of}
 use Rattle.tw_determinism.proofs.Names.{Name}
 use Rattle.tw_determinism.proofs.CoreEffects.{Thread, Waits, Ended, Net, HasWrite, IsWritable, IsClosedPool, IsClosed, awaits_of, cell_at, effect_of, next_name, subject_of}
 use Rattle.tw_determinism.proofs.CoreMachine.{IsOver}

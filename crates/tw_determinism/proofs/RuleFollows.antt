@@ -1,25 +1,16 @@
 -- The core machine follows RULE and PUT.
 use Rattle.std.proofs.Common.{◌≡◌, inl, inr, ℕ, ◌+◌, ◌==◌, Bool, true, false, List, [], ◌∷◌, ◌++◌, length, Option, Some, None, refl, sym, ap, subst, ◌∙◌, slice_get, slice_set, arith, nat_cmp, if◌then◌else◌}
-use Rattle.std.specs.FinMap.{get, insert}
-use Rattle.tw_types.proofs.Totals.{insert_other, insert_same}
-use Rattle.tw_code.specs.declared.instr.Action.{Action}
+use Rattle.tw_determinism.proofs.MachineNames.{Action, Actor, AllYes, AreRight, ArgumentNotClosed, Called, Cause, Closed, Completed, EmptyRegister, Frame, FreedDatum, Instr, IsHeld, IsProgram, Mode, MovedArgs, Ok, Param, Procedure, Ref, Result, RightArg, RightType, Rights, Rule, Scalar, State, Task, Typing, Typings, Val, Value, ValueArg, Write, WrongCall, WrongRegister, WrongType, actor_cmp, actor_cmp-IsAntisymmetric, actor_cmp_total, all_pass, and_parts, asked_at, at_next_place, called, context_of, frame_after_call, fresh_rule, fresh_task, get, held, insert, insert_other, insert_same, is_closed_if_required, is_closed_mode, is_control, is_live, is_of_type, is_read, is_val, is_write, moved_args, must_then, nat_cmp-IsAntisymmetric, nat_cmp_total, new_rule, ok_first, ok_or, option_and_then, option_map, params_in, params_of, part, passed, passes, priority_at, put_called, put_or_before, requires_args, requires_callee, requires_priority, requires_value, right_at, right_fits_param, same_Some, same_type, suits_mode, there_then, total, total-insert, typed_after, typing_at, typing_of, values_in, values_suit, with_arg, with_frame, with_rule, with_task, without_args, yes_after}
 use Rattle.tw_code.specs.declared.instr.Instr.TheVariants as instr
-use Rattle.tw_code.specs.declared.procedure.Procedure.{Procedure}
 use Rattle.tw_types.specs.declared.actor.Kind.{Kind}
 use Rattle.tw_types.specs.Result.{◌>>=◌}
 use Rattle.tw_soundness.proofs.Called.{callee_met}
-use Rattle.tw_soundness.proofs.Running.{asked_at, typed_after}
-use Rattle.tw_soundness.proofs.TaskEvents.{fresh_rule, fresh_task}
-use Rattle.tw_soundness.proofs.Values.{AllYes, passed, yes_after}
-use Rattle.tw_determinism.proofs.MachineNames.{Actor, AreRight, ArgumentNotClosed, Closed, Mode, Ref, Val, Write, is_read, ok_or, Called, Cause, Completed, EmptyRegister, Frame, FreedDatum, MovedArgs, IsHeld, IsProgram, Ok, Param, Result, RightArg, RightType, Rights, Rule, Scalar, State, Task, Typing, Typings, ValueArg, Value, WrongCall, WrongRegister, WrongType, actor_cmp, actor_cmp-IsAntisymmetric, actor_cmp_total, all_pass, and_parts, requires_args, requires_callee, requires_priority, requires_value, at_next_place, called, context_of, frame_after_call, moved_args, held, is_closed_if_required, is_closed_mode, is_control, is_live, is_of_type, is_val, is_write, must_then, nat_cmp-IsAntisymmetric, nat_cmp_total, new_rule, ok_first, option_and_then, option_map, params_in, params_of, part, passes, priority_at, put_called, right_at, right_fits_param, same_Some, same_type, suits_mode, there_then, total, total-insert, typing_at, typing_of, values_in, values_suit, with_arg, with_frame, with_rule, with_task, without_args}
 use Rattle.tw_determinism.proofs.Names.{Name, name_cmp, name_cmp_total, name_cmp-same}
 use Rattle.tw_determinism.proofs.CoreEffects.{Blind, Handed, Makes, Net, Running, Runs, Thread, Threads, Waiting, Waits, by_instr, cell_at, handed, made, next_name, subject_of, subject_of_instr, with_given, with_moved}
 use Rattle.tw_determinism.proofs.CoreMachine.{Steps, Wills}
 use Rattle.tw_determinism.proofs.DataFollows.{Goes, instr_is, replaced, there}
 use Rattle.tw_determinism.proofs.Growing.{made_kept}
 use Rattle.tw_determinism.proofs.Holding.{changed, holder_dec, holder_itself, is_same, joined, other_holder, renamed}
-use Rattle.tw_types.proofs.Parts.{put_or_before}
-use Rattle.tw_code.specs.declared.instr.Instr.{Instr}
 use Rattle.tw_determinism.proofs.Persisting.{new_thread}
 use Rattle.tw_determinism.proofs.Showing.{Holder, OfFrame, OfTask, OfRule, Naming, Shows, ShowsCells, ShowsShared, alive, awaits_in, named, named_at, named_one, named_set, one, rights_in, running, thread_in, waiting}
 

@@ -1,14 +1,6 @@
 -- Changes of the store, and which data have a copied write right.
 use Rattle.std.proofs.Common.{◌≡◌, inl, inr, ℕ, ◌<◌, ◌≤◌, Bool, true, ◌||◌, Some, None, sym, ap, subst, ◌∙◌, arith}
-use Rattle.std.specs.FinMap.{get, insert}
-use Rattle.std.proofs.lemmas.Bool.{cases_eq, eq-eqb, ne_eqb}
-use Rattle.std.proofs.lemmas.Option.{same_Some}
-use Rattle.std.specs.Ordering.{eq_by_cmp}
-use Rattle.tw_types.proofs.Freeing.{data_insert_other, data_insert_same}
-use Rattle.tw_types.proofs.Orders.{own_key}
-use Rattle.tw_types.proofs.Totals.{insert_other, insert_same}
-use Rattle.tw_determinism.proofs.MachineNames.{Datum, NestedScalar, Store, added, new_datum, one_write_more}
-use Rattle.tw_determinism.specs.Contested.{Copied, with_copy}
+use Rattle.tw_determinism.proofs.MachineNames.{Copied, Datum, NestedScalar, Store, added, cases_eq, data_insert_other, data_insert_same, eq-eqb, eq_by_cmp, get, insert, insert_other, insert_same, ne_eqb, new_datum, one_write_more, own_key, same_Some, with_copy}
 use Rattle.tw_determinism.proofs.Names.{Name, name_cmp, name_cmp_total, name_cmp-same}
 use Rattle.tw_determinism.proofs.CoreEffects.{Cell, Cells, Shared, empty_cell}
 use Rattle.tw_determinism.proofs.CoreMachine.{with_share}

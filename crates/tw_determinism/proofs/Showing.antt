@@ -1,23 +1,7 @@
 -- A state of the machine, and what it shows of the core machine: its data, tasks and rules by names.
 use Rattle.std.proofs.Common.{◌≡◌, ◌⊎◌, ℕ, zero, suc, ◌+◌, ◌<◌, ◌≤◌, Bool, false, if◌then◌else◌, List, [], ◌∷◌, Option, Some, None, refl, sym, ap, slice_set}
-use Rattle.std.specs.FinMap.{get}
-use Rattle.std.specs.Option.{option_map}
-use Rattle.tw_types.specs.declared.actor.Actor.{Actor}
-use Rattle.tw_types.specs.declared.param.Param.{Param}
-use Rattle.tw_types.specs.Mapped.{mapped}
-use Rattle.tw_types.specs.Mode.{is_closed_mode, is_write}
-use Rattle.tw_types.specs.Nesting.{NestedScalar}
-use Rattle.tw_types.specs.Rule.{Rule}
+use Rattle.tw_determinism.proofs.MachineNames.{Actor, Arg, Content, Copied, Datum, Frame, NestedScalar, Param, Procedure, RightArg, RightType, Rights, Rule, State, Store, Task, Typing, Typings, ValueArg, get, is_closed_mode, is_write, mapped, option_map, params_of, right_at, total, typing_of, values_in}
 use Rattle.tw_types.specs.Store as store
-use Rattle.tw_types.specs.Store.{Content, Datum, Store}
-use Rattle.tw_types.specs.Task.{Arg, ValueArg, RightArg, Task}
-use Rattle.tw_types.specs.Totals.{total}
-use Rattle.tw_code.specs.declared.procedure.Procedure.{Procedure}
-use Rattle.tw_code.specs.machine.Arguments.{params_of}
-use Rattle.tw_code.specs.machine.Holders.{Typings, typing_of}
-use Rattle.tw_code.specs.machine.Rights.{RightType, Rights, Typing, right_at}
-use Rattle.tw_code.specs.machine.State.{Frame, State, values_in}
-use Rattle.tw_determinism.specs.Contested.{Copied}
 use Rattle.tw_determinism.proofs.Names.{Name}
 use Rattle.tw_determinism.proofs.CoreEffects.{Right, Registers, Cell, Unset, Set, Contains, Cells, Threads, Shared, Thread, Waits, Runs, Ended, Waiting, Running, Net, map_cell}
 use Rattle.tw_determinism.proofs.CoreMachine.{IsMade}

@@ -1,23 +1,10 @@
 -- The steps of two tasks can be made in either order, with the same result.
 use Rattle.std.proofs.Common.{◌≡◌, ◌⊎◌, inl, inr, Bool, true, false, ◌||◌, List, Option, Some, None, refl, sym, ap, subst, ◌∙◌}
-use Rattle.std.specs.FinMap.{get, insert}
-use Rattle.std.specs.Option.{option_and_then, option_map}
-use Rattle.std.specs.Ordering.{eq_by_cmp}
-use Rattle.std.proofs.lemmas.Bool.{cases_Bool}
-use Rattle.std.proofs.lemmas.Option.{same_Some}
-use Rattle.tw_types.proofs.Orders.{own_key, tied}
-use Rattle.tw_types.proofs.Totals.{insert_other, insert_same}
-use Rattle.tw_types.proofs.ValueOrder.{value_cmp_total, value_cmp-IsAntisymmetric}
+use Rattle.tw_determinism.proofs.MachineNames.{Procedure, Subscript, Value, Values, cases_Bool, eq_by_cmp, get, insert, insert_other, insert_same, int_of, option_and_then, option_map, own_key, same_Some, sum_with, tied, value_cmp, value_cmp-IsAntisymmetric, value_cmp_total, ℤ, ◌+ℤ◌}
 use Rattle.std.specs.Int.{int_wrap, w64}
 use Rattle.std.proofs.lemmas.Int.{int_wrap-add_left}
 use Rattle.std.proofs.Math.IntN.{+ℤ_assoc, +ℤ_comm}
-use Rattle.std.specs.Prelude.{ℤ, ◌+ℤ◌}
-use Rattle.tw_types.specs.declared.value.Value.{Value}
 use Rattle.tw_types.specs.declared.value.Value.TheVariants as value
-use Rattle.tw_types.specs.Store.{Values}
-use Rattle.tw_types.specs.ValueOrder.{Subscript, int_of, value_cmp}
-use Rattle.tw_code.specs.machine.Data.{sum_with}
-use Rattle.tw_code.specs.declared.procedure.Procedure.{Procedure}
 use Rattle.tw_determinism.proofs.Names.{Name, name_cmp, name_cmp_total, name_cmp-same, insert_swap, insert_twice}
 use Rattle.tw_determinism.proofs.CoreEffects.{Cell, Cells, Unset, Set, Contains, Maps, Sums, MemberNames, Threads, Thread, Waits, Waiting, Writing, SetTo, Put, PutValue, Add, Shared, Effect, written, put_if_free, value_if_free, Net, effect_of, cell_at, subject_of, next_name}
 use Rattle.tw_determinism.proofs.CoreMachine.{Edit, Leaves, Adds, Changes, edit_of, child_of, share_of, with_share, edited, with_child, threads_after, IsThere, IsMade, Steps, Wills}

@@ -1,17 +1,8 @@
 -- The core machine follows the start of a task: what it waited for is closed.
 use Rattle.std.proofs.Common.{◌≡◌, inl, ℕ, zero, suc, ◌-◌, Bool, true, false, ◌&&◌, List, [], ◌∷◌, ◌++◌, map, replicate, length, Option, Some, None, is_none, refl, sym, ap, subst, ◌∙◌, slice_get, arith, nat_cmp, if◌then◌else◌}
-use Rattle.std.proofs.lemmas.Bool.{and_parts}
-use Rattle.std.specs.FinMap.{get, insert, remove}
+use Rattle.tw_determinism.proofs.MachineNames.{Actor, ActorCounts, AreRight, Arg, ArgFits, ArgsFit, Cause, Datum, Frame, IsHeld, IsProgram, Ok, Param, Procedure, Result, RightArg, Rights, State, Store, Task, Typing, Typings, ValueArg, Went, WrongCall, actor_cmp, actor_cmp-IsAntisymmetric, actor_cmp_total, and_parts, best, enabled, filled, first_rights, frame_of, get, get-remove_same, ids_in, insert, insert_other, insert_same, is_closed, is_closed_mode, is_in, is_val, is_write, nat_cmp-IsAntisymmetric, nat_cmp_total, ok_first, only_if, option_and_then, option_map, option_to_list, outcome_of, params_in, params_of, part, remove, remove_other, right_of, rights_given, same_Some, same_went, start_typing, take_event, task_is_live, there_then, total-insert, total-remove, typed_at_start, typing_at, values_in, went_after, went_enabled, went_first, went_ok, went_only, with_frame}
 use Rattle.tw_types.proofs.Best.{best_waits}
-use Rattle.tw_types.proofs.Outcomes.{went_after, went_enabled, went_first, went_ok, went_only, same_went}
-use Rattle.tw_types.proofs.Totals.{get-remove_same, insert_other, insert_same, remove_other, total-remove}
-use Rattle.tw_code.specs.declared.procedure.Procedure.{Procedure}
-use Rattle.tw_code.specs.machine.Machine.{take_event}
-use Rattle.tw_types.specs.Layout.{ActorCounts}
-use Rattle.tw_soundness.proofs.Live.{task_is_live}
-use Rattle.tw_soundness.proofs.Running.{typed_at_start}
 use Rattle.tw_soundness.proofs.Taking.{same_length}
-use Rattle.tw_determinism.proofs.MachineNames.{Actor, AreRight, Arg, ArgFits, ArgsFit, Cause, Datum, Frame, IsHeld, IsProgram, Ok, Param, Result, RightArg, Rights, State, Store, Task, Typing, Typings, ValueArg, Went, WrongCall, actor_cmp, actor_cmp-IsAntisymmetric, actor_cmp_total, best, enabled, filled, first_rights, frame_of, ids_in, is_closed, is_closed_mode, is_in, is_val, is_write, nat_cmp-IsAntisymmetric, nat_cmp_total, only_if, option_and_then, option_map, option_to_list, outcome_of, params_in, params_of, part, right_of, rights_given, same_Some, start_typing, ok_first, there_then, total-insert, typing_at, values_in, with_frame}
 use Rattle.tw_determinism.proofs.Names.{Name, name_cmp_total}
 use Rattle.tw_determinism.proofs.CoreEffects.{IsClosed, Net, Nothing, Runs, Thread, Waiting, Waits, ok}
 use Rattle.tw_determinism.proofs.CoreMachine.{Steps}

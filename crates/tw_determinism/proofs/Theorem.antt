@@ -1,28 +1,7 @@
 -- The theorems, if the core machine follows each event.
 use Rattle.std.proofs.Common.{◌≡◌, ℕ, Bool, true, false, List, Some, refl, sym, ap, subst, ◌∙◌, slice_get}
-use Rattle.tw_types.specs.Totals.{total}
-use Rattle.tw_types.specs.declared.ending.Ending.{Ending}
-use Rattle.tw_types.specs.declared.event.Event.{Event}
-use Rattle.tw_types.specs.declared.input.Input.{Input}
-use Rattle.tw_types.specs.Layout.{ActorCounts}
-use Rattle.tw_types.specs.Outcome.{Went}
-use Rattle.tw_code.specs.declared.procedure.Procedure.{Procedure}
-use Rattle.tw_code.specs.format.Program.{IsProgram}
-use Rattle.tw_code.specs.machine.Ending.{ending}
+use Rattle.tw_determinism.proofs.MachineNames.{ActorCounts, ArePartOf, AreRight, ContestsNone, CopiesNone, Ending, Event, Input, IsDeterministic, IsHeld, IsOnlyIfUncontested, IsOnlyIfUnrefused, IsOnlyResult, IsProgram, IsWholeRun, NeverContests, Procedure, RefusesNone, SameOutputs, State, Typings, Went, accepted, accepts, ending, none_copied, opened_held, opening, output_is_live, reached, run_lasts, total}
 use Rattle.tw_code.specs.machine.Inputs.{AreInputsOf}
-use Rattle.tw_code.specs.machine.Holders.{Typings}
-use Rattle.tw_code.specs.machine.Opening.{opening, reached}
-use Rattle.tw_code.specs.machine.State.{State}
-use Rattle.tw_soundness.specs.NoTrap.{AreRight}
-use Rattle.tw_soundness.specs.Invariant.{IsHeld}
-use Rattle.tw_soundness.proofs.Accepted.{accepted}
-use Rattle.tw_soundness.proofs.Lasting.{run_lasts}
-use Rattle.tw_soundness.proofs.Live.{output_is_live}
-use Rattle.tw_soundness.proofs.Safe.{accepts, opened_held}
-use Rattle.tw_determinism.specs.Found.{ArePartOf, SameOutputs}
-use Rattle.tw_determinism.specs.Contested.{ContestsNone, none_copied}
-use Rattle.tw_determinism.specs.Refused.{RefusesNone}
-use Rattle.tw_determinism.specs.OneResult.{CopiesNone, IsDeterministic, IsOnlyIfUncontested, IsOnlyIfUnrefused, IsOnlyResult, IsWholeRun, NeverContests}
 use Rattle.tw_determinism.proofs.Contesting.{uncontested_if, uncontested_uncopied, unrefused_if}
 use Rattle.tw_determinism.proofs.Alike.{Follows, FollowsEach, Led, run_goes, run_led}
 use Rattle.tw_determinism.proofs.Begun.{Begins, begins}

@@ -1,16 +1,5 @@
 -- A batch under the lock: no sleeper has to be woken after it.
-use Rattle.std.proofs.Common.{◌∙◌, ◌≡◌, ℕ, Bool, true, false, List, length, Option, refl, sym, ap, subst}
-use Rattle.tw_types.specs.declared.actor.Actor.{Actor}
-use Rattle.tw_types.specs.Actor.{index_of, is_in}
-use Rattle.tw_types.specs.Layout.{ActorCounts, IsLayout}
-use Rattle.tw_code.specs.accepting.Needs.{HasTargets}
-use Rattle.tw_frame.specs.Jobs.{DoneView}
-use Rattle.tw_pool.specs.declared.answer.Turn.{Turn}
-use Rattle.tw_pool.specs.PoolView.{PoolView}
-use Rattle.tw_pool.specs.Work.{LacksWork}
-use Rattle.tw_host.specs.Holds.{AreTurns}
-use Rattle.tw_host.specs.Run.{Run, run_of}
-use Rattle.tw_host.specs.Sleeping.{AreWoken, HasCleared, IsKnown, IsMarked, IsOver, Isnt, TakesNone, is_idle, is_over_turn}
+use Rattle.tw_host.proofs.Names.{Actor, ActorCounts, AreTurns, AreWoken, Bool, DoneView, HasCleared, HasTargets, IsKnown, IsLayout, IsMarked, IsOver, Isnt, LacksWork, List, Option, PoolView, Run, TakesNone, Turn, ap, false, index_of, is_idle, is_in, is_over_turn, length, refl, run_of, subst, sym, true, ℕ, ◌∙◌, ◌≡◌}
 use Rattle.tw_host.proofs.Holding.{Adds}
 use Rattle.tw_host.proofs.Knowing as knowing
 use Rattle.tw_host.proofs.Settling.{not_both}

@@ -1,21 +1,7 @@
 -- Comparing the seats of a layout with the events of a run, each of which is read once.
 use Rattle.std.proofs.Common.{◌≡◌, ◌≢◌, ◌==◌, ◌≤◌, ◌<◌, ◌+◌, ◌-◌, ℕ, Bool, true, false, Option, Some, None, ◌⊎◌, inl, inr, drop, set, option_map, List, [], ◌∷◌, length, map, nat_lt, refl, sym, ap, subst, ◌∙◌, arith, get_or}
 use Rattle.std.specs.Prelude.{◌↔◌, IfSome, MatchOption, slice_get}
-use Rattle.std.specs.List.{All, range_with_len}
-use Rattle.std.proofs.lemmas.Bool.{eqb-true, eqb-false, ltb-true}
-use Rattle.std.proofs.lemmas.Bool.Decides.{nat_tests}
-use Rattle.std.proofs.lemmas.List.{drop_all, length-drop, length-map, get_or-map, get_or-set_same, get_or-set_other}
-use Rattle.std.proofs.lemmas.List.FromFn.{get_or-range_with_len, length-range_with_len}
-use Rattle.std.proofs.lemmas.Option.{same_Some, slice_get_cases}
-use Rattle.tw_types.specs.declared.actor.Actor.{Actor}
-use Rattle.tw_types.specs.declared.actor.Actor.TheVariants.{Engine, Server, Worker}
-use Rattle.tw_types.specs.declared.event.Event.{Event}
-use Rattle.tw_types.specs.Actor.{index_of, is_in}
-use Rattle.tw_types.specs.Layout.{ActorCounts}
-use Rattle.tw_code.specs.machine.History.{actor_of}
-use Rattle.tw_pool.specs.Actors.{events_of, same_actor}
-use Rattle.tw_pool.proofs.Counting.{itself, not_same}
-use Rattle.tw_host.specs.Seats.{SeatEvents, actor_at, actor_count, actors_of, seen_by}
+use Rattle.tw_host.proofs.Names.{Actor, ActorCounts, All, Engine, Event, SeatEvents, Server, Worker, actor_at, actor_count, actor_of, actors_of, drop_all, eqb-false, eqb-true, events_of, get_or-map, get_or-range_with_len, get_or-set_other, get_or-set_same, index_of, is_in, itself, length-drop, length-map, length-range_with_len, ltb-true, nat_tests, not_same, range_with_len, same_Some, same_actor, seen_by, slice_get_cases}
 use Rattle.tw_host.proofs.Lists.{both_less, first_of_rest, map_map, other_next, own_next, rest_more, same_both}
 use Rattle.tw_host.proofs.Ordering.{apart}
 

@@ -1,20 +1,6 @@
 -- The events of each line of the table of steps fit the limit.
-use Rattle.std.proofs.Common.{◌≡◌, ◌≢◌, ◌==◌, ◌+◌, ◌≤◌, ◌<◌, Bool, true, false, not, ◌&&◌, if◌then◌else◌, refl, sym, ap, subst, ◌∙◌, arith, List, [], ◌∷◌, ◌++◌, length, length-append, Option, Some, None, inl, inr}
-use Rattle.std.specs.Option.{option_map, option_or}
-use Rattle.std.proofs.lemmas.Bool.{eqb-false}
-use Rattle.tw_types.specs.declared.actor.Actor.{Actor}
+use Rattle.tw_host.proofs.Names.{Actor, Ask, Bool, Call, Closing, Deliver, DoneView, End, Event, JobView, Limit, List, Local, Makes, None, Option, PoolView, Release, Some, State, Stopped, Take, TakesBack, Turn, Turns, TurnsUnless, [], ap, arith, closing_at, closing_of, ending, eqb-false, event_of, false, if◌then◌else◌, inl, inr, instr_after, is_last, issued_to, length, length-append, not, option_map, option_or, refl, steps_of, subst, sym, true, ◌&&◌, ◌++◌, ◌+◌, ◌<◌, ◌==◌, ◌∙◌, ◌∷◌, ◌≡◌, ◌≢◌, ◌≤◌}
 use Rattle.tw_types.specs.declared.ending.Ending.{Ending}
-use Rattle.tw_types.specs.declared.event.Event.{Event}
-use Rattle.tw_types.specs.declared.event.Event.TheVariants.{Take, Local, Call, End, Ask, Deliver, Release}
-use Rattle.tw_code.specs.machine.Due.{event_of}
-use Rattle.tw_code.specs.machine.Ending.{ending}
-use Rattle.tw_code.specs.machine.State.{State}
-use Rattle.tw_frame.specs.Jobs.{DoneView, JobView}
-use Rattle.tw_pool.specs.declared.answer.Closing.{Closing}
-use Rattle.tw_pool.specs.declared.answer.Closing.TheVariants.{Stopped, Limit}
-use Rattle.tw_pool.specs.declared.answer.Turn.{Turn}
-use Rattle.tw_pool.specs.PoolView.{PoolView}
-use Rattle.tw_pool.specs.Turns.{Makes, TakesBack, Turns, TurnsUnless, closing_at, closing_of, instr_after, is_last, issued_to, steps_of}
 
 abbrev Fits : PoolView → List Event → Type 0
 Fits p events = length p.history + length events ≤ p.limit

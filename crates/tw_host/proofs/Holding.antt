@@ -1,39 +1,16 @@
 -- The events that a seat gets from a batch.
 use Rattle.std.proofs.Common.{◌≡◌, ◌+◌, ◌*◌, ◌<◌, ◌≤◌, ℕ, zero, suc, Bool, true, false, not, refl, sym, ap, subst, ◌∙◌, arith, List, [], ◌∷◌, ◌++◌, append_assoc, length, length-append, slice_get, Option, Some, None, IfSome, Result, Ok, Err, drop, ◌⊎◌, inl, inr}
-use Rattle.std.specs.Prelude.{IsSomeAnd, is_some}
-use Rattle.std.proofs.lemmas.List.{drop_at}
-use Rattle.std.proofs.lemmas.List.Elements.{filter-append}
-use Rattle.std.proofs.lemmas.Option.{same_Some}
-use Rattle.tw_types.specs.declared.actor.Actor.{Actor}
-use Rattle.tw_types.specs.declared.event.Event.{Event}
-use Rattle.tw_types.specs.Outcome.{Went, NotEnabled}
-use Rattle.tw_types.specs.declared.data_type.Scalar.{Scalar}
-use Rattle.tw_code.specs.declared.instr.Instr.{Instr}
+use Rattle.tw_host.proofs.Names.{Actor, AreTurns, DoneView, Event, HasNextResult, HasText, Instr, IsAnswerOf, IsAtStop, IsBrief, IsDone, IsDoneOf, IsOwedBy, IsProgram, IsSomeAnd, IsStop, IsTurn, JobView, NotEnabled, PoolView, Procedure, Run, RunsHere, Scalar, Sees, SeesTurns, SeesUpTo, SomeTurn, SomeTurns, StopsAt, Turn, TurnsOrNot, TypedProgram, Went, actor_of, drop_at, events_of, few_instructions, filter-append, is_some, run_of, same_Some, same_actor, typings_of, with_events}
 use Rattle.tw_code.specs.declared.instr.Instr.TheVariants as instr
 use Rattle.tw_code.specs.accepting.Flow.{flows}
-use Rattle.tw_code.specs.declared.procedure.Procedure.{Procedure}
-use Rattle.tw_code.specs.machine.History.{actor_of}
 use Rattle.tw_code.specs.machine.Machine.{local_of, local_steps}
 use Rattle.tw_code.specs.machine.Position.{Position}
 use Rattle.tw_budget.proofs.FrameTheorems.{below_budget}
 use Rattle.tw_code.specs.accepting.Walk.{IsBudget}
-use Rattle.tw_code.specs.format.Program.{IsProgram}
 use Rattle.tw_soundness.specs.NoTrap.{AreRight}
 use Rattle.tw_soundness.specs.AtPlace.{Accepts, IsAtPosition}
 use Rattle.tw_soundness.proofs.Safe.{accepts}
-use Rattle.tw_frame.specs.Banks.{HasText}
-use Rattle.tw_frame.specs.Jobs.{DoneView, IsDone, JobView}
-use Rattle.tw_frame.specs.Ready.{IsStop, StopsAt}
-use Rattle.tw_verify.specs.Typed.{TypedProgram, typings_of}
-use Rattle.tw_pool.specs.declared.answer.Turn.{Turn}
 use Rattle.tw_pool.specs.declared.answer.Turn.TheVariants as turn
-use Rattle.tw_pool.specs.Actors.{events_of, same_actor}
-use Rattle.tw_pool.specs.Kept.{IsOwedBy}
-use Rattle.tw_pool.specs.PoolView.{PoolView, with_events}
-use Rattle.tw_pool.specs.Turns.{IsTurn}
-use Rattle.tw_host.specs.Holds.{SeesTurns, AreTurns, HasNextResult, IsBrief, RunsHere, SomeTurns, SeesUpTo, IsAtStop, few_instructions}
-use Rattle.tw_host.specs.Run.{Run, run_of}
-use Rattle.tw_host.specs.Sees.{IsAnswerOf, IsDoneOf, SomeTurn, Sees, TurnsOrNot}
 use Rattle.tw_host.specs.declared.locked.Strange.{Strange}
 use Rattle.tw_host.proofs.Owning.{owed_after}
 use Rattle.tw_host.proofs.Turning as turning

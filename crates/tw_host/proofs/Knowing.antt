@@ -1,26 +1,6 @@
 -- After steps of an actor, only work that they can have made is new.
-use Rattle.std.proofs.Common.{◌≡◌, ◌==◌, ◌≤◌, ◌<◌, ◌+◌, ◌-◌, ◌⊎◌, inl, inr, ℕ, Bool, true, false, nat_lt, List, [], ◌∷◌, length, refl, sym, ap, subst, ◌∙◌, arith}
-use Rattle.std.specs.Int.{bit_at}
-use Rattle.std.proofs.lemmas.Bool.{eqb-true, eqb-false, ltb-true, ltb-false}
-use Rattle.std.proofs.lemmas.Bool.Decides.{nat_tests}
-use Rattle.tw_types.specs.declared.actor.Actor.{Actor}
-use Rattle.tw_types.specs.declared.actor.Actor.TheVariants.{Engine, Server, Worker}
-use Rattle.tw_types.specs.declared.actor.Kind.{Kind}
-use Rattle.tw_types.specs.declared.actor.Kind.TheVariants.{Control, Leaf}
-use Rattle.tw_types.specs.declared.event.Event.{Event}
-use Rattle.tw_types.specs.Actor.{index_of, is_in}
-use Rattle.tw_types.specs.Layout.{ActorCounts, IsLayout}
-use Rattle.tw_types.specs.Rule.{next_release}
-use Rattle.tw_code.specs.accepting.Needs.{HasTargets}
+use Rattle.tw_host.proofs.Names.{Actor, ActorCounts, AreTargeted, AreWoken, Bool, Control, Engine, Event, HasNoWork, HasTargets, HaveNoWork, HaveTargets, InState, Is, IsCovered, IsKnown, IsLayout, IsMarked, IsNoTarget, Isnt, Kind, KnownBy, LacksWork, Leaf, List, PoolView, Server, State, Worker, [], actor_at, actor_count, ap, arith, bit_at, end_of, eqb-false, eqb-true, events_of, false, first_of, index_of, inl, inr, is_in, length, ltb-false, ltb-true, nat_lt, nat_tests, next_release, refl, subst, sym, true, with_events, ℕ, ◌+◌, ◌-◌, ◌<◌, ◌==◌, ◌∙◌, ◌∷◌, ◌≡◌, ◌≤◌, ◌⊎◌}
 use Rattle.tw_code.specs.machine.Opening.{opening}
-use Rattle.tw_code.specs.machine.State.{State}
-use Rattle.tw_queue.specs.Targets.{HaveTargets, IsNoTarget}
-use Rattle.tw_pool.specs.Actors.{events_of}
-use Rattle.tw_pool.specs.Kept.{InState}
-use Rattle.tw_pool.specs.PoolView.{PoolView, with_events}
-use Rattle.tw_pool.specs.Work.{AreTargeted, HasNoWork, LacksWork}
-use Rattle.tw_host.specs.Seats.{actor_at, actor_count}
-use Rattle.tw_host.specs.Sleeping.{AreWoken, HaveNoWork, Is, IsCovered, IsKnown, IsMarked, Isnt, KnownBy, end_of, first_of}
 use Rattle.tw_host.proofs.Reported.{none_appended}
 use Rattle.tw_host.proofs.Settling.{few, is_or_isnt, not_both}
 use Rattle.tw_host.proofs.Unmoved.{Leaves, are_by, leaves_all, split}

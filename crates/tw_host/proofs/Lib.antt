@@ -1,6 +1,7 @@
 mod Comparing
 mod Lists
 mod Fitting
+pub mod Names
 pub mod Owning
 pub mod Turning
 pub mod Holding

@@ -1,15 +1,6 @@
 -- Lists of lists, lists by seats, and the rest of a list.
-use Rattle.std.proofs.Common.{◌≡◌, ◌≤◌, ◌<◌, ◌+◌, ◌++◌, ◌⊎◌, inl, inr, ℕ, true, false, Option, Some, None, option_to_list, drop, List, [], ◌∷◌, map, length, length-append, append_assoc, refl, sym, ap, ◌∙◌, arith, get_or}
-use Rattle.std.specs.Prelude.{◌↔◌, slice_get, slice_index_or}
-use Rattle.std.specs.List.{range_with_len}
-use Rattle.std.proofs.lemmas.List.{drop_all, length-map, map-append, get_or-map, drop_more}
-use Rattle.std.proofs.lemmas.List.FromFn.{map-range_with_len_more}
-use Rattle.std.proofs.lemmas.Option.{get_or_from_slice_get, slice_get_cases}
-use Rattle.tw_types.specs.declared.actor.Actor.{Actor}
-use Rattle.tw_types.specs.declared.event.Event.{Event}
-use Rattle.tw_pool.specs.Actors.{events_of, same_actor}
+use Rattle.tw_host.proofs.Names.{Actor, Event, List, None, Option, Some, [], actor_of, ap, append_assoc, arith, drop, drop_all, drop_more, events_of, false, get_or, get_or-map, get_or_from_slice_get, inl, inr, length, length-append, length-map, map, map-append, map-range_with_len_more, option_to_list, range_with_len, refl, same_actor, slice_get, slice_get_cases, slice_index_or, sym, true, ℕ, ◌++◌, ◌+◌, ◌<◌, ◌↔◌, ◌∙◌, ◌∷◌, ◌≡◌, ◌≤◌, ◌⊎◌}
 use Rattle.tw_pool.specs.History.{EventsView}
-use Rattle.tw_code.specs.machine.History.{actor_of}
 
 pub map_map : {X Y Z : Type 0} (f : X → Y) (g : Y → Z) (xs : List X) → map g (map f xs) ≡ map (λ x. g (f x)) xs
 map_map f g [] = refl

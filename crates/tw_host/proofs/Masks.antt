@@ -1,10 +1,5 @@
 -- Sets of indices below 64, as the bits of a number.
-use Rattle.std.proofs.Common.{◌≡◌, ◌≢◌, ◌≤◌, ◌<◌, ◌-◌, ◌^◌, ◌⊎◌, inl, inr, ℕ, Bool, true, false, nat_lt, bit_and, bit_or, min, w64, refl, sym, ap, subst, ◌∙◌, arith}
-use Rattle.std.specs.Int.{bit_at, bit_not, trailing_zeros}
-use Rattle.std.proofs.lemmas.Bool.{ltb-true, ltb-false}
-use Rattle.std.proofs.lemmas.Nat.{and_le_l, and_le_r, one_shl}
-use Rattle.std.proofs.lemmas.Nat.Bits.{bit_at-trailing_zeros, bit_at-zero, bit_at_above, bit_at_and, bit_at_clear_other, bit_at_clear_same, bit_at_not, bit_at_ones, bit_at_ones_above, bit_at_set_other, bit_at_set_same, same_from_bits}
-use Rattle.tw_host.specs.Sleeping.{Is, IsCleared, IsMarked, IsRange, Isnt}
+use Rattle.tw_host.proofs.Names.{Bool, Is, IsCleared, IsMarked, IsRange, Isnt, and_le_l, and_le_r, ap, arith, bit_and, bit_at, bit_at-trailing_zeros, bit_at-zero, bit_at_above, bit_at_and, bit_at_clear_other, bit_at_clear_same, bit_at_not, bit_at_ones, bit_at_ones_above, bit_at_set_other, bit_at_set_same, bit_not, bit_or, false, inl, inr, ltb-false, ltb-true, min, nat_lt, one_shl, refl, same_from_bits, subst, sym, trailing_zeros, true, w64, ℕ, ◌-◌, ◌<◌, ◌^◌, ◌∙◌, ◌≡◌, ◌≢◌, ◌≤◌, ◌⊎◌}
 use Rattle.tw_host.proofs.Settling.{is_or_isnt, not_both}
 
 pub set_bit : (n k own : ℕ) → k < 64 → own ≡ 2 ^ k → IsMarked k true n (bit_or n own)

@@ -1,15 +1,7 @@
 -- With one seat for each actor, an actor that is named at the end has a seat.
-use Rattle.std.proofs.Common.{◌≡◌, ◌≢◌, ◌<◌, ◌⊎◌, inl, inr, List, length, map, ◌∙◌, arith, true}
-use Rattle.std.proofs.lemmas.List.FromFn.{get_or-map-range_with_len, length-map-range_with_len}
-use Rattle.std.proofs.lemmas.List.Sorted.{All-permutation}
-use Rattle.tw_types.specs.declared.actor.Actor.{Actor}
-use Rattle.tw_types.specs.Actor.{index_of, is_in}
-use Rattle.tw_types.specs.Layout.{ActorCounts}
+use Rattle.tw_host.proofs.Names.{Actor, ActorCounts, All-permutation, Closes, IsDifference, IsOneEach, IsOther, List, NoneOf, Run, SeatEvents, actor_at, actor_count, actors_of, arith, get_or-map-range_with_len, index_of, inl, inr, is_in, length, length-map-range_with_len, map, true, ◌<◌, ◌∙◌, ◌≡◌, ◌≢◌, ◌⊎◌}
 use Rattle.tw_host.specs.declared.close.Closed.{Closed}
 use Rattle.tw_host.specs.declared.close.Closed.TheVariants.{Ended, Differs}
-use Rattle.tw_host.specs.Ends.{Closes, IsDifference, IsOneEach, IsOther}
-use Rattle.tw_host.specs.Run.{Run}
-use Rattle.tw_host.specs.Seats.{NoneOf, SeatEvents, actor_at, actor_count, actors_of}
 use Rattle.tw_host.proofs.Comparing.{index_back, index_low}
 
 -- an actor of the layout is among its actors

@@ -1,23 +1,7 @@
 -- Seats in the order of their actors, and their events.
-use Rattle.std.proofs.Common.{◌≡◌, ◌≢◌, ◌<◌, ◌≤◌, ◌+◌, ◌-◌, ℕ, Bool, true, false, if◌then◌else◌, List, [], ◌∷◌, map, length, nat_lt, ◌==◌, ◌++◌, take, drop, append-nil, refl, sym, ap, subst, ◌∙◌, arith, get_or}
-use Rattle.std.specs.Prelude.{slice_index_or, sum_by}
-use Rattle.std.specs.List.{All, Contains, SwappedAt}
-use Rattle.std.proofs.lemmas.Bool.{eqb-true, eqb-false, ltb-true, ltb-false}
-use Rattle.std.proofs.lemmas.List.{drop_all, get_or-map, length-map}
-use Rattle.std.proofs.lemmas.List.FromFn.{fill_by_all}
-use Rattle.std.proofs.lemmas.List.Elements.{All-tail}
-use Rattle.std.proofs.lemmas.List.Sorted.{All-permutation, Contains-permutation, IsPermutation-map, IsPermutation-sym, sum_by-IsPermutation}
-use Rattle.std.specs.List.Sorted.{IsPermutation}
+use Rattle.tw_host.proofs.Names.{Actor, ActorCounts, All, All-permutation, All-tail, Bool, Contains, Contains-permutation, Engine, Event, IsPermutation, IsPermutation-map, IsPermutation-sym, List, NoneOf, SeatEvents, Server, SwappedAt, Worker, [], actor_at, actor_count, actors_of, ap, append-nil, arith, drop, drop_all, eqb-false, eqb-true, events_of, false, fill_by_all, get_or, get_or-map, if◌then◌else◌, length, length-map, ltb-false, ltb-true, map, nat_lt, number_in_kind, refl, seen_by, seen_of, slice_index_or, subst, sum_by, sum_by-IsPermutation, sym, take, true, ℕ, ◌++◌, ◌+◌, ◌-◌, ◌<◌, ◌==◌, ◌∙◌, ◌∷◌, ◌≡◌, ◌≢◌, ◌≤◌}
 use Rattle.std.proofs.Math.Seq.{take-length}
-use Rattle.tw_types.specs.declared.actor.Actor.{Actor}
-use Rattle.tw_types.specs.declared.actor.Actor.TheVariants.{Engine, Server, Worker}
-use Rattle.tw_types.specs.declared.event.Event.{Event}
-use Rattle.tw_types.specs.Actor.{number_in_kind}
-use Rattle.tw_types.specs.Layout.{ActorCounts}
-use Rattle.tw_pool.specs.Actors.{events_of}
-use Rattle.tw_host.specs.Ends.{seen_of}
 use Rattle.tw_host.proofs.Lists.{map_map}
-use Rattle.tw_host.specs.Seats.{NoneOf, SeatEvents, actor_at, actors_of, actor_count, seen_by}
 
 -- ---- no two seats of a layout are one actor's
 

@@ -1,24 +1,6 @@
 -- Jobs and Dones in the answer of each line of the table of turns are of the program.
-use Rattle.std.proofs.Common.{◌≡◌, ℕ, Bool, true, false, sym, ap, subst, ◌∙◌, List, [], ◌∷◌, ◌++◌, length, Option, Some, None, inl, inr}
-use Rattle.std.specs.FinMap.{get}
-use Rattle.std.specs.Option.{option_map}
-use Rattle.tw_types.specs.declared.actor.Actor.{Actor}
-use Rattle.tw_types.specs.declared.event.Event.{Event}
-use Rattle.tw_types.specs.declared.event.Event.TheVariants.{Take, Local, Call, End, Ask, Deliver, Release}
-use Rattle.tw_code.specs.machine.Due.{event_of}
-use Rattle.tw_types.proofs.Outcomes.{same_went}
-use Rattle.tw_code.specs.machine.State.{Frame, State}
-use Rattle.tw_frame.specs.Jobs.{DoneView, JobView}
-use Rattle.tw_verify.specs.Typed.{TypedProgram}
-use Rattle.tw_pool.specs.declared.answer.Closing.{Closing}
-use Rattle.tw_pool.specs.declared.answer.Closing.TheVariants.{Limit}
-use Rattle.tw_pool.specs.declared.answer.Turn.{Turn}
+use Rattle.tw_host.proofs.Names.{Actor, Ask, Bool, Call, Closing, Deliver, DoneView, End, Event, Frame, HasState, IsAnswerOf, IsDoneOf, IsOwedBy, IsTurn, Issues, JobView, Limit, List, Local, Makes, None, Option, PoolView, Release, Some, State, Take, TakesBack, Turn, Turns, TurnsUnless, TypedProgram, [], ap, closing_at, event_of, events_of, false, get, inl, inr, instr_after, is_last, issued_to, length, option_map, same_went, steps_of, subst, sym, true, with_events, ℕ, ◌++◌, ◌∙◌, ◌∷◌, ◌≡◌}
 use Rattle.tw_pool.specs.declared.answer.Turn.TheVariants as turn
-use Rattle.tw_pool.specs.Actors.{events_of}
-use Rattle.tw_pool.specs.Kept.{IsOwedBy}
-use Rattle.tw_pool.specs.PoolView.{HasState, PoolView, with_events}
-use Rattle.tw_pool.specs.Turns.{IsTurn, Issues, Makes, TakesBack, Turns, TurnsUnless, closing_at, instr_after, is_last, issued_to, steps_of}
-use Rattle.tw_host.specs.Sees.{IsAnswerOf, IsDoneOf}
 
 abbrev program_in : TypedProgram → Option JobView → TypedProgram
 program_in program None = program

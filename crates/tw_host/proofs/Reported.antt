@@ -1,35 +1,9 @@
 -- The state of a pool after an answer that nothing is due, or that the run is over.
-use Rattle.std.proofs.Common.{◌≡◌, ◌≢◌, ◌==◌, ◌+◌, ◌⊎◌, inl, inr, ℕ, Bool, true, false, cond, not, ◌&&◌, if◌then◌else◌, List, [], ◌∷◌, ◌++◌, append-nil, length, length-append, Option, Some, None, refl, sym, ap, subst, ◌∙◌, arith}
-use Rattle.std.proofs.lemmas.Bool.{and_parts, eqb-true, eq-eqb}
-use Rattle.std.proofs.lemmas.Option.{same_Some}
-use Rattle.std.specs.FinMap.{entries, find, get, get-entries}
-use Rattle.std.specs.Option.{option_map, option_or}
+use Rattle.tw_host.proofs.Names.{Actor, AreTurns, Ask, Bool, Call, Closing, Control, Deliver, DoneView, End, Engine, Event, HasNextResult, HasState, HaveTargets, InState, IsNoTarget, IsOver, IsTurn, JobView, Kind, LacksWork, Leaf, Limit, List, Local, Makes, None, Option, PoolView, Release, Server, Some, State, Stopped, Take, TakesBack, TakesNone, Turn, Turns, TurnsUnless, Worker, [], and_parts, ap, append-nil, arith, closing_at, closing_of, cond, ending, entries, eq-eqb, eqb-true, false, find, get, get-entries, if◌then◌else◌, inl, inr, instr_after, is_idle, is_last, is_over_turn, issued_to, length, length-append, may_take, next_ask, next_release, not, number_in_kind, option_map, option_or, refl, same_Some, same_went, steps_of, subst, sym, true, with_events, ℕ, ◌&&◌, ◌++◌, ◌+◌, ◌==◌, ◌∙◌, ◌∷◌, ◌≡◌, ◌≢◌, ◌⊎◌}
 use Rattle.std.specs.Ordering.{eq_by_cmp, nat_cmp}
-use Rattle.tw_types.specs.declared.actor.Actor.{Actor}
-use Rattle.tw_types.specs.declared.actor.Actor.TheVariants.{Engine, Server, Worker}
-use Rattle.tw_types.specs.declared.actor.Kind.{Kind}
-use Rattle.tw_types.specs.declared.actor.Kind.TheVariants.{Control, Leaf}
-use Rattle.tw_types.specs.declared.event.Event.{Event}
-use Rattle.tw_types.specs.declared.event.Event.TheVariants.{Take, Local, Call, End, Ask, Deliver, Release}
-use Rattle.tw_types.specs.Actor.{may_take, number_in_kind}
-use Rattle.tw_types.specs.Rule.{next_ask, next_release}
 use Rattle.tw_types.specs.Task.{Task, TaskOf, Tasks, best, best_of, better, is_eligible, is_for}
-use Rattle.tw_types.proofs.Outcomes.{same_went}
 use Rattle.tw_code.specs.machine.Due.{IsDueFree, event_of, first_of, take_of}
-use Rattle.tw_code.specs.machine.Ending.{ending}
-use Rattle.tw_code.specs.machine.State.{State}
-use Rattle.tw_frame.specs.Jobs.{DoneView, JobView}
-use Rattle.tw_queue.specs.Targets.{HaveTargets, IsNoTarget}
-use Rattle.tw_pool.specs.declared.answer.Closing.{Closing}
-use Rattle.tw_pool.specs.declared.answer.Closing.TheVariants.{Limit, Stopped}
-use Rattle.tw_pool.specs.declared.answer.Turn.{Turn}
 use Rattle.tw_pool.specs.declared.answer.Turn.TheVariants as turn
-use Rattle.tw_pool.specs.Kept.{InState}
-use Rattle.tw_pool.specs.PoolView.{PoolView, HasState, with_events}
-use Rattle.tw_pool.specs.Turns.{IsTurn, Makes, TakesBack, Turns, TurnsUnless, closing_at, closing_of, instr_after, is_last, issued_to, steps_of}
-use Rattle.tw_pool.specs.Work.{LacksWork}
-use Rattle.tw_host.specs.Holds.{AreTurns, HasNextResult}
-use Rattle.tw_host.specs.Sleeping.{IsOver, TakesNone, is_idle, is_over_turn}
 
 pub none_appended : (p : PoolView) → with_events p [] ≡ p
 none_appended p = ap (λ (h : List Event). record p { history = h }) (append-nil p.history)

@@ -1,20 +1,6 @@
 -- After sleepers were woken, the invariant holds again.
-use Rattle.std.proofs.Common.{◌≡◌, ◌≢◌, ◌==◌, ◌≤◌, ◌<◌, ◌+◌, ◌⊎◌, ◌||◌, if◌then◌else◌, inl, inr, ℕ, zero, suc, Bool, true, false, nat_lt, refl, sym, ap, subst, ◌∙◌, arith}
-use Rattle.std.specs.Int.{bit_at}
-use Rattle.std.proofs.lemmas.Bool.{eqb-true, eqb-false, ltb-true, ltb-false}
-use Rattle.std.proofs.lemmas.Nat.Bits.{bit_at-lt, bit_at-zero}
-use Rattle.tw_types.specs.declared.actor.Actor.{Actor}
-use Rattle.tw_types.specs.declared.actor.Actor.TheVariants.{Engine, Server, Worker}
-use Rattle.tw_types.specs.declared.actor.Kind.{Kind}
-use Rattle.tw_types.specs.declared.actor.Kind.TheVariants.{Control, Leaf}
-use Rattle.tw_types.specs.Actor.{index_of, is_in}
-use Rattle.tw_types.specs.Layout.{IsLayout}
-use Rattle.tw_pool.specs.declared.answer.Turn.{Turn}
+use Rattle.tw_host.proofs.Names.{Actor, AreTargeted, AreWoken, Bool, Control, Covers, Engine, HasCleared, HaveNoWork, Is, IsCleared, IsCovered, IsKnown, IsLayout, IsMarked, IsOver, Isnt, Kind, KnownBy, LacksWork, Leaf, PoolView, Server, TakesNone, Turn, Wakes, WakesAfter, Worker, actor_at, actor_count, ap, arith, bit_at, bit_at-lt, bit_at-zero, end_of, eqb-false, eqb-true, false, first_of, has_job, if◌then◌else◌, index_of, inl, inr, is_idle, is_in, is_over_turn, ltb-false, ltb-true, nat_lt, refl, subst, suc, sym, true, zero, ℕ, ◌+◌, ◌<◌, ◌==◌, ◌||◌, ◌∙◌, ◌≡◌, ◌≢◌, ◌≤◌, ◌⊎◌}
 use Rattle.tw_pool.specs.declared.answer.Turn.TheVariants as turn
-use Rattle.tw_pool.specs.PoolView.{PoolView}
-use Rattle.tw_pool.specs.Work.{AreTargeted, LacksWork}
-use Rattle.tw_host.specs.Seats.{actor_at, actor_count}
-use Rattle.tw_host.specs.Sleeping.{AreWoken, Covers, HasCleared, HaveNoWork, Is, IsCleared, IsCovered, IsKnown, IsMarked, IsOver, Isnt, KnownBy, TakesNone, Wakes, WakesAfter, end_of, first_of, has_job, is_idle, is_over_turn}
 use Rattle.tw_host.proofs.Comparing.{index_back, index_low}
 
 pub is_or_isnt : (bits i : ℕ) → Is bits i ⊎ Isnt bits i

@@ -1,12 +1,6 @@
 -- The events that a seat gets from a step of the pool.
-use Rattle.std.proofs.Common.{◌≡◌, ◌+◌, ◌≤◌, refl, ap, ◌∙◌, arith, List, [], ◌∷◌, ◌++◌, length, length-append, Option, drop}
-use Rattle.tw_types.specs.declared.actor.Actor.{Actor}
-use Rattle.tw_frame.specs.Jobs.{DoneView}
-use Rattle.tw_pool.specs.declared.answer.Turn.{Turn}
-use Rattle.tw_pool.specs.PoolView.{PoolView}
-use Rattle.tw_pool.specs.Turns.{AreOwn, IsTurn, closing_at}
+use Rattle.tw_host.proofs.Names.{Actor, AreOwn, DoneView, IsAnswerOf, IsDoneOf, IsTurn, List, Option, PoolView, Turn, [], ap, arith, closing_at, drop, length, length-append, refl, ◌++◌, ◌+◌, ◌∙◌, ◌∷◌, ◌≡◌, ◌≤◌}
 use Rattle.tw_pool.proofs.Lines.{own_events}
-use Rattle.tw_host.specs.Sees.{IsAnswerOf, IsDoneOf}
 use Rattle.tw_host.proofs.Fitting.{fits}
 use Rattle.tw_host.proofs.Owning.{is_answer_of}
 

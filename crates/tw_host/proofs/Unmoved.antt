@@ -1,38 +1,23 @@
 -- The events of one actor leave the work of others.
 use Rattle.std.proofs.Common.{◌≡◌, ◌⊎◌, inl, inr, ℕ, Bool, true, false, cond, List, [], ◌∷◌, ◌++◌, drop, length, Some, None, slice_get, refl, sym, ap, subst, ◌∙◌, arith}
-use Rattle.std.proofs.lemmas.Bool.{and_parts}
+use Rattle.tw_host.proofs.Names.{Actor, ActorCounts, AreBy, Ask, Call, Deliver, End, Engine, Event, Frame, Frames, HasTargets, IfWent, Local, Outcome, Procedure, Release, Server, State, Take, Went, Worker, actor_cmp, actor_of, and_parts, context_of, events_of, few, get, get-empty, if_both, insert, is_control, may_take, nat_cmp-IsAntisymmetric, same_actor, same_went, the_same, went_first, went_of, ◌>>=◌}
 use Rattle.std.specs.Cmp.{nat_cmp_total}
-use Rattle.std.specs.FinMap.{get, insert, nat_cmp-IsAntisymmetric, get-empty}
 use Rattle.std.specs.FinSet as set
-use Rattle.tw_types.specs.declared.actor.Actor.{Actor}
-use Rattle.tw_types.specs.declared.actor.Actor.TheVariants.{Engine, Server, Worker}
-use Rattle.tw_types.specs.declared.event.Event.{Event}
-use Rattle.tw_types.specs.declared.event.Event.TheVariants.{Take, Local, Call, End, Ask, Deliver, Release}
 use Rattle.tw_types.specs.declared.input.Input.{Input}
 use Rattle.tw_types.specs.declared.notice.Notice.{Notice}
-use Rattle.tw_types.specs.Actor.{actor_cmp, is_control, may_take}
-use Rattle.tw_types.specs.Layout.{ActorCounts}
 use Rattle.tw_types.specs.Notices.{Notices}
-use Rattle.tw_types.specs.Outcome.{Outcome, Went, ◌>>=◌}
 use Rattle.tw_types.specs.Task.{Task, Tasks, best}
 use Rattle.tw_types.proofs.ActorOrder.{actor_cmp_total, actor_cmp-IsAntisymmetric}
 use Rattle.tw_types.proofs.Best.{best_found}
 use Rattle.tw_types.proofs.NoticeOrder.{notice_cmp_total}
-use Rattle.tw_types.proofs.Outcomes.{IfWent, if_both, same_went, went_first, went_of}
 use Rattle.tw_types.proofs.Parts.{before_removal, put_or_before}
 use Rattle.tw_types.proofs.Results.{ok_of}
-use Rattle.tw_code.specs.accepting.Needs.{HasTargets}
-use Rattle.tw_code.specs.declared.procedure.Procedure.{Procedure}
 use Rattle.tw_code.specs.machine.Arguments.{called, put_called}
-use Rattle.tw_code.specs.machine.History.{actor_of}
 use Rattle.tw_code.specs.machine.Machine.{run, step}
 use Rattle.tw_code.specs.machine.Opening.{opening, reached}
-use Rattle.tw_code.specs.machine.State.{Frame, Frames, State, context_of}
 use Rattle.tw_code.proofs.Leaving.{ask_leaves, call_leaves, deliver_leaves, end_leaves, local_leaves, release_leaves, take_leaves}
 use Rattle.tw_code.proofs.Placed.{IsPlaced, called_is, put_called_is, reached_placed}
 use Rattle.tw_code.proofs.Runs.{run_more}
-use Rattle.tw_pool.specs.Actors.{events_of, same_actor}
-use Rattle.tw_pool.proofs.Counting.{AreBy, few, the_same}
 
 -- ---- no task runs on a server
 

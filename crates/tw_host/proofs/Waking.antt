@@ -1,13 +1,5 @@
 -- The sleepers that have to be woken, one after another.
-use Rattle.std.proofs.Common.{◌≡◌, ◌≢◌, ◌==◌, ◌≤◌, ◌<◌, ◌+◌, ◌⊎◌, inl, inr, ℕ, Bool, true, false, bit_and, bit_or, max, refl, sym, ap, subst, ◌∙◌, arith}
-use Rattle.std.specs.Int.{bit_at}
-use Rattle.std.proofs.lemmas.Bool.{eqb-true, eqb-false}
-use Rattle.std.proofs.lemmas.Nat.Bits.{bit_at_or}
-use Rattle.tw_types.specs.declared.actor.Kind.{Kind}
-use Rattle.tw_pool.specs.PoolView.{PoolView}
-use Rattle.tw_pool.specs.Work.{AreTargeted, LacksWork}
-use Rattle.tw_host.specs.Seats.{actor_at}
-use Rattle.tw_host.specs.Sleeping.{Covers, Is, IsConsidered, IsRange, Isnt, WakesKind, WakesOne, WakesOwn, WakesServers, end_of, first_of}
+use Rattle.tw_host.proofs.Names.{AreTargeted, Bool, Covers, Is, IsConsidered, IsRange, Isnt, Kind, LacksWork, PoolView, WakesKind, WakesOne, WakesOwn, WakesServers, actor_at, ap, arith, bit_and, bit_at, bit_at_or, bit_or, end_of, eqb-false, eqb-true, false, first_of, inl, inr, max, refl, subst, sym, true, ℕ, ◌+◌, ◌<◌, ◌==◌, ◌∙◌, ◌≡◌, ◌≢◌, ◌≤◌, ◌⊎◌}
 use Rattle.tw_host.proofs.Masks.{some_there}
 use Rattle.tw_host.proofs.Settling.{is_or_isnt, not_both}
 

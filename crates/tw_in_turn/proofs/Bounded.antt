@@ -1,24 +1,7 @@
 -- A run whose events have a bound ends before a limit above it.
-use Rattle.std.proofs.Common.{◌≡◌, ◌==◌, ℕ, Bool, true, false, if◌then◌else◌, List, length, Option, Some, None, refl, sym, ap, subst, ◌∙◌, arith, option_map}
-use Rattle.std.proofs.lemmas.Bool.{eqb-true}
-use Rattle.std.specs.Option.{option_or}
-use Rattle.tw_types.specs.declared.ending.Ending.{Ending}
+use Rattle.tw_in_turn.proofs.Names.{AreInputsOf, Bool, Closing, Ending, EndsByItself, HasEnded, HasEndedByItself, HasFew, Input, IsBoundedBy, IsLeftIn, List, None, Option, PoolView, Some, State, TypedProgram, Went, ap, arith, closing_at, closing_of, ending, eqb-true, false, few_events, if◌then◌else◌, length, opened, option_map, option_or, reached, refl, subst, sym, true, typings_of, ℕ, ◌==◌, ◌∙◌, ◌≡◌}
 use Rattle.tw_types.specs.declared.ending.Ending.TheVariants as ending
-use Rattle.tw_types.specs.declared.input.Input.{Input}
-use Rattle.tw_types.specs.Outcome.{Went}
-use Rattle.tw_code.specs.machine.Ending.{ending}
-use Rattle.tw_code.specs.machine.Inputs.{AreInputsOf}
-use Rattle.tw_code.specs.machine.Opening.{reached}
-use Rattle.tw_code.specs.machine.State.{State}
-use Rattle.tw_verify.specs.Typed.{TypedProgram, typings_of}
-use Rattle.tw_bounds.proofs.Along.{few_events}
-use Rattle.tw_pool.specs.declared.answer.Closing.{Closing}
 use Rattle.tw_pool.specs.declared.answer.Closing.TheVariants.{Quiet, Stuck, Stopped, Limit}
-use Rattle.tw_pool.specs.Openings.{opened}
-use Rattle.tw_pool.specs.PoolView.{PoolView}
-use Rattle.tw_pool.specs.Turns.{closing_at, closing_of}
-use Rattle.tw_in_turn.specs.InTurn.{HasEnded, IsLeftIn}
-use Rattle.tw_in_turn.specs.Bounded.{EndsByItself, HasEndedByItself, HasFew, IsBoundedBy}
 
 pub has_few : (verified : TypedProgram) (most : ℕ) → IsBoundedBy verified most → HasFew verified most
 has_few verified most is p s same inputs state =

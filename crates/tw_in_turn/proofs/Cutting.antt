@@ -1,29 +1,10 @@
 -- A job that was cut off: the steps that its task made so far.
-use Rattle.std.proofs.Common.{◌≡◌, ◌<◌, ◌+◌, ◌∙◌, ℕ, zero, suc, nat_eq, false, List, [], ◌∷◌, ◌++◌, length, Option, Some, None, arith, ap, refl, slice_get, subst, sym, option_map}
-use Rattle.std.proofs.lemmas.Bool.Decides.{nat_tests}
-use Rattle.std.specs.FinMap.{get}
-use Rattle.std.proofs.lemmas.List.Sums.{sum_by-cons}
-use Rattle.tw_types.specs.declared.actor.Actor.{Actor}
-use Rattle.tw_types.specs.declared.event.Event.{Event}
+use Rattle.tw_in_turn.proofs.Names.{Actor, ActorCounts, DoneView, Event, Executes, Frame, Has, HasState, IsCut, IsTurn, JobView, List, MayExecute, None, Option, PoolView, Position, Procedure, Some, State, Turn, Went as Gone, [], ap, arith, events_of, false, get, instructions_by, issued_to, length, nat_eq, nat_tests, opening, option_map, refl, slice_get, subst, suc, sum_by-cons, sym, with_events, with_frame, zero, ℕ, ◌++◌, ◌+◌, ◌<◌, ◌∙◌, ◌∷◌, ◌≡◌}
 use Rattle.tw_types.specs.declared.event.Event.TheVariants.{Local}
-use Rattle.tw_types.specs.Layout.{ActorCounts}
-use Rattle.tw_types.specs.Outcome.{Went as Gone}
-use Rattle.tw_code.specs.declared.procedure.Procedure.{Procedure}
 use Rattle.tw_code.specs.machine.Machine.{local_steps, step}
-use Rattle.tw_code.specs.machine.Opening.{opening}
-use Rattle.tw_code.specs.machine.Position.{Position}
-use Rattle.tw_code.specs.machine.State.{Frame, State, with_frame}
 use Rattle.tw_code.proofs.Runs.{run_more}
-use Rattle.tw_bounds.specs.Runs.{instructions_by}
-use Rattle.tw_frame.specs.Jobs.{DoneView, IsCut, JobView}
-use Rattle.tw_pool.specs.declared.answer.Turn.{Turn}
 use Rattle.tw_pool.specs.declared.answer.Turn.TheVariants.{Over, NoMemory, Run, Ended, Went, Idle}
 use Rattle.tw_pool.specs.declared.answer.Closing.TheVariants.{Limit}
-use Rattle.tw_pool.specs.Actors.{events_of}
-use Rattle.tw_pool.specs.PoolView.{PoolView, HasState, with_events}
-use Rattle.tw_pool.specs.Turns.{IsTurn, issued_to}
-use Rattle.tw_in_turn.specs.InTurn.{Has}
-use Rattle.tw_in_turn.specs.Stopping.{Executes, MayExecute}
 use Rattle.tw_in_turn.proofs.Moving as moving
 use Rattle.tw_in_turn.proofs.Moving.{CameTo, ended, full, idle, lent, over, refused, went}
 

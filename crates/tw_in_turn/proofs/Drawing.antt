@@ -1,18 +1,5 @@
 -- Steps whose actors a seed draws: the first one that isn't idle, from a place on. There is one.
-use Rattle.std.proofs.Common.{◌≡◌, ◌<◌, ◌≤◌, ◌+◌, ◌-◌, ◌%◌, ◌⊎◌, ◌∙◌, ℕ, length, Some, add-one, ap, arith, inl, inr, subst, sym}
-use Rattle.std.proofs.lemmas.Bool.{cases_eq, cases_lt}
-use Rattle.std.proofs.Math.Nat.{add-mod_right, mod-eq_of_lt, mod-lt}
-use Rattle.tw_types.specs.declared.actor.Actor.{Actor}
-use Rattle.tw_types.specs.Actor.{actor_at, actor_count}
-use Rattle.tw_types.specs.Layout.{ActorCounts}
-use Rattle.tw_pool.specs.declared.answer.Turn.{Turn}
-use Rattle.tw_pool.specs.declared.answer.Turn.TheVariants.{Idle, Over, Run}
-use Rattle.tw_pool.specs.PoolView.{PoolView}
-use Rattle.tw_in_turn.specs.Drawn.{place_for}
-use Rattle.tw_pool.specs.Work.{IsIdle}
-use Rattle.tw_in_turn.specs.InTurn.{Continues, IsAfter, IsDrawn, IsMove, actor_from}
-use Rattle.tw_in_turn.specs.Rounds.{Ends, MayTurn}
-use Rattle.tw_in_turn.specs.declared.rounds.End.{End}
+use Rattle.tw_in_turn.proofs.Names.{Actor, ActorCounts, Continues, End, Ends, Idle, IsAfter, IsDrawn, IsIdle, IsMove, MayTurn, Over, PoolView, Run, Some, Turn, actor_at, actor_count, actor_from, add-mod_right, add-one, ap, arith, cases_eq, cases_lt, inl, inr, length, mod-eq_of_lt, mod-lt, place_for, subst, sym, ℕ, ◌%◌, ◌+◌, ◌-◌, ◌<◌, ◌∙◌, ◌≡◌, ◌≤◌, ◌⊎◌}
 use Rattle.tw_in_turn.specs.declared.rounds.End.TheVariants as end
 use Rattle.tw_in_turn.proofs.Moving as moving
 use Rattle.tw_in_turn.proofs.Rounding.{some_turn}

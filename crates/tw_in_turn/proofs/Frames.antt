@@ -1,23 +1,13 @@
 -- Events don't change the running tasks of other actors.
-use Rattle.std.proofs.Common.{◌≡◌, ◌≢◌, ℕ, Bool, true, false, cond, List, [], ◌∷◌, ◌++◌, length, Some, None, refl, sym, ap, subst, ◌∙◌, arith}
+use Rattle.tw_in_turn.proofs.Names.{Actor, ActorCounts, AreBy, Bool, Event, Frame, Frames, List, None, Procedure, Some, State, Went, [], ap, arith, cond, events_of, false, few, get, get-insert, get-remove, insert, length, refl, remove, same_actor, same_went, subst, sym, the_same, true, went_first, went_of, ℕ, ◌++◌, ◌∙◌, ◌∷◌, ◌≡◌, ◌≢◌}
 use Rattle.tw_types.proofs.Orders.{other_key}
 use Rattle.std.specs.Cmp.{tied_itself}
-use Rattle.std.specs.FinMap.{get, get-insert, get-remove, insert, remove}
 use Rattle.std.specs.Ordering.{is_eq}
-use Rattle.tw_types.specs.declared.actor.Actor.{Actor}
-use Rattle.tw_types.specs.declared.event.Event.{Event}
 use Rattle.tw_types.specs.declared.event.Event.TheVariants.{Take, Local, Call, End, Ask, Deliver, Release}
-use Rattle.tw_types.specs.Layout.{ActorCounts}
-use Rattle.tw_types.specs.Outcome.{Went}
 use Rattle.tw_types.proofs.ActorOrder.{actor_cmp_total, actor_cmp-IsAntisymmetric}
-use Rattle.tw_types.proofs.Outcomes.{same_went, went_first, went_of}
-use Rattle.tw_code.specs.declared.procedure.Procedure.{Procedure}
 use Rattle.tw_code.specs.machine.History.{actor_of}
 use Rattle.tw_code.specs.machine.Machine.{ask_event, call_event, deliver_event, end_event, local_event, release_event, run, step, take_event}
-use Rattle.tw_code.specs.machine.State.{Frame, Frames, State}
 use Rattle.tw_code.proofs.Leaving.{ask_leaves, call_leaves, deliver_leaves, end_leaves, local_leaves, release_leaves, take_leaves}
-use Rattle.tw_pool.specs.Actors.{events_of, same_actor}
-use Rattle.tw_pool.proofs.Counting.{AreBy, few, the_same}
 
 -- ---- maps by actors
 

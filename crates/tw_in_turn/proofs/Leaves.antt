@@ -1,7 +1,5 @@
 -- A finished run, without its looks.
-use Rattle.std.proofs.Common.{ℕ, Bool, true, List, Option, refl}
-use Rattle.tw_pool.specs.PoolView.{PoolView}
-use Rattle.tw_in_turn.specs.Stopping.{IsLeftBy, IsLeftIf}
+use Rattle.tw_in_turn.proofs.Names.{Bool, IsLeftBy, IsLeftIf, List, Option, PoolView, refl, true, ℕ}
 use Rattle.tw_in_turn.specs.declared.run.InTurnResult.TheVariants as result
 use Rattle.tw_in_turn.specs.declared.run.StoppableResult.{StoppableResult}
 use Rattle.tw_in_turn.specs.declared.run.StoppableResult.TheVariants.{Ended, Stopped}

@@ -1,13 +1,6 @@
 -- The results of a pool whose run is over.
-use Rattle.std.proofs.Common.{◌≡◌, ℕ, Option, false, ap, subst, sym, ◌∙◌}
-use Rattle.tw_code.specs.machine.State.{State}
+use Rattle.tw_in_turn.proofs.Names.{FinalView, HasEnded, HasState, HistoryView, IsClosedPool, IsGrown, IsLeftIn, IsOver, IsReachedAfter, Option, PoolView, State, ap, false, subst, sym, ℕ, ◌∙◌, ◌≡◌}
 use Rattle.tw_soundness.specs.EndsWell.{EndsWell}
-use Rattle.tw_pool.specs.Ends.{FinalView, IsClosedPool}
-use Rattle.tw_pool.specs.History.{HistoryView}
-use Rattle.tw_pool.specs.PoolView.{HasState, PoolView}
-use Rattle.tw_in_turn.specs.InTurn.{HasEnded, IsLeftIn, IsOver}
-use Rattle.tw_in_turn.specs.Rounds.{IsGrown}
-use Rattle.tw_in_turn.specs.Stopping.{IsReachedAfter}
 use Rattle.tw_in_turn.proofs.Moving.{ends_over}
 
 module _ (pool first p : PoolView) (final : FinalView) (history : HistoryView) (is : pool ≡ first) where

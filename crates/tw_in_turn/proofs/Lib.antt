@@ -6,6 +6,7 @@ pub mod Leaves
 mod Leaving
 mod Metered
 mod Moving
+pub mod Names
 mod Opening
 mod Rounding
 mod Same

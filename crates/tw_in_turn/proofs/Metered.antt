@@ -1,24 +1,7 @@
 -- The instructions of a run, with those of a task that was cut off, are within main's bound.
-use Rattle.std.proofs.Common.{◌≡◌, ◌≤◌, ◌+◌, ℕ, zero, suc, Bool, List, Option, ap, arith, subst, sym}
-use Rattle.std.proofs.lemmas.List.Sums.{sum_by-append}
-use Rattle.tw_types.specs.declared.input.Input.{Input}
-use Rattle.tw_types.specs.Layout.{ActorCounts}
-use Rattle.tw_types.specs.Outcome.{Went}
+use Rattle.tw_in_turn.proofs.Names.{ActorCounts, AreInputsOf, Bool, ExecutesFew, FinalView, HasState, HistoryView, Input, IsBoundOfMain, IsLeftIn, List, MayExecute, Option, PoolView, State, TypedProgram, Went, ap, arith, instructions_alone, instructions_by, instructions_in, opened, reached, subst, suc, sum_by-append, sym, typings_of, with_events, within, zero, ℕ, ◌+◌, ◌≡◌, ◌≤◌}
 use Rattle.tw_code.specs.format.Program.{IsProgram}
-use Rattle.tw_code.specs.machine.Inputs.{AreInputsOf}
-use Rattle.tw_code.specs.machine.Opening.{reached}
-use Rattle.tw_code.specs.machine.State.{State}
 use Rattle.tw_soundness.specs.NoTrap.{AreRight}
-use Rattle.tw_verify.specs.Typed.{TypedProgram, typings_of}
-use Rattle.tw_bounds.specs.Runs.{IsBoundOfMain, instructions_alone, instructions_by, instructions_in}
-use Rattle.tw_bounds.proofs.Along.{within}
-use Rattle.tw_pool.specs.Ends.{FinalView}
-use Rattle.tw_pool.specs.History.{HistoryView}
-use Rattle.tw_pool.specs.Openings.{opened}
-use Rattle.tw_pool.specs.PoolView.{HasState, PoolView, with_events}
-use Rattle.tw_in_turn.specs.Bounded.{ExecutesFew}
-use Rattle.tw_in_turn.specs.InTurn.{IsLeftIn}
-use Rattle.tw_in_turn.specs.Stopping.{MayExecute}
 use Rattle.tw_in_turn.specs.declared.run.InTurnResult.TheVariants as result
 use Rattle.tw_in_turn.specs.declared.run.StoppableResult.TheVariants.{Ended, Stopped}
 

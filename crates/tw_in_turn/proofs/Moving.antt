@@ -1,40 +1,14 @@
 -- The result of a step in which an actor submits what it has.
-use Rattle.std.proofs.Common.{◌≡◌, ◌≢◌, ◌==◌, ◌+◌, ◌≤◌, ◌⊎◌, ℕ, zero, suc, Bool, true, false, not, if◌then◌else◌, List, [], ◌∷◌, ◌++◌, length, length-append, Option, Some, None, IfSome, refl, sym, ap, subst, ◌∙◌, arith, inl, inr, option_map, append-nil}
-use Rattle.std.proofs.lemmas.Bool.{and_parts, eq-eqb, eqb-true}
-use Rattle.std.specs.FinMap.{get}
-use Rattle.std.specs.Option.{option_or}
-use Rattle.tw_types.specs.declared.actor.Actor.{Actor}
-use Rattle.tw_types.specs.declared.ending.Ending.{Ending}
+use Rattle.tw_in_turn.proofs.Names.{Actor, Answers, AreBy, Bool, Closing, Continues, ContinuesOrEnds, DoneView, End as Stop, Ending, Event, Frame, Has, HasDone, HasEnded, HasState, IfSome, Instr, IsAfter, IsDone, IsDueFree, IsGrown, IsIdle, IsMove, IsOver, IsOwedBy, IsReachedWith, IsTurn, IsTurned, IsWorkOf, Issues, JobView, Keeps, List, Makes, None, Option, PoolView, Some, State, TakesBack, Turn, Turns, TurnsFree, TurnsUnless, Went as Gone, [], and_parts, ap, append-nil, arith, closing_at, closing_of, ending, eq-eqb, eqb-true, event_of, events_of, false, get, if◌then◌else◌, inl, inr, instr_after, is_last, issued_to, length, length-append, not, opening, option_map, option_or, others_same, refl, run, same_went, step, steps_of, subst, suc, sym, true, with_events, zero, ℕ, ◌++◌, ◌+◌, ◌==◌, ◌∙◌, ◌∷◌, ◌≡◌, ◌≢◌, ◌≤◌, ◌⊎◌}
 use Rattle.tw_types.specs.declared.ending.Ending.TheVariants as ending
-use Rattle.tw_types.specs.declared.event.Event.{Event}
 use Rattle.tw_types.specs.declared.event.Event.TheVariants.{Take, Local, Call, End, Ask, Deliver, Release}
-use Rattle.tw_types.specs.Outcome.{Went as Gone}
-use Rattle.tw_types.proofs.Outcomes.{same_went}
-use Rattle.tw_code.specs.declared.instr.Instr.{Instr}
 use Rattle.tw_code.specs.declared.instr.Instr.TheVariants as instr
-use Rattle.tw_code.specs.machine.Due.{IsDueFree, event_of}
-use Rattle.tw_code.specs.machine.Ending.{ending}
-use Rattle.tw_code.specs.machine.Machine.{run, step}
-use Rattle.tw_code.specs.machine.Opening.{opening}
-use Rattle.tw_code.specs.machine.State.{Frame, State}
-use Rattle.tw_frame.specs.Jobs.{DoneView, IsDone, JobView}
-use Rattle.tw_pool.specs.declared.answer.Closing.{Closing}
 use Rattle.tw_pool.specs.declared.answer.Closing.TheVariants.{Limit, Stopped}
-use Rattle.tw_pool.specs.declared.answer.Turn.{Turn}
 use Rattle.tw_pool.specs.declared.answer.Turn.TheVariants.{Over, Foreign, Owed, NoMemory, Run, Ended, Went, Idle}
-use Rattle.tw_pool.specs.Actors.{events_of}
-use Rattle.tw_pool.specs.Kept.{IsOwedBy}
-use Rattle.tw_pool.specs.PoolView.{PoolView, HasState, with_events}
-use Rattle.tw_pool.specs.Turns.{Answers, TurnsFree, IsTurn, Issues, Makes, TakesBack, Turns, TurnsUnless, closing_at, closing_of, instr_after, is_last, issued_to, steps_of}
-use Rattle.tw_pool.proofs.Counting.{AreBy, others_same}
 use Rattle.tw_pool.proofs.Lines.{whose_due}
 use Rattle.tw_host.specs.Sees.{IsAnswerOf, IsDoneOf}
 use Rattle.tw_host.proofs.Owning.{is_answer_of}
 use Rattle.tw_host.proofs.Turning as turning
-use Rattle.tw_pool.specs.Work.{IsIdle}
-use Rattle.tw_in_turn.specs.InTurn.{IsReachedWith, Continues, Has, HasDone, HasEnded, IsAfter, IsMove, IsOver, IsWorkOf}
-use Rattle.tw_in_turn.specs.declared.rounds.End.{End as Stop}
-use Rattle.tw_in_turn.specs.Rounds.{ContinuesOrEnds, IsGrown, IsTurned, Keeps}
 use Rattle.tw_in_turn.proofs.Frames as frames
 
 -- an event of rules or notices

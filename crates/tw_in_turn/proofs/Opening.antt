@@ -1,21 +1,7 @@
 -- Before the first event no actor has anything to submit.
-use Rattle.std.proofs.Common.{◌≡◌, List, [], Option, None, refl, sym, ap, subst, ◌∙◌}
-use Rattle.std.specs.FinMap.{get, get-empty}
-use Rattle.tw_types.specs.declared.actor.Actor.{Actor}
-use Rattle.tw_types.specs.declared.event.Event.{Event}
-use Rattle.tw_types.specs.declared.input.Input.{Input}
-use Rattle.tw_types.specs.Actor.{actor_cmp}
-use Rattle.tw_types.specs.Layout.{ActorCounts}
-use Rattle.tw_types.specs.Outcome.{Went}
-use Rattle.tw_types.proofs.Outcomes.{same_went}
-use Rattle.tw_code.specs.declared.procedure.Procedure.{Procedure}
+use Rattle.tw_in_turn.proofs.Names.{Actor, ActorCounts, Event, HasDone, Input, JobView, Keeps, List, None, Option, PoolView, Procedure, State, Went, [], actor_cmp, ap, get, get-empty, refl, same_went, subst, sym, ◌∙◌, ◌≡◌}
 use Rattle.tw_code.specs.machine.Machine.{run}
 use Rattle.tw_code.specs.machine.Opening.{opening, reached}
-use Rattle.tw_code.specs.machine.State.{State}
-use Rattle.tw_frame.specs.Jobs.{JobView}
-use Rattle.tw_pool.specs.PoolView.{PoolView}
-use Rattle.tw_in_turn.specs.InTurn.{HasDone}
-use Rattle.tw_in_turn.specs.Rounds.{Keeps}
 use Rattle.tw_in_turn.proofs.Moving.{issued_none}
 
 nobody : (program : List Procedure) (inputs : List Input) (layout : ActorCounts) (s : State) (actor : Actor) → reached program inputs layout [] ≡ Went s → get s.frames actor ≡ None

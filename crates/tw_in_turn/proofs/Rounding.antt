@@ -1,33 +1,10 @@
 -- Rounds: each actor makes a step by its index, and some event is due while the run isn't over.
-use Rattle.std.proofs.Common.{◌≡◌, ◌≢◌, ◌<◌, ◌≤◌, ◌+◌, ◌-◌, ◌*◌, ◌⊎◌, ◌==◌, ℕ, zero, suc, Bool, true, false, nat_lt, if◌then◌else◌, List, length, Option, Some, None, refl, sym, ap, subst, ◌∙◌, add-one, arith, get_or, set, inl, inr}
-use Rattle.std.proofs.lemmas.Bool.{cases_eq, cases_lt, ltb-true, ltb-false}
-use Rattle.std.proofs.lemmas.Bool.Decides.{nat_tests}
-use Rattle.std.proofs.lemmas.List.{get_or-set_same, get_or-set_other, length-set}
+use Rattle.tw_in_turn.proofs.Names.{Actor, ActorCounts, AreIdle, AreKept, Bool, Continues, DoneView, Ending, Engine, Frame, Idle, IsAfter, IsDueFor, IsDueFree, IsGrown, IsIdle, IsLayout, IsMove, IsReachedAfter, Keeps, List, MayTurn, None, Option, PoolView, Server, Some, State, Turn, Worker, actor_after, actor_at, actor_count, add-one, ap, arith, cases_eq, cases_lt, closing_of, ending, false, get, get_or, get_or-set_other, get_or-set_same, if◌then◌else◌, index_of, inl, inr, is_in, is_quiet, length, length-set, ltb-false, ltb-true, nat_lt, nat_tests, refl, same_went, set, subst, suc, suc-mul, sym, true, zero, ℕ, ◌*◌, ◌+◌, ◌-◌, ◌<◌, ◌==◌, ◌∙◌, ◌≡◌, ◌≢◌, ◌≤◌, ◌⊎◌}
 use Rattle.std.proofs.lemmas.Nat.{mod-mul-add}
-use Rattle.std.proofs.Math.Nat.{suc-mul}
-use Rattle.std.specs.FinMap.{get}
 use Rattle.std.specs.Option.{option_map, option_or}
-use Rattle.tw_types.specs.declared.actor.Actor.{Actor}
-use Rattle.tw_types.specs.declared.actor.Actor.TheVariants.{Engine, Server, Worker}
-use Rattle.tw_types.specs.declared.ending.Ending.{Ending}
-use Rattle.tw_types.specs.Actor.{actor_at, actor_count, index_of, is_in}
-use Rattle.tw_types.specs.Layout.{ActorCounts, IsLayout}
-use Rattle.tw_types.proofs.Outcomes.{same_went}
 use Rattle.tw_code.specs.accepting.Needs.{HasTargets}
-use Rattle.tw_code.specs.machine.Due.{IsDueFor, IsDueFree}
-use Rattle.tw_code.specs.machine.Ending.{ending, is_quiet}
-use Rattle.tw_code.specs.machine.State.{Frame, State}
 use Rattle.tw_code.proofs.Next.{SomeDue, some_due}
-use Rattle.tw_frame.specs.Jobs.{DoneView}
 use Rattle.tw_pool.specs.declared.answer.Closing.TheVariants.{Limit, Stopped}
-use Rattle.tw_pool.specs.declared.answer.Turn.{Turn}
-use Rattle.tw_pool.specs.declared.answer.Turn.TheVariants.{Idle}
-use Rattle.tw_pool.specs.PoolView.{PoolView}
-use Rattle.tw_pool.specs.Turns.{closing_of}
-use Rattle.tw_pool.specs.Work.{AreIdle, IsIdle}
-use Rattle.tw_in_turn.specs.InTurn.{Continues, IsAfter, IsMove, actor_after}
-use Rattle.tw_in_turn.specs.Stopping.{IsReachedAfter}
-use Rattle.tw_in_turn.specs.Rounds.{AreKept, IsGrown, Keeps, MayTurn}
 use Rattle.tw_in_turn.proofs.Moving.{idle_move}
 
 -- ---- actors by their index

@@ -1,34 +1,11 @@
 -- Two runs in one thread from one opening are equal.
-use Rattle.std.proofs.Common.{◌≡◌, ◌⊎◌, ℕ, zero, suc, Bool, true, false, List, [], ◌∷◌, ◌++◌, Option, Some, None, refl, sym, ap, subst, ◌∙◌, inl, inr}
-use Rattle.std.proofs.lemmas.Bool.{cases_order}
+use Rattle.tw_in_turn.proofs.Names.{Actor, Bool, Closing, Continues, DoneView, Engine, Event, FinalView, HasDone, HistoryView, Instr, IsAfter, IsClosedPool, IsDelivery, IsDrawn, IsDueFree, IsIdle, IsLeft, IsMove, IsNext, IsOldest, IsOver, IsReachedWith, IsWorkOf, Issues, JobView, List, Makes, None, NotEnabled, Option, PoolView, Position, Procedure, Server, Some, State, TakesBack, Turn, Turns, TurnsFree, TurnsUnless, Went as Gone, Worker, [], actor_count, actor_from, ap, cases_order, closing_at, event_of, false, inl, inr, instr_after, is_last, issued_to, local_step, local_steps, oldest_notice, place_for, refl, same_went, steps_of, subst, suc, sym, true, went_first, with_events, zero, ℕ, ◌++◌, ◌∙◌, ◌∷◌, ◌≡◌, ◌⊎◌}
 use Rattle.std.proofs.lemmas.Option.{same_Some}
-use Rattle.tw_types.specs.declared.actor.Actor.{Actor}
-use Rattle.tw_types.specs.declared.actor.Actor.TheVariants.{Engine, Server, Worker}
-use Rattle.tw_types.specs.declared.event.Event.{Event}
 use Rattle.tw_types.specs.declared.event.Event.TheVariants.{Take, Local, Call, End, Ask, Deliver, Release}
 use Rattle.tw_types.specs.declared.notice.Notice.{Notice}
-use Rattle.tw_types.specs.Actor.{actor_count}
-use Rattle.tw_types.specs.Outcome.{NotEnabled, Went as Gone}
-use Rattle.tw_types.proofs.Outcomes.{same_went, went_first}
-use Rattle.tw_code.specs.declared.instr.Instr.{Instr}
-use Rattle.tw_code.specs.declared.procedure.Procedure.{Procedure}
-use Rattle.tw_code.specs.machine.Due.{IsDelivery, IsDueFree, event_of}
-use Rattle.tw_code.specs.machine.Machine.{local_step, local_steps}
 use Rattle.tw_code.specs.machine.Pending.{pending_rules}
-use Rattle.tw_code.specs.machine.Position.{Position}
-use Rattle.tw_code.specs.machine.State.{State}
-use Rattle.tw_frame.specs.Jobs.{DoneView, JobView}
 use Rattle.tw_frame.specs.Ready.{IsStop}
-use Rattle.tw_pool.specs.declared.answer.Closing.{Closing}
-use Rattle.tw_pool.specs.declared.answer.Turn.{Turn}
 use Rattle.tw_pool.specs.declared.answer.Turn.TheVariants.{Over, Foreign, Owed, NoMemory, Run, Ended, Went, Idle}
-use Rattle.tw_pool.specs.Ends.{FinalView, IsClosedPool}
-use Rattle.tw_pool.specs.History.{HistoryView}
-use Rattle.tw_pool.specs.PoolView.{PoolView, oldest_notice, with_events}
-use Rattle.tw_pool.specs.Turns.{TurnsFree, Issues, Makes, TakesBack, Turns, TurnsUnless, IsOldest, closing_at, instr_after, is_last, issued_to, steps_of}
-use Rattle.tw_in_turn.specs.Drawn.{place_for}
-use Rattle.tw_pool.specs.Work.{IsIdle}
-use Rattle.tw_in_turn.specs.InTurn.{IsReachedWith, Continues, HasDone, IsAfter, IsDrawn, IsLeft, IsMove, IsNext, IsOver, IsWorkOf, actor_from}
 use Rattle.tw_in_turn.specs.Same.{AreSameFinals}
 use Rattle.tw_in_turn.specs.declared.run.InTurnResult.TheVariants as left
 

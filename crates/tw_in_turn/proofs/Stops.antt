@@ -1,10 +1,5 @@
 -- The end of a run, at its last look.
-use Rattle.std.proofs.Common.{ℕ, suc, Option, subst, sym}
-use Rattle.tw_pool.specs.PoolView.{PoolView}
-use Rattle.tw_in_turn.specs.InTurn.{Continues, IsAfter}
-use Rattle.tw_in_turn.specs.Rounds.{Ends, EndsAfter}
-use Rattle.tw_in_turn.specs.Stopping.{IsReachedAfter}
-use Rattle.tw_in_turn.specs.declared.rounds.End.{End}
+use Rattle.tw_in_turn.proofs.Names.{Continues, End, Ends, EndsAfter, IsAfter, IsReachedAfter, Option, PoolView, subst, suc, sym, ℕ}
 use Rattle.tw_in_turn.specs.declared.rounds.End.TheVariants.{Over, NoMemory, Stopped}
 use Rattle.tw_in_turn.proofs.Watching.{with_last}
 

@@ -1,26 +1,8 @@
 -- Looks while tasks run, step by step.
-use Rattle.std.proofs.Common.{◌≡◌, ◌<◌, ◌≤◌, ◌+◌, ◌*◌, ◌/◌, ◌==◌, ◌∙◌, ℕ, suc, Bool, true, false, if◌then◌else◌, List, [], ◌∷◌, ◌++◌, length, get_or, set, Option, Some, None, ap, arith, inl, inr, refl, subst, sym}
-use Rattle.std.proofs.Math.Nat.{div-lt_iff_lt-mul}
+use Rattle.tw_in_turn.proofs.Names.{Actor, Bool, Closing, DoneView, End as Stop, Event, HistoryView, IsTurn, JobView, List, Looked, Makes, None, Option, PoolView, Some, State, TakesBack, Turn, Turns, TurnsUnless, [], all_owed, answers_in, ap, arith, closing_at, div-lt_iff_lt-mul, event_of, false, get_or, if◌then◌else◌, inl, inr, instr_after, is_last, is_stop, issued_to, length, looks, looks_at, looks_in, looks_within, more_looks, more_noes, noes, one_no, owed, refl, replicate_more, set, steps_of, subst, suc, sum_by-append, sum_by-cons, sum_by-le, sum_by-set, sum_by_push, sym, true, ℕ, ◌*◌, ◌++◌, ◌+◌, ◌/◌, ◌<◌, ◌==◌, ◌∙◌, ◌∷◌, ◌≡◌, ◌≤◌}
 use Rattle.std.specs.List.{All}
-use Rattle.std.proofs.lemmas.List.{replicate_more}
-use Rattle.std.proofs.lemmas.List.Sums.{sum_by-append, sum_by-cons, sum_by-le, sum_by-set, sum_by_push}
-use Rattle.tw_types.specs.declared.actor.Actor.{Actor}
-use Rattle.tw_types.specs.declared.event.Event.{Event}
 use Rattle.tw_types.specs.declared.event.Event.TheVariants.{Take, Local, Call, End, Ask, Deliver, Release}
-use Rattle.tw_code.specs.machine.State.{State}
-use Rattle.tw_frame.specs.Jobs.{DoneView, JobView}
 use Rattle.tw_frame.specs.Pace.{most_unseen}
-use Rattle.tw_stop.specs.Looks.{Looked, looks, noes}
-use Rattle.tw_stop.proofs.Looking.{more_looks, more_noes, one_no}
-use Rattle.tw_pool.specs.declared.answer.Closing.{Closing}
-use Rattle.tw_pool.specs.declared.answer.Turn.{Turn}
-use Rattle.tw_pool.specs.History.{HistoryView}
-use Rattle.tw_pool.specs.PoolView.{PoolView}
-use Rattle.tw_pool.specs.Turns.{IsTurn, Makes, TakesBack, Turns, TurnsUnless, closing_at, instr_after, is_last, issued_to, steps_of}
-use Rattle.tw_code.specs.machine.Due.{event_of}
-use Rattle.tw_in_turn.specs.Rounds.{all_owed, answers_in, is_stop, looks_at, owed}
-use Rattle.tw_in_turn.specs.Stopping.{looks_in, looks_within}
-use Rattle.tw_in_turn.specs.declared.rounds.End.{End as Stop}
 use Rattle.tw_in_turn.specs.declared.rounds.End.TheVariants.{Over, NoMemory, Stopped}
 
 -- ---- the looks of events

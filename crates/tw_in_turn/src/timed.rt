@@ -21,7 +21,7 @@ pub fn run_timed<C: Clock>(
     layout: Layout,
     limit: usize,
     seed: Option<u64>,
-    seconds: Option<u64>,
+    seconds: Option<Duration>,
 ) -> Result<StoppableResult, OpenError>
     ensures allowed { IfOk result (λ _. MayOpen verified.now.program inputs.now layout limit) }
     ensures left { IfOk result (IsLeftIf (is_some seconds) seed (opened verified.now inputs.now layout limit)) }
@@ -33,7 +33,7 @@ pub fn run_timed<C: Clock>(
             Err(why) => Err(why),
         },
         Some(seconds) => {
-            let mut deadline = Deadline::after(clock, Duration::from_secs(seconds));
+            let mut deadline = Deadline::after(clock, seconds);
             run_until(alloc, verified, inputs, layout, limit, seed, &mut deadline)
         }
     }

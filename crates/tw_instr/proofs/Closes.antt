@@ -1,9 +1,5 @@
 -- The result of losing a write, over the finite map.
-use Rattle.std.proofs.Common.{◌≡◌, ℕ, Some, sym, ap, subst, ◌∙◌, IfSome}
-use Rattle.std.specs.FinMap.{get, insert}
-use Rattle.tw_types.proofs.Settled.{here, here_is, settled_written, with_live}
-use Rattle.tw_types.specs.StoreCalls.{store_after}
-use Rattle.tw_types.specs.Store.{Data, Datum, Store, settled, subscribers_cleared}
+use Rattle.tw_instr.proofs.Names.{Data, Datum, IfSome, Some, Store, ap, get, here, here_is, insert, settled, settled_written, store_after, subscribers_cleared, subst, sym, with_live, ℕ, ◌∙◌, ◌≡◌}
 
 -- a datum that was written, and then freed where nobody holds it
 pub closes : (m w n : Data) (id : ℕ) (x : Datum) → w ≡ insert m id x → IfSome (get w id) (λ y. n ≡ settled w id y) → n ≡ settled m id x

@@ -1,12 +1,7 @@
 -- Whether keys make the empty set.
-use Rattle.std.proofs.Common.{◌≡◌, ◌==◌, ◌||◌, ℕ, Bool, true, false, List, [], ◌∷◌, length, sym, ap, ◌∙◌, arith, refl, IsTrue, ◌↔◌}
+use Rattle.tw_instr.proofs.Names.{Bool, IsTrue, List, Notice, Notices, [], ap, arith, false, is_eq, length, notice_cmp, notice_cmp_total, refl, sym, tied_itself, true, ℕ, ◌==◌, ◌||◌, ◌↔◌, ◌∙◌, ◌∷◌, ◌≡◌}
 use Rattle.std.proofs.lemmas.Bool.Decides.{nat_tests}
-use Rattle.std.specs.Cmp.{tied_itself}
 use Rattle.std.specs.FinSet.{contains, contains-empty, contains-insert, empty_of_len, from_list, insert, len, len-empty}
-use Rattle.std.specs.Ordering.{is_eq}
-use Rattle.tw_types.specs.declared.notice.Notice.{Notice}
-use Rattle.tw_types.specs.Notices.{Notices, notice_cmp}
-use Rattle.tw_types.proofs.NoticeOrder.{notice_cmp_total}
 
 -- an insertion isn't empty
 len_insert : (s : Notices) (n : Notice) → len (insert s n) ≡ 0 → ⊥

@@ -1,18 +1,11 @@
 -- How a task's arguments fill its registers.
-use Rattle.std.proofs.Common.{◌≡◌, ◌<◌, ◌+◌, ◌-◌, ℕ, suc, List, [], ◌∷◌, ◌++◌, refl, sym, ap, ◌∙◌, arith, map, length, take, get_or, replicate, set, length-append}
-use Rattle.std.specs.declared.option.Option.{Option}
+use Rattle.tw_instr.proofs.Names.{Cause, List, Option, Value, [], ap, append-nil, arg_of, arith, first_rights, get_or, ids_in, length, length-append, map, map-append, refl, replicate, set, suc, sym, take, take_more, ℕ, ◌++◌, ◌+◌, ◌-◌, ◌<◌, ◌∙◌, ◌∷◌, ◌≡◌}
 use Rattle.std.specs.declared.option.Option.TheVariants.{None, Some}
-use Rattle.std.proofs.lemmas.List.{append-nil, map-append, take_more}
-use Rattle.tw_types.specs.declared.value.Value.{Value}
 use Rattle.std.specs.Prelude.{Result, Ok}
-use Rattle.tw_types.specs.declared.cause.Cause.{Cause}
 use Rattle.tw_types.specs.Result.{◌>>=◌}
 use Rattle.tw_types.specs.Task as task
-use Rattle.tw_code.specs.machine.State.{ids_in}
-use Rattle.tw_code.specs.machine.Rights.{first_rights}
 use Rattle.tw_instr.specs.declared.arguments.Arg.{Arg}
 use Rattle.tw_instr.specs.declared.arguments.Arg.TheVariants as arg
-use Rattle.tw_instr.specs.Arguments.{arg_of}
 
 -- these values, followed by those of the other arguments
 abbrev pub after : List Value → Result (List Value) Cause → Result (List Value) Cause

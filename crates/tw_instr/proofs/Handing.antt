@@ -1,18 +1,10 @@
 -- The parameters, registers and arguments of an action, up to the end of the shorter list.
-use Rattle.std.proofs.Common.{◌≡◌, ◌⊎◌, inl, inr, ℕ, true, List, [], ◌∷◌, ◌++◌, map, refl, ap}
-use Rattle.std.proofs.lemmas.List.{append-nil}
+use Rattle.tw_instr.proofs.Names.{Cause, Data, Datum, Failure, List, MayFail, MovedArgs, Rights, Value, [], all_pass, ap, append-nil, inl, inr, map, moved_args, refl, true, values_suit, ℕ, ◌++◌, ◌∷◌, ◌≡◌, ◌⊎◌}
 use Rattle.std.specs.Prelude.{Bool, Option, Result, Ok}
-use Rattle.tw_types.specs.declared.cause.Cause.{Cause}
 use Rattle.tw_types.specs.declared.param.Param.{Param}
-use Rattle.tw_types.specs.declared.value.Value.{Value}
 use Rattle.tw_types.specs.Result.{◌>>=◌}
-use Rattle.tw_types.specs.Store.{Data, Datum}
 use Rattle.tw_types.specs.Task.{Arg}
-use Rattle.tw_code.specs.machine.Arguments.{MovedArgs, all_pass, moved_args, values_suit}
-use Rattle.tw_code.specs.machine.Rights.{Rights}
-use Rattle.tw_instr.specs.declared.failure.Failure.{Failure}
 use Rattle.tw_instr.specs.declared.failure.Failure.TheVariants as failure
-use Rattle.tw_instr.specs.Attempts.{MayFail}
 
 -- an error in the first step
 pub fails_before : {A B : Type 0} (r : Result A Cause) (next : A → Result B Cause) (why : Failure) → MayFail r why → MayFail (r >>= next) why

@@ -1,3 +1,4 @@
+pub mod Names
 pub mod NoticeSets
 pub mod Empty
 pub mod Filling

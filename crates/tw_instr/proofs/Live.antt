@@ -1,20 +1,10 @@
 -- The live data: a `BTreeMap` by ids, seen as a finite map of what its data are.
-use Rattle.std.proofs.Common.{[], ◌≡◌, ℕ, Some, None, refl, ap, ◌∙◌, subst, IsSome}
-use Rattle.std.specs.declared.option.Option.{Option}
-use Rattle.std.specs.Ordering.{nat_cmp}
-use Rattle.std.specs.Cmp.{nat_cmp_total}
-use Rattle.std.specs.FinMap.{FinMap, nat_cmp-IsAntisymmetric, empty, get, insert, remove}
+use Rattle.tw_instr.proofs.Names.{Contains, FinMap, IsSome, KeptDatum, None, Option, Some, [], ap, bare, content_of as kept_content, data_of, datum_if, empty, empty_mapped, found_view, get, get_mapped, insert, insert_mapped, inserted_view, mapped_same, members_of, nat_cmp, nat_cmp-IsAntisymmetric, nat_cmp_total, refl, remove, remove_mapped, removed_view, same, subst, written_view, ℕ, ◌∙◌, ◌≡◌}
 use Rattle.std.specs.BTreeMap.{BTreeMap, get_by, UpdatesBy, WritesThrough}
-use Rattle.tw_types.specs.Store.{Contains, members_of}
-use Rattle.tw_types.proofs.Maps.{found_view, written_view, removed_view, inserted_view}
-use Rattle.tw_types.proofs.Settled.{same}
 use Rattle.tw_datum.specs.declared.datum.Content.{Content}
 use Rattle.tw_datum.specs.declared.datum.Content.TheVariants as content
 use Rattle.tw_types.specs.Mapped.{mapped}
-use Rattle.tw_datum.specs.Kept.{KeptDatum, datum_if, content_of as kept_content}
-use Rattle.tw_types.proofs.Mapped.{empty_mapped, get_mapped, insert_mapped, mapped_same, remove_mapped}
 use Rattle.tw_instr.specs.Content.{content_of}
-use Rattle.tw_instr.specs.Parts.{bare, data_of}
 
 abbrev pub Kept : Type 0
 Kept = KeptDatum ℕ

@@ -1,20 +1,12 @@
 -- Changes of sets of notices, by which notices they have.
-use Rattle.std.proofs.Common.{◌≡◌, ℕ, zero, suc, ◌+◌, ◌<◌, Bool, true, false, cond, not, ◌&&◌, ◌||◌, List, [], ◌∷◌, ◌++◌, take, length, map, get_or, refl, sym, ap, ◌∙◌, arith}
+use Rattle.tw_instr.proofs.Names.{BTreeSet, Bool, List, Notice, Notices, Updates, [], ap, arith, cond, eq_by_cmp, eq_by_cmp_equiv, false, get_or, is_among, is_in, length, map, map-append, not, notice_cmp, notice_cmp-IsAntisymmetric, notice_cmp_total, refl, suc, sym, take, true, with_notices, zero, ℕ, ◌&&◌, ◌++◌, ◌+◌, ◌<◌, ◌||◌, ◌∙◌, ◌∷◌, ◌≡◌}
 use Rattle.std.specs.declared.result.Result.{Result}
 use Rattle.std.specs.declared.result.Result.TheVariants.{Ok, Err}
 use Rattle.std.specs.Result.{OnErr, OnOk}
-use Rattle.std.specs.BTreeSet.{BTreeSet, Updates}
-use Rattle.std.specs.Cmp.{eq_by_cmp_equiv}
 use Rattle.std.specs.FinSet.{contains, contains-from_list, contains-insert, contains-remove, from_list, insert, remove, same_set}
-use Rattle.std.specs.Ordering.{eq_by_cmp}
 use Rattle.std.proofs.Math.Seq.{take-suc}
-use Rattle.std.proofs.lemmas.List.{map-append}
 use Rattle.std.proofs.lemmas.List.Folds.{list_any-append}
-use Rattle.tw_types.specs.declared.notice.Notice.{Notice}
-use Rattle.tw_types.specs.Notices.{Notices, notice_cmp, with_notices}
-use Rattle.tw_types.proofs.NoticeOrder.{notice_cmp_total, notice_cmp-IsAntisymmetric}
 use Rattle.tw_types.proofs.Orders.{tied}
-use Rattle.tw_instr.specs.NoticeSets.{is_among, is_in}
 
 -- ---- tests
 

@@ -1,12 +1,5 @@
 -- Local steps, one after the other.
-use Rattle.std.proofs.Common.{◌≡◌, ◌<◌, ◌+◌, ◌-◌, ℕ, zero, suc, List, refl, ap, ◌∙◌, arith}
-use Rattle.tw_types.specs.Outcome.{Went, ◌>>=◌}
-use Rattle.tw_types.proofs.Outcomes.{went_first}
-use Rattle.tw_code.specs.declared.instr.Instr.{Instr}
-use Rattle.tw_code.specs.machine.Position.{Position}
-use Rattle.tw_code.specs.machine.Machine.{local_step, local_steps}
-use Rattle.tw_instr.specs.declared.stopped.Stopped.{Stopped}
-use Rattle.tw_instr.specs.Attempts.{IsStopped}
+use Rattle.tw_instr.proofs.Names.{Instr, IsStopped, List, Position, Stopped, Went, ap, arith, local_step, local_steps, refl, suc, went_first, zero, ℕ, ◌+◌, ◌-◌, ◌<◌, ◌>>=◌, ◌∙◌, ◌≡◌}
 use Rattle.tw_instr.proofs.Stops.{stopped_then, stopped_is}
 
 -- the steps that are left begin with one

@@ -1,13 +1,7 @@
 -- An error of one step stops all that follow it.
-use Rattle.std.proofs.Common.{◌≡◌, ap, sym, subst}
-use Rattle.std.specs.Prelude.{Result}
-use Rattle.tw_types.specs.declared.cause.Cause.{Cause}
-use Rattle.tw_types.specs.Outcome.{Outcome, ◌>>=◌, outcome_of}
-use Rattle.tw_instr.specs.declared.failure.Failure.{Failure}
+use Rattle.tw_instr.proofs.Names.{Cause, Failure, IsStopped, MayFail, Outcome, Result, Stopped, ap, outcome_of, stopped_by, subst, sym, ◌>>=◌, ◌≡◌}
 use Rattle.tw_instr.specs.declared.failure.Failure.TheVariants as failure
-use Rattle.tw_instr.specs.declared.stopped.Stopped.{Stopped}
 use Rattle.tw_instr.specs.declared.stopped.Stopped.TheVariants as stopped
-use Rattle.tw_instr.specs.Attempts.{MayFail, IsStopped, stopped_by}
 
 pub stopped_then : {A B : Type 0} (o : Outcome A) (next : A → Outcome B) (why : Stopped) → IsStopped o why → IsStopped (o >>= next) why
 stopped_then o next stopped.NotEnabled h = ap (λ p. p >>= next) h

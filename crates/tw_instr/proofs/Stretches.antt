@@ -1,13 +1,7 @@
 -- How many local instructions a task can execute.
 use Rattle.std.proofs.Common.{◌≡◌, ◌<◌, ◌≤◌, ◌+◌, ℕ, zero, suc, List, Some, Result, Ok, Err, IfOk, sym, ap, ◌∙◌, arith}
-use Rattle.std.specs.Prelude.{slice_get}
-use Rattle.tw_types.specs.Outcome.{Went, ◌>>=◌}
-use Rattle.tw_types.proofs.Outcomes.{same_went, went_first}
-use Rattle.tw_code.specs.declared.instr.Instr.{Instr}
+use Rattle.tw_instr.proofs.Names.{Frame, Instr, Position, Went, local_step, local_steps, same_went, slice_get, went_first, ◌>>=◌}
 use Rattle.tw_code.specs.declared.procedure.Procedure.{Procedure}
-use Rattle.tw_code.specs.machine.State.{Frame}
-use Rattle.tw_code.specs.machine.Position.{Position}
-use Rattle.tw_code.specs.machine.Machine.{local_step, local_steps}
 use Rattle.tw_instr.specs.Stretch.{IsStretch}
 
 -- so many steps and one more: the last begins where the others end

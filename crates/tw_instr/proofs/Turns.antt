@@ -1,7 +1,5 @@
 -- The innermost loop, which is the last that was begun.
-use Rattle.std.proofs.Common.{◌≡◌, ◌<◌, ◌≤◌, ◌+◌, ◌-◌, ℕ, zero, suc, List, [], ◌∷◌, ◌++◌, length, reverse, take, set, get_or, Some, refl, sym, ap, ◌∙◌, arith, length-append}
-use Rattle.std.proofs.lemmas.List.{reverse-append, take_at}
-use Rattle.tw_code.specs.machine.Position.{Loop, after_end, turned, with_last}
+use Rattle.tw_instr.proofs.Names.{List, Loop, Some, [], after_end, ap, arith, get_or, length, length-append, refl, reverse, reverse-append, set, suc, sym, take, take_at, turned, with_last, zero, ℕ, ◌++◌, ◌+◌, ◌-◌, ◌<◌, ◌∙◌, ◌∷◌, ◌≡◌, ◌≤◌}
 
 -- a list that ends with this
 split : {A : Type 0} (xs : List A) (x : A) → 0 < length xs → x ≡ get_or xs (length xs - 1) x → (front : List A) × (xs ≡ front ++ x ∷ [])

@@ -1,13 +1,6 @@
 -- The store after a step, and look-ups in it.
-use Rattle.std.proofs.Common.{[], ◌≡◌, ◌<◌, ℕ, ℤ, Bool, true, false, cond, List, Some, None, refl, subst, map as each}
-use Rattle.std.specs.declared.option.Option.{Option}
-use Rattle.std.specs.FinMap.{get}
-use Rattle.tw_types.specs.Store.{Datum, Store, notice_to, is_closed}
-use Rattle.tw_types.specs.StoreCalls.{entry_at, size_at, subscript_after, subscripts_at, one_write_less, notices_of_stored, notices_of_write_dropped}
+use Rattle.tw_instr.proofs.Names.{Bool, Datum, List, None, Option, Some, Store, Subscript, Value, [], cond, entry_at, false, get, is_closed, map as each, nothing_after, notice_to, notices_of_stored, notices_of_write_dropped, one_write_less, refl, size_at, subscript_after, subscripts_at, subst, true, ℕ, ℤ, ◌<◌, ◌≡◌}
 use Rattle.tw_types.specs.declared.notice.Subscriber.{Subscriber}
-use Rattle.tw_types.specs.declared.value.Value.{Value}
-use Rattle.tw_types.specs.ValueOrder.{Subscript}
-use Rattle.tw_datum.proofs.Subscripts.{nothing_after}
 use Rattle.tw_types.specs.Room.{HasReadRoom, HasWriteRoom}
 
 pub read_room : (r : Option Datum) (x : Datum) → r ≡ Some x → HasReadRoom r → x.reads < 9223372036854775808

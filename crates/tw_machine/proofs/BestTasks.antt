@@ -1,18 +1,9 @@
 -- The best of the tasks, by look-ups in their map.
-use Rattle.std.proofs.Common.{[], ◌≡◌, ℕ, Bool, true, false, cond, T, List, ◌∷◌, refl, sym, ap, subst, ◌∙◌}
-use Rattle.std.specs.Prelude.{int_lt}
-use Rattle.std.specs.declared.cmp.Ordering.{Ordering}
-use Rattle.std.specs.declared.cmp.Ordering.TheVariants.{Less, Equal, Greater}
-use Rattle.std.specs.declared.option.Option.{Option}
-use Rattle.std.specs.declared.option.Option.TheVariants.{None, Some}
-use Rattle.std.specs.FinMap.{find, get, entries, entries_sorted, get-entries, is_sorted}
+use Rattle.tw_machine.proofs.Names.{Actor, Bool, Equal, Greater, Less, List, None, Option, Ordering, Some, T, [], ap, cond, entries, entries_sorted, eq_by_cmp, false, find, get, get-entries, int_cmp, int_lt, is_lt, is_sorted, nat_cmp, ordering_then, rank_cmp, rank_of, refl, subst, sym, true, ℕ, ◌∙◌, ◌∷◌, ◌≡◌}
 use Rattle.std.specs.FinMap.Entries.{below_all}
-use Rattle.std.specs.Ordering.{nat_cmp, int_cmp, ordering_then, eq_by_cmp, is_lt}
-use Rattle.tw_types.specs.declared.actor.Actor.{Actor}
 use Rattle.tw_types.specs.Task.{Task, Tasks, best, best_of, better, is_eligible}
 use Rattle.tw_types.proofs.Found.{IsIn, in_first, in_later, later, same_no}
 use Rattle.tw_types.proofs.Rising.{first, second}
-use Rattle.tw_machine.specs.Rank.{rank_cmp, rank_of}
 
 -- the rank of f isn't before that of e
 abbrev pub IsAhead : ℕ × Task → ℕ × Task → Type 0

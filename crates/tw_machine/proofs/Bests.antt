@@ -1,22 +1,7 @@
 -- The best task is that of the first of the ranks that are offered to the actor.
 use Rattle.std.proofs.Common.{◌≡◌, ℕ, Bool, true, false, ◌&&◌, ◌||◌, refl, sym, ap, subst, ◌∙◌, ℤ, is_lt, int_cmp, nat_cmp}
-use Rattle.std.specs.declared.option.Option.{Option}
-use Rattle.std.specs.declared.option.Option.TheVariants.{None, Some}
-use Rattle.std.specs.FinMap.{get}
-use Rattle.std.specs.Ordering.{eq_by_cmp, ordering_then}
-use Rattle.std.proofs.lemmas.Bool.{and_parts}
-use Rattle.tw_types.specs.declared.actor.Actor.{Actor}
-use Rattle.tw_types.specs.declared.actor.Actor.TheVariants.{Engine, Server, Worker}
-use Rattle.tw_types.specs.declared.actor.Kind.{Kind}
-use Rattle.tw_types.specs.declared.actor.Kind.TheVariants.{Control, Leaf}
-use Rattle.tw_types.specs.Actor.{may_take, same_kind}
-use Rattle.tw_types.specs.Task.{Task, Tasks, best, is_eligible, is_for}
+use Rattle.tw_machine.proofs.Names.{Actor, AreRanked, Control, Engine, IsLeast, Kind, Leaf, None, Option, Rank, Ranks, Server, Some, Task, Tasks, Worker, and_parts, best, eq_by_cmp, get, has_rank, has_rank_for, is_eligible, is_for, is_offered, is_rank, may_take, ordering_then, own_key, rank_cmp, rank_of, same_kind, same_target}
 use Rattle.tw_types.proofs.Numbers.{nat_itself, nat_same}
-use Rattle.tw_types.proofs.Orders.{own_key}
-use Rattle.tw_machine.specs.declared.rank.Rank.{Rank}
-use Rattle.tw_machine.specs.declared.ranks.Ranks.{Ranks}
-use Rattle.tw_machine.specs.Rank.{rank_cmp, rank_of}
-use Rattle.tw_machine.specs.Ranking.{AreRanked, IsLeast, has_rank, has_rank_for, is_offered, is_rank, same_target}
 use Rattle.tw_machine.proofs.BestTasks.{IsAhead, best_is, best_none}
 use Rattle.tw_machine.proofs.RankOrder.{rank_cmp_total, same_priority}
 use Rattle.tw_machine.proofs.Targets.{kind_is, own_kind, own_target, target_is}

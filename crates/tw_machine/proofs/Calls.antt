@@ -1,18 +1,5 @@
 -- From the next instruction of a frame to the event of its actor.
-use Rattle.std.proofs.Common.{◌≡◌, ℕ, List, refl, sym, ap, subst, ◌∙◌}
-use Rattle.std.specs.declared.option.Option.TheVariants.{Some}
-use Rattle.std.specs.Prelude.{Result, Ok, Err}
-use Rattle.std.specs.FinMap.{get}
-use Rattle.tw_types.specs.declared.actor.Actor.{Actor}
-use Rattle.tw_code.specs.declared.instr.Instr.{Instr}
-use Rattle.tw_code.specs.declared.procedure.Procedure.{Procedure}
-use Rattle.tw_code.specs.machine.Arguments.{procedure_of}
-use Rattle.tw_code.specs.machine.Machine.{call_by, call_event, instr_at}
-use Rattle.tw_code.specs.machine.State.{Frame, State}
-use Rattle.tw_instr.specs.declared.stopped.Stopped.{Stopped}
-use Rattle.tw_instr.specs.Attempts.{IsStopped}
-use Rattle.tw_machine.specs.declared.tables.Tables.{Tables}
-use Rattle.tw_machine.specs.Events.{CallLeaves, LeavesTables, with_tables}
+use Rattle.tw_machine.proofs.Names.{Actor, CallLeaves, Err, Frame, Instr, IsStopped, LeavesTables, List, Ok, Procedure, Result, Some, State, Stopped, Tables, ap, call_by, call_event, get, instr_at, procedure_of, refl, subst, sym, with_tables, ℕ, ◌∙◌, ◌≡◌}
 
 module _ (program : List Procedure) (actor : Actor) (p : Procedure) (i : Instr) (t : Tables) (f : Frame) where
   module _ (here : procedure_of program f.procedure ≡ Ok p) (at : instr_at p.code f.position.place ≡ Ok i) where

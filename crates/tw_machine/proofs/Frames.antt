@@ -1,29 +1,6 @@
 -- From the event of one frame to all frames.
-use Rattle.std.proofs.Common.{◌≡◌, ◌<◌, ◌^◌, ℕ, zero, suc, Bool, true, false, nat_eq, List, refl, sym, ap, subst, ◌∙◌, arith, IfSome}
-use Rattle.std.proofs.lemmas.Bool.Decides.{nat_tests}
-use Rattle.std.specs.declared.option.Option.{Option}
-use Rattle.std.specs.declared.option.Option.TheVariants.{None, Some}
-use Rattle.std.specs.Prelude.{Result, Ok, Err}
-use Rattle.std.specs.FinMap.{get, insert}
-use Rattle.std.specs.BTreeMap.{BTreeMap, get_by, WritesThrough}
-use Rattle.tw_types.specs.declared.actor.Actor.{Actor}
-use Rattle.tw_types.specs.Actor.{actor_cmp}
-use Rattle.tw_types.specs.Outcome.{Outcome, Went, NotEnabled}
-use Rattle.tw_code.specs.declared.instr.Instr.{Instr}
-use Rattle.tw_code.specs.declared.procedure.Procedure.{Procedure}
-use Rattle.tw_code.specs.machine.Bounds.{AreBelow}
-use Rattle.tw_code.specs.machine.State.{Frame, State}
-use Rattle.tw_code.specs.machine.Arguments.{procedure_of}
+use Rattle.tw_machine.proofs.Names.{Actor, AreBelow, BTreeMap, Bool, Changes, Err, Frame, HaveRoom, IfSome, Instr, IsStopped, LeavesFrame, LeavesFrames, LeavesTables, List, None, NotEnabled, Ok, Option, Outcome, Procedure, Result, Some, State, Stopped, Tables, Went, WritesThrough, actor_cmp, actor_cmp-IsAntisymmetric, actor_cmp_total, ap, arith, call_event, end_event, false, found_view, frames_of, get, get_by, insert, insert_same, local_event, local_step, local_steps, nat_eq, nat_tests, procedure_of, refl, stopped_then, subst, suc, sym, true, with_frames, with_tables, written_view, zero, ℕ, ◌<◌, ◌^◌, ◌∙◌, ◌≡◌}
 use Rattle.tw_code.specs.machine.Position.{Position}
-use Rattle.tw_code.specs.machine.Machine.{call_event, end_event, local_event, local_step, local_steps}
-use Rattle.tw_instr.specs.declared.stopped.Stopped.{Stopped}
-use Rattle.tw_instr.specs.Attempts.{Changes, IsStopped}
-use Rattle.tw_instr.proofs.Stops.{stopped_then}
-use Rattle.tw_machine.specs.declared.tables.Tables.{Tables}
-use Rattle.tw_machine.specs.Events.{LeavesFrame, LeavesFrames, HaveRoom, LeavesTables, with_frames, with_tables}
-use Rattle.tw_machine.specs.Parts.{frames_of}
-use Rattle.tw_types.proofs.ActorOrder.{actor_cmp_total, actor_cmp-IsAntisymmetric}
-use Rattle.tw_types.proofs.Maps.{found_view, insert_same, written_view}
 
 pub is_few : (o : Option Frame) (f : Frame) (bound : ℕ) → o ≡ Some f → IfSome o (λ g. g.spent < bound) → f.spent < bound
 is_few o f bound e h = subst (λ p. IfSome p (λ (g : Frame). g.spent < bound)) e h

@@ -1,15 +1,6 @@
 -- Numbers and counts stay small after an event.
-use Rattle.std.proofs.Common.{◌+◌, ℕ, List, sym, subst, arith}
-use Rattle.std.specs.Prelude.{Result, Ok, Err}
+use Rattle.tw_machine.proofs.Names.{ActorCounts, AreBelow, Changes, Err, List, Ok, Procedure, Result, State, Stopped, arith, below_more, size_of, step, step_grows, subst, sym, ℕ, ◌+◌}
 use Rattle.tw_types.specs.declared.event.Event.{Event}
-use Rattle.tw_types.specs.Layout.{ActorCounts}
-use Rattle.tw_code.specs.declared.procedure.Procedure.{Procedure}
-use Rattle.tw_code.specs.machine.Bounds.{AreBelow, size_of}
-use Rattle.tw_code.specs.machine.Machine.{step}
-use Rattle.tw_code.specs.machine.State.{State}
-use Rattle.tw_code.proofs.Growth.{below_more, step_grows}
-use Rattle.tw_instr.specs.declared.stopped.Stopped.{Stopped}
-use Rattle.tw_instr.specs.Attempts.{Changes}
 
 module _ (program : List Procedure) (layout : ActorCounts) (event : Event) (old new : State) (bound : ℕ) where
   pub changes_below : (made : Result (Unit {0}) Stopped) → Changes (step program layout event old) old made new → AreBelow bound old → AreBelow (bound + size_of event) new

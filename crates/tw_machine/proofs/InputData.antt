@@ -1,20 +1,10 @@
 -- The members of an input container.
-use Rattle.std.proofs.Common.{[], ◌≡◌, ◌<◌, ◌+◌, ℕ, zero, suc, true, ◌&&◌, List, ◌∷◌, get_or, length, sym, ap, ◌∙◌, arith}
-use Rattle.std.proofs.lemmas.Bool.{and_parts}
-use Rattle.tw_types.specs.Nesting.{NestedScalar}
+use Rattle.tw_machine.proofs.Names.{Contains, FitsType, List, NestedScalar, [], and_parts, ap, are_short, arith, get_or, is_container_by, is_short, length, members_by, no_entries, no_kinds, numbered, one_more_kind, scalar_of, suc, sym, true, zero, ℕ, ◌&&◌, ◌+◌, ◌<◌, ◌∙◌, ◌∷◌, ◌≡◌}
 use Rattle.tw_types.specs.declared.data_type.Scalar.{Scalar}
 use Rattle.tw_types.specs.declared.value.Value.{Value}
-use Rattle.tw_types.specs.DataType.{is_container_by}
-use Rattle.tw_types.specs.Given.{members_by}
 use Rattle.tw_types.specs.TypedStore.{AreSubscriptsFor}
-use Rattle.tw_types.specs.Value.{is_short, scalar_of}
 use Rattle.tw_types.specs.ValueOrder.{Subscript}
 use Rattle.tw_types.proofs.SameTypes.{by_container, container_only}
-use Rattle.tw_types.proofs.Subscripts.{no_entries, no_kinds, one_more_kind}
-use Rattle.tw_datum.specs.Kept.{FitsType}
-use Rattle.tw_types.specs.Store.{Contains}
-use Rattle.tw_code.specs.machine.Members.{are_short}
-use Rattle.tw_code.specs.machine.Opening.{numbered}
 
 module _ {K V : Type 0} (subscript : K → Subscript) (value : V → Value) where
   -- the subscripts are all of the one type

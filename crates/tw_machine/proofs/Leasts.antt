@@ -1,12 +1,5 @@
 -- The first of some ranks.
-use Rattle.std.proofs.Common.{◌≡◌, ◌<◌, ◌↔◌, Bool, true, false, ◌||◌, List, [], ◌∷◌, length, refl, ap, ◌∙◌, arith, IsTrue}
-use Rattle.std.specs.declared.option.Option.TheVariants.{None, Some}
-use Rattle.std.specs.BTreeSet.{BTreeSet, IsLowerBound, btree_set_len, contains}
-use Rattle.std.specs.List.{list_any}
-use Rattle.std.specs.Ordering.{eq_by_cmp, is_lt}
-use Rattle.tw_machine.specs.declared.rank.Rank.{Rank}
-use Rattle.tw_machine.specs.Rank.{rank_cmp}
-use Rattle.tw_machine.specs.Ranking.{IsLeast}
+use Rattle.tw_machine.proofs.Names.{BTreeSet, Bool, IsLeast, IsLowerBound, IsTrue, List, None, Rank, Some, [], ap, arith, btree_set_len, contains, eq_by_cmp, false, is_lt, length, list_any, rank_cmp, refl, true, ◌<◌, ◌||◌, ◌↔◌, ◌∙◌, ◌∷◌, ◌≡◌}
 use Rattle.tw_machine.proofs.RankOrder.{not_after, not_before_first, not_before_other}
 
 or_true : (b : Bool) → (b || true) ≡ true

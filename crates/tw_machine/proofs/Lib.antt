@@ -1,4 +1,5 @@
 pub mod Frames
+pub mod Names
 pub mod Takes
 pub mod Quiet
 pub mod InputData

@@ -1,17 +1,8 @@
 -- Maps by numbers: waiting tasks and pending rules.
-use Rattle.std.proofs.Common.{◌≡◌, ℕ, Bool, List, sym, ap, ◌∙◌, length, map, IsTrue, ◌↔◌}
+use Rattle.tw_machine.proofs.Names.{Bool, IsTrue, List, Rule, RuleTable, Stage, ap, at_stage, entries_view, from_entries, get, has_unasked, insert, is_empty_view, is_releasable, len, len-entries, length, list_any, map, nat_cmp, nat_cmp-IsAntisymmetric, nat_cmp_total, rules_of, staged, staged_in, sym, values, ℕ, ◌↔◌, ◌∙◌, ◌≡◌}
 use Rattle.std.specs.Prelude.{◌==◌, not, ◌&&◌, Some, None}
-use Rattle.std.specs.Cmp.{nat_cmp_total}
-use Rattle.std.specs.FinMap.{nat_cmp-IsAntisymmetric, from_entries, get, insert, len, len-entries, values}
-use Rattle.std.specs.List.{list_any}
 use Rattle.std.specs.List.Sorted.{IsStrictlySortedBy}
 use Rattle.std.specs.Map.{keys_of}
-use Rattle.std.specs.Ordering.{nat_cmp}
-use Rattle.tw_types.specs.declared.stage.Stage.{Stage}
-use Rattle.tw_types.specs.Rule.{Rule, at_stage, has_unasked, is_releasable}
-use Rattle.tw_types.proofs.Maps.{entries_view, is_empty_view}
-use Rattle.tw_machine.specs.Parts.{rules_of}
-use Rattle.tw_machine.specs.Waiting.{RuleTable, staged, staged_in}
 
 pub is_empty : {X : Type 0} (b : Bool) (es : List (ℕ × X)) → IsTrue b ↔ (length es ≡ 0) → b ≡ (len (from_entries {R = nat_cmp} es) == 0)
 is_empty b es h = sym (is_empty_view nat_cmp_total nat_cmp-IsAntisymmetric b es h)

@@ -1,23 +1,13 @@
 -- The opening, one parameter after the other.
-use Rattle.std.proofs.Common.{[], ◌≡◌, ◌≤◌, ◌+◌, ◌*◌, ℕ, Bool, true, false, cond, not, List, ◌∷◌, drop, length, refl, sym, ap, subst, ◌∙◌, arith, length-append}
-use Rattle.std.proofs.lemmas.Bool.{and_parts}
-use Rattle.std.specs.declared.option.Option.TheVariants.{None, Some}
-use Rattle.tw_types.specs.declared.input.Input.{Input}
+use Rattle.tw_machine.proofs.Names.{AreBelow, AreInputsOf, Bool, Input, List, None, Procedure, Some, State, [], and_parts, ap, are_inputs_of, arith, cond, drop, false, given_for, has_fitting_inputs, has_input_count, input_next, input_params, is_input_of, length, length-append, none_fit, not, opening_bound, opening_is_small, refl, skips, subst, sym, takes, true, ℕ, ◌*◌, ◌+◌, ◌∙◌, ◌∷◌, ◌≡◌, ◌≤◌}
 use Rattle.tw_types.specs.declared.param.Param.{Param}
-use Rattle.tw_types.specs.Given.{given_for}
 use Rattle.tw_types.specs.Mode.{is_write}
-use Rattle.tw_code.specs.declared.procedure.Procedure.{Procedure}
 use Rattle.tw_code.specs.accepting.MainShape.{has_main_shape}
 use Rattle.tw_code.specs.format.Program.{IsProgram}
-use Rattle.tw_code.specs.machine.Bounds.{AreBelow, opening_bound}
-use Rattle.tw_code.specs.machine.Inputs.{AreInputsOf, are_inputs_of, has_fitting_inputs, has_input_count, input_params, is_input_of}
 use Rattle.tw_code.specs.machine.Opening.{Opened, main_params, nothing_opened, opened, opening, opening_of, with_given, with_output}
-use Rattle.tw_code.specs.machine.State.{State}
-use Rattle.tw_code.proofs.Growth.{opening_is_small}
 use Rattle.tw_machine.specs.Opening.{rejection_of}
 use Rattle.tw_machine.specs.declared.rejection.OpenError.TheVariants.{InputCount, InputType, MainShape}
 use Rattle.tw_types.proofs.Elements.{no_items}
-use Rattle.tw_code.proofs.Givens.{input_next, none_fit, skips, takes}
 
 -- ---- the loop
 

@@ -1,28 +1,11 @@
 -- Results of asking for a parameter of a rule, and of releasing a rule.
-use Rattle.std.proofs.Common.{◌≡◌, ℕ, Bool, true, false, List, refl, sym, ap, ◌∙◌, is_some, arith}
-use Rattle.std.proofs.lemmas.Bool.Decides.{nat_tests}
+use Rattle.tw_machine.proofs.Names.{Arg, Bool, Cause, Datum, Engine, Frame, Frames, IsAskOfOpen, List, NotEnabled, Procedure, RightArg, Rule, RuleTable, Stage, State, Store, Succeeds, Tables, Task, TaskTable, Trap, ValueArg, Went, ap, arith, ask_event, asked, enabled, false, get, is_closed, is_releasable, is_some, is_unasked, nat_tests, outcome_of, own_rule, procedure_of, refl, release_event, rule_released, staged, sym, task_from, task_put, true, unasked_id, with_frames, with_tables, with_task, ℕ, ◌>>=◌, ◌∙◌, ◌≡◌}
 use Rattle.std.specs.Prelude.{◌==◌, Ok, Err, Option, Some, None, slice_get}
-use Rattle.std.specs.FinMap.{get}
 use Rattle.std.specs.Option.{ok_or}
-use Rattle.tw_types.specs.declared.actor.Actor.TheVariants.{Engine}
-use Rattle.tw_types.specs.declared.cause.Cause.{Cause}
 use Rattle.tw_types.specs.declared.cause.Cause.TheVariants.{FreedDatum}
-use Rattle.tw_types.specs.declared.stage.Stage.{Stage}
 use Rattle.tw_types.specs.declared.stage.Stage.TheVariants.{Waiting, Ready}
-use Rattle.tw_types.specs.Outcome.{Went, NotEnabled, Trap, ◌>>=◌, outcome_of, enabled}
-use Rattle.tw_types.specs.Rule.{Rule, is_releasable, is_unasked, task_from}
-use Rattle.tw_types.specs.Store.{Datum, Store, is_closed}
 use Rattle.tw_types.specs.StoreCalls.{subscribed}
-use Rattle.tw_types.specs.Task.{Arg, ValueArg, RightArg, Task}
-use Rattle.tw_code.specs.declared.procedure.Procedure.{Procedure}
-use Rattle.tw_code.specs.machine.Arguments.{procedure_of}
-use Rattle.tw_code.specs.machine.Machine.{ask_event, asked, own_rule, release_event}
-use Rattle.tw_code.specs.machine.State.{Frame, Frames, State, with_task}
-use Rattle.tw_machine.specs.Waiting.{RuleTable, TaskTable, rule_released, staged, task_put, unasked_id}
 use Rattle.tw_machine.proofs.Numbered.{staged_some}
-use Rattle.tw_machine.specs.declared.tables.Tables.{Tables}
-use Rattle.tw_machine.specs.Events.{with_frames, with_tables}
-use Rattle.tw_machine.specs.Memory.{IsAskOfOpen, Succeeds}
 
 same_is : (a b : ℕ) → a ≡ b → (a == b) ≡ true
 same_is a b h = grind (arith, nat_tests)

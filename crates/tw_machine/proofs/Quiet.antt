@@ -1,15 +1,8 @@
 -- Whether a state is quiet.
 use Rattle.std.proofs.Common.{◌≡◌, Bool, true, false, ◌&&◌, ◌==◌, refl, IsTrue, ◌↔◌}
-use Rattle.std.specs.BTreeMap.{BTreeMap, btree_map_len}
-use Rattle.std.specs.FinMap.{len}
+use Rattle.tw_machine.proofs.Names.{Actor, BTreeMap, Frame, State, actor_cmp-IsAntisymmetric, actor_cmp_total, btree_map_len, frames_of, is_empty_view, len, with_frames}
 use Rattle.std.specs.FinSet as set
-use Rattle.tw_types.specs.declared.actor.Actor.{Actor}
 use Rattle.tw_code.specs.machine.Ending.{has_idle_rules, is_quiet}
-use Rattle.tw_code.specs.machine.State.{Frame, State}
-use Rattle.tw_machine.specs.Events.{with_frames}
-use Rattle.tw_machine.specs.Parts.{frames_of}
-use Rattle.tw_types.proofs.ActorOrder.{actor_cmp_total, actor_cmp-IsAntisymmetric}
-use Rattle.tw_types.proofs.Maps.{is_empty_view}
 
 and_all : (a b c d : Bool) → (((a && b) && c) && d) ≡ (a && (b && (c && d)))
 and_all true true c d = refl

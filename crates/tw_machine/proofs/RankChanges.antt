@@ -1,18 +1,6 @@
 -- The ranks after a task is put or removed.
 use Rattle.std.proofs.Common.{◌≡◌, ◌≤◌, ◌+◌, ℕ, Bool, true, false, cond, ◌&&◌, refl, sym, ap, ◌∙◌, arith, nat_cmp}
-use Rattle.std.specs.declared.option.Option.{Option}
-use Rattle.std.specs.declared.option.Option.TheVariants.{None, Some}
-use Rattle.std.specs.Cmp.{nat_cmp_total}
-use Rattle.std.specs.FinMap.{nat_cmp-IsAntisymmetric, empty, get, get-empty, get-insert, get-remove, insert, remove}
-use Rattle.std.specs.Ordering.{eq_by_cmp}
-use Rattle.tw_types.specs.declared.actor.Kind.{Kind}
-use Rattle.tw_types.specs.Actor.{same_kind}
-use Rattle.tw_types.specs.Task.{Task, Tasks}
-use Rattle.tw_types.proofs.Orders.{other_key, tied}
-use Rattle.tw_machine.specs.declared.rank.Rank.{Rank}
-use Rattle.tw_machine.specs.declared.ranks.Ranks.{Ranks}
-use Rattle.tw_machine.specs.Rank.{rank_cmp, rank_of}
-use Rattle.tw_machine.specs.Ranking.{AreRanked, IsMarked, has_rank, is_rank, same_target}
+use Rattle.tw_machine.proofs.Names.{AreRanked, IsMarked, Kind, None, Option, Rank, Ranks, Some, Task, Tasks, empty, eq_by_cmp, get, get-empty, get-insert, get-remove, has_rank, insert, is_rank, nat_cmp-IsAntisymmetric, nat_cmp_total, other_key, rank_cmp, rank_of, remove, same_kind, same_target, tied}
 use Rattle.tw_machine.proofs.RankOrder.{other_number}
 
 cond_same : (b : Bool) → cond b true false ≡ b

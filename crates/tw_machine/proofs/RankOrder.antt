@@ -1,16 +1,6 @@
 -- The order of ranks, and which ranks tie.
-use Rattle.std.proofs.Common.{◌≡◌, ℕ, Bool, true, false, refl, sym, ap, subst, ◌∙◌, rules}
-use Rattle.std.specs.declared.cmp.Ordering.{Ordering}
-use Rattle.std.specs.declared.cmp.Ordering.TheVariants.{Less, Equal, Greater}
-use Rattle.std.specs.Cmp.{IsTotalOrder, IsStrictWeakOrder, nat_cmp_total}
-use Rattle.std.specs.Cmp.Rules.{comparing}
-use Rattle.std.specs.FinMap.{int_cmp-IsAntisymmetric, nat_cmp-IsAntisymmetric}
-use Rattle.std.specs.Ordering.{eq_by_cmp, int_cmp, is_eq, is_gt, is_lt, nat_cmp, ordering_reverse, ordering_then}
+use Rattle.tw_machine.proofs.Names.{Bool, Equal, Greater, IsStrictWeakOrder, IsTotalOrder, Less, Ordering, Rank, Task, ap, comparing, eq_by_cmp, false, int_cmp, int_cmp-IsAntisymmetric, is_eq, is_gt, is_lt, nat_cmp, nat_cmp-IsAntisymmetric, nat_cmp_total, ordering_reverse, ordering_then, own_key, rank_cmp, rank_of, refl, rules, subst, sym, tied, true, ℕ, ◌∙◌, ◌≡◌}
 use Rattle.std.proofs.lemmas.List.Sorted.{ranks_by}
-use Rattle.tw_types.specs.Task.{Task}
-use Rattle.tw_types.proofs.Orders.{own_key, tied}
-use Rattle.tw_machine.specs.declared.rank.Rank.{Rank}
-use Rattle.tw_machine.specs.Rank.{rank_cmp, rank_of}
 
 pub rank_cmp_total : IsTotalOrder rank_cmp
 rank_cmp_total = search (comparing, rules)

@@ -1,17 +1,8 @@
 -- Sets of ranks by target, if one of them changes.
-use Rattle.std.proofs.Common.{◌≡◌, ℕ, Bool, true, false, cond, ◌&&◌, List, refl, sym, ap, subst, ◌∙◌, IsSome}
-use Rattle.std.specs.declared.option.Option.{Option}
-use Rattle.std.specs.declared.option.Option.TheVariants.{None, Some}
+use Rattle.tw_machine.proofs.Names.{AreSameIn, BTreeSet, Bool, IsMarkedAt, IsMarkedIn, IsSome, IsUnchanged, List, None, OnErr, OnOk, Option, Rank, Sets, Some, ap, cond, contains, eq_by_cmp, false, has_rank_at, has_rank_in, list_any, rank_cmp, refl, same_target, subst, sym, target_cmp, true, ℕ, ◌&&◌, ◌∙◌, ◌≡◌}
 use Rattle.std.specs.declared.result.Result.{Result}
 use Rattle.std.specs.declared.result.Result.TheVariants.{Ok, Err}
-use Rattle.std.specs.Result.{OnErr, OnOk}
 use Rattle.std.specs.BTreeMap.{UpdatesBy, WritesThrough, get}
-use Rattle.std.specs.BTreeSet.{BTreeSet, IsUnchanged, contains}
-use Rattle.std.specs.List.{list_any}
-use Rattle.std.specs.Ordering.{eq_by_cmp}
-use Rattle.tw_machine.specs.declared.rank.Rank.{Rank}
-use Rattle.tw_machine.specs.Rank.{rank_cmp}
-use Rattle.tw_machine.specs.Ranking.{AreSameIn, IsMarkedAt, IsMarkedIn, Sets, has_rank_at, has_rank_in, same_target, target_cmp}
 use Rattle.tw_machine.proofs.Targets.{target_is}
 
 module _ (target : Option ℕ) (old new : Sets) (set : BTreeSet Rank) (changed : UpdatesBy target_cmp (target_cmp target) old new (Some set)) where

@@ -1,22 +1,6 @@
 -- Results of a Take.
-use Rattle.std.proofs.Common.{◌≡◌, ℕ, true, false, List, refl, sym, ap, subst, ◌∙◌, is_some}
-use Rattle.std.specs.Prelude.{Result, Ok, Err}
-use Rattle.std.specs.declared.option.Option.{Option}
-use Rattle.std.specs.declared.option.Option.TheVariants.{None, Some}
-use Rattle.std.specs.FinMap.{get, remove}
-use Rattle.tw_types.specs.declared.actor.Actor.{Actor}
-use Rattle.tw_types.specs.declared.cause.Cause.{Cause}
-use Rattle.tw_types.specs.Actor.{is_in}
-use Rattle.tw_types.specs.Layout.{ActorCounts}
-use Rattle.tw_types.specs.Outcome.{Went, NotEnabled, ◌>>=◌, outcome_of}
-use Rattle.tw_types.specs.Task.{Task, best}
-use Rattle.tw_code.specs.declared.procedure.Procedure.{Procedure}
-use Rattle.tw_code.specs.machine.State.{Frame, State, frame_of, with_frame}
-use Rattle.tw_code.specs.machine.Machine.{take_event}
+use Rattle.tw_machine.proofs.Names.{Actor, ActorCounts, Cause, Err, Frame, IsEnabled, IsStopped, List, MayFail, None, NotEnabled, Ok, Option, Procedure, Result, Some, State, Task, Went, ap, best, fails_then, false, frame_of, get, is_in, is_some, outcome_of, refl, remove, stopped_by, subst, sym, take_event, true, with_frame, ℕ, ◌>>=◌, ◌∙◌, ◌≡◌}
 use Rattle.tw_instr.specs.declared.failure.Failure.{Failure}
-use Rattle.tw_instr.specs.Attempts.{MayFail, IsStopped, stopped_by}
-use Rattle.tw_instr.proofs.Stops.{fails_then}
-use Rattle.tw_machine.specs.Memory.{IsEnabled}
 
 -- the state without a task
 abbrev pub without : State → ℕ → State

@@ -1,16 +1,5 @@
 -- Kinds and targets that are the same.
-use Rattle.std.proofs.Common.{◌≡◌, ℕ, true, refl, ap, rules}
-use Rattle.std.specs.declared.option.Option.{Option}
-use Rattle.std.specs.declared.option.Option.TheVariants.{None, Some}
-use Rattle.std.specs.Cmp.{IsTotalOrder}
-use Rattle.std.specs.Cmp.Rules.{comparing}
-use Rattle.std.specs.FinMap.{nat_cmp-IsAntisymmetric}
-use Rattle.std.specs.Ordering.{nat_cmp}
-use Rattle.tw_types.specs.declared.actor.Kind.{Kind}
-use Rattle.tw_types.specs.declared.actor.Kind.TheVariants.{Control, Leaf}
-use Rattle.tw_types.specs.Actor.{same_kind}
-use Rattle.tw_types.proofs.Orders.{own_key, tied}
-use Rattle.tw_machine.specs.Ranking.{same_target, target_cmp}
+use Rattle.tw_machine.proofs.Names.{Control, IsTotalOrder, Kind, Leaf, None, Option, Some, ap, comparing, nat_cmp, nat_cmp-IsAntisymmetric, own_key, refl, rules, same_kind, same_target, target_cmp, tied, true, ℕ, ◌≡◌}
 
 target_cmp_total : IsTotalOrder target_cmp
 target_cmp_total = search (comparing, rules)

@@ -1,15 +1,10 @@
 -- Adding data, and replacing one by another with its id: the effects of the store's calls, if nothing is freed and there is no notice.
 use Rattle.std.proofs.Common.{◌≡◌, ◌<◌, ◌+◌, ℕ, Bool, true, false, cond, IfOk, OnOk, List, [], Option, Some, None, refl, sym, ap, subst, ◌∙◌, arith, inl, inr, slice_set}
-use Rattle.tw_pool_state.proofs.PartNames.{Datum, FinMap, FreedDatum, HasNoticeRoom, IsAntisymmetric, IsHere, IsLeft, IsNow, IsSome, IsTotalOrder, NestedScalar, Notice, Ok, Right, Scalar, Served, Store, Subscript, Value, added, append-nil, cases_eq, changed, closed_scalar, created, empty, eq_by_cmp, get, get-empty, get-insert, insert, inserted, is_unheld, may_insert, may_store, member_at, members_in, nat_cmp, nat_cmp-IsAntisymmetric, nat_cmp_total, new_datum, notices_after, notices_of, option_and_then, queued, same_map, scalar_of, scalar_type, set-get_or, set_to, store_after, subscribers_cleared, there_then, with_datum, with_member}
-use Rattle.std.specs.declared.cmp.Ordering.{Ordering}
+use Rattle.tw_pool_state.proofs.PartNames.{AreAllLive, Datum, FinMap, FreedDatum, HasMember, HasNoticeRoom, IsAdded, IsAntisymmetric, IsHere, IsLeft, IsNow, IsSome, IsTotalOrder, NestedScalar, Notice, Ok, Ordering, Right, Scalar, Served, Store, Subscript, Value, added, append-nil, cases_eq, changed, closed_scalar, created, empty, eq_by_cmp, get, get-empty, get-insert, insert, insert_other, inserted, is_unheld, may_insert, may_store, member_at, members_in, nat_cmp, nat_cmp-IsAntisymmetric, nat_cmp_total, new_datum, notices_after, notices_of, option_and_then, queued, same_map, scalar_of, scalar_type, set-get_or, set_to, store_after, subscribers_cleared, there_then, tied, with_datum, with_member}
 use Rattle.std.specs.declared.result.Result.{Result}
 use Rattle.std.specs.declared.result.Result.TheVariants.{Err}
 use Rattle.tw_types.specs.declared.value.Value.TheVariants as value
 use Rattle.tw_types.proofs.Freeing.{data_insert_other, data_insert_same}
-use Rattle.tw_types.proofs.Orders.{tied}
-use Rattle.tw_types.proofs.Totals.{insert_other}
-use Rattle.tw_pool_state.specs.Givens.{AreAllLive, HasMember}
-use Rattle.tw_pool_state.specs.Opening.{IsAdded}
 
 -- ---- maps
 

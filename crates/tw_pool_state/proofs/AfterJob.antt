@@ -1,11 +1,8 @@
 -- RULE and PUT: the requirements on their parts, if a task is at one after a job.
 use Rattle.std.proofs.Common.{map as each, ◌≡◌, ◌≤◌, ◌<◌, ◌+◌, ◌^◌, ◌∙◌, ℕ, List, Option, Some, None, IsSome, sym, ap, subst, length, slice_get, arith}
-use Rattle.tw_pool_state.proofs.PartNames.{Action, Actor, DoneView, FrameView, HasSlot, Held, IsInstr, IsOwed, IsProcedure, IsProgram, MayBeAt, Param, Parts, Procedure, IsAtInstr, Value, at_next_place, bare_frame, frame_after, context_of, get, job_of, named_values, same_Some, state_of, with_done}
-use Rattle.tw_rights.specs.Bundled.{Bundled, bundled}
+use Rattle.tw_pool_state.proofs.PartNames.{Action, Actor, Bundled, DoneView, FrameView, HasSlot, Held, Instr, IsAtInstr, IsInstr, IsOwed, IsProcedure, IsProgram, MayBeAt, Param, Parts, Procedure, Value, all_found, at_next_place, bare_frame, bundled, context_of, frame_after, get, job_of, named_values, same_Some, state_of, with_done}
 use Rattle.tw_queue.specs.Queues as queues
-use Rattle.tw_code.specs.declared.instr.Instr.{Instr}
 use Rattle.tw_code.specs.format.Program as format
-use Rattle.tw_soundness.proofs.Accepted.{all_found}
 use Rattle.tw_pool_state.proofs.Fitting.{seen}
 use Rattle.tw_pool_state.proofs.Handovers.{few_params, low_place, may_bundle}
 use Rattle.tw_pool_state.proofs.Law.{runner_has_slot}

@@ -1,7 +1,6 @@
 -- The result of an instruction on data, by cases.
 use Rattle.std.proofs.Common.{◌≡◌, ℕ, Ok, Err, Result}
-use Rattle.tw_pool_state.proofs.PartNames.{DoneView, FrameView, IfErr, IfOk, IsIssuedAnswer, IsIssuedAfter, IsOutOfMemory, JobView, OnErr, OnOk, Served}
-use Rattle.tw_code.specs.declared.instr.DataInstr.{DataInstr}
+use Rattle.tw_pool_state.proofs.PartNames.{DataInstr, DoneView, FrameView, IfErr, IfOk, IsIssuedAfter, IsIssuedAnswer, IsOutOfMemory, JobView, OnErr, OnOk, Served}
 
 module _ (d : DataInstr) (old new : Served) (f g : FrameView) (event_no : ℕ) (done : DoneView) where
   pub when_done : (P : Type 0) (r : Result JobView DoneView) → IsIssuedAnswer d old new f g event_no done r → ((job : JobView) → IsIssuedAfter d old new f g event_no done job → P) → OnOk r P

@@ -1,10 +1,5 @@
 -- The queues after an instruction that is an event of its own.
-use Rattle.std.proofs.Common.{map as each, ◌≡◌, ◌∙◌, ℕ, List, [], ◌∷◌, Some, refl, sym, ap, slice_get, inl, inr}
-use Rattle.tw_pool_state.proofs.PartNames.{Actor, AreNotified, Notice, Procedure, Served, State, get, notice_to, queued, Call}
-use Rattle.tw_types.specs.declared.notice.Subscriber.{Subscriber}
-use Rattle.tw_code.specs.declared.instr.Instr.{Instr}
-use Rattle.tw_code.specs.machine.State.{Frame, context_of}
-use Rattle.tw_pool_state.specs.Queued.{Queues, arrived, notices_of_instr, queues_after}
+use Rattle.tw_pool_state.proofs.PartNames.{Actor, AreNotified, Call, Frame, Instr, List, Notice, Procedure, Queues, Served, Some, State, Subscriber, [], ap, arrived, context_of, get, inl, inr, map as each, notice_to, notices_of_instr, queued, queues_after, refl, slice_get, sym, ℕ, ◌∙◌, ◌∷◌, ◌≡◌}
 use Rattle.tw_pool_state.proofs.Left.{queued_none}
 
 -- what the instruction at the task's place makes

@@ -1,17 +1,9 @@
 -- An instruction on data, as a call on the parts.
-use Rattle.std.proofs.Common.{map as each, ◌≡◌, ◌<◌, ◌+◌, ℕ, List, Some, None, refl, sym, ap, subst, ◌∙◌, slice_get, slice_index_or, length, arith, inl, inr}
-use Rattle.tw_pool_state.proofs.PartNames.{Actor, ActorCounts, AreAt, AreParts, AreQueued, Call, Context, FrameFits, FrameView, Succeeds, Held, IsAt, IsDone, IsInstr, IsLive, IsProcedure, IsSmall, MayDo, Notices, Ok, Parts, Procedure, Right, RightsFit, TypedProgram, Went, actor_cmp-IsAntisymmetric, actor_cmp_total, after_context, after_data, asked_at, bare_file, bare_frame, bare_rule, bare_task, data_instr, get, id_of, insert, insert_mapped, kinds_in, length-set, mapped, notice_to, params_of, queued, right_in, sees, server_of, slice_get_within, state_of, typed_after, typings_of, with_notices, with_running}
-use Rattle.tw_types.proofs.Parts.{put_or_before}
-use Rattle.tw_code.specs.declared.instr.DataInstr.{DataInstr}
+use Rattle.tw_pool_state.proofs.PartNames.{Actor, ActorCounts, AreAt, AreParts, AreQueued, Call, Context, DataInstr, FrameFits, FrameView, Held, IsAt, IsDone, IsHeld, IsInstr, IsLive, IsProcedure, IsSmall, List, MayDo, None, Notices, Ok, Parts, Procedure, Right, RightsFit, Some, Succeeds, TypedProgram, Went, actor_cmp-IsAntisymmetric, actor_cmp_total, after_context, after_data, all_found, ap, arith, arrived, asked_at, bare_file, bare_frame, bare_rule, bare_task, data_instr, get, id_of, inl, inr, insert, insert_mapped, kept_by, kinds_in, length, length-set, map as each, mapped, notice_to, params_of, put_or_before, queued, queues_after, refl, right_in, sees, server_of, slice_get, slice_get_within, slice_index_or, state_of, subst, sym, typed_after, typing_at, typings_of, with_notices, with_running, ℕ, ◌+◌, ◌<◌, ◌∙◌, ◌≡◌}
 use Rattle.tw_code.specs.declared.instr.Instr.TheVariants as instr
-use Rattle.tw_code.specs.machine.Holders.{typing_at}
 use Rattle.tw_code.specs.machine.Machine.{step}
-use Rattle.tw_soundness.specs.Invariant.{IsHeld}
-use Rattle.tw_soundness.proofs.Accepted.{all_found}
 use Rattle.tw_soundness.proofs.Live.{output_is_live, register_is_live, rule_is_live, task_is_live}
-use Rattle.tw_soundness.proofs.Safe.{kept_by}
 use Rattle.tw_soundness.proofs.Turning.{data_goes}
-use Rattle.tw_pool_state.specs.Queued.{arrived, queues_after}
 use Rattle.tw_pool_state.proofs.Arriving.{call_queues, notified_arrive}
 use Rattle.tw_pool_state.proofs.Fitting.{seen}
 use Rattle.tw_pool_state.proofs.Goings.{may_be_at}

@@ -1,7 +1,6 @@
 -- DUPR and DUPW: their requirements hold, and they are executed.
 use Rattle.tw_types.specs.Room.{HasReadRoom, HasWriteRoom}
-use Rattle.tw_soundness.proofs.DataLeft.{read_no_write}
-use Rattle.tw_pool_state.proofs.PartNames.{◌^◌, Context, Datum, EmptyRegister, FrameView, HasRoom, IsDone, IsHere, IsNow, MayDo, Notices, Ok, Right, RightType, Served, Typing, at_next_place, bare_file, copy_read_requires, copy_write_requires, data_instr, get, is_none, kind_at, kinds_in, map-set, may_be_read, may_copy_write, must_be_empty, ok_after, passed, passes, read_copied, reads, right_at, sees, there_then, with_notices, write_copied, writes as typed_writes, writes as writes_one}
+use Rattle.tw_pool_state.proofs.PartNames.{Context, Datum, EmptyRegister, FrameView, HasRoom, IsDone, IsHere, IsNow, MayDo, Notices, Ok, Right, RightType, Served, Typing, at_next_place, bare_file, copy_read_requires, copy_write_requires, data_instr, get, is_none, kind_at, kinds_in, map-set, may_be_read, may_copy_write, must_be_empty, ok_after, passed, passes, read_copied, read_no_write, reads, right_at, sees, there_then, with_notices, write_copied, writes as typed_writes, writes as writes_one, ◌^◌}
 use Rattle.tw_rights.specs.declared.held.Held.TheVariants as held
 use Rattle.tw_code.specs.declared.instr.DataInstr.TheVariants as on_data
 use Rattle.std.proofs.Common.{◌≡◌, ◌∙◌, ◌+◌, ◌<◌, ℕ, Bool, true, false, [], None, Some, Option, refl, sym, ap, inl, arith, slice_index_or, slice_set, option_map}

@@ -1,10 +1,7 @@
 -- A server delivers: on the parts.
 use Rattle.std.proofs.Common.{map, ◌≡◌, ◌<◌, ℕ, true, false, nat_lt, nat_eq, List, ◌∷◌, Some, refl, sym, ap, subst, ◌∙◌, drop, length, set, slice_get, option_map, arith}
-use Rattle.tw_pool_state.proofs.PartNames.{ActorCounts, AreParts, AreQueued, Arg, Deliver, Succeeds, Notice, Notices, Parts, Procedure, Right, Rule, RuleOf, RulesOf, RightsFit, State, TypedProgram, Went, at_stage, bare_frame, bare_rule, bare_task, get, insert, insert_mapped, is_settled, length-set, mapped, nat_cmp-IsAntisymmetric, nat_cmp_total, nat_tests, queue_at, server_of, state_of, with_stage, RunningView}
+use Rattle.tw_pool_state.proofs.PartNames.{ActorCounts, AreParts, AreQueued, Arg, Deliver, Notice, Notices, Parts, Procedure, Ready, Right, RightsFit, Rule, RuleOf, RulesOf, RunningView, Stage, State, Succeeds, TypedProgram, Waiting, Went, at_stage, bare_frame, bare_rule, bare_task, get, insert, insert_mapped, is_settled, length-set, mapped, nat_cmp-IsAntisymmetric, nat_cmp_total, nat_tests, queue_at, server_of, stage_at, staged, state_of, with_stage}
 use Rattle.std.specs.FinSet as set_of
-use Rattle.tw_types.specs.declared.stage.Stage.{Stage}
-use Rattle.tw_types.specs.declared.stage.Stage.TheVariants.{Waiting, Ready}
-use Rattle.tw_rules.specs.Table.{stage_at, staged}
 use Rattle.tw_code.specs.machine.Machine.{step}
 use Rattle.tw_soundness.proofs.Asked.{Noted, noted}
 use Rattle.tw_pool_state.proofs.Law.{goes_to, held}

@@ -1,9 +1,7 @@
 -- DROPW and DROPR: their requirements hold, and they are executed.
-use Rattle.tw_pool_state.proofs.PartNames.{Context, Datum, EmptyRegister, FrameView, FreedDatum, IsDone, IsHere, IsLeft, KeepsPlaces, MayDo, Notices, Ok, Right, Served, at_next_place, bare_file, data_instr, drop_read_requires, drop_write_requires, get, kind_at, may_drop_read, may_drop_write, notices_after, notices_of_write_dropped, ok_after, one_write_less, read_dropped, reads, right_at, sees, there_then, with_notices, write_dropped, writes as writes_one}
-use Rattle.tw_soundness.proofs.DataLeft.{read_no_write}
+use Rattle.tw_pool_state.proofs.PartNames.{Context, Datum, EmptyRegister, FrameView, FreedDatum, IsDone, IsHere, IsLeft, KeepsPlaces, MayDo, None, Notices, Ok, Right, Served, Some, [], ap, at_next_place, bare_file, data_instr, drop_read_requires, drop_write_requires, false, get, inl, kind_at, may_drop_read, may_drop_write, notices_after, notices_of_write_dropped, ok_after, one_write_less, read_dropped, read_no_write, reads, refl, right_at, sees, slice_index_or, slice_set, sym, there_then, true, with_notices, write_dropped, writes as writes_one, ℕ, ◌+◌, ◌∙◌, ◌≡◌}
 use Rattle.tw_rights.specs.declared.held.Held.TheVariants as held
 use Rattle.tw_code.specs.declared.instr.DataInstr.TheVariants as on_data
-use Rattle.std.proofs.Common.{◌≡◌, ◌∙◌, ◌+◌, ℕ, true, false, [], None, Some, refl, sym, ap, inl, slice_index_or, slice_set}
 use Rattle.tw_pool_state.proofs.Left.{emptied_done, left_stays, left_notified, same_ok}
 use Rattle.tw_pool_state.proofs.Registers.{its_id, kind_passed, placed_at}
 

@@ -1,9 +1,7 @@
 -- A task ends: on the parts.
 use Rattle.std.proofs.Common.{map, ◌≡◌, ◌∙◌, Some, true, refl, ap, slice_get, is_none}
-use Rattle.tw_pool_state.proofs.PartNames.{Actor, ActorCounts, AreParts, End, FrameView, Succeeds, Notices, Parts, Procedure, Right, RightsFit, TypedProgram, Went, actor_cmp-IsAntisymmetric, actor_cmp_total, asked_at, bare_frame, bare_rule, bare_task, get, mapped, remove, remove_mapped, state_of, typings_of}
-use Rattle.std.specs.List.{list_all}
+use Rattle.tw_pool_state.proofs.PartNames.{Actor, ActorCounts, AreParts, End, FrameView, Notices, Parts, Procedure, Right, RightsFit, Succeeds, TypedProgram, Went, actor_cmp-IsAntisymmetric, actor_cmp_total, asked_at, bare_frame, bare_rule, bare_task, get, list_all, mapped, remove, remove_mapped, state_of, typing_of, typings_of}
 use Rattle.tw_code.specs.declared.instr.Instr.TheVariants.{Ret}
-use Rattle.tw_code.specs.machine.Holders.{typing_of}
 use Rattle.tw_code.specs.machine.Machine.{step}
 use Rattle.tw_soundness.proofs.AllEvents.{all_empty}
 use Rattle.tw_pool_state.proofs.Fitting.{seen, fit_ended}

@@ -1,21 +1,13 @@
 -- A container that is filled with closed scalars by rising subscripts, and then closed.
-use Rattle.std.proofs.Common.{◌≡◌, ◌<◌, ◌≤◌, ◌+◌, ℕ, zero, suc, true, ◌&&◌, List, [], ◌∷◌, ◌++◌, get_or, length, take, Some, None, refl, sym, ap, subst, ◌∙◌, arith}
-use Rattle.tw_pool_state.proofs.PartNames.{◌^◌, Contains, Datum, HasNoticeRoom, IsLeft, Members, NestedScalar, Ok, Right, Scalar, Served, Store, Subscript, Value, added, and_parts, closed_scalar, container_of, created, get, get-empty, insert, inserted, is_lt, is_short, length-map, length-take-le, map_more, may_drop_write, may_insert, member_at, new_datum, numbered, one_write_less, scalar_of, scalar_type, take_all, value_cmp, with_container, with_member}
+use Rattle.tw_pool_state.proofs.PartNames.{AreAllLive, Container, Contains, Datum, HasMember, HasNoticeRoom, IsAdded, IsLeft, List, Members, NestedScalar, None, Ok, Right, Scalar, Served, Some, Store, Subscript, Value, [], added, and_parts, ap, arith, below, closed_scalar, container_of, created, get, get-empty, get_or, given_few, given_rises, given_short, given_type, insert, insert_other, inserted, is_given_for, is_lt, is_short, length, length-map, length-take-le, map_more, may_drop_write, may_insert, member_at, members_by, members_next, new_datum, numbered, one_write_less, refl, rises, rises_from, scalar_of, scalar_type, subst, suc, sym, take, take_all, true, value_cmp, with_container, with_member, zero, ℕ, ◌&&◌, ◌++◌, ◌+◌, ◌<◌, ◌^◌, ◌∙◌, ◌∷◌, ◌≡◌, ◌≤◌}
 use Rattle.std.proofs.lemmas.Grind.{fold-append}
 use Rattle.std.proofs.lemmas.Cmp.{tied_itself}
 use Rattle.std.specs.declared.cmp.Ordering.TheVariants.{Less, Equal}
 use Rattle.std.specs.FinMap as fin
 use Rattle.tw_types.specs.declared.data_type.Scalar.TheVariants as scalar
 use Rattle.tw_types.specs.declared.value.Value.TheVariants as value
-use Rattle.tw_types.specs.Given.{Container, members_by}
-use Rattle.tw_types.proofs.Totals.{insert_other}
 use Rattle.tw_types.proofs.ValueOrder.{value_cmp_total, value_cmp-IsAntisymmetric}
-use Rattle.tw_code.specs.machine.Inputs.{is_given_for, rises, rises_from}
 use Rattle.tw_code.specs.machine.Members.{are_short, with_members}
-use Rattle.tw_pool_state.specs.Givens.{AreAllLive, HasMember}
-use Rattle.tw_pool_state.specs.Opening.{IsAdded}
-use Rattle.tw_types.proofs.Orders.{below}
-use Rattle.tw_code.proofs.Givens.{given_few, given_rises, given_short, given_type, members_next}
 use Rattle.tw_pool_state.proofs.Adding.{IsReplaced, added_get, added_here, added_replaced, added_then, changed_is, insert_swapped, left_replaced, replaced, replaced_added}
 
 -- ---- subscripts that aren't there yet

@@ -1,10 +1,6 @@
 -- Rights stay right when one rule, task or frame changes.
 use Rattle.std.proofs.Common.{◌≡◌, ℕ, List, Option, Some, None, refl, sym, ap, subst, ◌∙◌, inl, inr, option_map}
-use Rattle.std.specs.declared.cmp.Ordering.{Ordering}
-use Rattle.tw_pool_state.proofs.PartNames.{Actor, Arg, ArgsMatch, FinMap, FrameFits, FrameView, Places, Right, RuleOf, RulesOf, TasksByActor, RightsFit, TaskOf, TasksOf, TypedProgram, actor_cmp-IsAntisymmetric, actor_cmp_total, at_stage, get, get_mapped, insert, mapped, nat_cmp-IsAntisymmetric, nat_cmp_total, params_of, remove, same_Some, task_from}
-use Rattle.tw_types.specs.declared.actor.Kind.{Kind}
-use Rattle.tw_types.specs.declared.stage.Stage.{Stage}
-use Rattle.tw_types.proofs.Parts.{put_or_before, before_removal}
+use Rattle.tw_pool_state.proofs.PartNames.{Actor, Arg, ArgsMatch, FinMap, FrameFits, FrameView, Kind, Ordering, Places, Right, RightsFit, RuleOf, RulesOf, Stage, TaskOf, TasksByActor, TasksOf, TypedProgram, actor_cmp-IsAntisymmetric, actor_cmp_total, at_stage, before_removal, get, get_mapped, insert, mapped, nat_cmp-IsAntisymmetric, nat_cmp_total, params_of, put_or_before, remove, same_Some, task_from}
 
 -- all other entries after an entry changes
 pub record IsImage {K X Y : Type 0} {R : K → K → Ordering} (f : X → Y) (m : FinMap R X) (k : K) (y : Y) : Type 0 where

@@ -1,8 +1,6 @@
 -- The slots have memory for their tasks, whenever tasks start and end.
 use Rattle.std.proofs.Common.{◌≡◌, ◌<◌, ◌∙◌, ℕ, Bool, true, false, nat_eq, List, length, length-set, Option, Some, None, is_some, get_or, set, refl, sym, ap, subst, arith}
-use Rattle.tw_types.proofs.Best.{best_found}
-use Rattle.tw_types.specs.declared.actor.Actor.TheVariants.{Engine, Server, Worker}
-use Rattle.tw_pool_state.proofs.PartNames.{Actor, ActorCounts, AreKept, AreTaskSlots, Arg, FrameView, HasSlot, IsSome, RunningView, TaskOf, TasksOf, actor_of, best, get, get_or-set_other, get_or-set_same, is_in, nat_tests, slot_of, takes_tasks}
+use Rattle.tw_pool_state.proofs.PartNames.{Actor, ActorCounts, AreKept, AreTaskSlots, Arg, Engine, FrameView, HasSlot, IsSome, RunningView, Server, TaskOf, TasksOf, Worker, actor_of, best, best_found, get, get_or-set_other, get_or-set_same, is_in, nat_tests, slot_of, takes_tasks}
 use Rattle.tw_pool_state.proofs.Runners.{actor_is, low_slot, seen_as, still_running}
 
 abbrev RunningTasks : Type 0

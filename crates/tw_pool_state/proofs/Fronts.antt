@@ -1,6 +1,5 @@
 -- A queue without a first notice is empty.
-use Rattle.std.proofs.Common.{◌≡◌, Bor, false, List, [], ◌∷◌, None, Some, Option, is_some, refl, slice_get}
-use Rattle.std.specs.Option.{option_copied}
+use Rattle.tw_pool_state.proofs.PartNames.{Bor, List, None, Option, Some, [], false, is_some, option_copied, refl, slice_get, ◌∷◌, ◌≡◌}
 use Rattle.tw_pool_state.proofs.Maps.{none_copied}
 
 pub empty_front : {A : Type 0} (r : Option (Bor A)) (xs : List A) → option_copied r ≡ slice_get xs 0 → is_some r ≡ false → xs ≡ []

@@ -1,8 +1,7 @@
 -- GET: its requirements hold, and it is executed.
-use Rattle.tw_pool_state.proofs.PartNames.{Completed, Context, EmptyRegister, FrameView, IsDone, IsHere, MayDo, MaySet, Notices, Ok, Right, Served, UnsetDatum, Value, WrongRegister, at_next_place, bare_file, data_instr, datum_at, first_so, get, get_requires, is_closed_mode, is_scalar, kind_at, may_retrieve, must_then, ok_after, option_and_then, reads_closed_scalar, right_at, same_Some, sees, suits, there_then, value_at, with_notices, with_value}
+use Rattle.tw_pool_state.proofs.PartNames.{Completed, Context, EmptyRegister, FrameView, IsDone, IsHere, MayDo, MaySet, None, Notices, Ok, Right, Served, Some, UnsetDatum, Value, WrongRegister, [], ap, at_next_place, bare_file, data_instr, datum_at, false, first_so, get, get_requires, inl, is_closed_mode, is_scalar, kind_at, may_retrieve, must_then, ok_after, option_and_then, reads_closed_scalar, refl, right_at, same_Some, sees, slice_get, slice_index_or, suits, sym, there_then, value_at, with_notices, with_value, ℕ, ◌+◌, ◌∙◌, ◌≡◌}
 use Rattle.tw_rights.specs.declared.held.Held.TheVariants as held
 use Rattle.tw_code.specs.declared.instr.DataInstr.TheVariants as on_data
-use Rattle.std.proofs.Common.{◌≡◌, ◌∙◌, ◌+◌, ℕ, false, [], None, Some, refl, sym, ap, inl, slice_get, slice_index_or}
 use Rattle.tw_pool_state.proofs.Left.{moved_done, now_stays, same_ok}
 use Rattle.tw_pool_state.proofs.Registers.{closed_reads, its_id, kind_passed, placed_at}
 use Rattle.tw_pool_state.proofs.ValueRegisters.{value_fits}

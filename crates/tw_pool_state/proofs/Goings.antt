@@ -1,14 +1,9 @@
 -- A task moves on by local steps, and its next job is issued: on the parts.
-use Rattle.std.proofs.Common.{◌≡◌, ◌<◌, ◌+◌, ◌∙◌, ℕ, false, List, Some, refl, sym, ap, subst, slice_get, arith, nat_eq}
-use Rattle.tw_pool_state.proofs.PartNames.{Actor, ActorCounts, AreParts, FrameFits, Succeeds, IsIssued, IsOwed, IsReached, Local, Notices, Parts, Procedure, TasksByActor, RightsFit, State, TypedProgram, Went, actor_cmp-IsAntisymmetric, actor_cmp_total, frame_after, get, insert, insert_mapped, kinds_in, issued_as, mapped, nat_tests, position_there, state_of, steps_leave, typings_of, with_done, with_frame}
-use Rattle.tw_types.specs.declared.event.Event.{Event}
+use Rattle.tw_pool_state.proofs.PartNames.{Actor, ActorCounts, AreParts, Event, Frame, FrameFits, IsIssued, IsOwed, IsReached, List, Local, Notices, Parts, Procedure, RightsFit, Some, State, Succeeds, TasksByActor, TypedProgram, Went, actor_cmp-IsAntisymmetric, actor_cmp_total, ap, arith, false, frame_after, fresh_position, get, insert, insert_mapped, issued_as, kept_by, kinds_in, mapped, nat_eq, nat_tests, position_there, refl, slice_get, state_of, steps_leave, subst, sym, typings_of, with_done, with_frame, ℕ, ◌+◌, ◌<◌, ◌∙◌, ◌≡◌}
 use Rattle.tw_types.proofs.Outcomes.{same_went}
 use Rattle.tw_code.specs.machine.History.{actor_of}
 use Rattle.tw_code.specs.machine.Machine.{step, local_steps}
-use Rattle.tw_code.specs.machine.State.{Frame}
-use Rattle.tw_soundness.proofs.Safe.{kept_by}
 use Rattle.tw_frame.specs.Jobs.{DoneView, FrameView, IsDone, JobView, MayBeAt, bare_frame, job_of}
-use Rattle.tw_frame.proofs.Lending.{fresh_position}
 use Rattle.tw_pool_state.proofs.Fitting.{seen, fit_by_actor}
 use Rattle.tw_pool_state.proofs.Law.{goes_to, held}
 use Rattle.tw_pool_state.proofs.Runners.{again, get_other, get_own, same_slot}

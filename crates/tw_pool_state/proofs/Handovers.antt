@@ -1,10 +1,6 @@
 -- RULE and PUT: arguments that leave the frame, and the rest of it.
 use Rattle.std.proofs.Common.{map as each, ◌≡◌, ◌+◌, ◌<◌, ◌≤◌, ◌∙◌, ℕ, List, Option, Some, IsSome, refl, sym, ap, subst, slice_get, length, arith}
-use Rattle.tw_pool_state.proofs.PartNames.{Action, Actor, ActorCounts, AreParts, ArePlaced, Arg, ArgsMatch, FrameFits, FrameView, Held, IsProcedure, IsProgram, Notices, Parts, Procedure, TypedProgram, Typing, Value, at_next_place, bare_arg, bare_file, bare_frame, context_of, get, frame_after_call, frame_at_next, kinds_in, kinds_of, named_values, params_in, params_of, same_Some, slice_get_within, state_of, typings_of, without_args}
-use Rattle.tw_rights.specs.Bundled.{Bundled, bundled}
-use Rattle.tw_code.specs.declared.instr.Instr.{Instr}
-use Rattle.tw_code.specs.machine.Holders.{typing_at}
-use Rattle.tw_soundness.proofs.Accepted.{all_found}
+use Rattle.tw_pool_state.proofs.PartNames.{Action, Actor, ActorCounts, AreParts, ArePlaced, Arg, ArgsMatch, Bundled, FrameFits, FrameView, Held, Instr, IsProcedure, IsProgram, Notices, Parts, Procedure, TypedProgram, Typing, Value, all_found, at_next_place, bare_arg, bare_file, bare_frame, bundled, context_of, frame_after_call, frame_at_next, get, kinds_in, kinds_of, named_values, params_in, params_of, same_Some, slice_get_within, state_of, typing_at, typings_of, without_args}
 use Rattle.tw_pool_state.proofs.Copied.{are_vals}
 use Rattle.tw_pool_state.proofs.Handing.{Handed, handed}
 use Rattle.tw_pool_state.proofs.Kinding.{kinds_left}

@@ -1,9 +1,7 @@
 -- INS: its requirements hold, and it is executed.
-use Rattle.tw_pool_state.proofs.PartNames.{Context, EmptyRegister, FrameView, Held, IsAbsent, IsDone, IsHere, IsNow, IsSome, IsUnchanged, MayDo, Notices, Ok, Right, RightType, Scalar, Served, Skipped, Subscript, after_insert, at_goal, at_next_place, bare_file, bare_frame, data_instr, first_so, get, insert_requires, inserted, is_container_by, is_element_of, is_read, is_write, kind_at, may_insert, member_at, of_type_at, ok_after, ok_first, passed, passes, reads_member_of, right_at, scalar_of, sees, there_then, writes_container_by}
-use Rattle.tw_soundness.proofs.DataLeft.{read_no_write}
+use Rattle.tw_pool_state.proofs.PartNames.{Context, EmptyRegister, FrameView, Held, IsAbsent, IsDone, IsHere, IsNow, IsSome, IsUnchanged, List, MayDo, None, Notices, Ok, Option, Right, RightType, Scalar, Served, Skipped, Some, Subscript, [], after_insert, ap, at_goal, at_next_place, bare_file, bare_frame, data_instr, false, first_so, get, inl, insert_requires, inserted, is_container_by, is_element_of, is_read, is_write, kind_at, length, may_insert, member_at, of_type_at, ok_after, ok_first, passed, passes, read_no_write, reads_member_of, refl, right_at, scalar_of, sees, slice_get, slice_index_or, slice_set, suc, sym, there_then, true, writes_container_by, zero, ℕ, ◌+◌, ◌<◌, ◌∙◌, ◌∷◌, ◌≡◌}
 use Rattle.tw_rights.specs.declared.held.Held.TheVariants as held
 use Rattle.tw_code.specs.declared.instr.DataInstr.TheVariants as on_data
-use Rattle.std.proofs.Common.{◌≡◌, ◌<◌, ◌∙◌, ◌+◌, ℕ, length, zero, suc, true, false, List, [], ◌∷◌, None, Some, Option, refl, sym, ap, inl, slice_get, slice_index_or, slice_set}
 use Rattle.tw_pool_state.proofs.Left.{emptied_done, moved_done, now_stays, same_ok}
 use Rattle.tw_pool_state.proofs.Registers.{id_at, its_id, kind_passed, placed_at}
 use Rattle.tw_pool_state.proofs.ValueRegisters.{of_type_inside, of_type_kind, of_type_same}

@@ -1,6 +1,5 @@
 -- Data that are held before and after an instruction on data are live, so they keep their places, whatever was freed.
-use Rattle.std.proofs.Common.{map as each, ◌≡◌, ℕ, suc, List, [], ◌∷◌, Option, Some, None, refl, ap, slice_get}
-use Rattle.tw_pool_state.proofs.PartNames.{AreAt, ArePlaced, Arg, ArgMatches, ArgsMatch, Held, Param, Places, Read, Right, RightArg, RightType, Val, Write, bare_arg, bare_file, get, option_flatten, right_of}
+use Rattle.tw_pool_state.proofs.PartNames.{AreAt, ArePlaced, Arg, ArgMatches, ArgsMatch, Held, List, None, Option, Param, Places, Read, Right, RightArg, RightType, Some, Val, Write, [], ap, bare_arg, bare_file, get, map as each, option_flatten, refl, right_of, slice_get, suc, ℕ, ◌∷◌, ◌≡◌}
 use Rattle.tw_rights.specs.declared.held.Held.TheVariants as held
 
 -- every right of these still has its place, if its datum is live

@@ -1,18 +1,8 @@
 -- The theorems on the machine, for the state of the parts.
-use Rattle.std.proofs.Common.{◌≡◌, ◌≢◌, ◌<◌, ◌∙◌, sym, ap, ℕ, ◌++◌, ◌∷◌, [], length, slice_get, Option, Some, None, ◌≤◌, true, arith}
-use Rattle.tw_pool_state.proofs.PartNames.{Actor, ActorCounts, AreParts, AreQueued, FrameView, Succeeds, HasSlot, IsLayout, IsReached, Notices, Parts, Procedure, RightsFit, State, TypedProgram, Went, bare_frame, get, is_control, is_in, ltb-true, number_in_kind, opening, state_of, step, typings_of}
-use Rattle.tw_types.specs.declared.actor.Actor.TheVariants.{Engine, Server, Worker}
-use Rattle.tw_types.specs.declared.event.Event.{Event}
-use Rattle.tw_types.specs.declared.actor.Kind.{Kind}
-use Rattle.tw_types.specs.declared.actor.Kind.TheVariants.{Control, Leaf}
+use Rattle.tw_pool_state.proofs.PartNames.{Actor, ActorCounts, AreParts, AreQueued, Control, Engine, Event, FrameView, HasSlot, IsHeld, IsLayout, IsReached, IsTarget, Kind, Leaf, None, Notices, Option, Parts, Procedure, RightsFit, Server, Some, State, Succeeds, TypedProgram, Went, Worker, [], ap, arith, bare_frame, get, is_control, is_in, length, ltb-true, number_in_kind, opening, queues_after, reached_is_held, slice_get, state_of, step, sym, true, typings_of, up_to, ℕ, ◌++◌, ◌<◌, ◌∙◌, ◌∷◌, ◌≡◌, ◌≢◌, ◌≤◌}
 use Rattle.tw_code.specs.machine.History.{actor_of}
-use Rattle.tw_code.specs.accepting.Needs.{up_to}
 use Rattle.tw_code.proofs.Placed.{IsPlaced, count_of, engine_below, reached_placed}
 use Rattle.tw_code.proofs.Runs.{run_more}
-use Rattle.tw_soundness.specs.Invariant.{IsHeld}
-use Rattle.tw_soundness.proofs.Safe.{reached_is_held}
-use Rattle.tw_queue.specs.Queues.{IsTarget}
-use Rattle.tw_pool_state.specs.Queued.{queues_after}
 use Rattle.tw_pool_state.proofs.Fitting.{seen}
 
 module _ (verified : TypedProgram) (layout : ActorCounts) (p : Parts) (notices : Notices) (h : AreParts verified layout p notices) where

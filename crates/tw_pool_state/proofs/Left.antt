@@ -1,12 +1,10 @@
 -- The effects of an instruction, by what changed in the right registers: one was emptied, one was filled, or none changed.
-use Rattle.tw_pool_state.proofs.PartNames.{AllYes, Cause, Completed, Context, Datum, FrameView, Held, IsAt, IsDone, IsLeft, IsLive, AreNotified, Notice, Notices, Ok, Position, Result, Scalar, Served, Typing, after_data, requires_data, at_next_place, bare_file, data_instr, get, id_of, is_closed, kinds_in, map-set, notice_to, notices_after, notices_of, queued, right_in, same_Some, sees, with_notices, writes as typed_writes}
+use Rattle.tw_pool_state.proofs.PartNames.{AllYes, AreNotified, Cause, Completed, Context, DataInstr, Datum, FrameView, Held, IsAt, IsDone, IsLeft, IsLive, Notice, Notices, Ok, Position, Result, Scalar, Served, Typing, after_data, at_next_place, bare_file, data_instr, get, id_of, is_closed, kinds_in, map-set, notice_to, notices_after, notices_made, notices_of, queued, requires_data, right_in, same_Some, sees, with_notices, writes as typed_writes}
 use Rattle.tw_pool_state.proofs.Registers.{set_own}
 use Rattle.std.proofs.Common.{map as each, ◌≡◌, ◌⊎◌, ◌+◌, ◌∙◌, ℕ, zero, suc, Bool, true, false, if◌then◌else◌, List, [], ◌∷◌, ◌++◌, Some, None, refl, sym, ap, subst, slice_index_or, slice_set, set, option_map, inl, inr, append-nil}
 use Rattle.tw_rights.specs.Kinds.{kinds_of, writes}
 use Rattle.tw_code.specs.declared.flow.Way.{Way}
-use Rattle.tw_code.specs.declared.instr.DataInstr.{DataInstr}
 use Rattle.tw_code.specs.accepting.Flow.{data_flow, onward}
-use Rattle.tw_pool_state.specs.Queued.{notices_made}
 
 pub same_ok : (a b : Context) → ◌≡◌ {A = Result Context Cause} (Ok a) (Ok b) → a ≡ b
 same_ok a b e = cc

@@ -1,15 +1,7 @@
 -- Main's parameters get their data one after the other: on the parts.
-use Rattle.std.proofs.Common.{map as each, ◌≡◌, ◌<◌, ◌≤◌, ◌+◌, ℕ, zero, suc, true, false, List, [], ◌∷◌, ◌++◌, Some, None, refl, sym, ap, subst, ◌∙◌, arith, cond, length, length-append, slice_get, drop, append_assoc}
-use Rattle.tw_pool_state.proofs.PartNames.{Adds, AreAt, AreBefore, AreForAll, Arg, ArgMatches, ArgsMatch, IsAt, IsMade, MayAdd, Mode, Opened, OpenedParts, Param, Places, Read, Right, RightArg, Served, Store, Write, added, and_parts, bare_arg, created, empty, empty_store, eq_by_cmp, get, get-insert, insert, is_val, is_write, map-append, nat_cmp, nat_cmp_total, nat_tests, nothing_opened, opened, replicate, right_of, same_Some, with_given, with_input, with_output}
-use Rattle.std.specs.List.{list_all}
-use Rattle.tw_types.specs.declared.input.Input.{Input}
+use Rattle.tw_pool_state.proofs.PartNames.{Adds, AreAllLive, AreAt, AreBefore, AreForAll, Arg, ArgMatches, ArgsMatch, Input, IsAdded, IsAt, IsMade, List, MayAdd, Mode, None, Opened, OpenedParts, Param, Places, Read, Right, RightArg, Served, Some, Store, Write, [], added, and_parts, ap, append_assoc, are_inputs_of, arith, bare_arg, cond, created, drop, empty, empty_store, eq_by_cmp, false, get, get-insert, given_for, input_next, input_params, insert, is_input_of, is_val, is_write, length, length-append, list_all, map as each, map-append, nat_cmp, nat_cmp_total, nat_tests, nothing_opened, opened, refl, replicate, right_of, same_Some, skips, slice_get, subst, suc, sym, takes, true, with_given, with_input, with_output, zero, ℕ, ◌++◌, ◌+◌, ◌<◌, ◌∙◌, ◌∷◌, ◌≡◌, ◌≤◌}
 use Rattle.tw_types.specs.declared.param.Mode.TheVariants as mode
-use Rattle.tw_types.specs.Given.{given_for}
 use Rattle.tw_code.specs.accepting.MainShape.{is_main_param}
-use Rattle.tw_code.specs.machine.Inputs.{are_inputs_of, input_params, is_input_of}
-use Rattle.tw_code.proofs.Givens.{input_next, skips, takes}
-use Rattle.tw_pool_state.specs.Opening.{IsAdded}
-use Rattle.tw_pool_state.specs.Givens.{AreAllLive}
 use Rattle.tw_pool_state.proofs.Adding.{empty_live, made_live}
 use Rattle.tw_pool_state.proofs.Keeping.{all_kept, args_kept}
 

@@ -1,16 +1,11 @@
 -- MINS, MADD and MGET: their requirements hold, and they are executed.
-use Rattle.tw_pool_state.proofs.PartNames.{Completed, Context, Datum, EmptyRegister, FrameView, FreedDatum, IsDone, IsHere, IsNow, IsTextAt, IsValueAbsent, MayDo, MaySet, Notices, Ok, Position, Right, Served, Skipped, Subscript, Value, WrongRegister, WrongType, ℤ, after_put, and_parts, at_goal, at_next_place, bare_file, bare_frame, data_instr, datum_at, entries_in, entry_at, first_so, get, get_value_requires, add_value_requires, if_absent, insert_value_requires, int_at, is_closed_mode, is_map, is_map_by, is_map_of, is_plain_map, is_sums, is_write, kind_at, may_add, may_put, may_read_entry, must_then, ok_after, ok_first, option_and_then, option_map, reads_closed_map, right_at, same_scalar, same_Some, scalar_of, sees, slice_get_within, suits_entry, suits_subscript, sum_with, there_then, value_put, with_result, with_value, writes_map, writes_sums}
+use Rattle.tw_pool_state.proofs.PartNames.{Bor, Completed, Context, Datum, EmptyRegister, FrameView, FreedDatum, IsDone, IsHere, IsNow, IsTextAt, IsValueAbsent, MayDo, MaySet, None, Notices, Ok, Option, Position, Right, Served, Skipped, Some, Subscript, TakesValue, Value, WrongRegister, WrongType, [], add_value_requires, after_put, and_parts, ap, at_goal, at_next_place, bare_file, bare_frame, data_instr, datum_at, entries_in, entry_at, false, first_so, get, get_value_requires, if_absent, inl, insert_value_requires, int_at, is_closed_mode, is_map, is_map_by, is_map_of, is_plain_map, is_some, is_sums, is_write, kind_at, length, may_add, may_put, may_read_entry, must_then, ok_after, ok_first, option_and_then, option_copied, option_map, reads_closed_map, refl, right_at, same_Some, same_scalar, same_scalars, scalar_of, sees, slice_get, slice_get_within, slice_index_or, suits_entry, suits_subscript, sum_with, sym, there_then, true, value_put, values_kinds, with_result, with_value, writes_map, writes_sums, ℕ, ℤ, ◌&&◌, ◌+◌, ◌<◌, ◌∙◌, ◌≡◌}
 use Rattle.tw_types.specs.declared.data_type.Scalar.TheVariants as scalar
 use Rattle.tw_types.specs.declared.value.Value.TheVariants as value
-use Rattle.tw_types.proofs.SameTypes.{same_scalars}
-use Rattle.tw_types.proofs.Subscripts.{values_kinds}
 use Rattle.tw_rights.specs.declared.held.Held.TheVariants as held
 use Rattle.tw_code.specs.declared.instr.DataInstr.TheVariants as on_data
 use Rattle.tw_code.proofs.Computing.{sum_int}
-use Rattle.tw_datum.specs.Puts.{TakesValue}
 use Rattle.tw_datum.proofs.Puts.{add_takes, put_takes}
-use Rattle.std.proofs.Common.{◌≡◌, ◌&&◌, ◌<◌, ◌∙◌, ◌+◌, ℕ, Bor, false, true, [], length, None, Some, Option, is_some, refl, sym, ap, inl, slice_get, slice_index_or}
-use Rattle.std.specs.Option.{option_copied}
 use Rattle.tw_pool_state.proofs.Left.{moved_done, now_stays, same_ok}
 use Rattle.tw_pool_state.proofs.Registers.{closed_reads, id_at, its_id, kind_passed, placed_at}
 use Rattle.tw_pool_state.proofs.ValueRegisters.{int_is, int_same, text_there}

@@ -1,13 +1,10 @@
 -- RULE and PUT: consequences of the theorem, if a task is at one.
 use Rattle.std.proofs.Common.{◌≡◌, ◌==◌, ℤ, Bool, true, false, List, Some, Result, Ok, Err, refl, sym, ap, subst, ◌∙◌, length, slice_get}
-use Rattle.tw_pool_state.proofs.PartNames.{Action, Actor, ActorCounts, AllYes, AreParts, ArgumentNotClosed, Call, Called, Cause, Context, FrameView, FreedDatum, MovedArgs, Held, Notices, Parts, Procedure, Trap, TypedProgram, Typing, WrongCall, WrongRegister, WrongType, all_pass, asked_at, requires_callee, requires_priority, bare_frame, called, context_of, get, moved_args, is_closed_if_required, is_control, is_live, is_of_type, mapped, must_then, ok_first, priority_at, put_called, same_Some, state_of, there_then, typings_of, values_suit, yes_after}
-use Rattle.tw_types.specs.declared.actor.Kind.{Kind}
+use Rattle.tw_pool_state.proofs.PartNames.{Action, Actor, ActorCounts, AllYes, AreParts, ArgumentNotClosed, Call, Called, Cause, Context, FrameView, FreedDatum, Held, Kind, MovedArgs, Notices, Parts, Procedure, Trap, TypedProgram, Typing, WrongCall, WrongRegister, WrongType, all_pass, asked_at, bare_frame, called, context_of, get, is_closed_if_required, is_control, is_live, is_of_type, mapped, moved_args, must_then, ok_first, priority_at, put_called, requires_callee, requires_priority, safe, same_Some, state_of, there_then, typing_at, typings_of, values_suit, yes_after}
 use Rattle.std.specs.declared.option.Option.{Option}
 use Rattle.tw_code.specs.declared.instr.Instr.TheVariants as instr
-use Rattle.tw_code.specs.machine.Holders.{typing_at}
 use Rattle.tw_code.specs.machine.Machine.{step}
 use Rattle.tw_soundness.proofs.Called.{callee_met}
-use Rattle.tw_soundness.proofs.Safe.{safe}
 use Rattle.tw_pool_state.proofs.Fitting.{seen}
 use Rattle.tw_pool_state.proofs.Handing.{AreSuited}
 use Rattle.tw_pool_state.proofs.Kinding.{suited}

@@ -1,7 +1,5 @@
 -- RULE: on the parts.
-use Rattle.std.proofs.Common.{map as each, ◌≡◌, ◌+◌, ◌∙◌, List, Option, Some, refl, sym, ap, subst, slice_get}
-use Rattle.tw_pool_state.proofs.PartNames.{Action, Actor, ActorCounts, AreParts, Arg, Call, Completed, FrameFits, FrameView, Succeeds, Held, MayBeAt, Notices, Parts, Procedure, Right, RuleOf, RightsFit, Served, TypedProgram, Value, Went, actor_cmp-IsAntisymmetric, actor_cmp_total, at_next_place, bare_frame, bare_rule, bare_task, context_of, get, frame_after_call, frame_at_next, insert, insert_mapped, mapped, named_values, nat_cmp-IsAntisymmetric, nat_cmp_total, new_rule, number_in_kind, state_of, typed_after, typings_of, with_frame, with_rule}
-use Rattle.tw_rights.specs.Bundled.{bundled}
+use Rattle.tw_pool_state.proofs.PartNames.{Action, Actor, ActorCounts, AreParts, Arg, Call, Completed, FrameFits, FrameView, Held, List, MayBeAt, Notices, Option, Parts, Procedure, Right, RightsFit, RuleOf, Served, Some, Succeeds, TypedProgram, Value, Went, actor_cmp-IsAntisymmetric, actor_cmp_total, ap, at_next_place, bare_frame, bare_rule, bare_task, bundled, context_of, frame_after_call, frame_at_next, get, insert, insert_mapped, map as each, mapped, named_values, nat_cmp-IsAntisymmetric, nat_cmp_total, new_rule, number_in_kind, refl, slice_get, state_of, subst, sym, typed_after, typings_of, with_frame, with_rule, ◌+◌, ◌∙◌, ◌≡◌}
 use Rattle.tw_code.specs.declared.instr.Instr.TheVariants as instr
 use Rattle.tw_code.specs.machine.Machine.{step}
 use Rattle.tw_rules.specs.Table as table

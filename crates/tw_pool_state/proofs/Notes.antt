@@ -1,8 +1,7 @@
 -- Notices leave the queues, and are added to them.
 use Rattle.std.proofs.Common.{◌≡◌, ◌≢◌, ◌<◌, ℕ, Bool, true, false, not, ◌&&◌, ◌||◌, List, [], ◌∷◌, Some, None, refl, sym, ap, subst, ◌∙◌, length, set, slice_get, drop, inl, inr}
-use Rattle.tw_pool_state.proofs.PartNames.{AreApart, AreQueued, Equal-is, Notice, Notices, cases_eq, eq_by_cmp, get_or-set_other, get_or-set_same, is_among, is_eq, is_queued, length-set, notice_cmp, queue_at, server_of, tied_itself}
+use Rattle.tw_pool_state.proofs.PartNames.{AreApart, AreQueued, Equal-is, Notice, Notices, cases_eq, eq_by_cmp, get_or-set_other, get_or-set_same, is_among, is_eq, is_queued, length-set, notice_cmp, notice_cmp-IsAntisymmetric, notice_cmp_total, queue_at, server_of, tied_itself}
 use Rattle.std.specs.FinSet as set_of
-use Rattle.tw_types.proofs.NoticeOrder.{notice_cmp_total, notice_cmp-IsAntisymmetric}
 
 pub same_is : (m n : Notice) → eq_by_cmp notice_cmp m n ≡ true → m ≡ n
 same_is m n e = notice_cmp-IsAntisymmetric m n ((Equal-is (notice_cmp m n)).0 e)

@@ -1,9 +1,7 @@
 -- A datum closes: its subscribers become notices in the queue of its server.
 use Rattle.std.proofs.Common.{map as each, ◌≡◌, ◌≢◌, ◌<◌, ◌≤◌, ◌+◌, ℕ, Bool, true, false, ◌||◌, List, [], ◌∷◌, ◌++◌, Some, refl, sym, ap, subst, ◌∙◌, length, arith, inl, inr}
-use Rattle.tw_pool_state.proofs.PartNames.{AreApart, AreQueued, Data, Datum, Notice, Notices, Rules, cases_eq, eq_by_cmp, get, get_or-set_other, get_or-set_same, is_among, length-set, notice_cmp, notice_to, queue_at, queued, server_of, with_notices}
+use Rattle.tw_pool_state.proofs.PartNames.{AreApart, AreQueued, Data, Datum, Notice, Notices, Rules, Subscriber, cases_eq, eq_by_cmp, get, get_or-set_other, get_or-set_same, is_among, length-set, notice_cmp, notice_cmp_total, notice_to, queue_at, queued, server_of, with_notices}
 use Rattle.std.specs.FinSet as set_of
-use Rattle.tw_types.specs.declared.notice.Subscriber.{Subscriber}
-use Rattle.tw_types.proofs.NoticeOrder.{notice_cmp_total}
 use Rattle.tw_code.specs.machine.Waiting.{stage_at, times_among, times_noticed, times_subscribed}
 use Rattle.tw_code.proofs.Sets.{is_that, that_itself}
 use Rattle.tw_code.proofs.Subscribed.{noticed_one, subscribed-le, waits-le}

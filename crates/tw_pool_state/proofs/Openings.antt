@@ -1,17 +1,12 @@
 -- A program is opened: on the parts.
 use Rattle.std.proofs.Common.{map as each, ◌≡◌, ℕ, pos, zero, suc, false, List, [], ◌∷◌, Some, None, refl, sym, ap, subst, ◌∙◌, length, replicate}
-use Rattle.tw_pool_state.proofs.PartNames.{ActorCounts, AreApart, AreAt, AreQueued, Arg, ArgsMatch, IsLayout, IsMade, IsProgram, IsReached, MainWaits, Notice, OpenedParts, Parts, Places, Procedure, Right, Served, RightsFit, TaskOf, Tasks, TypedProgram, Went, actor_cmp, bare_frame, bare_rule, bare_task, empty_mapped, get-empty, insert, insert_mapped, is_among, length-replicate, mapped, nat_cmp, nat_cmp-IsAntisymmetric, nat_cmp_total, notice_cmp, params_of, queue_at, server_of, state_of, typings_of, RunningView}
+use Rattle.tw_pool_state.proofs.PartNames.{ActorCounts, AreApart, AreAt, AreInputsOf, AreQueued, Arg, ArgsMatch, Control, HasTargets, Input, IsLayout, IsMade, IsOpening, IsProgram, IsReached, MainWaits, Notice, OpenedParts, Parts, Places, Procedure, Right, RightsFit, RunningView, Served, TaskOf, Tasks, TypedProgram, Went, actor_cmp, bare_frame, bare_rule, bare_task, empty_mapped, get-empty, insert, insert_mapped, is_among, length-replicate, mapped, nat_cmp, nat_cmp-IsAntisymmetric, nat_cmp_total, notice_cmp, params_of, queue_at, server_of, state_of, typings_of}
 use Rattle.std.specs.FinMap as fin
 use Rattle.std.specs.FinSet as set
 use Rattle.std.specs.FinSet.{contains-empty}
-use Rattle.tw_types.specs.declared.actor.Kind.TheVariants.{Control}
-use Rattle.tw_types.specs.declared.input.Input.{Input}
-use Rattle.tw_code.specs.accepting.Needs.{HasTargets}
-use Rattle.tw_code.specs.machine.Inputs.{AreInputsOf}
 use Rattle.tw_code.specs.machine.Machine.{run}
 use Rattle.tw_code.specs.machine.Opening.{main_params, main_task, nothing_opened, opened, opening}
 use Rattle.tw_soundness.specs.NoTrap.{AreRight}
-use Rattle.tw_pool_state.specs.Opening.{IsOpening}
 use Rattle.tw_pool_state.proofs.Fitting.{fit_put}
 
 -- ---- no notices

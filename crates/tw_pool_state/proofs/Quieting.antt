@@ -1,19 +1,12 @@
 -- Whether a run is quiet, by counters: how many tasks run, how many wait, and the first entries of queues and agendas.
 use Rattle.std.proofs.Common.{map as each, ◌≡◌, ◌<◌, inl, inr, ◌⊎◌, ℕ, zero, suc, slice_get, ◌==◌, Bool, true, false, not, ◌&&◌, List, [], ◌∷◌, Option, Some, None, refl, sym, ap, subst, ◌∙◌, length, is_some, arith, nat_cmp}
-use Rattle.tw_pool_state.proofs.PartNames.{AreQueued, Arg, MatchBool, Notice, Notices, Parts, Rule, RuleOf, RulesOf, bare_arg, bare_frame, bare_rule, bare_task, entries, eq-eqb, eqb-true, get, has_unasked, is_among, is_releasable, is_unasked, len_mapped, mapped, nat_cmp_total, next_ask, next_release, notice_cmp, or_left, or_right, queue_at, same_Some, server_of, state_of}
-use Rattle.tw_types.specs.declared.stage.Stage.{Stage}
-use Rattle.tw_types.specs.declared.stage.Stage.TheVariants.{Unasked}
+use Rattle.tw_pool_state.proofs.PartNames.{AreQueued, Arg, IsEntry, MatchBool, Notice, Notices, Parts, Rule, RuleOf, RulesOf, Stage, Unasked, any_entry, ask_found, ask_there, bare_arg, bare_frame, bare_rule, bare_task, entries, eq-eqb, eqb-true, get, get_entry, has_unasked, is_among, is_releasable, is_unasked, len_mapped, list_any, mapped, nat_cmp_total, next_ask, next_ask_mapped, next_release, next_release_mapped, notice_cmp, notice_cmp-IsAntisymmetric, notice_cmp_total, or_left, or_right, queue_at, release_found, release_there, same_Some, server_of, state_of}
 use Rattle.std.proofs.lemmas.Nat.{mod_below}
 use Rattle.std.specs.FinMap as map
 use Rattle.std.specs.FinSet as set_of
-use Rattle.std.specs.List.{list_any}
 use Rattle.tw_types.specs.declared.ending.Ending.TheVariants.{Quiet, Stuck}
-use Rattle.tw_types.proofs.NoticeOrder.{notice_cmp_total, notice_cmp-IsAntisymmetric}
-use Rattle.tw_types.proofs.Totals.{IsEntry, get_entry}
 use Rattle.tw_code.specs.machine.Ending.{ending, has_idle_rules, is_quiet}
-use Rattle.tw_code.proofs.Found.{any_entry, ask_found, ask_there, release_found, release_there}
 use Rattle.tw_pool_state.proofs.Fitting.{image_of}
-use Rattle.tw_types.proofs.Chosen.{next_ask_mapped, next_release_mapped}
 use Rattle.tw_pool_state.proofs.Notes.{first_of, has, none_of}
 
 -- ---- notices

@@ -1,15 +1,9 @@
 -- An engine releases a rule: on the parts.
 use Rattle.std.proofs.Common.{map, ◌≡◌, ◌≤◌, ◌+◌, ℕ, true, Option, Some, None, refl, sym, ap, subst, ◌∙◌, slice_get, option_map, arith}
-use Rattle.tw_pool_state.proofs.PartNames.{ActorCounts, AreParts, Arg, Succeeds, Notices, Parts, Procedure, Release, Right, Rule, RightsFit, TaskOf, TypedProgram, Went, bare_arg, bare_frame, bare_rule, bare_task, entries, get, insert, insert_mapped, is_releasable, mapped, nat_cmp-IsAntisymmetric, nat_cmp_total, next_release, remove, remove_mapped, state_of, task_from, with_task, RunningView}
-use Rattle.tw_types.specs.declared.actor.Actor.TheVariants.{Engine}
-use Rattle.tw_types.specs.declared.actor.Kind.{Kind}
+use Rattle.tw_pool_state.proofs.PartNames.{ActorCounts, AreParts, Arg, Engine, IsOwn, IsTarget, Kind, MayBeReleased, Notices, Parts, Procedure, Release, Right, RightsFit, Rule, RunningView, Succeeds, TaskOf, TypedProgram, Went, bare_arg, bare_frame, bare_rule, bare_task, entries, get, insert, insert_mapped, is_releasable, mapped, nat_cmp-IsAntisymmetric, nat_cmp_total, next_release, next_release_mapped, own_rule_there, release_found, remove, remove_mapped, state_of, task_from, up_to, with_task}
 use Rattle.tw_code.specs.machine.Machine.{step}
-use Rattle.tw_code.specs.accepting.Needs.{up_to}
 use Rattle.tw_code.proofs.Placed.{count_of}
-use Rattle.tw_queue.specs.Queues.{IsTarget}
-use Rattle.tw_code.proofs.Found.{IsOwn, MayBeReleased, own_rule_there, release_found}
 use Rattle.tw_pool_state.proofs.Fitting.{IsImage, image_of, seen, fit_released}
-use Rattle.tw_types.proofs.Chosen.{next_release_mapped}
 use Rattle.tw_pool_state.proofs.Law.{goes_to, held, in_layout, target_below}
 
 -- no task waits under the next number

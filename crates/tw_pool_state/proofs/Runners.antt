@@ -1,9 +1,7 @@
 -- The slots, seen as a finite map by actors.
 use Rattle.std.proofs.Common.{◌≡◌, ◌≢◌, ◌<◌, ◌≤◌, ◌+◌, ◌-◌, ℕ, zero, suc, Bool, true, false, cond, nat_lt, if◌then◌else◌, List, [], ◌∷◌, length, Option, Some, None, is_some, count_by, length-set, refl, sym, ap, subst, ◌∙◌, get_or, set, arith}
-use Rattle.tw_pool_state.proofs.PartNames.{Actor, ActorCounts, AreTaskSlots, Equal-is, FinMap, FrameView, HasSlot, RunningView, TasksByActor, actor_cmp, actor_cmp-IsAntisymmetric, actor_cmp_total, actor_of, eq_by_cmp, find, from_entries, get, get-from_entries, get-insert, get-remove, get_or-set_other, get_or-set_same, insert, len, len-empty, len-insert, nat_tests, remove, same_map, slot_of, by_actor, by_actor_from, with_running}
+use Rattle.tw_pool_state.proofs.PartNames.{Actor, ActorCounts, AreTaskSlots, Engine, Equal-is, FinMap, FrameView, HasSlot, RunningView, Server, TasksByActor, Worker, actor_cmp, actor_cmp-IsAntisymmetric, actor_cmp_total, actor_of, by_actor, by_actor_from, eq_by_cmp, find, from_entries, get, get-from_entries, get-insert, get-remove, get_or-set_other, get_or-set_same, insert, len, len-empty, len-insert, nat_tests, other_key, own_key, remove, same_map, slot_of, with_running}
 use Rattle.std.proofs.lemmas.List.Sums.{sum_by-cons}
-use Rattle.tw_types.specs.declared.actor.Actor.TheVariants.{Engine, Server, Worker}
-use Rattle.tw_types.proofs.Orders.{other_key, own_key}
 
 abbrev RunningTasks : Type 0
 RunningTasks = List (Option FrameView)

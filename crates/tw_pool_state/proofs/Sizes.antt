@@ -1,11 +1,9 @@
 -- SIZE and SUBAT: their requirements hold, and they are executed.
-use Rattle.tw_pool_state.proofs.PartNames.{◌^◌, Completed, Context, Datum, EmptyRegister, FrameView, FreedDatum, HasThatMany, IsDone, IsHere, MapKind, MayDo, MaySet, NestedScalar, NoMap, Notices, Ok, Position, Right, RightType, Scalar, Served, Skipped, Store, Subscript, Sums, Values, WrongType, at_goal, at_next_place, bare_file, bare_frame, data_instr, first_so, get, has_subscripts_by, int_at, is_closed_mode, is_scalar, kind_at, may_read_members, may_read_subscripts_by, must_have_type, must_then, not, ok_after, ok_first, pos, reads_closed_by, reads_closed_container, right_at, scalar_of, sees, size_requires, size_at, subscript_after, subscript_requires, subscripts_at, subscripts_of, there_then, with_notices, with_result, with_value, writes as typed_writes, ℤ}
+use Rattle.tw_pool_state.proofs.PartNames.{Completed, Context, Datum, EmptyRegister, FrameView, FreedDatum, HasThatMany, IsDone, IsHere, List, MapKind, MayDo, MaySet, NestedScalar, NoMap, None, Notices, Ok, Option, Position, Right, RightType, Scalar, Served, Skipped, Some, Store, Subscript, Sums, Values, WrongType, [], ap, at_goal, at_next_place, bare_file, bare_frame, content_kind, data_instr, false, first_so, get, has_subscripts_by, inl, int_at, is_closed_mode, is_scalar, kind_at, may_read_members, may_read_subscripts_by, must_have_type, must_then, not, ok_after, ok_first, pos, reads_closed_by, reads_closed_container, refl, right_at, scalar_of, sees, size_at, size_requires, slice_get, slice_index_or, subscript_after, subscript_requires, subscripts_at, subscripts_of, sym, there_then, true, with_notices, with_result, with_value, writes as typed_writes, ℕ, ℤ, ◌+◌, ◌<◌, ◌^◌, ◌∙◌, ◌∷◌, ◌≡◌}
 use Rattle.tw_types.specs.declared.data_type.Scalar.TheVariants as scalar
 use Rattle.tw_types.specs.declared.value.Value.TheVariants as value
-use Rattle.tw_types.proofs.Subscripts.{content_kind}
 use Rattle.tw_rights.specs.declared.held.Held.TheVariants as held
 use Rattle.tw_code.specs.declared.instr.DataInstr.TheVariants as on_data
-use Rattle.std.proofs.Common.{◌≡◌, ◌∙◌, ◌+◌, ◌<◌, ℕ, true, false, List, [], ◌∷◌, None, Some, Option, refl, sym, ap, inl, slice_get, slice_index_or}
 use Rattle.tw_pool_state.proofs.Left.{moved_done, now_stays, same_ok}
 use Rattle.tw_pool_state.proofs.Registers.{closed_reads, id_at, its_id, kind_passed, placed_at}
 use Rattle.tw_pool_state.proofs.ValueRegisters.{int_is, int_same, may_set_kind}

@@ -1,19 +1,13 @@
 -- An engine asks: on the parts.
 use Rattle.std.proofs.Common.{map, length, ◌≡◌, ℕ, zero, suc, true, false, if◌then◌else◌, List, [], ◌∷◌, Some, None, refl, sym, ap, subst, ◌∙◌, slice_get, option_map}
-use Rattle.tw_pool_state.proofs.PartNames.{ActorCounts, AreParts, AreQueued, Arg, ArgMatches, ArgsMatch, Ask, IsAskOfOpen, Datum, Succeeds, IsAt, Mode, Notices, Param, Parts, Places, Read, Right, RightArg, Rule, RightsFit, Store, TypedProgram, Val, Went, Write, at_stage, bare_arg, bare_frame, bare_rule, bare_task, closed_by, entries, get, insert, is_closed, is_closed_mode, is_settled, is_val, mapped, next_ask, params_in, params_of, right_of, same_Some, state_of, subscribed, typings_of, with_stage, RunningView}
-use Rattle.tw_types.specs.declared.actor.Actor.TheVariants.{Engine}
+use Rattle.tw_pool_state.proofs.PartNames.{ActorCounts, AreParts, AreQueued, Arg, ArgMatches, ArgsMatch, Ask, Datum, Engine, IsAskOfOpen, IsAt, IsHeld, IsOwn, IsUnaskedAt, Mode, Notices, Param, Parts, Places, Read, Ready, Right, RightArg, RightsFit, Rule, RuleArgsFit, RunningView, Stage, Store, Succeeds, TypedProgram, Unasked, Val, Waiting, Went, Write, ask_found, at_stage, bare_arg, bare_frame, bare_rule, bare_task, closed_by, entries, get, insert, is_closed, is_closed_mode, is_settled, is_val, mapped, next_ask, next_ask_mapped, own_rule_there, params_in, params_of, right_of, same_Some, state_of, subscribed, typings_of, with_stage}
 use Rattle.tw_types.specs.declared.param.Mode.TheVariants as mode
-use Rattle.tw_types.specs.declared.stage.Stage.{Stage}
-use Rattle.tw_types.specs.declared.stage.Stage.TheVariants.{Unasked, Waiting, Ready}
 use Rattle.tw_rules.specs.Table.{right_at, stage_at, staged}
 use Rattle.tw_code.specs.machine.Machine.{asked, step}
-use Rattle.tw_code.proofs.Found.{IsOwn, IsUnaskedAt, ask_found, own_rule_there}
 use Rattle.tw_soundness.specs.InOrder.{is_asked_for}
-use Rattle.tw_soundness.specs.Invariant.{IsHeld, RuleArgsFit}
 use Rattle.tw_soundness.proofs.Wanted.{asked_is_there}
 use Rattle.tw_pool_state.proofs.Delivers.{staged_bare, staged_is}
 use Rattle.tw_pool_state.proofs.Fitting.{IsImage, image_of, seen, fit_staged}
-use Rattle.tw_types.proofs.Chosen.{next_ask_mapped}
 use Rattle.tw_pool_state.proofs.Law.{goes_to, held}
 
 -- ---- the argument of an ask is a read right

@@ -1,8 +1,7 @@
 -- STORE: its requirements hold, and it is executed.
-use Rattle.tw_pool_state.proofs.PartNames.{Context, Datum, EmptyRegister, FrameView, FreedDatum, IsDone, IsHere, IsLeft, MayDo, Notices, Ok, Right, Served, Value, WrongRegister, at_next_place, bare_file, data_instr, datum_at, first_so, get, is_scalar, is_write, kind_at, may_store, must_then, notices_after, notices_of_stored, ok_after, right_at, same_Some, sees, set_to, slice_get_within, store_requires, stored, suits, there_then, with_notices, writes_scalar}
+use Rattle.tw_pool_state.proofs.PartNames.{Context, Datum, EmptyRegister, FrameView, FreedDatum, IsDone, IsHere, IsLeft, MayDo, None, Notices, Ok, Right, Served, Some, Value, WrongRegister, ap, at_next_place, bare_file, data_instr, datum_at, first_so, get, is_scalar, is_write, kind_at, length, may_store, must_then, notices_after, notices_of_stored, ok_after, refl, right_at, same_Some, sees, set_to, slice_get, slice_get_within, slice_index_or, slice_set, store_requires, stored, suits, sym, there_then, true, with_notices, writes_scalar, ℕ, ◌+◌, ◌<◌, ◌∙◌, ◌≡◌}
 use Rattle.tw_rights.specs.declared.held.Held.TheVariants as held
 use Rattle.tw_code.specs.declared.instr.DataInstr.TheVariants as on_data
-use Rattle.std.proofs.Common.{◌≡◌, ◌∙◌, ◌<◌, ◌+◌, ℕ, true, None, Some, refl, sym, ap, slice_get, slice_index_or, slice_set, length}
 use Rattle.tw_pool_state.proofs.Left.{emptied_done, left_stays, left_notified, same_ok}
 use Rattle.tw_pool_state.proofs.Registers.{its_id, kind_passed, placed_at}
 

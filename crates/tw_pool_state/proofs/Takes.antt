@@ -1,20 +1,13 @@
 -- An actor takes a task: on the parts.
 use Rattle.std.proofs.Common.{map as each, ◌≡◌, ◌-◌, ℕ, zero, suc, true, List, [], ◌∷◌, ◌++◌, Option, Some, None, Result, Ok, Err, refl, sym, ap, subst, ◌∙◌, slice_get, option_map, length, replicate, option_to_list}
-use Rattle.tw_pool_state.proofs.PartNames.{Actor, ActorCounts, AreParts, ArePlaced, Arg, ArgMatches, ArgsMatch, Begins, Cause, FrameFits, FrameView, Succeeds, JobView, MayBeAt, MayStart, Notices, Param, Parts, Places, Procedure, Read, Right, RightType, TasksByActor, RightsFit, StartsAsMachine, Take, TaskOf, TasksOf, Trap, TypedProgram, Val, Value, Went, Write, actor_cmp-IsAntisymmetric, actor_cmp_total, bare_arg, bare_file, bare_frame, bare_rule, bare_task, best, entry_by, first_rights, frame_of, get, insert, insert_mapped, is_in, is_write, kinds_in, mapped, nat_cmp-IsAntisymmetric, nat_cmp_total, params_in, remove, remove_mapped, right_of, rights_given, started, state_of, typed_at_start, typings_of, with_frame, with_running}
-use Rattle.tw_types.proofs.Best.{best_waits}
+use Rattle.tw_pool_state.proofs.PartNames.{Actor, ActorCounts, AreParts, ArePlaced, Arg, ArgMatches, ArgsMatch, Begins, Cause, FrameFits, FrameView, IsBegun, IsHeld, IsTaken, JobView, MayBeAt, MayStart, Notices, Param, Parts, Places, Procedure, Read, Right, RightType, RightsFit, StartsAsMachine, Succeeds, Take, TaskOf, TasksByActor, TasksOf, Trap, TypedProgram, Val, Value, Went, Write, actor_cmp-IsAntisymmetric, actor_cmp_total, bare_arg, bare_file, bare_frame, bare_rule, bare_task, best, best_mapped, best_waits, entry_by, filed, first_rights, frame_of, get, insert, insert_mapped, is_in, is_write, kinds_in, mapped, nat_cmp-IsAntisymmetric, nat_cmp_total, params_in, remove, remove_mapped, right_of, rights_given, rights_in, safe, started, state_of, typed_at_start, typings_of, with_frame, with_running}
 use Rattle.tw_code.specs.machine.Machine.{step}
-use Rattle.tw_soundness.proofs.Safe.{safe}
 use Rattle.tw_frame.proofs.Frames.{first_each}
-use Rattle.tw_rights.specs.Filed.{filed, rights_in}
 use Rattle.tw_rights.specs.Kinds.{writes}
-use Rattle.tw_pool_state.specs.Coming.{IsBegun}
-use Rattle.tw_pool_state.specs.Events.{IsTaken}
 use Rattle.tw_pool_state.proofs.Fitting.{seen, fit_by_actor, fit_without}
-use Rattle.tw_types.proofs.Chosen.{best_mapped}
 use Rattle.tw_pool_state.proofs.Law.{goes_to, held}
 use Rattle.tw_pool_state.proofs.Goings.{may_be_at}
 use Rattle.tw_pool_state.proofs.Runners.{get_other, get_own}
-use Rattle.tw_soundness.specs.Invariant.{IsHeld}
 
 -- ---- the first registers
 

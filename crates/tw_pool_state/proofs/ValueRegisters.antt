@@ -1,9 +1,8 @@
 -- One value register: its integer, and the values to which it may be set.
-use Rattle.tw_pool_state.proofs.PartNames.{◌||◌, Cause, Contains, Content, Datum, FreedDatum, IsTextAt, Maps, MaySet, NestedScalar, Ok, Position, Result, Scalar, Set, Store as Data, Unset, Value, WrongRegister, ℤ, get, int_at, int_in, is_of, is_scalar, may_retrieve, must_have_type, must_ok, must_then, not, of_type_at, option_and_then, same_Some, same_scalar, scalar_of, second_so, slice_get_within, suits, there_then, value_at, value_in}
+use Rattle.tw_pool_state.proofs.PartNames.{Cause, Contains, Content, Datum, FreedDatum, IsTextAt, Maps, MaySet, NestedScalar, Ok, Position, Result, Scalar, Set, Store as Data, Unset, Value, WrongRegister, get, int_at, int_in, is_of, is_scalar, may_retrieve, must_have_type, must_ok, must_then, not, of_type_at, option_and_then, same_Some, same_scalar, same_scalars, scalar_of, second_so, slice_get_within, suits, there_then, value_at, value_in, ℤ, ◌||◌}
 use Rattle.tw_types.specs.declared.data_type.Scalar.TheVariants as scalar
 use Rattle.tw_types.specs.declared.value.Value.TheVariants as value
 use Rattle.tw_types.specs.TypedStore.{IsOfType, IsTypedStore}
-use Rattle.tw_types.proofs.SameTypes.{same_scalars}
 use Rattle.std.proofs.Common.{◌≡◌, ◌<◌, ◌∙◌, ℕ, length, Bool, true, false, List, Option, Some, None, refl, sym, ap, option_map, slice_get}
 
 -- ---- numbers

@@ -1,21 +1,9 @@
 -- The words that are read as an event are those that write it.
-use Rattle.std.proofs.Common.{[], ◌≡◌, ◌==◌, ℕ, Bool, true, false, cond, List, ◌∷◌, codes, Option, Some, None, refl, sym, ap, subst, ◌∙◌, arith}
-use Rattle.std.specs.Prelude.{min}
-use Rattle.std.proofs.Math.Nat.{min-le_right}
-use Rattle.std.specs.Int.{IsInRange}
+use Rattle.tw_report.proofs.Names.{Actor, Ask, Bool, Call, Deliver, EncodeParts, EncodesDigits, EncodesEvent, EncodesPart, End, Engine, Event, IsByte, IsEvent, IsInRange, List, Local, Name, None, Number, Option, Parameter, Part, Release, Server, Some, Take, Worker, [], actor_part, ap, arith, codes, cond, eqb-true, event_parts, false, min, min-le_right, number_in_kind, refl, subst, sym, true, with_word, words_in, ℕ, ◌==◌, ◌∙◌, ◌∷◌, ◌≡◌}
 use Rattle.std.specs.Option.{MatchOption, option_and_then, option_map, option_or}
 use Rattle.std.specs.Str.{bytes_eq}
-use Rattle.std.proofs.lemmas.Bool.{eqb-true}
 use Rattle.std.proofs.lemmas.Slice.Eq.{bytes_eq-Decides}
-use Rattle.tw_types.specs.declared.actor.Actor.{Actor}
-use Rattle.tw_types.specs.declared.actor.Actor.TheVariants.{Engine, Server, Worker}
-use Rattle.tw_types.specs.declared.event.Event.{Event}
-use Rattle.tw_types.specs.declared.event.Event.TheVariants.{Take, Local, Call, End, Ask, Deliver, Release}
-use Rattle.tw_types.specs.Actor.{number_in_kind}
-use Rattle.tw_lexer.specs.Number.{EncodesDigits}
-use Rattle.tw_report.specs.Events.{IsByte, IsEvent, Name, Number, Parameter, Part, EncodeParts, EncodesPart, EncodesEvent, actor_part, event_parts, words_in}
 use Rattle.tw_report.specs.reading.Event.{actor_in, alone, ask_in, number_after, deliver_in, event_in, first, for_actor, local_in, named, number_in, parameter_in, release_in, words_64}
-use Rattle.tw_report.specs.reading.Words.{with_word}
 use Rattle.tw_report.proofs.Readings.{number_read, number_encoded}
 
 -- ---- one word

@@ -1,12 +1,6 @@
 -- Traces, line by line; no lines are two traces.
-use Rattle.std.proofs.Common.{◌≡◌, ◌⊎◌, ◌==◌, ◌+◌, ◌≤◌, ℕ, List, [], ◌∷◌, length, codes, Result, Ok, Err, inl, inr, sym, ap, subst, ◌∙◌, arith}
-use Rattle.std.specs.List.{AllByRecursion}
-use Rattle.std.proofs.lemmas.List.Splits.{length-slice_split}
+use Rattle.tw_report.proofs.Names.{AllByRecursion, Ask, Call, Deliver, EncodeParts, EncodesEvent, End, Err, Event, IsBlank, IsEnd, IsEvent, IsTraceOf, List, Local, Ok, OneHistory, Release, Result, Take, [], after_blank, after_event, ap, arith, codes, event_parts, inl, inr, length, length-slice_split, lines_in, subst, sym, words_in, ℕ, ◌+◌, ◌==◌, ◌∙◌, ◌∷◌, ◌≡◌, ◌≤◌, ◌⊎◌}
 use Rattle.std.proofs.lemmas.List.Sums.{count_by-le-length}
-use Rattle.tw_types.specs.declared.event.Event.{Event}
-use Rattle.tw_types.specs.declared.event.Event.TheVariants.{Take, Local, Call, End, Ask, Deliver, Release}
-use Rattle.tw_report.specs.Events.{IsEvent, EncodeParts, EncodesEvent, event_parts, words_in}
-use Rattle.tw_report.specs.History.{IsBlank, IsEnd, OneHistory, IsTraceOf, after_blank, after_event, lines_in}
 use Rattle.tw_report.proofs.Written.{one_event}
 
 -- ---- only one trace

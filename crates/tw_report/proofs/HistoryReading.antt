@@ -1,13 +1,6 @@
 -- Reading a trace, line by line.
-use Rattle.std.proofs.Common.{[], ◌≡◌, ◌⊎◌, ◌==◌, ◌+◌, ◌-◌, ◌<◌, ◌≤◌, ℕ, suc, Bool, true, false, List, ◌∷◌, ◌++◌, codes, length, get_or, take, drop, Option, Some, None, Result, Ok, Err, inl, inr, refl, sym, ap, subst, ◌∙◌, append_assoc, arith}
-use Rattle.std.specs.List.{AllByRecursion, onto_first}
-use Rattle.std.proofs.lemmas.Bool.{eqb-true}
-use Rattle.std.proofs.lemmas.List.{append-nil, length-append, length-drop, take-append-drop, take_all, take_more}
-use Rattle.std.proofs.lemmas.List.Splits.{slice_split-cons_no}
-use Rattle.tw_types.specs.declared.event.Event.{Event}
-use Rattle.tw_report.specs.Events.{EncodesEvent}
+use Rattle.tw_report.proofs.Names.{AllByRecursion, Bool, EncodesEvent, Err, Event, IsFirstLine, IsReadTo, List, None, Ok, Option, Result, Some, Takes, [], ap, append-nil, append_assoc, arith, codes, drop, eqb-true, false, get_or, inl, inr, length, length-append, length-drop, onto, onto_first, refl, slice_split-cons_no, subst, suc, sym, take, take-append-drop, take_all, take_more, true, ℕ, ◌++◌, ◌+◌, ◌-◌, ◌<◌, ◌==◌, ◌∙◌, ◌∷◌, ◌≡◌, ◌≤◌, ◌⊎◌}
 use Rattle.tw_report.specs.History.{HasNoLineFeed, IsBlank, IsNoHistory, IsWord, IsTraceOf, after_blank, after_event, lines_in, text_of}
-use Rattle.tw_report.specs.reading.History.{IsFirstLine, IsReadTo, Takes, onto}
 use Rattle.tw_report.specs.declared.history.HistoryFault.{HistoryFault}
 use Rattle.tw_report.specs.declared.history.HistoryFault.TheVariants.{UnknownLine, NoMemory}
 

@@ -1,4 +1,5 @@
 pub mod LineWords
+pub mod Names
 pub mod Readings
 pub mod EventReading
 pub mod Written

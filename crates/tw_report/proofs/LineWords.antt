@@ -1,11 +1,6 @@
 -- A line's words, from left to right.
-use Rattle.std.proofs.Common.{[], ◌≡◌, ◌≤◌, ◌-◌, ℕ, suc, Bool, true, false, cond, List, ◌∷◌, length, get_or, take, drop, refl, sym, ap, ◌∙◌, arith}
-use Rattle.std.specs.List.{filter, onto_first, slice_split}
-use Rattle.std.proofs.lemmas.List.Splits.{slice_split-cons_no, slice_split-cons_yes}
-use Rattle.tw_lexer.specs.Words.{is_parting}
+use Rattle.tw_report.proofs.Names.{Bool, IsAtWord, List, [], ap, arith, cond, drop, false, filter, get_or, has_bytes, is_parting, length, onto_first, refl, slice_split, slice_split-cons_no, slice_split-cons_yes, suc, sym, take, true, with_word, word_length, words_in, ℕ, ◌-◌, ◌∙◌, ◌∷◌, ◌≡◌, ◌≤◌}
 use Rattle.tw_lexer.proofs.Texts.{slice_tail}
-use Rattle.tw_report.specs.Events.{has_bytes, words_in}
-use Rattle.tw_report.specs.reading.Words.{IsAtWord, with_word, word_length}
 
 -- ---- the gap
 

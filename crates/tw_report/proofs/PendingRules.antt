@@ -1,23 +1,15 @@
 -- Pending rules, one by one; and when there may be a circle.
-use Rattle.std.proofs.Common.{[], ◌≡◌, ◌==◌, ◌+◌, ◌<◌, ℕ, Bool, true, false, cond, arith, List, ◌∷◌, ◌++◌, length, map, get_or, drop, Some, None, refl, sym, ap, ◌∙◌, append_assoc, add-one, drop-cons}
-use Rattle.std.proofs.lemmas.List.{append-nil}
+use Rattle.tw_report.proofs.Names.{Bool, List, None, Pending, Procedure, Some, State, [], add-one, ap, append-nil, append_assoc, arith, circle, circle_of, cond, drop, drop-cons, entries, false, get_or, len, length, map, nat_cmp, pending_of, pending_rules, refl, sym, true, waited_for, ℕ, ◌++◌, ◌+◌, ◌<◌, ◌==◌, ◌∙◌, ◌∷◌, ◌≡◌}
 use Rattle.std.specs.Cmp.{nat_cmp_total}
-use Rattle.std.specs.FinMap.{entries, len}
 use Rattle.std.specs.List.Sorted.{IsStrictlySortedBy}
 use Rattle.std.specs.Map.{keys_of}
-use Rattle.std.specs.Ordering.{nat_cmp}
 use Rattle.tw_types.specs.declared.ending.Ending.{Ending}
 use Rattle.tw_types.specs.declared.ending.Ending.TheVariants.{Quiet, Stuck}
-use Rattle.tw_types.specs.declared.pending.Pending.{Pending}
 use Rattle.tw_types.specs.declared.stage.Stage.{Stage}
-use Rattle.tw_types.specs.Circle.{circle_of}
 use Rattle.tw_types.specs.Rule.{Rule, is_waiting}
 use Rattle.tw_types.specs.Task.{Arg, ValueArg, RightArg}
 use Rattle.tw_types.proofs.Maps.{entries_view}
-use Rattle.tw_code.specs.declared.procedure.Procedure.{Procedure}
 use Rattle.tw_code.specs.machine.Ending.{ending, is_quiet}
-use Rattle.tw_code.specs.machine.Pending.{circle, pending_of, pending_rules, waited_for}
-use Rattle.tw_code.specs.machine.State.{State}
 use Rattle.tw_machine.specs.Parts.{rules_of}
 
 pub waited_more : (stage : Stage) (arg : Arg) (stages : List Stage) (args : List Arg) → waited_for (stage ∷ stages) (arg ∷ args) ≡ waited_for (stage ∷ []) (arg ∷ []) ++ waited_for stages args

@@ -1,8 +1,6 @@
 -- Numbers, as they are read.
-use Rattle.std.proofs.Common.{◌≡◌, ℕ, Bool, true, false, cond, List, Option, Some, None, Ok, Err, refl, sym, ap, subst, ◌∙◌}
-use Rattle.std.specs.Int.{IsInRange}
+use Rattle.tw_report.proofs.Names.{Bool, EncodesDigits, Err, IsInRange, IsRead, List, None, Ok, Option, Some, ap, cond, false, refl, subst, sym, true, ℕ, ◌∙◌, ◌≡◌}
 use Rattle.std.specs.Str.Parse.{digits_value}
-use Rattle.tw_lexer.specs.Number.{IsRead, EncodesDigits}
 use Rattle.tw_lexer.specs.declared.numbers.TokenError.{TokenError}
 use Rattle.tw_lexer.specs.declared.numbers.TokenError.TheVariants.{Form, Limit}
 use Rattle.tw_lexer.specs.Digits.{are_digits, is_within}

@@ -1,14 +1,8 @@
 -- Appending one more output, one more member and one more value.
-use Rattle.std.proofs.Common.{◌≡◌, ◌<◌, ◌+◌, ℕ, suc, true, false, List, [], ◌∷◌, ◌++◌, length, take, get_or, sym, ap, ◌∙◌, arith, append_assoc, Option, Some, None, ◌≤◌, refl, option_map}
+use Rattle.tw_report.proofs.Names.{List, None, Option, Some, Subscript, Value, [], ap, append-nil, append_assoc, arith, count_in, entries_in as values_in, false, flat_map_more, get_or, length, length-take, member_line, member_lines, option_map, output_text, output_texts, refl, slice_get-get_or, slice_get_within, suc, sym, take, take_all, take_more, true, value_line, value_lines, ℕ, ◌++◌, ◌+◌, ◌<◌, ◌∙◌, ◌∷◌, ◌≡◌, ◌≤◌}
 use Rattle.std.specs.Prelude.{slice_get}
-use Rattle.std.proofs.lemmas.List.{append-nil, flat_map_more, length-take, take_all, take_more}
-use Rattle.std.proofs.lemmas.Option.{slice_get-get_or, slice_get_within}
 use Rattle.std.specs.FinMap as fin
 use Rattle.tw_types.specs.Store.{Content, Contains, Data, Datum, Maps, Members, Set, Unset, Values}
-use Rattle.tw_types.specs.StoreCalls.{count_in, entries_in as values_in}
-use Rattle.tw_types.specs.declared.value.Value.{Value}
-use Rattle.tw_types.specs.ValueOrder.{Subscript}
-use Rattle.tw_report.specs.Report.{member_line, member_lines, output_text, output_texts, value_line, value_lines}
 use Rattle.tw_datum.specs.Kept.{has_entries}
 use Rattle.tw_datum.proofs.Members.{no_values_there}
 

@@ -1,9 +1,5 @@
 -- One step of the walk.
-use Rattle.std.proofs.Common.{◌≡◌, ◌==◌, ℕ, zero, suc, Bool, true, false, List, [], ◌∷◌, ◌++◌, Some, None, refl, ap, sym, ◌∙◌}
-use Rattle.std.specs.Prelude.{◌||◌}
-use Rattle.tw_types.specs.declared.pending.Link.{Link}
-use Rattle.tw_types.specs.declared.pending.Pending.{Pending}
-use Rattle.tw_types.specs.Circle.{is_met, since, step_from, walk}
+use Rattle.tw_report.proofs.Names.{Bool, Link, List, None, Pending, Some, [], ap, false, is_met, refl, since, step_from, suc, sym, true, walk, zero, ℕ, ◌++◌, ◌==◌, ◌||◌, ◌∙◌, ◌∷◌, ◌≡◌}
 
 pub walk_met : (steps : ℕ) (rules : List Pending) (trail : List Link) (at : Pending) → is_met at.number trail ≡ true → walk steps rules trail at ≡ Some (since at.number trail)
 walk_met zero rules trail at met = rw met refl

@@ -1,10 +1,5 @@
 -- The first writers of data, added from the last rule to the first.
-use Rattle.std.proofs.Common.{◌≡◌, ◌<◌, ℕ, suc, Bool, true, false, if◌then◌else◌, List, ◌∷◌, Option, Some, drop, drop-cons, get_or, length, slice_get, refl, sym, ap, ◌∙◌}
-use Rattle.std.proofs.lemmas.Option.{slice_get_read}
-use Rattle.std.specs.Option.{option_and_then}
-use Rattle.tw_types.specs.declared.pending.Pending.{Pending}
-use Rattle.tw_types.specs.Circle.{writer_of}
-use Rattle.tw_types.specs.Distinct.{is_among}
+use Rattle.tw_report.proofs.Names.{Bool, List, Option, Pending, Some, ap, drop, drop-cons, false, get_or, if◌then◌else◌, is_among, length, option_and_then, refl, slice_get, slice_get_read, suc, sym, true, writer_of, ℕ, ◌<◌, ◌∙◌, ◌∷◌, ◌≡◌}
 
 -- a look-up after the rule at the index was added, if that finds the index
 pub put_first : (rules : List Pending) (i : ℕ) (r : Pending) (n : ℕ) (old new : Option ℕ) → i < length rules → r ≡ get_or rules i r

@@ -1,20 +1,9 @@
 -- The text written of an event is read back.
-use Rattle.std.proofs.Common.{◌≡◌, ◌<◌, ◌^◌, ℕ, true, false, List, [], ◌∷◌, ◌++◌, map, Some, refl, sym, ap, subst, ◌∙◌, arith}
+use Rattle.tw_report.proofs.Names.{Actor, AllByRecursion, Ask, Call, Deliver, EncodeParts, EncodesPart, End, Engine, Event, EventsAreReadBack, IsBare, IsByte, IsEvent, IsInRange, IsWord, List, Local, Name, Number, OneEvent, Parameter, Part, Release, Server, Some, Take, Worker, [], actor_part, ap, arith, event_parts, false, filter, has_bytes, is_edge, is_parting, join_with_byte, map, min-eq_left, number_in_kind, onto_first, part_text, refl, slice_split, slice_split-cons_no, subst, sym, true, words_in, ℕ, ◌++◌, ◌<◌, ◌^◌, ◌∙◌, ◌∷◌, ◌≡◌}
 use Rattle.std.specs.Fmt.{decimal}
-use Rattle.std.proofs.Math.Nat.{min-eq_left}
-use Rattle.std.specs.Int.{IsInRange}
-use Rattle.std.specs.List.{AllByRecursion, filter, join_with_byte, onto_first, slice_split}
 use Rattle.std.proofs.lemmas.Fmt.{decimal_is_IsNumeral}
-use Rattle.std.proofs.lemmas.List.Splits.{slice_split-cons_no}
-use Rattle.tw_types.specs.declared.actor.Actor.{Actor}
-use Rattle.tw_types.specs.declared.actor.Actor.TheVariants.{Engine, Server, Worker}
-use Rattle.tw_types.specs.declared.event.Event.{Event}
-use Rattle.tw_types.specs.declared.event.Event.TheVariants.{Take, Local, Call, End, Ask, Deliver, Release}
-use Rattle.tw_types.specs.Actor.{number_in_kind}
-use Rattle.tw_lexer.specs.Words.{is_edge, is_parting, IsBare}
 use Rattle.tw_lexer.proofs.Once.{no_edge}
 use Rattle.tw_lexer.proofs.Writing.{all_append, decimal_bare, decimal_clean}
-use Rattle.tw_report.specs.Events.{EventsAreReadBack, IsByte, IsEvent, IsWord, Name, Number, OneEvent, Parameter, Part, EncodeParts, EncodesPart, actor_part, event_parts, has_bytes, part_text, words_in}
 use Rattle.tw_report.proofs.EventReading.{event_read}
 
 -- ---- one event

@@ -1,24 +1,8 @@
 -- The agendas stay right if the rules change at one number.
-use Rattle.std.proofs.Common.{[], ◌≡◌, ◌≤◌, ◌<◌, ◌⊎◌, inl, inr, ℕ, ◌+◌, Bool, true, false, ◌&&◌, cond, not, is_some, List, ◌∷◌, ◌++◌, length, refl, sym, ap, subst, ◌∙◌, slice_set, arith}
+use Rattle.tw_rules.proofs.Names.{Agenda, AreAsks, AreReleases, Arg, Bool, Contains, Contains-permutation, HasMoved, HasOneMoreAsk, HasReleased, IsAgenda, IsFirstAskable, IsIndexed, IsLeast, IsLeastPending, IsPermutation, IsPermutation-sym, IsTrimmed, List, Rises, RuleOf, Rules, [], ap, appended_cases, appended_last, appended_old, arith, cond, contains_cases, contains_here, contains_later, contains_none, false, first_there, from_first, get, get-remove_same, get_set_other, get_set_same, has_unasked, inl, inr, insert, insert_other, insert_same, is_askable, is_releasable, is_some, is_some_unasked, length, nat_apart, nat_cmp, nat_cmp-IsAntisymmetric, nat_cmp_total, nat_is, not, open_count, part, part-le-total, refl, remove, remove_other, same_or_apart, slice_set, subst, sym, total-insert, total-remove, true, unsome, ℕ, ◌&&◌, ◌++◌, ◌+◌, ◌<◌, ◌∙◌, ◌∷◌, ◌≡◌, ◌≤◌, ◌⊎◌}
 use Rattle.std.specs.Prelude.{Option, Some, None, slice_get}
-use Rattle.std.specs.FinMap.{get, insert, remove, nat_cmp-IsAntisymmetric}
-use Rattle.std.specs.Cmp.{nat_cmp_total}
-use Rattle.std.specs.Ordering.{nat_cmp}
-use Rattle.std.specs.List.{Contains}
-use Rattle.std.specs.List.Sorted.{IsPermutation}
-use Rattle.std.proofs.lemmas.List.Sorted.{Contains-permutation, IsPermutation-sym}
 use Rattle.std.proofs.Math.ListN.{length-set}
-use Rattle.tw_types.specs.Rule.{RuleOf, has_unasked, is_releasable}
 use Rattle.tw_types.specs.Totals.{total}
-use Rattle.tw_types.proofs.Came.{unsome}
-use Rattle.tw_types.proofs.Totals.{part, part-le-total, total-insert, total-remove, insert_same, insert_other, remove_other, get-remove_same}
-use Rattle.tw_rights.specs.declared.arg.Arg.{Arg}
-use Rattle.tw_rules.specs.declared.agenda.Agenda.{Agenda}
-use Rattle.tw_rules.specs.Numbers.{IsLeast, Rises, from_first}
-use Rattle.tw_rules.specs.Indexed.{Rules, is_some_unasked, is_askable, AreAsks, IsFirstAskable, AreReleases, IsLeastPending, IsTrimmed, IsAgenda, IsIndexed, open_count}
-use Rattle.tw_rules.specs.Agendas.{HasOneMoreAsk, HasReleased, HasMoved}
-use Rattle.tw_types.proofs.Numbers.{nat_apart, nat_is, same_or_apart}
-use Rattle.tw_types.proofs.Elements.{appended_cases, appended_last, appended_old, contains_cases, contains_here, contains_later, contains_none, first_there, get_set_other, get_set_same}
 
 abbrev R : Type 0
 R = RuleOf Arg

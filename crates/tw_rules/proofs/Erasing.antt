@@ -1,16 +1,7 @@
 -- The rules that a table returns at the end rise by their numbers.
-use Rattle.std.proofs.Common.{◌<◌, ℕ, T, List, [], ◌∷◌, map, sym}
-use Rattle.std.specs.FinMap.{entries, entries_sorted}
+use Rattle.tw_rules.proofs.Names.{AllByRecursion, Arg, ErasedRule, Less, List, RuleOf, RulesOf, T, [], entries, entries_sorted, erasure, first, is_lt, less, map, nat_cmp, second, sym, ℕ, ◌<◌, ◌∷◌}
 use Rattle.std.specs.FinMap.Entries.{below_all, is_sorted}
-use Rattle.std.specs.List.{AllByRecursion}
-use Rattle.std.specs.Ordering.{is_lt, nat_cmp}
-use Rattle.std.specs.declared.cmp.Ordering.TheVariants.{Less}
 use Rattle.std.proofs.lemmas.Cmp.{ranked}
-use Rattle.tw_types.specs.Rule.{RuleOf, RulesOf}
-use Rattle.tw_types.proofs.Rising.{first, less, second}
-use Rattle.tw_rights.specs.declared.arg.Arg.{Arg}
-use Rattle.tw_rules.specs.declared.erased.ErasedRule.{ErasedRule}
-use Rattle.tw_rules.specs.Table.{erasure}
 use Rattle.tw_rules.proofs.SameOrder.{RiseStrictly}
 
 below : (k n : ℕ) → T (is_lt (nat_cmp k n)) → k < n

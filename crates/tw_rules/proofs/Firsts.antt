@@ -1,19 +1,8 @@
 -- The next ask and the next release of an engine, by look-ups in the map of the rules.
-use Rattle.std.proofs.Common.{[], ◌≡◌, ◌≤◌, ◌<◌, ℕ, ◌+◌, Bool, true, false, ◌&&◌, ◌||◌, cond, T, List, ◌∷◌, refl, sym, ap, ◌∙◌, nat_eq, nat_lt, option_map, arith}
-use Rattle.std.specs.Prelude.{option_and_then}
-use Rattle.std.proofs.lemmas.Bool.{and_from, and_parts}
-use Rattle.std.proofs.lemmas.Bool.Decides.{nat_tests}
-use Rattle.std.specs.declared.cmp.Ordering.TheVariants.{Less, Equal, Greater}
+use Rattle.tw_rules.proofs.Names.{Bool, Equal, Greater, Less, List, None, Some, Stage, T, [], and_from, and_parts, ap, arith, cond, entries, entries_sorted, eq_by_cmp, false, find, first, get, get-entries, is_sorted, list_any, nat_cmp, nat_eq, nat_is, nat_lt, nat_same, nat_tests, option_and_then, option_map, refl, second, sym, true, ℕ, ◌&&◌, ◌+◌, ◌<◌, ◌||◌, ◌∙◌, ◌∷◌, ◌≡◌, ◌≤◌}
 use Rattle.std.specs.declared.option.Option.{Option}
-use Rattle.std.specs.declared.option.Option.TheVariants.{None, Some}
-use Rattle.std.specs.Ordering.{nat_cmp, eq_by_cmp}
-use Rattle.std.specs.FinMap.{find, get, entries, entries_sorted, get-entries, is_sorted}
-use Rattle.std.specs.List.{list_any}
-use Rattle.tw_types.specs.declared.stage.Stage.{Stage}
 use Rattle.tw_types.specs.Rule.{RuleOf, RulesOf, ask_or, first_unasked, has_unasked, is_releasable, is_unasked, next_ask, next_ask_of, next_release, next_release_of}
 use Rattle.tw_types.proofs.Found.{IsIn, in_first, in_later, later, same_no}
-use Rattle.tw_types.proofs.Rising.{first, second}
-use Rattle.tw_types.proofs.Numbers.{nat_is, nat_same}
 
 under : (a b : ℕ) → nat_cmp a b ≡ Less → a < b
 under a b h = by (nat_lt a b) (nat_eq a b) refl refl h

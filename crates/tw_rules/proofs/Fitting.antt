@@ -1,26 +1,14 @@
 -- Arguments that fit the stages of their rules.
-use Rattle.std.proofs.Common.{[], ◌≡◌, inl, inr, ℕ, zero, suc, ◌+◌, Bool, true, false, cond, List, ◌∷◌, map, refl, sym, subst, ◌∙◌, slice_set, arith}
+use Rattle.tw_rules.proofs.Names.{AllZip, AreArgsOf, AreFitting, Arg, Bool, FitsStages, Free, List, Param, Ready, RuleOf, Rules, Stage, SuitsMode, SuitsStage, Unasked, Waiting, [], arith, at_stage, cond, empty, false, first_stage, first_unasked, get, get-empty, inl, inr, insert, is_settled, is_unasked, map, nat_cmp, read_right, refl, remove, right_at, same_or_apart, slice_set, stage_at, staged, subst, suc, sym, true, unsome, zero, ℕ, ◌+◌, ◌∙◌, ◌∷◌, ◌≡◌}
 use Rattle.std.specs.Prelude.{Option, Some, None, IsSome, slice_get, option_map}
 use Rattle.std.specs.Option.{option_and_then}
-use Rattle.std.specs.List.{AllZip}
-use Rattle.std.specs.FinMap.{get, insert, remove, empty, get-empty}
-use Rattle.std.specs.Ordering.{nat_cmp}
 use Rattle.tw_types.specs.declared.param.Mode.{Mode}
 use Rattle.tw_types.specs.declared.param.Mode.TheVariants as mode
-use Rattle.tw_types.specs.declared.param.Param.{Param}
-use Rattle.tw_types.specs.declared.stage.Stage.{Stage}
-use Rattle.tw_types.specs.declared.stage.Stage.TheVariants.{Free, Unasked, Waiting, Ready}
 use Rattle.tw_types.specs.declared.value.Value.{Value}
-use Rattle.tw_types.specs.Rule.{RuleOf, at_stage, first_stage, first_unasked, is_settled, is_unasked}
-use Rattle.tw_rights.specs.declared.arg.Arg.{Arg}
 use Rattle.tw_rights.specs.declared.held.Held.{Held}
 use Rattle.tw_rights.specs.declared.held.Held.TheVariants as held
 use Rattle.tw_rights.specs.Bundled.{Bundled, BundledOne, bundled, bundled_one, read_left, value_left, with_arg, write_left}
-use Rattle.tw_rules.specs.Indexed.{AreFitting, Rules}
-use Rattle.tw_rules.specs.Table.{AreArgsOf, FitsStages, SuitsMode, SuitsStage, read_right, right_at, stage_at, staged}
 use Rattle.tw_rules.proofs.Changes.{Changed, changed_insert, changed_remove}
-use Rattle.tw_types.proofs.Came.{unsome}
-use Rattle.tw_types.proofs.Numbers.{same_or_apart}
 use Rattle.tw_rules.proofs.Tables.{open_rule, staged_is}
 
 abbrev R : Type 0

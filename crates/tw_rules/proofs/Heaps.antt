@@ -1,20 +1,8 @@
 -- A heap of numbers with the least one first.
-use Rattle.std.proofs.Common.{[], ◌≡◌, ◌≤◌, ◌<◌, inl, inr, ℕ, Bool, true, false, cond, List, ◌∷◌, map, length, refl, sym, ap, subst, nat_eq, nat_lt, Bor, arith}
-use Rattle.std.proofs.lemmas.Bool.Decides.{nat_tests}
-use Rattle.std.specs.declared.cmp.Ordering.{Ordering}
-use Rattle.std.specs.declared.cmp.Ordering.TheVariants.{Less, Equal, Greater}
+use Rattle.tw_rules.proofs.Names.{Bool, Bor, Contains, Contains-permutation, Equal, Greater, IfNone, IfSome, IsHeap, IsLeast, IsPermutation, IsPermutation-map, IsPermutation-sym, IsUpperBound, Less, List, None, Ordering, Some, [], all_at, ap, arith, cond, contains_cases, contains_here, contains_none, false, inl, inr, is_lt, length, length_permutation, map, mapped_from, mapped_has, nat_cmp, nat_eq, nat_lt, nat_tests, option_copied, refl, subst, sym, true, ℕ, ◌<◌, ◌∷◌, ◌≡◌, ◌≤◌}
 use Rattle.std.specs.declared.cmp.Reverse.{Reverse}
 use Rattle.std.specs.declared.option.Option.{Option}
-use Rattle.std.specs.declared.option.Option.TheVariants.{None, Some}
-use Rattle.std.specs.Option.{IfSome, IfNone, option_copied}
-use Rattle.std.specs.Ordering.{is_lt, nat_cmp}
 use Rattle.std.specs.Slice.{IsItemAt}
-use Rattle.std.specs.List.{Contains}
-use Rattle.std.specs.List.Sorted.{IsPermutation}
-use Rattle.std.specs.BinaryHeap.{IsHeap, IsUpperBound}
-use Rattle.std.proofs.lemmas.List.Sorted.{Contains-permutation, IsPermutation-map, IsPermutation-sym, length_permutation}
-use Rattle.tw_rules.specs.Numbers.{IsLeast}
-use Rattle.tw_types.proofs.Elements.{all_at, contains_cases, contains_here, contains_none, mapped_from, mapped_has}
 
 abbrev Item : Type 0
 Item = Reverse ℕ

@@ -1,3 +1,4 @@
+pub mod Names
 pub mod Numbered
 pub mod Seen
 pub mod Firsts

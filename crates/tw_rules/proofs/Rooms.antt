@@ -1,14 +1,6 @@
 -- When a rule of an engine can be added without an allocation.
-use Rattle.std.proofs.Common.{[], ◌≡◌, ◌≤◌, ◌<◌, inl, inr, ℕ, zero, suc, Bool, true, false, List, ◌∷◌, get_or, refl, sym, subst, ◌∙◌, slice_set, nat_lt, arith}
+use Rattle.tw_rules.proofs.Names.{Agenda, AreAsks, AreReleases, Bool, IsAgenda, IsFirstAskable, IsIndexed, IsLeastPending, IsSameAgenda, List, Rules, [], agenda_room, and_from, and_parts, arith, false, get_or, get_set_other, get_set_same, has_place, inl, inr, lt_test, nat_lt, refl, rooms_of, same_or_apart, slice_get_within, slice_set, subst, suc, sym, test_lt, true, unsome, zero, ℕ, ◌<◌, ◌∙◌, ◌∷◌, ◌≡◌, ◌≤◌}
 use Rattle.std.specs.Prelude.{Some, slice_get}
-use Rattle.std.proofs.lemmas.Bool.{and_from, and_parts}
-use Rattle.tw_rules.specs.declared.agenda.Agenda.{Agenda}
-use Rattle.tw_rules.specs.Indexed.{agenda_room, has_place, rooms_of, Rules, AreAsks, AreReleases, IsFirstAskable, IsLeastPending, IsAgenda, IsIndexed}
-use Rattle.tw_rules.specs.Agendas.{IsSameAgenda}
-use Rattle.tw_types.proofs.Came.{unsome}
-use Rattle.tw_types.proofs.Numbers.{lt_test, same_or_apart, test_lt}
-use Rattle.tw_types.proofs.Elements.{get_set_other, get_set_same}
-use Rattle.std.proofs.lemmas.Option.{slice_get_within}
 use Rattle.tw_rules.proofs.Changes.{all_agendas}
 
 pub record HasRoom (has : Bool) (agendas : List Agenda) (engine : ℕ) : Type 0 where

@@ -1,21 +1,9 @@
 -- The entries of a hash map by numbers, seen as a finite map.
-use Rattle.std.proofs.Common.{[], ◌≡◌, inl, inr, ℕ, ◌+◌, Bool, true, false, cond, List, ◌∷◌, refl, sym, ap, ◌∙◌, map, length, nat_eq, nat_lt, is_some, IsSome, option_map, subst, arith}
-use Rattle.std.specs.declared.cmp.Ordering.{Ordering}
-use Rattle.std.specs.declared.cmp.Ordering.TheVariants.{Less, Equal, Greater}
+use Rattle.tw_rules.proofs.Names.{AllByRecursion, Bool, Equal, FinMap, Greater, IsDistinct, IsPermutation, IsPermutation-cons, IsPermutation-middle, IsPermutation-refl, IsPermutation-sym, IsPermutation-trans, IsSome, Less, List, None, Ordering, Some, [], ap, arith, cond, empty, entries, entries-insert, eq_by_cmp, false, find, from_entries, get, get-entries, get-from_entries, get-insert, get-remove, get-remove_same, inl, inr, insert, insert_other, insert_same, is_eq, is_some, len, len-empty, len-entries, len-insert, length, map, nat_cmp, nat_cmp-IsAntisymmetric, nat_cmp_total, nat_eq, nat_flips, nat_lt, nat_tests, option_map, refl, remove, remove_other, same_map, same_or_apart, subst, sym, true, ℕ, ◌+◌, ◌∙◌, ◌∷◌, ◌≡◌}
 use Rattle.std.specs.declared.option.Option.{Option}
-use Rattle.std.specs.declared.option.Option.TheVariants.{None, Some}
-use Rattle.std.specs.Cmp.{nat_cmp_total}
-use Rattle.std.specs.Ordering.{nat_cmp, eq_by_cmp, is_eq}
-use Rattle.std.specs.List.{AllByRecursion, IsDistinct}
-use Rattle.std.specs.List.Sorted.{IsPermutation}
 use Rattle.std.specs.Map.{keys_of, lookup}
-use Rattle.std.specs.FinMap.{FinMap, entries, entries-insert, find, get, insert, remove, len, from_entries, get-from_entries, get-insert, get-remove, get-entries, len-empty, len-insert, len-entries, empty, same_map, nat_cmp-IsAntisymmetric}
 use Rattle.std.specs.FinMap.Entries.{put, by_order}
-use Rattle.std.proofs.lemmas.Bool.Decides.{nat_tests}
-use Rattle.std.proofs.lemmas.List.Sorted.{IsPermutation-refl, IsPermutation-sym, IsPermutation-trans, IsPermutation-cons, IsPermutation-middle}
 use Rattle.std.proofs.lemmas.Map.Keys.{IsDistinct-head, IsDistinct-tail}
-use Rattle.tw_types.proofs.Totals.{insert_same, insert_other, remove_other, get-remove_same}
-use Rattle.tw_types.proofs.Numbers.{nat_flips, same_or_apart}
 
 same_test : (a b : ℕ) → eq_by_cmp nat_cmp a b ≡ nat_eq a b
 same_test a b = by (nat_lt a b) (nat_eq a b) refl refl

@@ -1,12 +1,7 @@
 -- Stages of the parameters of a rule.
-use Rattle.std.proofs.Common.{◌≡◌, ℕ, zero, suc, Bool, true, false, ◌&&◌, ◌||◌, cond, List, [], ◌∷◌, map, refl, slice_set}
+use Rattle.tw_rules.proofs.Names.{Bool, Free, List, Param, Ready, Stage, Unasked, Waiting, [], cond, false, first_stage, is_settled, is_unasked, list_all, list_any, map, refl, slice_set, suc, true, zero, ℕ, ◌&&◌, ◌||◌, ◌∷◌, ◌≡◌}
 use Rattle.std.specs.Prelude.{Some, slice_get, option_map}
-use Rattle.std.specs.List.{list_all, list_any}
-use Rattle.tw_types.specs.declared.param.Param.{Param}
-use Rattle.tw_types.specs.declared.stage.Stage.{Stage}
-use Rattle.tw_types.specs.declared.stage.Stage.TheVariants.{Free, Unasked, Waiting, Ready}
 use Rattle.tw_types.specs.Mode.{is_closed_mode}
-use Rattle.tw_types.specs.Rule.{first_stage, is_settled, is_unasked}
 
 settled_or_not : (s : Stage) → is_settled s ≡ true → is_unasked s ≡ false
 settled_or_not Free h = refl

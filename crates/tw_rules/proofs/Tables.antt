@@ -1,25 +1,7 @@
 -- Requirements and effects of each call of the table, on the index.
-use Rattle.std.proofs.Common.{[], ◌≡◌, ◌≤◌, ◌<◌, inl, inr, ℕ, zero, suc, ◌+◌, Bool, true, false, is_some, List, ◌∷◌, map, length, refl, sym, ap, subst, ◌∙◌, slice_set, get_or, nat_lt, arith}
+use Rattle.tw_rules.proofs.Names.{Agenda, AreAsks, AreReleases, Arg, Bool, Contains, HasMoved, HasOneMoreAsk, HasReleased, IsAgenda, IsFirstAskable, IsIndexed, IsLeast, IsLeastPending, IsTrimmed, List, Param, Rises, RuleOf, Rules, Stage, [], ap, arith, at_stage, contains_cases, contains_none, empty, false, first_stage, first_there, first_unasked, from_first, get, get-empty, get_or, has_unasked, inl, inr, insert, is_askable, is_releasable, is_settled, is_some, is_some_unasked, is_unasked, length, map, nat_cmp, nat_lt, nat_tests, new_rule, next_ask, next_release, none_past, open_count, refl, remove, same_or_apart, slice_get-get_or, slice_get_past, slice_get_read, slice_set, stage_at, staged, subst, suc, sym, total-empty, true, unsome, zero, ℕ, ◌+◌, ◌<◌, ◌∙◌, ◌∷◌, ◌≡◌, ◌≤◌}
 use Rattle.std.specs.Prelude.{Option, Some, None, slice_get, option_map, option_and_then}
-use Rattle.std.specs.FinMap.{get, insert, remove, empty, get-empty}
-use Rattle.std.specs.Ordering.{nat_cmp}
-use Rattle.tw_types.proofs.Totals.{total-empty}
-use Rattle.std.specs.List.{Contains}
-use Rattle.std.proofs.lemmas.Option.{slice_get_past, slice_get_read, slice_get-get_or}
-use Rattle.std.proofs.lemmas.Bool.Decides.{nat_tests}
-use Rattle.tw_types.specs.declared.stage.Stage.{Stage}
-use Rattle.tw_types.specs.declared.param.Param.{Param}
-use Rattle.tw_types.specs.Rule.{RuleOf, at_stage, first_stage, first_unasked, has_unasked, is_releasable, is_settled, is_unasked, next_ask, next_release}
-use Rattle.tw_rights.specs.declared.arg.Arg.{Arg}
 use Rattle.tw_rules.specs.declared.planned.PlannedTask.{PlannedTask}
-use Rattle.tw_rules.specs.declared.agenda.Agenda.{Agenda}
-use Rattle.tw_rules.specs.Numbers.{IsLeast, Rises, from_first}
-use Rattle.tw_rules.specs.Table.{new_rule, stage_at, staged}
-use Rattle.tw_rules.specs.Indexed.{Rules, is_askable, is_some_unasked, open_count, AreAsks, AreReleases, IsFirstAskable, IsLeastPending, IsTrimmed, IsAgenda, IsIndexed}
-use Rattle.tw_rules.specs.Agendas.{HasOneMoreAsk, HasReleased, HasMoved}
-use Rattle.tw_types.proofs.Came.{unsome}
-use Rattle.tw_types.proofs.Numbers.{same_or_apart}
-use Rattle.tw_types.proofs.Elements.{contains_cases, contains_none, first_there, none_past}
 use Rattle.tw_rules.proofs.Stages.{settled_idle, fresh_unasked, staged_unasked, unsettled_holds}
 use Rattle.tw_rules.proofs.Firsts.{unasked_some, next_ask_is, next_ask_none, next_release_is, next_release_none}
 use Rattle.tw_rules.proofs.Changes.{Changed, changed_insert, changed_remove, other_agenda, added_asked, added_released, promised_before, staged_released, staged_held, gone_agenda, all_agendas}

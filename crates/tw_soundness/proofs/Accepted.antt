@@ -1,10 +1,7 @@
 -- Consequences of acceptance for a running task: its instruction is executed, and the task continues.
 use Rattle.std.proofs.Common.{◌≡◌, ℕ, zero, suc, ◌<◌, ◌≤◌, true, List, [], ◌∷◌, ◌++◌, length, slice_get, get_or, Option, Some, None, refl, sym, ap, subst, ◌∙◌, arith}
-use Rattle.tw_soundness.proofs.MachineNames.{Accepts, Actor, AllByRecursion, Completed, DataInstr, Frame, Instr, IsDataInstr, IsHeld, IsInstr, Param, Procedure, RightType, IsAtPosition, State, Typing, Typings, requires_by_instr, requires_at, requires_data, at_next_place, context_of, data_instr, flow_of, flows, get, is_none, is_ret, leb-true, length-map, list_all, local_steps, option_to_list, right_of, rights_given, same_Some, slice_get-get_or, slice_get_within, typing_of, value_types, values_fit}
-use Rattle.tw_code.specs.declared.flow.Flow.TheVariants.{Straight}
-use Rattle.tw_code.specs.declared.instr.Action.{Action}
+use Rattle.tw_soundness.proofs.MachineNames.{Accepts, Action, Actor, AllByRecursion, Completed, DataInstr, Frame, Instr, IsAtPosition, IsDataInstr, IsHeld, IsInstr, Param, Procedure, RightType, State, Straight, Typing, Typings, at_next_place, context_of, data_instr, flow_of, flows, get, is_none, is_ret, leb-true, length-map, list_all, local_steps, option_to_list, requires_at, requires_by_instr, requires_data, right_of, rights_given, same_Some, slice_get-get_or, slice_get_within, starts_within, typing_of, value_types, values_fit}
 use Rattle.tw_code.specs.declared.instr.Instr.TheVariants as instr
-use Rattle.tw_budget.proofs.FrameTheorems.{starts_within}
 use Rattle.tw_soundness.proofs.AllEvents.{Accepted, Known}
 use Rattle.tw_soundness.proofs.DataLeaves.{data_leaves}
 use Rattle.tw_soundness.proofs.Long.{typings_long}

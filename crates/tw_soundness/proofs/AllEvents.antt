@@ -1,7 +1,6 @@
 -- Any single event keeps the invariant, and doesn't trap; so do runs from the opening.
 use Rattle.std.proofs.Common.{◌≡◌, ℕ, ◌+◌, ◌==◌, Bool, true, false, not, List, [], ◌∷◌, slice_get, Option, Some, None, is_none, refl, sym, ap, subst, arith}
-use Rattle.tw_soundness.proofs.MachineNames.{◌>>◌, Actor, ActorCounts, Event, Frame, Instr, IsHeld, NotEnabled, Outcome, Position, Procedure, RightLeft, Rights, RightsFit, IsAtPosition, State, Store, Typing, Typings, Went, actor_cmp, actor_cmp-IsAntisymmetric, actor_cmp_total, balanced_same, before_removal, frame_reads, frame_writes, get, list_all, must, only_if, outcome_of, over, read_by, remove, typing_at, typing_of, with_frame, write_by}
-use Rattle.tw_types.specs.declared.event.Event.TheVariants.{Take, Local, Call, End, Ask, Deliver, Release}
+use Rattle.tw_soundness.proofs.MachineNames.{Actor, ActorCounts, Ask, Call, Deliver, End, Event, Frame, Instr, IsAtPosition, IsHeld, Local, NotEnabled, Outcome, Position, Procedure, Release, RightLeft, Rights, RightsFit, State, Store, Take, Typing, Typings, Went, actor_cmp, actor_cmp-IsAntisymmetric, actor_cmp_total, balanced_same, before_removal, frame_reads, frame_writes, get, list_all, must, only_if, outcome_of, over, read_by, remove, typing_at, typing_of, with_frame, write_by, ◌>>◌}
 use Rattle.tw_code.specs.machine.Machine.{local_event, call_event, end_event, step, run, local_steps, is_ret}
 use Rattle.tw_soundness.proofs.Framed.{types_framed, budgets_framed}
 use Rattle.tw_soundness.proofs.RuleEvents.{ask_keeps, deliver_keeps, release_keeps}

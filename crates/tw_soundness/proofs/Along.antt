@@ -1,8 +1,6 @@
 -- Numbers and counts stay small along a run.
 use Rattle.std.proofs.Common.{◌≡◌, ℕ, suc, ◌+◌, ◌*◌, ◌≤◌, ◌==◌, not, List, [], ◌∷◌, length, slice_get, subst, arith}
-use Rattle.tw_soundness.proofs.MachineNames.{ActorCounts, AreRight, Event, IsHeld, IsProgram, Procedure, State, Typings, Went, WrongCall, enabled, get, greatest_budget, only_if, outcome_of, procedure_of, there_ok}
-use Rattle.tw_types.specs.declared.event.Event.TheVariants.{Take, Local, Call, End, Ask, Deliver, Release}
-use Rattle.tw_types.proofs.Outcomes.{same_went, went_after, went_enabled, went_first, went_ok}
+use Rattle.tw_soundness.proofs.MachineNames.{ActorCounts, AreRight, Ask, Call, Deliver, End, Event, IsHeld, IsProgram, Local, Procedure, Release, State, Take, Typings, Went, WrongCall, enabled, get, greatest_budget, only_if, outcome_of, procedure_of, same_went, there_ok, went_after, went_enabled, went_first, went_ok}
 use Rattle.tw_code.specs.machine.Bounds.{AreBelow, AreNumbersBelow, size_of}
 use Rattle.tw_code.specs.machine.Machine.{local_steps, run, step}
 use Rattle.tw_code.proofs.Growth.{below_more, numbers_wider, step_grows}

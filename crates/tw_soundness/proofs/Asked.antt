@@ -1,13 +1,9 @@
 -- Rules are made, asked for, notified and released, and still exactly the waiting parameters are named.
 use Rattle.std.proofs.Common.{◌≡◌, ◌≢◌, ℕ, ◌+◌, ◌≤◌, inl, inr, Bool, true, false, if◌then◌else◌, List, [], ◌∷◌, slice_get, Option, Some, None, refl, sym, ap, subst, ◌∙◌, arith, nat_cmp}
-use Rattle.tw_soundness.proofs.MachineNames.{Arg, Data, Datum, Free, Input, Notice, Notices, Procedure, Ready, RightArg, Rule, Rules, Stage, Unasked, ValueArg, Waiting, arg_at, cases_eq, data_insert_other, data_insert_same, empty, get, get-empty, insert, is_closed, notice_cmp, remove, same_Some, stage_at, times_among, times_at, times_noticed, times_noticed_by, times_subscribed, times_waiting, total, with_subscriber}
+use Rattle.tw_soundness.proofs.MachineNames.{AreNamed, Arg, Data, Datum, Free, Input, NothingWaits, Notice, Notices, NoticesHeld, Procedure, Ready, RightArg, Rule, Rules, Stage, Unasked, ValueArg, Waiting, arg_at, cases_eq, data_insert_other, data_insert_same, empty, get, get-empty, gone_has, gone_only, gone_other, insert, is_closed, is_that, named-append, notice_cmp, noticed_alike, noticed_at, noticed_one, remove, rule_gone, rule_kept, rule_other, rule_put, same_Some, stage_at, staged, staged_arg, staged_here, staged_noticed, staged_other, subscribed-le, subscribed_put, that_itself, that_or_other, that_other, times_among, times_at, times_noticed, times_noticed_by, times_subscribed, times_waiting, total, unsubscribed, waits-le, was_here, with_subscriber}
 use Rattle.std.specs.FinSet as set
-use Rattle.tw_soundness.specs.Noticed.{AreNamed, NoticesHeld}
-use Rattle.tw_code.proofs.Staged.{rule_put, rule_other, rule_gone, rule_kept, staged, staged_arg, staged_noticed, staged_here, was_here, staged_other, that_or_other, NothingWaits}
 use Rattle.tw_code.proofs.Opened.{opening_silent}
 use Rattle.tw_code.specs.machine.Opening.{opening}
-use Rattle.tw_code.proofs.Subscribed.{subscribed_put, subscribed-le, unsubscribed, waits-le, noticed_one, noticed_at, noticed_alike}
-use Rattle.tw_code.proofs.Sets.{is_that, that_itself, that_other, named-append, gone_has, gone_other, gone_only}
 
 -- ---- a stage changes
 

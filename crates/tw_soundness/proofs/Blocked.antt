@@ -1,8 +1,7 @@
 -- Stages and arguments of a rule that neither has an unasked parameter nor can be released.
 use Rattle.std.proofs.Common.{[], ◌≡◌, ℕ, suc, ◌+◌, ◌<◌, ◌==◌, Bool, true, false, ◌||◌, if◌then◌else◌, List, ◌∷◌, map, slice_get, Some, None, refl, ap, arith}
-use Rattle.tw_soundness.proofs.MachineNames.{Arg, Closed, Free, Mode, Param, Ready, Ref, RightArg, Stage, Unasked, Val, ValueArg, Waiting, Write, hits, id_of, is_settled, is_unasked, is_write, list_all, list_any, over, right_of, write_by}
+use Rattle.tw_soundness.proofs.MachineNames.{Arg, Closed, Free, Mode, Param, Ready, Ref, RightArg, Stage, Unasked, Val, ValueArg, Waiting, Write, hits, id_of, is_settled, is_unasked, is_write, list_all, list_any, over, right_of, waited_for, write_by, written_by}
 use Rattle.tw_types.specs.Distinct.{is_among}
-use Rattle.tw_code.specs.machine.Pending.{waited_for, written_by}
 
 -- ---- waiting parameters
 

@@ -1,8 +1,7 @@
 -- RULE and PUT don't trap if their checks hold.
 use Rattle.std.proofs.Common.{◌≡◌, ℕ, ℤ, ◌+◌, ◌<◌, ◌==◌, Bool, true, false, if◌then◌else◌, List, [], ◌∷◌, length, slice_get, Option, Some, None, refl, ap, ◌∙◌, arith}
-use Rattle.tw_soundness.proofs.MachineNames.{ArgumentNotClosed, Called, Context, Datum, FreedDatum, MovedArgs, Ok, Param, Procedure, Scalar, Typing, ValuesFit, WrongCall, WrongRegister, WrongType, all_pass, requires_action, requires_args, requires_callee, requires_priority, called, eq-eqb, eqb-true, get, moved_args, held_is_there, is_closed_if_required, is_control, is_live, is_of_type, ok_or, over, priority_at, procedure_of, put_called, read_by, values_suit, without_args, write_by}
+use Rattle.tw_soundness.proofs.MachineNames.{Action, ArgumentNotClosed, Called, Context, Datum, FreedDatum, MovedArgs, Ok, Param, Procedure, Scalar, Typing, ValuesFit, WrongCall, WrongRegister, WrongType, all_pass, called, eq-eqb, eqb-true, get, held_is_there, is_closed_if_required, is_control, is_live, is_of_type, moved_args, ok_or, over, priority_at, procedure_of, put_called, read_by, requires_action, requires_args, requires_callee, requires_priority, values_suit, without_args, write_by}
 use Rattle.tw_types.specs.declared.data_type.Scalar.TheVariants as scalar
-use Rattle.tw_code.specs.declared.instr.Action.{Action}
 use Rattle.tw_code.specs.declared.instr.Priority.{Priority}
 use Rattle.tw_code.specs.declared.instr.Priority.TheVariants.{Constant, Computed}
 use Rattle.tw_soundness.proofs.Over.{over_params}

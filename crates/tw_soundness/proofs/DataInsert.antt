@@ -1,10 +1,8 @@
 -- A member is inserted into a container, with its read: the result of INS fits.
 use Rattle.std.proofs.Common.{◌≡◌, ℕ, ◌+◌, ◌<◌, ◌≤◌, true, false, List, [], ◌∷◌, map, slice_set, Option, Some, None, refl, sym, ap, subst, ◌∙◌, arith, inl, inr, nat_cmp}
-use Rattle.tw_soundness.proofs.MachineNames.{AreSubscriptsFor, Contains, Maps, by_container, container_only, is_container, Content, Context, Datum, HasWriters, IsDataType, IsOfType, IsTypedStore, Members, RightType, Set, Store, Subscript, Typing, Unset, balanced_none, cases_eq, count_of, element_is, element_of, entries, eqb-true, get, get-empty, hits, hits_other, hits_same, insert, inside, is_closed, is_container_by, is_element_of, is_scalar, is_write, members_in, members_of, nat_cmp-IsAntisymmetric, nat_cmp_total, over, part, part-le-total, put_balanced, put_or_before, read_by, same_Some, scalar_of, subscripts_in, value_cmp, with_member, write_by}
+use Rattle.tw_soundness.proofs.MachineNames.{AreSubscriptsFor, Contains, Content, Context, Datum, HasWriters, IsDataType, IsOfType, IsTypedStore, Maps, Members, RightType, Set, Store, Subscript, Typing, Unset, balanced_none, by_container, cases_eq, container_only, count_of, element_is, element_of, entries, eqb-true, get, get-empty, hits, hits_other, hits_same, insert, inside, is_closed, is_container, is_container_by, is_element_of, is_scalar, is_write, members_in, members_kinds, members_of, nat_cmp-IsAntisymmetric, nat_cmp_total, one_more_kind, over, part, part-le-total, put_balanced, put_or_before, read_by, same_Some, scalar_of, subscripts_in, value_cmp, value_cmp-IsAntisymmetric, value_cmp_total, with_member, write_by}
 use Rattle.std.specs.FinMap as fin
-use Rattle.tw_types.proofs.ValueOrder.{value_cmp_total, value_cmp-IsAntisymmetric}
 use Rattle.tw_types.specs.Totals.{sum_of, total}
-use Rattle.tw_types.proofs.Subscripts.{members_kinds, one_more_kind}
 use Rattle.tw_soundness.proofs.Registers.{Fits, Settles, At, Undisturbed, holds_undisturbed, rights_kept, emptied, rights_set}
 use Rattle.tw_soundness.proofs.Sums.{sum_new}
 

@@ -1,14 +1,10 @@
 -- Instructions on maps succeed if their checks hold, and their results fit.
 use Rattle.std.proofs.Common.{◌≡◌, ℕ, ℤ, ◌+ℤ◌, ◌<◌, pos, Bool, true, false, not, ◌&&◌, ◌||◌, slice_get, Option, Some, None, refl, sym, ap, ◌∙◌, arith}
-use Rattle.tw_soundness.proofs.MachineNames.{Completed, Contains, Set, Unset, requires_entry_of, container_only, Content, Context, IsOfType, Maps, NestedScalar, Ok, Procedure, RightType, Scalar, Skipped, Typing, Value, ValuesFit, WrongRegister, after_put, and_parts, requires_data, data_instr, datum_at, datum_of, entries_in, entry_at, get, held, at_next_instr, if_absent, insert, int_at, is_closed_mode, is_map, is_map_by, is_map_of, is_plain_map, is_sums, is_write, map_by, map_only, may_add, may_put, may_read_entry, option_and_then, option_flatten, passes, reads_closed_map, right_at, same_scalar, scalar_itself, scalar_of, suits_entry, suits_subscript, sum_with, value_at, value_put, with_entry, with_result, with_store, writes_map, writes_sums}
-use Rattle.std.specs.Option.{option_map_or}
+use Rattle.tw_soundness.proofs.MachineNames.{Completed, Contains, Content, Context, IsOfType, Maps, NestedScalar, Ok, Procedure, RightType, Scalar, Set, Skipped, Typing, Unset, Value, ValuesFit, WrongRegister, after_put, and_parts, at_next_instr, container_only, data_instr, datum_at, datum_of, entries_in, entry_at, get, held, if_absent, insert, int_at, int_of, is_closed_mode, is_map, is_map_by, is_map_of, is_plain_map, is_sums, is_write, map_by, map_only, may_add, may_put, may_read_entry, one_more_entry, option_and_then, option_flatten, option_map_or, passes, reads_closed_map, requires_data, requires_entry_of, right_at, same_scalar, same_scalars, scalar_itself, scalar_of, suits_entry, suits_subscript, sum_with, value_at, value_put, values_kinds, with_entry, with_result, with_store, writes_map, writes_sums}
 use Rattle.tw_code.specs.accepting.Typing.{suits_subscripts}
-use Rattle.tw_types.specs.ValueOrder.{int_of}
 use Rattle.std.specs.Int.{int_wrap, w64}
 use Rattle.tw_types.specs.declared.data_type.Scalar.TheVariants as scalar
 use Rattle.tw_types.specs.declared.value.Value.TheVariants as value
-use Rattle.tw_types.proofs.SameTypes.{same_scalars}
-use Rattle.tw_types.proofs.Subscripts.{one_more_entry, values_kinds}
 use Rattle.tw_code.specs.declared.instr.DataInstr.TheVariants as on_data
 use Rattle.tw_soundness.proofs.Aging.{Aged}
 use Rattle.tw_soundness.proofs.DataInsert.{same_settles}

@@ -1,10 +1,9 @@
 -- After an instruction on data exactly the waiting parameters are named.
 use Rattle.std.proofs.Common.{◌≡◌, ℕ, ◌+◌, ◌<◌, ◌==◌, true, false, not, ◌&&◌, [], Option, Some, None, refl, sym, ap, subst, ◌∙◌, arith, inl, inr}
-use Rattle.tw_soundness.proofs.MachineNames.{AlreadySet, Cause, Contains, Maps, Values, after_put, entry_at, if_absent, is_map, is_map_of, is_plain_map, is_sums, map_only, may_add, may_put, suits_subscript, sum_with, value_put, at_next_instr, with_store, may_read_entry, may_read_subscripts_by, scalar_of, suits_entry, with_entry, Content, Context, Data, DataInstr, Datum, EmptyRegister, FreedDatum, IsOfType, IsTypedStore, Members, NoWriteCount, Ok, Rules, Scalar, Set, Store, Subscript, Unset, UnsetDatum, Value, WhereOk, WrongRegister, WrongType, after_insert, after_look, and_parts, by_deep, cases_eq, changed, data_insert_other, data_insert_same, data_instr, datum_at, datum_of, get, held, insert, int_at, is_closed, is_container_by, is_element_of, is_of, is_scalar, is_unset, may_be_read, may_copy_write, may_drop_read, may_drop_write, may_insert, may_look, may_read_members, may_retrieve, may_store, member_at, must, must_be_empty, must_have_type, must_ok, must_then, ne_eqb, new_datum, not-true, notices_after, notices_of, of_type_at, ok_both, ok_or, ok_then, ok_there, one_read_more, one_write_less, one_write_more, read_dropped, right_at, same_Some, set_to, settled, store_after, subscribers_cleared, suits, there_then, value_at, with_member, with_notices}
+use Rattle.tw_soundness.proofs.MachineNames.{AlreadySet, AreNamed, Cause, Contains, Content, Context, Data, DataInstr, Datum, EmptyRegister, FreedDatum, IsOfType, IsTypedStore, Maps, Members, NoWriteCount, Ok, Rules, Scalar, Set, Store, Subscript, Unset, UnsetDatum, Value, Values, WhereOk, WrongRegister, WrongType, after_insert, after_look, after_put, and_parts, at_next_instr, by_deep, cases_eq, changed, data_insert_other, data_insert_same, data_instr, datum_at, datum_of, entry_at, get, held, if_absent, insert, int_at, is_closed, is_container_by, is_element_of, is_map, is_map_of, is_of, is_plain_map, is_scalar, is_sums, is_unset, map_only, may_add, may_be_read, may_copy_write, may_drop_read, may_drop_write, may_insert, may_look, may_put, may_read_entry, may_read_members, may_read_subscripts_by, may_retrieve, may_store, member_at, must, must_be_empty, must_have_type, must_ok, must_then, ne_eqb, new_datum, not-true, notices_after, notices_of, of_type_at, ok_both, ok_or, ok_then, ok_there, one_read_more, one_write_less, one_write_more, read_dropped, right_at, same_Some, scalar_of, set_to, settled, store_after, subscribers_cleared, suits, suits_entry, suits_subscript, sum_with, there_then, value_at, value_put, with_entry, with_member, with_notices, with_store}
 use Rattle.tw_types.specs.StoreCalls as store
 use Rattle.tw_types.specs.declared.data_type.Scalar.TheVariants as scalar
 use Rattle.tw_code.specs.declared.instr.DataInstr.TheVariants as on_data
-use Rattle.tw_soundness.specs.Noticed.{AreNamed}
 use Rattle.tw_code.proofs.Losing.{IsKept, put_kept, settled_kept, within_kept}
 use Rattle.tw_soundness.proofs.Named.{Wanted, IsFrom, named_follows, named_notified}
 

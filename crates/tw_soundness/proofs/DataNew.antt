@@ -1,8 +1,7 @@
 -- NEW succeeds if its checks hold: a new datum, with one write and one read.
 use Rattle.std.proofs.Common.{◌≡◌, ◌≢◌, ℕ, ◌+◌, ◌<◌, ◌≤◌, ◌==◌, Bool, true, false, not, if◌then◌else◌, [], map, length, is_none, slice_get, slice_set, Option, Some, None, refl, sym, ap, subst, ◌∙◌, arith, inl, inr, nat_cmp}
-use Rattle.tw_soundness.proofs.MachineNames.{Completed, Contains, Maps, is_map, else_container, Context, Datum, HasWriters, Holds, IsDataType, IsOfType, IsTypedStore, NestedScalar, Procedure, Ref, RightType, Store, Typing, Unset, ValuesFit, Write, WrongRegister, a_read, a_write, requires_data, balanced_none, count_of, created, data_insert_other, data_insert_same, data_instr, empty_content, entries, eqb-false, get, hits, hits_other, hits_same, inside, is_closed_mode, is_scalar, len-empty, len-entries, members_of, must, must_be_empty, nat_cmp-IsAntisymmetric, nat_cmp_total, new_balanced, new_datum, not-true, option_flatten, over, part, part-le-total, put_or_before, read_by, same_Some, subscripts_in, value_cmp, write_by}
+use Rattle.tw_soundness.proofs.MachineNames.{Completed, Contains, Context, Datum, HasWriters, Holds, IsDataType, IsOfType, IsTypedStore, Maps, NestedScalar, Procedure, Ref, RightType, Store, Typing, Unset, ValuesFit, Write, WrongRegister, a_read, a_write, balanced_none, count_of, created, data_insert_other, data_insert_same, data_instr, else_container, empty_content, entries, eqb-false, get, hits, hits_other, hits_same, inside, is_closed_mode, is_map, is_scalar, len-empty, len-entries, members_of, must, must_be_empty, nat_cmp-IsAntisymmetric, nat_cmp_total, new_balanced, new_datum, no_entries, no_kinds, not-true, option_flatten, over, part, part-le-total, put_or_before, read_by, requires_data, same_Some, subscripts_in, value_cmp, write_by}
 use Rattle.std.specs.FinMap as fin
-use Rattle.tw_types.proofs.Subscripts.{no_entries, no_kinds}
 use Rattle.tw_code.specs.declared.instr.DataInstr.TheVariants as on_data
 use Rattle.tw_soundness.proofs.DataLeft.{Leaves}
 use Rattle.tw_soundness.proofs.Values.{AllYes, moves_by}

@@ -1,6 +1,6 @@
 -- Instructions that read data, or insert a member, succeed if their checks hold, and their results fit.
 use Rattle.std.proofs.Common.{◌≡◌, ℕ, ◌+◌, ◌<◌, pos, true, false, not, ◌||◌, length, is_none, slice_get, slice_set, Option, Some, None, refl, sym, ap, subst, ◌∙◌, arith}
-use Rattle.tw_soundness.proofs.MachineNames.{Completed, Contains, Maps, container_only, map_only, has_subscripts_by, may_read_subscripts_by, reads_closed_by, subscripts_at, subscripts_of, Content, Context, Datum, EmptyRegister, FreedDatum, Holds, IsOfType, NestedScalar, Ok, Procedure, Ref, RightType, Scalar, Set, Skipped, Store, Subscript, Typing, Unset, UnsetDatum, Value, ValuesFit, WrongRegister, a_member_read, a_read, after_insert, after_look, and_parts, requires_data, balanced_some, by_deep, changed, data_instr, datum_at, datum_of, element_of, get, given, held, hits, hits_other, hits_same, insert, inserted, int_at, is_closed, is_closed_mode, is_container_by, is_element_of, is_kept, is_read, is_scalar, is_write, may_insert, may_look, may_read_members, may_read_members_by, may_retrieve, member_at, members_in, must, must_be_empty, must_have_type, ne_eqb, not-true, of_type_at, ok_or, one_read_more, option_and_then, option_flatten, over, passes, read_by, reads_closed_container, reads_closed_container_by, reads_closed_scalar, reads_member_of, right_at, same_Some, same_scalar, scalar_itself, scalar_of, subscript_after, suits, value_at, value_in, with_member, with_result, write_by, writes_container_by}
+use Rattle.tw_soundness.proofs.MachineNames.{Completed, Contains, Content, Context, Datum, EmptyRegister, FreedDatum, Holds, IsOfType, Maps, NestedScalar, Ok, Procedure, Ref, RightType, Scalar, Set, Skipped, Store, Subscript, Typing, Unset, UnsetDatum, Value, ValuesFit, WrongRegister, a_member_read, a_read, after_insert, after_look, and_parts, balanced_some, by_deep, changed, container_only, content_kind, data_instr, datum_at, datum_of, element_of, get, given, has_subscripts_by, held, hits, hits_other, hits_same, insert, inserted, int_at, is_closed, is_closed_mode, is_container_by, is_element_of, is_kept, is_read, is_scalar, is_write, map_only, may_insert, may_look, may_read_members, may_read_members_by, may_read_subscripts_by, may_retrieve, member_at, members_in, must, must_be_empty, must_have_type, ne_eqb, not-true, of_type_at, ok_or, one_read_more, option_and_then, option_flatten, over, passes, read_by, reads_closed_by, reads_closed_container, reads_closed_container_by, reads_closed_scalar, reads_member_of, requires_data, right_at, same_Some, same_scalar, scalar_itself, scalar_of, subscript_after, subscripts_at, subscripts_of, suits, value_at, value_in, with_member, with_result, write_by, writes_container_by}
 use Rattle.tw_types.specs.declared.data_type.Scalar.TheVariants as scalar
 use Rattle.tw_types.specs.declared.value.Value.TheVariants as value
 use Rattle.tw_types.specs.StoreCalls as store
@@ -10,7 +10,6 @@ use Rattle.tw_soundness.proofs.DataLeft.{Leaves, read_no_write}
 use Rattle.tw_soundness.proofs.DataMade.{put_context}
 use Rattle.tw_soundness.proofs.Long.{empty_there, free_there}
 use Rattle.tw_soundness.proofs.Registers.{At, Fits, Settles, Undisturbed, at_right, over-set, rights_set}
-use Rattle.tw_types.proofs.Subscripts.{content_kind}
 use Rattle.tw_soundness.proofs.Steps.{Goes, at_some, goes, goes_must, goes_then}
 use Rattle.tw_soundness.proofs.Values.{AllYes, declared_as, found_moves, has_type, int_there, value_found, value_there, values_set, passed, moves_by}
 

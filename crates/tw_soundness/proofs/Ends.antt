@@ -1,7 +1,6 @@
 -- A quiet end leaves only the outputs and their members; in a stuck state each rule waits for a datum that a rule may write.
 use Rattle.std.proofs.Common.{◌≡◌, ◌⊎◌, inl, inr, ℕ, zero, suc, ◌+◌, ◌<◌, ◌≤◌, ◌==◌, Bool, true, false, not, ◌&&◌, if◌then◌else◌, T, List, [], ◌∷◌, map, slice_get, length, Option, Some, None, refl, sym, ap, subst, ◌∙◌, arith, nat_cmp}
-use Rattle.tw_soundness.proofs.MachineNames.{Arg, Contains, Maps, Content, Datum, HasWriters, IsEntry, IsHeld, Notice, Procedure, RightArg, Rule, Set, State, Typings, Unset, ValueArg, Waiting, actor_cmp, and_parts, arg_at, balanced_none, balanced_some, cases_eq, count_of, depth_of, element_of, entries, entries_sorted, eq-eqb, eqb-false, eqb-true, frame_reads, frame_writes, get, get_entry, has_unasked, held_is_there, inside, is_closed, is_releasable, is_sorted, len, len-entries, list_any, nat_cmp-IsAntisymmetric, nat_cmp_total, not-true, notice_cmp, params_of, part, part-le-total, reads_of, rule_reads, rule_writes, same_Some, stage_at, subscripts_in, task_reads, task_writes, times_at, times_noticed, times_noticed_by, times_subscribed, times_waiting, total, values, writes_of}
-use Rattle.std.specs.FinMap.Entries.{below_all}
+use Rattle.tw_soundness.proofs.MachineNames.{Arg, Contains, Content, Datum, HasWriters, IsEntry, IsHeld, Maps, Notice, Procedure, RightArg, Rule, Set, State, Typings, Unset, ValueArg, Waiting, actor_cmp, and_parts, arg_at, balanced_none, balanced_some, below_all, cases_eq, count_of, depth_of, element_of, entries, entries_sorted, eq-eqb, eqb-false, eqb-true, first, frame_reads, frame_writes, get, get_entry, has_unasked, held_is_there, inside, is_closed, is_releasable, is_sorted, len, len-entries, list_any, nat_cmp-IsAntisymmetric, nat_cmp_total, not-true, notice_cmp, params_of, part, part-le-total, pending_of, pending_rules, reads_of, rule_reads, rule_writes, same_Some, second, stage_at, subscripts_in, task_reads, task_writes, times_at, times_noticed, times_noticed_by, times_subscribed, times_waiting, total, values, writes_of}
 use Rattle.std.specs.FinSet as set
 use Rattle.tw_types.specs.declared.ending.Ending.TheVariants.{Quiet, Stuck}
 use Rattle.tw_types.specs.declared.pending.Link.{Link}
@@ -9,9 +8,7 @@ use Rattle.tw_types.specs.declared.pending.Pending.{Pending}
 use Rattle.tw_types.specs.Circle.{IsCircle, circle_of, has_rule}
 use Rattle.tw_types.proofs.Depths.{element_depth}
 use Rattle.tw_types.proofs.Circles.{AreNumbered, IsBlocked, IsIn, circles_are_found}
-use Rattle.tw_types.proofs.Rising.{first, second}
 use Rattle.tw_code.specs.machine.Ending.{ending, has_idle_rules, is_quiet}
-use Rattle.tw_code.specs.machine.Pending.{pending_of, pending_rules}
 use Rattle.tw_soundness.specs.EndsWell.{EndsWell, IsBlockedRule, IsKept, LeavesOutputs, member, output}
 use Rattle.tw_soundness.proofs.Blocked.{IsFirstWaited, first_waited, written_there}
 use Rattle.tw_soundness.proofs.Entries.{entry_of, none_of, none_passes, not_below, some_part}

@@ -1,12 +1,7 @@
 -- A sum that isn't zero has a part that isn't; and each value in a finite map is one of its entries.
 use Rattle.std.proofs.Common.{◌≡◌, inl, inr, ℕ, ◌<◌, Bool, true, false, ◌||◌, cond, T, List, [], ◌∷◌, map, Some, refl, sym, ap, subst, ◌∙◌, arith}
-use Rattle.tw_soundness.proofs.MachineNames.{Equal-is, FinMap, IsAntisymmetric, IsEntry, IsTotalOrder, cases_eq, empty_of_len, entries, find, get, get-entries, get_entry, len, list_any, same_Some, tied_itself, total-empty}
-use Rattle.std.specs.declared.cmp.Ordering.{Ordering}
-use Rattle.std.specs.declared.cmp.Ordering.TheVariants.{Less}
-use Rattle.std.specs.FinMap.Entries.{below_all}
-use Rattle.std.specs.Ordering.{is_eq}
+use Rattle.tw_soundness.proofs.MachineNames.{Equal-is, FinMap, IsAntisymmetric, IsEntry, IsTotalOrder, Less, Ordering, below_all, cases_eq, empty_of_len, entries, find, first, get, get-entries, get_entry, is_eq, len, less, list_any, same_Some, second, tied_itself, total-empty}
 use Rattle.tw_types.specs.Totals.{sum_of, total}
-use Rattle.tw_types.proofs.Rising.{first, second, less}
 
 some_of : {K X : Type 0} (f : X → ℕ) (es : List (K × X)) → 0 < sum_of f es → (e : K × X) × IsEntry e es × (0 < f e.1)
 some_of f [] h = absurd (omega arith)

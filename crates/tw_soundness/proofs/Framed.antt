@@ -1,7 +1,6 @@
 -- Putting a task, a rule or a frame into a state.
 use Rattle.std.proofs.Common.{◌≡◌, ℕ, ◌+◌, List, slice_get, Some, None, sym, ap, subst, ◌∙◌, arith, inl, inr, nat_cmp}
-use Rattle.tw_soundness.proofs.MachineNames.{Actor, AreBegun, ArgsFit, BudgetsHeld, CountsHeld, Frame, IsBudget, NumbersHeld, Procedure, RightsFit, Rule, RuleArgsFit, IsAtPosition, State, Task, TypesHeld, Typings, ValuesFit, actor_cmp, actor_cmp-IsAntisymmetric, actor_cmp_total, balanced_same, before_removal, flows, frame_reads, frame_writes, get, nat_cmp-IsAntisymmetric, nat_cmp_total, put_or_before, remove, rule_reads, rule_writes, same_Some, task_reads, task_writes, typing_of, with_frame, with_rule, with_task}
-use Rattle.tw_budget.specs.Frames.{IsWithinBudget}
+use Rattle.tw_soundness.proofs.MachineNames.{Actor, AreBegun, ArgsFit, BudgetsHeld, CountsHeld, Frame, IsAtPosition, IsBudget, IsWithinBudget, NumbersHeld, Procedure, RightsFit, Rule, RuleArgsFit, State, Task, TypesHeld, Typings, ValuesFit, actor_cmp, actor_cmp-IsAntisymmetric, actor_cmp_total, balanced_same, before_removal, flows, frame_reads, frame_writes, get, nat_cmp-IsAntisymmetric, nat_cmp_total, put_or_before, remove, rule_reads, rule_writes, same_Some, task_reads, task_writes, typing_of, with_frame, with_rule, with_task}
 use Rattle.tw_soundness.proofs.Sums.{sum_apart, sum_new, sum_replaced}
 
 module _ (program : List Procedure) (typings : Typings) where

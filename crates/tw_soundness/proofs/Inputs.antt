@@ -1,18 +1,11 @@
 -- Each input of main makes a right store: its data are closed, with one read, which main holds.
 use Rattle.std.proofs.Common.{◌≡◌, ℕ, ◌+◌, ◌<◌, ◌≤◌, ◌⊎◌, inl, inr, Bool, true, false, if◌then◌else◌, List, [], ◌∷◌, fold, length, Some, None, refl, sym, ap, subst, ◌∙◌, arith}
-use Rattle.tw_soundness.proofs.MachineNames.{AreEntriesFor, closed_map, entered, is_map, is_map_of, map_with, Balanced, Contains, Datum, HaveWriters, Holds, Input, IsTypedStore, Mode, NestedScalar, Scalar, Store, Subscript, Value, added, added_given, and_parts, cases_eq, closed_scalar, container_of, count_of, data_insert_same, get, get-empty, hits, hits_other, hits_same, insert, insert_other, is_closed, is_short, nat_le, numbered, put_or_before, same_Some, same_scalar, same_type, same_types, scalar_itself, scalar_of, scalar_type, subscripts_in, tied_itself, total-empty, value_cmp, with_container, with_input}
-use Rattle.std.specs.declared.cmp.Ordering.TheVariants.{Less}
+use Rattle.tw_soundness.proofs.MachineNames.{AreEntriesFor, Balanced, Container, Contains, Datum, Entries, Given, HaveWriters, Holds, Input, IsTypedStore, Less, Mode, NestedScalar, Scalar, Single, Store, Subscript, Value, added, added_given, and_parts, are_entries, are_members, cases_eq, closed_map, closed_scalar, container_of, count_of, data_insert_same, entered, get, get-empty, given_by, given_for, has_sums, hits, hits_other, hits_same, insert, insert_other, is_closed, is_given_for, is_input_of, is_lt, is_map, is_map_of, is_short, map_with, members_by, nat_le, no_entries, numbered, one_more_entry, put_or_before, rises, rises_from, same_Some, same_scalar, same_type, same_types, scalar_itself, scalar_of, scalar_type, subscripts_in, tied_itself, total-empty, value_cmp, value_cmp-IsAntisymmetric, value_cmp_total, with_container, with_input}
 use Rattle.std.specs.FinMap as fin
-use Rattle.std.specs.Ordering.{is_lt}
 use Rattle.tw_types.specs.declared.data_type.Scalar.TheVariants as scalar
 use Rattle.tw_types.specs.declared.input.Input.TheVariants as input
 use Rattle.tw_types.specs.declared.value.Value.TheVariants as value
-use Rattle.tw_types.proofs.Subscripts.{no_entries, one_more_entry}
-use Rattle.tw_types.specs.DataType.{has_sums}
-use Rattle.tw_types.specs.Given.{Given, Single, Container, Entries, given_by, given_for, members_by}
-use Rattle.tw_types.proofs.ValueOrder.{value_cmp_total, value_cmp-IsAntisymmetric}
 use Rattle.tw_types.proofs.Orders.{below}
-use Rattle.tw_code.specs.machine.Inputs.{are_entries, are_members, is_given_for, is_input_of, rises, rises_from}
 use Rattle.tw_soundness.proofs.DataInsert.{count_total, values_insert}
 use Rattle.tw_soundness.proofs.Filling.{IsFilling, IsNext, added_filling, filled, filled_balanced, filled_typed, inside-le, not_yet, plain_next, undisturbed_added}
 use Rattle.tw_soundness.proofs.Registers.{Undisturbed, holds_undisturbed, undisturbed_after, undisturbed_itself}

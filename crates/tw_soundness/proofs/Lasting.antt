@@ -1,18 +1,13 @@
 -- The parts that an event keeps: data that were there keep their types and stay closed, the host keeps its outputs, and the
 -- numbers of running tasks are below the next one.
 use Rattle.std.proofs.Common.{◌≡◌, ℕ, ◌+◌, ◌<◌, ◌≤◌, List, [], ◌∷◌, slice_get, Some, inl, inr, refl, sym, ap, subst, ◌∙◌, arith}
-use Rattle.tw_soundness.proofs.MachineNames.{Actor, ActorCounts, Cause, Context, DataInstr, Datum, Event, Frame, Frames, Instr, IsHeld, Ok, Procedure, Result, State, Task, Typings, Went, WhereOk, WrongCall, actor_cmp-IsAntisymmetric, actor_cmp_total, before_removal, called, context_of, data_instr, filled, frame_of, get, insert, ok_both, ok_of, ok_there, put_called, put_or_before, same_Some, subscribed, values_in}
-use Rattle.tw_types.specs.declared.event.Event.TheVariants.{Take, Local, Call, End, Ask, Deliver, Release}
-use Rattle.tw_types.specs.declared.notice.Subscriber.{Subscriber}
-use Rattle.tw_types.proofs.Outcomes.{IfWent, if_both, if_ok, same_went, went_first, went_of}
+use Rattle.tw_soundness.proofs.MachineNames.{Actor, ActorCounts, Ask, Call, Cause, Context, DataInstr, Datum, Deliver, End, Event, Frame, Frames, IfWent, Instr, IsHeld, IsRunningAt, Local, Ok, Procedure, Release, Result, State, Subscriber, Take, Task, Typings, Went, WhereOk, WrongCall, actor_cmp-IsAntisymmetric, actor_cmp_total, ask_leaves, before_removal, best_waits, called, context_of, data_instr, deliver_leaves, end_leaves, filled, frame_of, get, if_both, if_ok, insert, is_running_at, local_leaves, ok_both, ok_of, ok_there, put_called, put_or_before, release_leaves, same_Some, same_went, subscribed, take_leaves, values_in, went_first, went_of}
 use Rattle.tw_code.specs.declared.instr.Instr.TheVariants as instr
 use Rattle.tw_code.specs.machine.Machine.{RunningInstr, call_by, call_event, run, running_instr_of, step}
-use Rattle.tw_code.proofs.Leaving.{IsRunningAt, ask_leaves, deliver_leaves, end_leaves, local_leaves, release_leaves, is_running_at, take_leaves}
 use Rattle.tw_soundness.proofs.AllEvents.{Accepted, step_keeps}
 use Rattle.tw_soundness.proofs.Registers.{Undisturbed, undisturbed_after, undisturbed_itself}
 use Rattle.tw_soundness.proofs.Stages.{subscribed_undisturbed}
 use Rattle.tw_soundness.proofs.Steps.{Goes, keeps_went}
-use Rattle.tw_types.proofs.Best.{best_waits}
 use Rattle.tw_soundness.proofs.Whole.{LeftSo}
 
 abbrev pub AreRunning : State → Type 0

@@ -1,10 +1,8 @@
 -- A typing has 16 registers, and so has the bank: a free register exists.
 use Rattle.std.proofs.Common.{◌≡◌, ℕ, zero, suc, ◌-◌, ◌<◌, ◌≤◌, Bool, true, false, if◌then◌else◌, List, [], ◌∷◌, map, length, replicate, slice_get, slice_set, Option, Some, None, refl, ap, ◌∙◌, arith, length-append}
-use Rattle.tw_soundness.proofs.MachineNames.{Completed, DataInstr, Instr, Param, Procedure, RightType, Rights, RightsFit, Skipped, Store, Typing, a_member_read, a_read, a_write, after, after_data, get_or, is_free, is_val, length-map, length-replicate, params_of, right_at, rights_given, slice_get-get_or, slice_get_within, start_typing, without_args}
-use Rattle.tw_code.specs.declared.flow.Way.{Way}
+use Rattle.tw_soundness.proofs.MachineNames.{Completed, DataInstr, Instr, IsWellTyped, Param, Procedure, RightType, Rights, RightsFit, Skipped, Store, Typing, Way, a_member_read, a_read, a_write, after, after_data, get_or, is_free, is_val, length-map, length-replicate, params_of, right_at, rights_given, slice_get-get_or, slice_get_within, start_typing, without_args}
 use Rattle.tw_code.specs.declared.instr.Instr.TheVariants as instr
 use Rattle.tw_code.specs.declared.instr.DataInstr.TheVariants as on_data
-use Rattle.tw_code.specs.accepting.WellTyped.{IsWellTyped}
 
 set_long : (typing : Typing) (k : ℕ) (o : Option RightType) → length (slice_set typing k o) ≡ length typing
 set_long [] k o = refl

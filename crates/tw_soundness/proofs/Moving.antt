@@ -1,18 +1,9 @@
 -- Where a task continues: in the loops that it has begun, within its budget, and with the typing of the place.
 use Rattle.std.proofs.Common.{◌≡◌, ℕ, zero, suc, ◌+◌, ◌<◌, ◌==◌, ◌⊎◌, inl, inr, List, [], ◌∷◌, length, slice_get, get_or, Some, None, refl, sym, ap, subst, ◌∙◌, arith, if◌then◌else◌}
-use Rattle.tw_soundness.proofs.MachineNames.{Accepts, AreBegun, Completed, Cursor, DataInstr, Instr, Loop, NotEnabled, Outcome, Position, Procedure, Skipped, IsAtPosition, Typing, after, requires_by_instr, requires_at, requires_params, data_flow, flow_of, flows, length-map, local_flow, local_of, local_step, local_steps, moved, onward, option_and_then, option_map, outcome_of, same_Some, slice_get-get_or, slice_get-map, slice_get_within, turned, with_last}
-use Rattle.tw_code.specs.declared.flow.Flow.{Flow}
-use Rattle.tw_code.specs.declared.flow.Flow.TheVariants.{Straight, Branch, Jump, Begin, Close, Stop}
-use Rattle.tw_code.specs.declared.flow.Way.{Way}
+use Rattle.tw_soundness.proofs.MachineNames.{Accepts, AreBegun, Begin, Branch, Close, Completed, Cursor, DataInstr, Flow, Instr, IsAtPosition, IsEndOf, IsWithinBudget, Jump, LocalInstr, Loop, LoopsFit, NotEnabled, Outcome, Position, Procedure, Skipped, Stop, Straight, Typing, Way, after, close_end, data_flow, end_goes_on, flow_of, flows, length-map, local_flow, local_instr, local_of, local_step, local_steps, moved, onward, option_and_then, option_map, outcome_of, requires_at, requires_by_instr, requires_params, same_Some, slice_get-get_or, slice_get-map, slice_get_within, stays_within, turned, with_last}
 use Rattle.tw_code.specs.declared.instr.DataInstr.TheVariants as on_data
-use Rattle.tw_code.specs.declared.instr.LocalInstr.{LocalInstr}
 use Rattle.tw_code.specs.declared.instr.Instr.TheVariants as instr
-use Rattle.tw_code.specs.machine.Local.{local_instr}
 use Rattle.tw_code.specs.accepting.Structure.{end_of}
-use Rattle.tw_code.specs.accepting.WellTyped.{IsEndOf}
-use Rattle.tw_budget.specs.Frames.{IsWithinBudget, LoopsFit}
-use Rattle.tw_budget.proofs.FrameTheorems.{stays_within, end_goes_on}
-use Rattle.tw_budget.proofs.Places.{close_end}
 use Rattle.tw_budget.proofs.Shortened.{shortens_within}
 use Rattle.tw_soundness.proofs.Steps.{Happens, Keeps, goes_happens, happens_keeps, keeps_more, waits_keeps}
 use Rattle.tw_soundness.proofs.Values.{AllYes, HasLoop, Moves, all_yes, left_too, local_moves, yes_after}

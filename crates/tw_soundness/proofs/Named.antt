@@ -1,10 +1,7 @@
 -- Subscribers and notices name exactly the parameters that wait, after any change of data, notices and rules.
 use Rattle.std.proofs.Common.{◌≡◌, ◌≢◌, ℕ, ◌+◌, ◌≤◌, inl, inr, Bool, true, false, if◌then◌else◌, [], Option, Some, None, refl, sym, ap, subst, ◌∙◌, arith}
-use Rattle.tw_soundness.proofs.MachineNames.{Data, Datum, Notice, Notices, RightArg, Rules, arg_at, cases_Bool, cases_eq, data_insert_other, data_insert_same, get, insert, is_closed, notices_of, part, same_Some, stage_at, subscribers_cleared, times_among, times_noticed, times_subscribed, times_waiting, total, with_notices}
+use Rattle.tw_soundness.proofs.MachineNames.{AreNamed, Data, Datum, Notice, Notices, RightArg, Rules, and_notified, arg_at, cases_Bool, cases_eq, data_insert_other, data_insert_same, get, insert, is_closed, noticed_alike, noticed_at, noticed_one, notices_of, notified_has, notified_keeps, notified_only, part, same_Some, silenced, stage_at, subscribed-le, subscribed_put, subscribers_cleared, times_among, times_noticed, times_subscribed, times_waiting, total, waits-le, with_notices}
 use Rattle.std.specs.FinSet as set
-use Rattle.tw_soundness.specs.Noticed.{AreNamed}
-use Rattle.tw_code.proofs.Sets.{notified_keeps, notified_has, notified_only}
-use Rattle.tw_code.proofs.Subscribed.{subscribed_put, subscribed-le, waits-le, noticed_at, noticed_one, noticed_alike, silenced, and_notified}
 use Rattle.tw_soundness.proofs.Sums.{same_bool, subscribed_same}
 
 -- ---- waiting parameters

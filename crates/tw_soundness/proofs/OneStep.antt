@@ -1,10 +1,8 @@
 -- Each running task has exactly one next step, which succeeds, and is below its budget.
 use Rattle.std.proofs.Common.{◌≡◌, ℕ, ◌+◌, inl, inr, true, false, List, slice_get, Some, None, is_none, refl, sym, ap, subst, ◌∙◌}
-use Rattle.tw_soundness.proofs.MachineNames.{◌>>=◌, ◌>>◌, Accepts, Actor, ActorCounts, Cause, Err, ExactlyOne, Frame, GivesState, HasOneStep, Instr, IsBelowBudget, IsHeld, NotEnabled, Ok, Outcome, Position, Procedure, Result, RightLeft, State, Trap, Typings, Went, after_context, requires_by_instr, called, context_of, data_instr, flows, get, frame_after_call, list_all, must, new_rule, number_in_kind, only_if, outcome_of, put_called, remove, typing_of, with_frame, with_rule, with_task}
+use Rattle.tw_soundness.proofs.MachineNames.{Accepts, Actor, ActorCounts, Cause, Err, ExactlyOne, Frame, GivesState, HasOneStep, Instr, IsBelowBudget, IsHeld, LocalInstr, NotEnabled, Ok, Outcome, Position, Procedure, Result, RightLeft, State, Trap, Typings, Went, after_context, below_budget, called, context_of, data_instr, flows, frame_after_call, get, list_all, must, new_rule, number_in_kind, only_if, outcome_of, put_called, remove, requires_by_instr, typing_of, with_frame, with_rule, with_task, ◌>>=◌, ◌>>◌}
 use Rattle.tw_code.specs.declared.instr.Instr.TheVariants as instr
-use Rattle.tw_code.specs.declared.instr.LocalInstr.{LocalInstr}
 use Rattle.tw_code.specs.machine.Machine.{RunningInstr, call_by, call_event, end_event, is_ret, local_event, local_of, local_step, local_steps, running_instr_of, step}
-use Rattle.tw_budget.proofs.FrameTheorems.{below_budget}
 use Rattle.tw_soundness.proofs.Accepted.{known, fits_place}
 use Rattle.tw_soundness.proofs.AllEvents.{Known, all_empty}
 use Rattle.tw_soundness.proofs.Called.{called_goes, put_goes}

@@ -1,10 +1,9 @@
 -- The invariant holds in the state in which main waits, for any inputs.
 use Rattle.std.proofs.Common.{◌≡◌, ℕ, ◌+◌, Bool, true, false, not, List, [], ◌∷◌, ◌++◌, length, map, filter, slice_get, Option, Some, None, refl, sym, ap, subst, ◌∙◌, arith, if◌then◌else◌, nat_cmp, inl, inr}
-use Rattle.tw_soundness.proofs.MachineNames.{Actor, AllByRecursion, Arg, ArgFits, ArgsFit, BalancedAt, BudgetsHeld, Closed, CountsHeld, Datum, Frame, Holds, Input, IsDataType, IsHeld, IsParam, IsTypeUnder, Mode, NestedScalar, NumbersHeld, Param, Procedure, Ref, RightArg, RightType, Rule, Store, Task, TypesHeld, Typings, Val, Write, actor_cmp, added, and_parts, append-nil, append_assoc, balanced_same, cases_eq, count_of, empty, eqb-true, frame_reads, frame_writes, get, get-empty, hits, hits_other, hits_same, id_of, insert, insert_other, insert_same, inside, is_closed_mode, is_control, is_flat, is_val, is_write, list_all, map-append, nat_cmp-IsAntisymmetric, nat_cmp_total, new_datum, not-true, output_rights, part, read_by, right_of, rule_reads, rule_writes, same_Some, subscripts_in, task_reads, task_writes, total, total-empty, total-insert, write_by}
+use Rattle.tw_soundness.proofs.MachineNames.{Actor, AllByRecursion, AreInputsOf, Arg, ArgFits, ArgsFit, BalancedAt, BudgetsHeld, Closed, CountsHeld, Datum, Frame, Holds, Input, IsDataType, IsHeld, IsParam, IsTypeUnder, Mode, NestedScalar, NumbersHeld, Param, Procedure, Ref, RightArg, RightType, Rule, Store, Task, TypesHeld, Typings, Val, Write, actor_cmp, added, and_parts, append-nil, append_assoc, are_inputs_of, balanced_same, cases_eq, count_of, empty, eqb-true, frame_reads, frame_writes, get, get-empty, hits, hits_other, hits_same, id_of, input_params, insert, insert_other, insert_same, inside, is_closed_mode, is_control, is_flat, is_input_of, is_val, is_write, list_all, map-append, nat_cmp-IsAntisymmetric, nat_cmp_total, new_datum, not-true, output_rights, part, read_by, right_of, rule_reads, rule_writes, same_Some, subscripts_in, task_reads, task_writes, total, total-empty, total-insert, write_by}
 use Rattle.std.proofs.lemmas.List.Elements.{filter-append}
 use Rattle.tw_types.specs.declared.data_type.Scalar.TheVariants as scalar
 use Rattle.tw_code.specs.accepting.MainShape.{has_main_shape, is_main_param}
-use Rattle.tw_code.specs.machine.Inputs.{AreInputsOf, are_inputs_of, input_params, is_input_of}
 use Rattle.tw_code.specs.machine.Opening.{Opened, main_task, nothing_opened, opened, opening, opening_of, with_given, with_input, with_output}
 use Rattle.tw_soundness.proofs.Asked.{opening_named}
 use Rattle.tw_soundness.proofs.DataNew.{new_content, new_writers, no_members}

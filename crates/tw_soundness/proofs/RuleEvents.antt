@@ -1,15 +1,12 @@
 -- Ask, Deliver and Release keep the invariant, and never trap.
 use Rattle.std.proofs.Common.{◌≡◌, ℕ, ◌==◌, true, false, ◌&&◌, nat_lt, List, slice_get, is_none, Option, Some, None, refl, sym, ap, subst, ◌∙◌, arith, inl, inr}
-use Rattle.tw_soundness.proofs.MachineNames.{ActorCounts, Arg, ArgFits, Datum, FreedDatum, IsHeld, Notice, Procedure, Ready, RightArg, Rule, State, Task, Typings, Unasked, ValueArg, Waiting, WrongCall, ask_event, asked, cases_Bool, deliver_event, get, id_in, is_closed, is_releasable, is_unasked, own_rule, ready_at, release_event, right_of, right_until, same_Some, server_of, with_stage}
+use Rattle.tw_soundness.proofs.MachineNames.{ActorCounts, Arg, ArgFits, Datum, FreedDatum, IsHeld, Notice, Procedure, Ready, RightArg, Rule, State, Subscriber, Task, Typings, Unasked, ValueArg, Waiting, WrongCall, ask_event, asked, cases_Bool, deliver_event, get, id_in, is_closed, is_releasable, is_unasked, own_rule, ready_at, release_event, right_of, right_until, same_Some, server_of, settled_waits, unasked, with_stage}
 use Rattle.std.specs.FinSet as set
 use Rattle.tw_types.specs.declared.actor.Actor.TheVariants.{Engine}
-use Rattle.tw_types.specs.declared.notice.Subscriber.{Subscriber}
 use Rattle.tw_soundness.proofs.Asked.{Noted, noted, named_staged, named_asked, named_delivered, named_released}
-use Rattle.tw_code.proofs.Staged.{settled_waits}
 use Rattle.tw_soundness.proofs.Wanted.{asked_is_there}
 use Rattle.tw_soundness.proofs.Stages.{fit_staged, made_ready, types_noticed, counts_noticed, numbers_staged, types_staged, counts_staged, numbers_released, types_released, counts_released, subscribed_to, types_subscribed, counts_subscribed}
 use Rattle.tw_soundness.proofs.Steps.{Keeps, there_keeps, keeps_more, enabled_keeps, only_if_keeps}
-use Rattle.tw_code.proofs.Leaving.{unasked}
 
 own_keeps : (engine number : ℕ) (s : State) → Keeps (own_rule engine number s) (λ rule. get s.rules number ≡ Some rule)
 own_keeps engine number s = only_if_keeps (is_none (get s.frames (Engine engine))) _ _ (λ _. enabled_keeps (get s.rules number) _ _ (λ rule e. only_if_keeps (rule.engine == engine) _ _ (λ _. e)))

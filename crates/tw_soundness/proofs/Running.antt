@@ -1,10 +1,6 @@
 -- Consequences of typings of rights for the code and for a running task: checks, results, and the content of its registers.
 use Rattle.std.proofs.Common.{[], ◌≡◌, ℕ, ◌+◌, ◌<◌, true, List, length, slice_get, Option, Some, None, refl, sym, ap, subst, ◌∙◌, arith}
-use Rattle.tw_soundness.proofs.MachineNames.{Accepts, Actor, AreRight, Completed, Datum, Frame, Instr, IsHeld, IsProgram, Position, Procedure, RightType, Rights, RightsFit, Skipped, IsAtPosition, State, Typing, Typings, Went, after, requires_by_instr, context_of, flow_of, flows, get, goal_of, is_closed, is_closed_mode, length-map, local_steps, onward, option_flatten, option_map, right_at, same_Some, slice_get-get_or, slice_get-map, slice_get_within, start_typing, typing_at, typing_of}
-use Rattle.tw_code.specs.declared.flow.Flow.{Flow}
-use Rattle.tw_code.specs.declared.flow.Flow.TheVariants.{Straight, Branch, Jump, Begin, Close, Stop}
-use Rattle.tw_code.specs.declared.flow.Way.{Way}
-use Rattle.tw_budget.proofs.Places.{no_rejections, not_last, stays}
+use Rattle.tw_soundness.proofs.MachineNames.{Accepts, Actor, AreRight, Begin, Branch, Close, Completed, Datum, Flow, Frame, Instr, IsAtPosition, IsHeld, IsProgram, Jump, Position, Procedure, RightType, Rights, RightsFit, Skipped, State, Stop, Straight, Typing, Typings, Way, Went, after, context_of, flow_of, flows, get, goal_of, is_closed, is_closed_mode, length-map, local_steps, no_rejections, not_last, onward, option_flatten, option_map, requires_by_instr, right_at, same_Some, slice_get-get_or, slice_get-map, slice_get_within, start_typing, stays, typing_at, typing_of}
 use Rattle.tw_budget.specs.Sound.{IsSound}
 use Rattle.tw_soundness.proofs.Accepted as acceptance
 use Rattle.tw_soundness.proofs.Live.{typed_where_held}

@@ -1,7 +1,6 @@
 -- Accepted programs don't trap.
 use Rattle.std.proofs.Common.{◌≡◌, ℕ, List, [], ◌∷◌, slice_get, Some}
-use Rattle.tw_soundness.proofs.MachineNames.{Accepts, ActorCounts, AreRight, Event, Input, IsHeld, IsProcedure, IsProgram, IsSafe, NoTrap, Procedure, State, Typings, Went, opening, reached, step}
-use Rattle.tw_code.specs.machine.Inputs.{AreInputsOf}
+use Rattle.tw_soundness.proofs.MachineNames.{Accepts, ActorCounts, AreInputsOf, AreRight, Event, Input, IsHeld, IsProcedure, IsProgram, IsSafe, NoTrap, Procedure, State, Typings, Went, opening, reached, step}
 use Rattle.tw_budget.proofs.Sound.{sound_flows}
 use Rattle.tw_soundness.proofs.Accepted.{accepted, all_found}
 use Rattle.tw_soundness.proofs.AllEvents.{run_keeps, step_keeps}

@@ -1,7 +1,6 @@
 -- Ask, Deliver and Release keep numbers, types and counts, and don't trap.
 use Rattle.std.proofs.Common.{◌≡◌, ℕ, zero, suc, Bool, true, false, if◌then◌else◌, List, [], ◌∷◌, slice_get, slice_set, Option, Some, None, refl, sym, ap, subst, ◌∙◌, arith, inl, inr, nat_cmp}
-use Rattle.tw_soundness.proofs.MachineNames.{Arg, ArgFits, ArgsFit, CountsHeld, Datum, Free, HasWriters, Notices, NumbersHeld, Param, Procedure, Ready, Ref, RightArg, RightType, Rule, RuleArgsFit, Stage, State, Store, Task, TypesHeld, Typings, Unasked, ValueArg, Waiting, and_parts, at_stage, balanced_same, balanced_some, before_removal, get, insert, is_asked_for, is_closed, is_settled, is_val, list_all, nat_cmp-IsAntisymmetric, nat_cmp_total, put_balanced, put_or_before, reads_of, remove, right_of, right_until, rule_reads, rule_writes, same_Some, task_from, task_reads, task_writes, typing_of, with_stage, with_subscriber, with_task, writes_of}
-use Rattle.tw_types.specs.declared.notice.Subscriber.{Subscriber}
+use Rattle.tw_soundness.proofs.MachineNames.{Arg, ArgFits, ArgsFit, CountsHeld, Datum, Free, HasWriters, Notices, NumbersHeld, Param, Procedure, Ready, Ref, RightArg, RightType, Rule, RuleArgsFit, Stage, State, Store, Subscriber, Task, TypesHeld, Typings, Unasked, ValueArg, Waiting, and_parts, at_stage, balanced_same, balanced_some, before_removal, get, insert, is_asked_for, is_closed, is_settled, is_val, list_all, nat_cmp-IsAntisymmetric, nat_cmp_total, put_balanced, put_or_before, reads_of, remove, right_of, right_until, rule_reads, rule_writes, same_Some, task_from, task_reads, task_writes, typing_of, with_stage, with_subscriber, with_task, writes_of}
 use Rattle.tw_soundness.proofs.Aging.{Aged, later_put}
 use Rattle.tw_soundness.proofs.Registers.{Undisturbed, holds_undisturbed, rights_kept, later_undisturbed, later_store}
 use Rattle.tw_soundness.proofs.Sums.{sum_apart, sum_new, sum_replaced}

@@ -1,7 +1,6 @@
 -- Each state that an accepted program reaches is in order, and its data live on.
 use Rattle.std.proofs.Common.{◌≡◌, List, [], ◌∷◌, sym, subst}
-use Rattle.tw_soundness.proofs.MachineNames.{ActorCounts, AreRight, Event, Input, IsProgram, LivesOn, Procedure, State, StaysInOrder, Typings, Went, opening, output_rights, reached, run}
-use Rattle.tw_code.specs.machine.Inputs.{AreInputsOf}
+use Rattle.tw_soundness.proofs.MachineNames.{ActorCounts, AreInputsOf, AreRight, Event, Input, IsProgram, LivesOn, Procedure, State, StaysInOrder, Typings, Went, opening, output_rights, reached, run}
 use Rattle.tw_code.proofs.Taken.{takes_once}
 use Rattle.tw_soundness.proofs.Accepted.{accepted}
 use Rattle.tw_soundness.proofs.Lasting.{AreRunning, Lasts, run_lasts}

@@ -1,7 +1,6 @@
 -- Sums over a finite map of a state, with one entry removed, replaced or new.
 use Rattle.std.proofs.Common.{◌≡◌, ℕ, ◌+◌, Bool, true, false, Some, None, refl, sym, subst, arith, nat_cmp}
-use Rattle.std.specs.declared.cmp.Ordering.{Ordering}
-use Rattle.tw_soundness.proofs.MachineNames.{Data, FinMap, IsAntisymmetric, IsTotalOrder, get, insert, nat_cmp-IsAntisymmetric, nat_cmp_total, part, remove, times_subscribed, total, total-insert, total-le, total-remove}
+use Rattle.tw_soundness.proofs.MachineNames.{Data, FinMap, IsAntisymmetric, IsTotalOrder, Ordering, get, insert, nat_cmp-IsAntisymmetric, nat_cmp_total, part, remove, times_subscribed, total, total-insert, total-le, total-remove}
 
 module _ {K X : Type 0} (R : K → K → Ordering) (o : IsTotalOrder R) (same : IsAntisymmetric R) where
   -- a sum with one entry taken apart

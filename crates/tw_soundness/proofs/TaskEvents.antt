@@ -1,10 +1,7 @@
 -- RULE, PUT and Take keep the invariant, and never trap.
 use Rattle.std.proofs.Common.{◌≡◌, ℕ, ◌+◌, ◌≤◌, Bool, true, false, ◌&&◌, List, [], map, length, slice_get, is_none, Option, Some, None, refl, sym, ap, subst, ◌∙◌, arith}
-use Rattle.tw_soundness.proofs.MachineNames.{◌>>=◌, Actor, ActorCounts, Called, Frame, IsBudget, IsHeld, Ok, Procedure, RightsFit, Rule, RuleArgsFit, RunningInstr, IsAtPosition, State, Task, Typing, Typings, Went, actor_cmp, actor_cmp-IsAntisymmetric, actor_cmp_total, and_parts, requires_action, at_next_place, balanced_same, best, called, context_of, count_of, first_rights, first_stage, flows, frame_of, frame_reads, frame_writes, get, frame_after_call, ids_in, is_in, new_rule, number_in_kind, outcome_of, over, params_in, params_of, put_called, put_event, read_by, remove, rule_event, rule_reads, rule_writes, start_typing, take_event, task_reads, task_writes, total, typing_at, typing_of, value_types, values_fit, values_in, with_frame, with_rule, with_task, without_args, write_by}
-use Rattle.tw_code.specs.declared.instr.Action.{Action}
-use Rattle.tw_budget.specs.Frames.{IsWithinBudget}
+use Rattle.tw_soundness.proofs.MachineNames.{Action, Actor, ActorCounts, Called, Frame, IsAtPosition, IsBudget, IsHeld, IsWithinBudget, Ok, Procedure, RightsFit, Rule, RuleArgsFit, RunningInstr, State, Task, Typing, Typings, Went, actor_cmp, actor_cmp-IsAntisymmetric, actor_cmp_total, and_parts, at_next_place, balanced_same, best, best_waits, called, context_of, count_of, first_rights, first_stage, first_waits, flows, frame_after_call, frame_of, frame_reads, frame_writes, get, ids_in, is_in, new_rule, number_in_kind, outcome_of, over, params_in, params_of, put_called, put_event, read_by, remove, requires_action, rule_event, rule_reads, rule_writes, start_typing, take_event, task_reads, task_writes, total, typing_at, typing_of, value_types, values_fit, values_in, with_frame, with_rule, with_task, without_args, write_by, ◌>>=◌}
 use Rattle.tw_soundness.proofs.Over.{over_params}
-use Rattle.tw_code.proofs.Staged.{first_waits}
 use Rattle.tw_soundness.proofs.Asked.{named_new}
 use Rattle.tw_soundness.proofs.Called.{CalledSo, called_goes, put_goes}
 use Rattle.tw_soundness.proofs.Framed.{types_tasked, numbers_tasked, types_ruled, numbers_ruled, types_untasked, numbers_untasked, types_framed, budgets_framed, counts_put, counts_rule, counts_took}
@@ -12,7 +9,6 @@ use Rattle.tw_soundness.proofs.Given.{put_fit, rule_fit}
 use Rattle.tw_soundness.proofs.Values.{AllYes}
 use Rattle.tw_soundness.proofs.Registers.{Fits}
 use Rattle.tw_soundness.proofs.Steps.{Keeps, goes_keeps, ok_keeps, enabled_keeps, only_if_keeps}
-use Rattle.tw_types.proofs.Best.{best_waits}
 use Rattle.tw_soundness.proofs.Taking.{args_values, filled_fits, over_start, start_fits}
 use Rattle.tw_soundness.proofs.Sums.{sum_apart}
 

@@ -1,8 +1,7 @@
 -- The facts that a scheduling step needs: an instruction of a running task succeeds, a task starts, and what an engine asks for is a read.
 use Rattle.std.proofs.Common.{◌≡◌, ℕ, ◌+◌, ◌<◌, List, slice_get, Some, sym, ap, ◌∙◌, arith}
-use Rattle.tw_soundness.proofs.MachineNames.{Actor, AreRight, Context, DataInstr, Frame, IsHeld, IsProgram, Ok, Position, Procedure, State, Typings, Went, context_of, data_instr, flows, get, greatest_budget, local_steps, same_Some}
+use Rattle.tw_soundness.proofs.MachineNames.{Actor, AreRight, Context, DataInstr, Frame, IsHeld, IsProgram, Ok, Position, Procedure, State, Typings, Went, below_budget, context_of, data_instr, flows, get, greatest_budget, local_steps, same_Some}
 use Rattle.tw_code.specs.declared.instr.Instr.TheVariants as instr
-use Rattle.tw_budget.proofs.FrameTheorems.{below_budget}
 use Rattle.tw_soundness.proofs.Accepted as acceptance
 use Rattle.tw_soundness.proofs.Conditions.{goes_ok}
 use Rattle.tw_soundness.proofs.Running.{steps_position}

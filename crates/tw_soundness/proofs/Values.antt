@@ -1,18 +1,12 @@
 -- The local instructions succeed if their checks hold, and keep the types of the values.
 use Rattle.std.proofs.Common.{◌≡◌, ℕ, zero, suc, Bool, true, false, List, [], ◌∷◌, ◌++◌, length, ℤ, pos, slice_get, slice_set, Option, Some, None, refl, sym, ap, subst, ◌∙◌, inl, inr, ◌⊎◌, if◌then◌else◌, bytes_eq}
-use Rattle.tw_soundness.proofs.MachineNames.{Completed, Cursor, Loop, NoLoop, Ok, Position, Question, Scalar, Skipped, Value, ValuesFit, WrongRegister, after_end, requires_alike, requires_local, requires_value, requires_values, at_goal, at_next_place, int_at, int_in, int_lt, local_flow, moved, must_have_type, of_type_at, ok_or, option_map, passes, rejection_in, same_scalar, same_scalars, scalar_itself, scalar_of, text_at, text_in, value_at, with_last, with_result, with_value}
+use Rattle.tw_soundness.proofs.MachineNames.{Begin, Branch, Close, Completed, Cursor, Flow, Jump, LocalInstr, Loop, NoLoop, Ok, Position, Question, Scalar, Skipped, Straight, Value, ValuesFit, Way, WrongRegister, after_end, at_goal, at_next_place, int_at, int_eq, int_in, int_lt, int_shown_as, is_before, joined, local_flow, local_instr, moved, must_have_type, of_type_at, ok_or, option_map, passes, rejection_in, requires_alike, requires_local, requires_value, requires_values, result_of, same_scalar, same_scalars, same_value, scalar_itself, scalar_of, scaled, text_at, text_in, value_at, with_last, with_result, with_value}
 use Rattle.std.specs.Fmt.{signed_decimal}
-use Rattle.std.specs.Ordering.{int_eq}
 use Rattle.tw_types.specs.declared.data_type.Scalar.TheVariants as scalar
 use Rattle.tw_types.specs.declared.value.Value.TheVariants as value
-use Rattle.tw_code.specs.declared.flow.Flow.{Flow}
-use Rattle.tw_code.specs.declared.flow.Flow.TheVariants.{Straight, Branch, Jump, Begin, Close}
-use Rattle.tw_code.specs.declared.flow.Way.{Way}
 use Rattle.tw_code.specs.declared.instr.Arithmetic.{Arithmetic}
-use Rattle.tw_code.specs.declared.instr.LocalInstr.{LocalInstr}
 use Rattle.tw_code.specs.declared.instr.Sought.{Sought}
 use Rattle.tw_code.specs.declared.instr.LocalInstr.TheVariants as local
-use Rattle.tw_code.specs.machine.Local.{int_shown_as, is_before, joined, local_instr, result_of, same_value, scaled}
 use Rattle.tw_code.specs.machine.Texts.{byte_of, part_of, found}
 use Rattle.tw_soundness.proofs.Steps.{Goes, goes, goes_then, at_some}
 

@@ -1,8 +1,7 @@
 -- The three events of a running task keep the invariant, and never trap, if its step is one that the typing allows.
 use Rattle.std.proofs.Common.{◌≡◌, ℕ, ◌+◌, ◌<◌, true, List, slice_get, Some, refl, sym, ap, subst, ◌∙◌, arith}
-use Rattle.tw_soundness.proofs.MachineNames.{◌>>=◌, Actor, Cause, Context, CountsHeld, DataInstr, Datum, Err, Frame, Instr, IsHeld, Ok, Outcome, Procedure, Result, RightType, Scalar, RunningInstr, IsAtPosition, State, TypesHeld, Typing, Typings, Went, actor_cmp, actor_cmp-IsAntisymmetric, actor_cmp_total, after_context, requires_by_instr, requires_data, at_next_place, balanced_same, call_by, call_event, context_of, data_instr, frame_reads, frame_writes, get, insert, is_write, ok_of, option_flatten, outcome_of, params_of, right_at, same_Some, running_instr_of, total, typing_at, typing_of, without_args, writes}
+use Rattle.tw_soundness.proofs.MachineNames.{Action, Actor, Cause, Context, CountsHeld, DataInstr, Datum, Err, Frame, Instr, IsAtPosition, IsHeld, Ok, Outcome, Procedure, Result, RightType, RunningInstr, Scalar, State, TypesHeld, Typing, Typings, Went, actor_cmp, actor_cmp-IsAntisymmetric, actor_cmp_total, after_context, at_next_place, balanced_same, call_by, call_event, context_of, data_instr, frame_reads, frame_writes, get, insert, is_write, ok_of, option_flatten, outcome_of, params_of, requires_by_instr, requires_data, right_at, running_instr_of, same_Some, total, typing_at, typing_of, without_args, writes, ◌>>=◌}
 use Rattle.tw_code.specs.declared.instr.DataInstr.TheVariants as on_data
-use Rattle.tw_code.specs.declared.instr.Action.{Action}
 use Rattle.tw_code.specs.declared.instr.Instr.TheVariants as instr
 use Rattle.tw_soundness.proofs.DataNamed.{HasWriter, data_named}
 use Rattle.tw_soundness.proofs.Framed.{types_framed, budgets_framed}

@@ -1,25 +1,4 @@
-use Rattle.std.proofs.Common.{[], ◌≡◌, ◌≢◌, ◌≤◌, ◌%◌, ℕ, Bool, true, false, cond, List, length, map, refl, sym, ap, subst, ◌∙◌, get_or, IfSome, IfNone, IsSome, Some, None, IfOk, OnErr, OnOk, is_some, option_map, arith, inl, inr, ◌⊎◌}
-use Rattle.std.proofs.lemmas.List.{length-map}
-use Rattle.std.specs.declared.option.Option.{Option}
-use Rattle.std.specs.declared.result.Result.{Result}
-use Rattle.std.specs.declared.result.Result.TheVariants.{Ok, Err}
-use Rattle.std.specs.FinMap.{get}
-use Rattle.slab.specs.Slab.{Slab}
-use Rattle.tw_types.specs.Store.{Datum, Store, is_closed, notice_to}
-use Rattle.tw_types.specs.StoreCalls.{changed, store_after, notices_after, set_to, one_write_less, count_in, entries_in, entry_at, members_in, member_at, size_at, subscripts_at, subscripts_of, value_at, value_in}
-use Rattle.tw_types.specs.declared.notice.Notice.{Notice}
-use Rattle.tw_types.specs.declared.notice.Subscriber.{Subscriber}
-use Rattle.tw_types.specs.declared.value.Value.{Value}
-use Rattle.tw_types.specs.ValueOrder.{Subscript}
-use Rattle.tw_rights.specs.Rights.{Right}
-use Rattle.tw_types.specs.Room.{HasReadRoom}
-use Rattle.tw_store.specs.Calls.{HasMemberRoom}
-use Rattle.tw_store.specs.declared.member.Member.{Member}
-use Rattle.tw_store.specs.declared.slot.Slot.{Slot}
-use Rattle.tw_store.specs.Placed.{PlacedDatum}
-use Rattle.tw_store.specs.Parts.{HaveOtherRoom, HaveRoom, Queues, data_room_of, served_of, notices_in, rooms_in}
-use Rattle.tw_store.specs.Served.{Served, IsHere, IsNow, IsLeft, IsUnchanged, KeepsOtherRooms, KeepsPlaces, queued, waiting_for, HasNoticeRoom}
-use Rattle.tw_store.specs.Slots.{Slots, IsAtPlace, AreSeated, live_of, places_of, datum_in, place_in, Remains, IsChanged, IsChangedAt, IsSettled}
+use Rattle.tw_store.proofs.Names.{AreSeated, Bool, Datum, Err, HasMemberRoom, HasNoticeRoom, HasReadRoom, HaveOtherRoom, HaveRoom, IfNone, IfOk, IfSome, IsAtPlace, IsChanged, IsChangedAt, IsHere, IsLeft, IsNow, IsSettled, IsSome, IsUnchanged, KeepsOtherRooms, KeepsPlaces, List, Member, None, Notice, Ok, OnErr, OnOk, Option, PlacedDatum, Queues, Remains, Result, Right, Served, Slab, Slot, Slots, Some, Store, Subscriber, Subscript, Value, [], ap, arith, changed, cond, count_in, data_room_of, datum_in, entries_in, entry_at, false, get, get_or, inl, inr, is_closed, is_some, length, length-map, live_of, map, member_at, members_in, notice_to, notices_after, notices_in, one_write_less, option_map, place_in, places_of, queued, refl, rooms_in, served_of, set_to, size_at, store_after, subscripts_at, subscripts_of, subst, sym, true, value_at, value_in, waiting_for, ℕ, ◌%◌, ◌∙◌, ◌≡◌, ◌≢◌, ◌≤◌, ◌⊎◌}
 use Rattle.tw_store.proofs.Shown.{seat_of, search_slots, get_nowhere, IsFoundAt, IsNowhere}
 use Rattle.tw_store.proofs.Roomy.{rooms_kept, rooms_left, same_room, same_rooms}
 use Rattle.tw_store.proofs.Remain.{apart_left, live_at, of_some, place_at, place_leaves, place_stays, seated_left, some_is}

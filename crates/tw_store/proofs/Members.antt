@@ -1,18 +1,6 @@
 -- Members of a container that the store returned, and the places of their data.
-use Rattle.std.proofs.Common.{◌≡◌, ◌≢◌, ℕ, sym, ap, subst, ◌∙◌, get_or, inl, inr, ◌⊎◌, IfSome, IfNone, Some, None}
-use Rattle.std.specs.declared.option.Option.{Option}
+use Rattle.tw_store.proofs.Names.{AreSeated, IfNone, IfSome, IsSlotOf, KnowsPlaces, Member, None, Option, PlacedDatum, Queues, Served, Slab, Slot, Some, Subscript, ap, datum_if, datum_in, get, get_or, inl, inr, live_of, option_copied, places_of, served_of, subst, sym, ℕ, ◌∙◌, ◌≡◌, ◌≢◌, ◌⊎◌}
 use Rattle.std.specs.Borrow.{Bor}
-use Rattle.std.specs.Option.{option_copied}
-use Rattle.std.specs.FinMap.{get}
-use Rattle.slab.specs.Slab.{Slab}
-use Rattle.tw_types.specs.ValueOrder.{Subscript}
-use Rattle.tw_datum.specs.Kept.{datum_if}
-use Rattle.tw_store.specs.declared.member.Member.{Member}
-use Rattle.tw_store.specs.declared.slot.Slot.{Slot}
-use Rattle.tw_store.specs.Placed.{PlacedDatum}
-use Rattle.tw_store.specs.Parts.{Queues, served_of}
-use Rattle.tw_store.specs.Served.{Served, KnowsPlaces}
-use Rattle.tw_store.specs.Slots.{AreSeated, IsSlotOf, datum_in, live_of, places_of}
 use Rattle.tw_store.proofs.Remain.{live_at, of_some, place_at}
 use Rattle.tw_store.proofs.Shown.{IsFoundAt, IsNowhere, get_nowhere, search_slots, seat_of}
 

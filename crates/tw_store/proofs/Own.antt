@@ -1,16 +1,7 @@
 -- Each notice is in the queue of its datum's server.
-use Rattle.std.proofs.Common.{◌≡◌, ◌<◌, ◌%◌, ◌++◌, ℕ, zero, List, [], ◌∷◌, sym, ap, subst, ◌∙◌, arith, get_or, set, drop, length, map, inl, inr, Contains, IfSome, slice_get}
-use Rattle.std.specs.declared.option.Option.{Option}
+use Rattle.tw_store.proofs.Names.{AreOwn, Contains, Contains-cons, Contains-cons_cases, IfSome, List, Notice, Option, Queues, Subscriber, [], ap, arith, drop, eqb_tells, get_or, get_or-set_other, get_or-set_same, inl, inr, length, length-map, length-set, map, notice_to, notices_in, queued, set, slice_get, subst, sym, zero, ℕ, ◌%◌, ◌++◌, ◌<◌, ◌∙◌, ◌∷◌, ◌≡◌}
 use Rattle.std.specs.declared.option.Option.TheVariants.{None, Some}
-use Rattle.std.proofs.lemmas.Bool.Decides.{eqb_tells}
-use Rattle.std.proofs.lemmas.List.{get_or-set_same, get_or-set_other, length-map, length-set}
 use Rattle.std.proofs.lemmas.List.Elements.{Contains-append_cases}
-use Rattle.slab.proofs.SlabLemmas.{Contains-cons, Contains-cons_cases}
-use Rattle.tw_types.specs.declared.notice.Notice.{Notice}
-use Rattle.tw_types.specs.declared.notice.Subscriber.{Subscriber}
-use Rattle.tw_types.specs.Store.{notice_to}
-use Rattle.tw_store.specs.Parts.{Queues, notices_in}
-use Rattle.tw_store.specs.Served.{AreOwn, queued}
 
 nothing : (n : Notice) → Contains [] n → ⊥
 nothing n c = omega (arith, c.1)

@@ -1,24 +1,11 @@
 -- Slots of which some are left, and facts on them that stay true.
 use Rattle.std.proofs.Common.{[], ◌≡◌, ◌≢◌, ◌<◌, ◌+◌, ◌-◌, ℕ, suc, zero, Bool, true, false, cond, List, ◌∷◌, refl, sym, ap, subst, ◌∙◌, arith, get_or, set, inl, inr, fold, IfSome, IsSome, Result, Ok, Err}
-use Rattle.std.specs.declared.option.Option.{Option}
+use Rattle.tw_store.proofs.Names.{AllAt, AreApart, AreSeated, Datum, IsAt, IsChanged, IsChangedAt, IsInsertedAt, IsMemberAdded, IsSettled, Member, Option, PlacedDatum, PlacedMembers, Remains, Slot, Slots, Subscript, WasThere, changed_is, datum_in, drop_absent, drop_held, drop_last, drop_lowest, drop_read_within, drop_unread, eq_by_cmp, eqb_tells, get, get-insert, id_of, insert, is_unheld, live_of, members_in, members_of, place_in, places_of, remove, same, settled, settled_gone, settled_held, subscribers_cleared, value_cmp, with_kept_member, with_member}
 use Rattle.std.specs.declared.option.Option.TheVariants.{None, Some}
-use Rattle.std.proofs.lemmas.Bool.Decides.{eqb_tells}
-use Rattle.std.specs.Ordering.{eq_by_cmp}
-use Rattle.tw_types.specs.ValueOrder.{Subscript, value_cmp}
 use Rattle.tw_types.proofs.ValueOrder.{value_cmp_total}
 use Rattle.std.specs.FinMap as map
-use Rattle.std.specs.FinMap.{get, insert, remove, get-insert}
-use Rattle.tw_types.specs.Store.{Datum, drop_read_within, settled, is_unheld, members_of, subscribers_cleared}
-use Rattle.tw_types.specs.StoreCalls.{with_member, members_in}
-use Rattle.tw_store.specs.declared.member.Member.{Member}
-use Rattle.tw_store.specs.declared.slot.Slot.{Slot}
-use Rattle.tw_datum.specs.Kept.{with_kept_member, IsMemberAdded}
-use Rattle.tw_store.specs.Placed.{PlacedDatum, PlacedMembers, id_of}
-use Rattle.tw_store.specs.Slots.{Slots, live_of, places_of, datum_in, place_in, AreApart, IsAt, AllAt, AreSeated, WasThere, Remains, IsChanged, IsChangedAt, IsInsertedAt, IsSettled}
 use Rattle.tw_store.proofs.Shown.{map_of, get_shown, get_nowhere, search_slots, same_slot, no_slot, shown_put, shown_gone, apart_put, set_there, set_others, seat_of, IsSeat}
-use Rattle.tw_types.proofs.Settled.{changed_is, same, settled_gone, settled_held}
 use Rattle.tw_store.proofs.Live.{after_is}
-use Rattle.tw_types.proofs.Drops.{drop_absent, drop_unread, drop_held, drop_lowest, drop_last}
 
 -- ---- data that are left
 

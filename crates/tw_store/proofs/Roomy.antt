@@ -1,14 +1,5 @@
 -- Reserved memory is still there.
-use Rattle.std.proofs.Common.{◌≡◌, ◌≢◌, ◌<◌, ◌≤◌, ◌+◌, ℕ, sym, ap, subst, ◌∙◌, arith, get_or, set, length, inl, inr}
-use Rattle.std.specs.declared.collections.VecDeque.{VecDeque}
-use Rattle.std.specs.declared.alloc.Global.{Global}
-use Rattle.std.proofs.lemmas.Bool.Decides.{eqb_tells}
-use Rattle.std.proofs.lemmas.List.{map-set, get_or-map, length-map, get_or-set_same, get_or-set_other}
-use Rattle.slab.specs.Slab.{Slab}
-use Rattle.tw_types.specs.declared.notice.Notice.{Notice}
-use Rattle.tw_store.specs.declared.slot.Slot.{Slot}
-use Rattle.tw_store.specs.Parts.{HaveOtherRoom, HaveRoom, Queues, data_room_of, room_of, rooms_in, served_of}
-use Rattle.tw_store.specs.Served.{KeepsOtherRooms, KeepsRooms, Served}
+use Rattle.tw_store.proofs.Names.{Global, HaveOtherRoom, HaveRoom, KeepsOtherRooms, KeepsRooms, Notice, Queues, Served, Slab, Slot, VecDeque, ap, arith, data_room_of, eqb_tells, get_or, get_or-map, get_or-set_other, get_or-set_same, inl, inr, length, length-map, map-set, room_of, rooms_in, served_of, set, subst, sym, ℕ, ◌+◌, ◌<◌, ◌∙◌, ◌≡◌, ◌≢◌, ◌≤◌}
 
 -- ---- notices
 

@@ -1,14 +1,7 @@
 -- The slots seen as maps, by what is at each place.
-use Rattle.std.proofs.Common.{[], ◌≡◌, ◌≢◌, ◌<◌, ◌+◌, ℕ, suc, zero, true, false, cond, List, ◌∷◌, refl, sym, ap, ◌∙◌, arith, get_or, set, inl, inr, ◌⊎◌}
-use Rattle.std.specs.declared.option.Option.{Option}
+use Rattle.tw_store.proofs.Names.{AreApart, FinMap, List, Option, Slot, [], ap, arith, cond, eq_by_cmp, eqb_tells, false, find, from_entries, get, get-from_entries, get-insert, get-remove, get_or, inl, inr, insert, nat_cmp, nat_cmp-IsAntisymmetric, nat_cmp_total, place_in, places_of, refl, remove, same_map, set, shown, suc, sym, true, zero, ℕ, ◌+◌, ◌<◌, ◌∙◌, ◌∷◌, ◌≡◌, ◌≢◌, ◌⊎◌}
 use Rattle.std.specs.declared.option.Option.TheVariants.{None, Some}
-use Rattle.std.specs.Ordering.{nat_cmp, eq_by_cmp}
-use Rattle.std.specs.Cmp.{nat_cmp_total}
-use Rattle.std.proofs.lemmas.Bool.Decides.{eqb_tells}
-use Rattle.std.specs.FinMap.{FinMap, nat_cmp-IsAntisymmetric, get, insert, remove, from_entries, get-insert, get-remove, get-from_entries, same_map, find}
 use Rattle.tw_types.proofs.Orders.{other_key, own_key}
-use Rattle.tw_store.specs.declared.slot.Slot.{Slot}
-use Rattle.tw_store.specs.Slots.{shown, AreApart, places_of, place_in}
 
 pub same_slot : (e f : Slot) → Some e ≡ Some f → e ≡ f
 same_slot e f h = cc

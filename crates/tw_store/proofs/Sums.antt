@@ -1,17 +1,7 @@
 -- Sums over the slots are sums over the live data.
 use Rattle.std.proofs.Common.{[], ◌≡◌, ◌<◌, ◌+◌, ◌-◌, ◌^◌, ℕ, suc, zero, List, ◌∷◌, Option, Some, None, min, refl, sym, ap, ◌∙◌, arith}
-use Rattle.std.specs.Ordering.{nat_cmp}
-use Rattle.std.specs.Cmp.{nat_cmp_total}
-use Rattle.std.specs.FinMap.{from_entries, get, get-from_entries}
-use Rattle.std.specs.List.{sum_by}
-use Rattle.std.proofs.lemmas.List.Sums.{sum_by-cons}
-use Rattle.slab.specs.Slab.{entries_from}
-use Rattle.tw_types.specs.Store.{Datum}
+use Rattle.tw_store.proofs.Names.{AreApart, Datum, Slot, capped, datum_in, entries_from, from_entries, get, get-from_entries, live_of, nat_cmp, nat_cmp_total, shown, sum_by, sum_by-cons, total-empty, total-insert}
 use Rattle.tw_types.specs.Totals.{sum_of, total}
-use Rattle.tw_types.proofs.Totals.{total-empty, total-insert}
-use Rattle.tw_store.specs.Amounts.{capped}
-use Rattle.tw_store.specs.Slots.{AreApart, datum_in, live_of, shown}
-use Rattle.tw_store.specs.declared.slot.Slot.{Slot}
 use Rattle.tw_store.proofs.Shown.{find_none}
 
 apart_rest : (a : Option Slot) (slots : List (Option Slot)) → AreApart (a ∷ slots) → AreApart slots

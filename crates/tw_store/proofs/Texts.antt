@@ -1,20 +1,9 @@
 -- The bytes of a datum's texts, up to a place.
-use Rattle.std.proofs.Common.{◌≡◌, ◌≤◌, ◌+◌, ◌-◌, ◌^◌, ℕ, List, [], ◌∷◌, Some, None, inl, inr, length, min, option_map, slice_get, take, ap, sym, ◌∙◌, refl, arith}
+use Rattle.tw_store.proofs.Names.{FinMap, List, None, Option, Some, Value, [], ap, arith, capped, count_in, entries_in, inl, inr, len-empty, len-entries, length, length-map, min, option_map, part, refl, slice_get, slice_get_cases, subscripts_of, sum_by, sum_by-cons, sum_by_more, sym, take, take_all, text_bytes, text_bytes_if, value_cmp, value_in, ℕ, ◌+◌, ◌-◌, ◌^◌, ◌∙◌, ◌∷◌, ◌≡◌, ◌≤◌}
 use Rattle.std.specs.declared.cmp.Ordering.{Ordering}
-use Rattle.std.specs.declared.option.Option.{Option}
 use Rattle.std.specs.FinMap as map
-use Rattle.std.specs.FinMap.{FinMap, len-empty, len-entries}
-use Rattle.std.specs.List.{sum_by}
-use Rattle.std.proofs.lemmas.List.{length-map, take_all}
-use Rattle.std.proofs.lemmas.List.Sums.{sum_by-cons, sum_by_more}
-use Rattle.std.proofs.lemmas.Option.{slice_get_cases}
-use Rattle.tw_types.specs.declared.value.Value.{Value}
 use Rattle.tw_types.specs.Store.{Content, Unset, Set, Contains, Maps}
-use Rattle.tw_types.specs.StoreCalls.{count_in, entries_in, subscripts_of, value_in}
 use Rattle.tw_types.specs.Totals.{sum_of, total}
-use Rattle.tw_types.specs.ValueOrder.{value_cmp}
-use Rattle.tw_types.proofs.Totals.{part}
-use Rattle.tw_store.specs.Amounts.{capped, text_bytes, text_bytes_if}
 
 -- ---- sums over a list, element by element
 

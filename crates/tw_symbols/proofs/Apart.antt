@@ -1,19 +1,7 @@
 -- Registers that are listed or made in one procedure differ.
-use Rattle.std.proofs.Common.{[], ◌≡◌, ◌==◌, ◌<◌, ◌≤◌, ℕ, zero, suc, ◌+◌, Bool, true, false, cond, List, ◌∷◌, ◌++◌, Option, Some, None, Ok, Err, refl, sym, ap, subst, ◌∙◌, arith}
-use Rattle.std.specs.Prelude.{◌&&◌, ◌||◌}
-use Rattle.std.specs.Option.{option_map_or}
-use Rattle.std.proofs.lemmas.Bool.Decides.{nat_tests}
-use Rattle.std.proofs.lemmas.Bool.{eqb-true}
-use Rattle.tw_symbols.proofs.TextNames.{Line, Names, Procedures, Expanded, Table, flat_map, name_register, nat_lt, no_names, pieces, procedures_of, slice_get, expanded_taken}
-use Rattle.tw_symbols.specs.Answers.{lists_entry}
-use Rattle.tw_symbols.specs.Theorems.{NamesDiffer}
-use Rattle.tw_symbols.specs.Meanings.{above, is_listed, is_origin, lists}
-use Rattle.tw_symbols.specs.Registers.{names_after_line, registers_at, names_then}
-use Rattle.tw_symbols.specs.declared.meaning.Bank.{Bank}
+use Rattle.tw_symbols.proofs.TextNames.{Bank, Binding, Bool, Err, Expanded, Line, List, Names, NamesDiffer, None, Ok, Option, Origin, Procedures, Some, Table, [], above, ap, arith, cond, eqb-true, expanded_taken, false, flat_map, is_listed, is_origin, lists, lists_entry, name_register, names_after_line, names_then, nat_lt, nat_tests, no_names, option_map_or, pieces, procedures_of, refl, registers_at, slice_get, subst, suc, sym, true, zero, ℕ, ◌&&◌, ◌++◌, ◌+◌, ◌<◌, ◌==◌, ◌||◌, ◌∙◌, ◌∷◌, ◌≡◌, ◌≤◌}
 use Rattle.tw_symbols.specs.declared.meaning.Bank.TheVariants as bank
-use Rattle.tw_symbols.specs.declared.meaning.Origin.{Origin}
 use Rattle.tw_symbols.specs.declared.meaning.Origin.TheVariants as origin
-use Rattle.tw_symbols.specs.declared.meaning.Binding.{Binding}
 use Rattle.tw_symbols.specs.declared.meaning.Binding.TheVariants as binding
 use Rattle.tw_symbols.proofs.ListedNames.{found, or_again, or_none}
 use Rattle.tw_symbols.proofs.NameSteps.{IsStep, head_step, taken_step}

@@ -1,7 +1,5 @@
 -- Lines without words.
-use Rattle.std.proofs.Common.{[], ◌≡◌, ℕ, true, List, ◌∷◌, refl}
-use Rattle.tw_symbols.proofs.TextNames.{IsTaken, Worded}
-use Rattle.tw_symbols.specs.Answers.{is_plainly_blank}
+use Rattle.tw_symbols.proofs.TextNames.{IsTaken, List, Worded, [], is_plainly_blank, refl, true, ℕ, ◌∷◌, ◌≡◌}
 
 pub blank_taken : (line : List ℕ) → is_plainly_blank line ≡ true → IsTaken (Worded [] line) line
 blank_taken [] e = (refl, record { gap = []; rest = []; parts = refl; is_gap = tt; is_end = tt })

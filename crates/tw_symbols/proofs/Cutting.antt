@@ -1,8 +1,5 @@
 -- The pieces of a word, byte by byte.
-use Rattle.std.proofs.Common.{[], ◌≡◌, ℕ, suc, ◌+◌, ◌-◌, ◌<◌, ◌≤◌, Bool, true, false, cond, List, ◌∷◌, ◌++◌, length, get_or, take, drop, refl, sym, ap, ◌∙◌, arith}
-use Rattle.std.proofs.Math.Seq.{drop-cons, take-suc}
-use Rattle.tw_symbols.proofs.TextNames.{Bor, drop_all, get_or-drop, is_sign, length-drop, length-map, now, pieces_after, some_piece, take-map, take_all, texts}
-use Rattle.std.proofs.lemmas.List.{drop-map}
+use Rattle.tw_symbols.proofs.TextNames.{Bool, Bor, List, [], ap, arith, cond, drop, drop-cons, drop-map, drop_all, false, get_or, get_or-drop, is_sign, length, length-drop, length-map, now, pieces_after, refl, some_piece, suc, sym, take, take-map, take-suc, take_all, texts, true, ℕ, ◌++◌, ◌+◌, ◌-◌, ◌<◌, ◌∙◌, ◌∷◌, ◌≡◌, ◌≤◌}
 use Rattle.tw_symbols.specs.Answers.{pieces_left}
 
 at_byte : (front : List ℕ) (b : ℕ) (rest : List ℕ) (t : Bool) → is_sign b ≡ t → pieces_after front (b ∷ rest) ≡ cond t (some_piece front ++ pieces_after [] rest) (pieces_after (front ++ b ∷ []) rest)

@@ -1,17 +1,12 @@
 -- Each line has words.
-use Rattle.std.proofs.Common.{[], ◌≡◌, ◌≢◌, ◌⊎◌, ◌≤◌, inl, inr, ℕ, zero, suc, Bool, true, false, eqb, List, ◌∷◌, ◌++◌, length, Some, None, refl, sym, ap, subst, ◌∙◌, arith}
-use Rattle.std.proofs.lemmas.Bool.{eqb-true}
-use Rattle.std.proofs.lemmas.Bool.Decides.{nat_tests}
+use Rattle.tw_symbols.proofs.TextNames.{Bool, Broken, IsAfterGap, IsAtWord, IsBlank, IsBroken, IsFirstWord, IsGap, IsTaken, Line, List, None, Quoted, Some, Word, Worded, [], ap, arith, eqb, eqb-true, false, inl, inr, is_at_edge, is_parting, length, nat_tests, refl, subst, suc, sym, true, zero, ℕ, ◌++◌, ◌∙◌, ◌∷◌, ◌≡◌, ◌≢◌, ◌≤◌, ◌⊎◌}
 use Rattle.tw_lexer.proofs.FirstWords.{after_gap, bare_first, quoted_first, unended_broken, unread_broken}
 use Rattle.tw_lexer.proofs.Insides.{begins_read, never_both, read_begins}
 use Rattle.tw_lexer.specs.Quoted.{BeginsQuoted}
-use Rattle.tw_lexer.specs.Words.{IsAtWord, IsBlank, IsBroken, IsFirstWord, IsGap, Quoted, Word, is_parting}
 use Rattle.tw_lexer.specs.declared.escape.Escape.TheVariants.{Nothing}
 use Rattle.tw_lexer.specs.declared.word.Next.TheVariants as next
 use Rattle.tw_lexer.specs.reading.Inside.{Found, inside_from}
-use Rattle.tw_lexer.specs.reading.Next.{IsAfterGap, is_at_edge}
 use Rattle.tw_symbols.proofs.Taking.{shorter}
-use Rattle.tw_symbols.proofs.TextNames.{Broken, IsTaken, Line, Worded}
 
 abbrev HasFirst : List ℕ → Type 0
 HasFirst bytes = (word : Word) × (after : List ℕ) × IsFirstWord word bytes after

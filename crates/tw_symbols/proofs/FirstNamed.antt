@@ -1,6 +1,5 @@
 -- Whether a text has names, as its lines are read one by one.
-use Rattle.std.proofs.Common.{[], ◌≡◌, ℕ, Bool, true, false, List, ◌∷◌, ◌++◌, Some, None, subst, sym}
-use Rattle.tw_symbols.proofs.TextNames.{HasNames, IsNamed, IsTaken, Line, line_words, lines, named_by}
+use Rattle.tw_symbols.proofs.TextNames.{Bool, HasNames, IsNamed, IsTaken, Line, List, None, Some, [], false, line_words, lines, named_by, subst, sym, true, ℕ, ◌++◌, ◌∷◌, ◌≡◌}
 use Rattle.tw_symbols.proofs.NamesLine.{blank_line, named_false, named_true}
 use Rattle.tw_symbols.proofs.Walk.{AreBlank, after_names, blank_more, names_after_line}
 

@@ -1,13 +1,6 @@
 -- Two properties that an expansion keeps if the line's words have them: it has no line feed, and is in UTF-8.
-use Rattle.std.proofs.Common.{[], ◌≡◌, ◌==◌, ◌<◌, ◌≤◌, ◌+◌, ◌/◌, ◌%◌, ℕ, zero, suc, Bool, true, false, cond, List, ◌∷◌, ◌++◌, refl, sym, subst, append_assoc, arith}
-use Rattle.tw_symbols.proofs.TextNames.{AllByRecursion, IsTail, IsUtf8, StartsWith, append-nil, decimal, has_quote, is_sign, nat_lt, pieces, pieces_after, some_piece}
+use Rattle.tw_symbols.proofs.TextNames.{AllByRecursion, Bool, HasNoLineFeed, IsAtEdge, IsGap, IsTail, IsUtf8, IsUtf8-append, IsUtf8-nil, List, StartsWith, [], append-nil, append_assoc, arith, cond, cut_front, cut_rest, decimal, edge_small, false, has_quote, is_sign, nat_lt, nat_tests, one_ascii, parting_small, pieces, pieces_after, refl, rest_utf8, some_piece, subst, suc, sym, true, zero, ℕ, ◌%◌, ◌++◌, ◌+◌, ◌/◌, ◌<◌, ◌==◌, ◌∷◌, ◌≡◌, ◌≤◌}
 use Rattle.std.specs.Fmt.{digit_glyph, digits, digits_onto}
-use Rattle.std.proofs.lemmas.Bool.Decides.{nat_tests}
-use Rattle.std.proofs.lemmas.Str.{IsUtf8-append, IsUtf8-nil}
-use Rattle.tw_lexer.proofs.Breaks.{HasNoLineFeed}
-use Rattle.tw_lexer.proofs.Texts.{edge_small, parting_small, rest_utf8}
-use Rattle.tw_lexer.proofs.Utf8.{cut_front, cut_rest, one_ascii}
-use Rattle.tw_lexer.specs.Words.{IsAtEdge, IsGap}
 
 -- a property of texts that the expansion of a line keeps
 pub record IsKept (Q : List ℕ → Type 0) : Type 0 where

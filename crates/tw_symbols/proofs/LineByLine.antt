@@ -1,13 +1,7 @@
 -- An expansion has as many lines as its text, and is in UTF-8 if the text is.
 use Rattle.std.proofs.Common.{[], ◌≡◌, ◌==◌, ◌<◌, ◌-◌, ◌+◌, ℕ, suc, Bool, true, false, cond, List, ◌∷◌, ◌++◌, length, take, drop, get_or, Result, Ok, Err, inl, inr, refl, sym, ap, subst, ◌∙◌, append_assoc, append-nil, codes, arith, Option, Some, None}
-use Rattle.tw_symbols.proofs.TextNames.{AllByRecursion, AreTaken, Broken, IsTaken, IsUtf8, Line, Names, Procedures, Rejection, Expanded, HasExpansion, StartWith, Worded, at_number, ended, line_rest, line_words, lines, lines_of_parts, expanded_from, no_names, onto_first, or_unread, procedures_of, expanded_if_read, slice_index, slice_split, strip_carriage_return, take-append-drop, expanded_taken, unread}
-use Rattle.std.proofs.lemmas.Bool.{eqb-true}
+use Rattle.tw_symbols.proofs.TextNames.{AllByRecursion, AreTaken, AsManyLines, Broken, Expanded, HasExpansion, HasNoLineFeed, InUtf8, IsCharBoundary-before_ascii, IsTaken, IsUtf8, IsUtf8-append, IsUtf8-nil, IsUtf8-take, Line, Names, Procedures, Rejection, StartWith, Worded, at_number, cut_front, cut_rest, ended, eqb-true, expanded_from, expanded_if_read, expanded_taken, is_open_call, is_past, line_rest, line_words, lines, lines_of_parts, no_names, one_ascii, onto_first, or_unread, procedures_of, reads_heads, slice_index, slice_split, strip_carriage_return, take-append-drop, unread}
 use Rattle.std.proofs.lemmas.List.Splits.{slice_split-cons_no}
-use Rattle.std.proofs.lemmas.Str.{IsCharBoundary-before_ascii, IsUtf8-append, IsUtf8-nil, IsUtf8-take}
-use Rattle.tw_lexer.proofs.Breaks.{HasNoLineFeed}
-use Rattle.tw_lexer.proofs.Utf8.{cut_front, cut_rest, one_ascii}
-use Rattle.tw_symbols.specs.Theorems.{AsManyLines, InUtf8}
-use Rattle.tw_symbols.specs.Unread.{is_open_call, is_past, reads_heads}
 use Rattle.tw_symbols.proofs.KeptTexts.{AllKept, IsKept, all_kept, either, feeds_front, feeds_kept, utf8_kept}
 use Rattle.tw_symbols.proofs.SaidTexts.{line_kept, ok_is, went_then}
 use Rattle.tw_symbols.proofs.Walk.{taken_length}

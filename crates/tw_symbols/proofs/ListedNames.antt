@@ -1,11 +1,5 @@
 -- Whether a register has been listed, entry by entry.
-use Rattle.std.proofs.Common.{[], ◌≡◌, ◌≤◌, ℕ, zero, suc, ◌+◌, Bool, true, false, List, ◌∷◌, length, take, refl, sym, ap, ◌∙◌, arith}
-use Rattle.std.specs.Prelude.{◌||◌}
-use Rattle.tw_symbols.proofs.TextNames.{Bor, Table, length-map, seen_entry, seen_table, slice_get, take_all}
-use Rattle.tw_symbols.specs.Answers.{lists_entry}
-use Rattle.tw_symbols.specs.Meanings.{is_listed, lists}
-use Rattle.tw_symbols.specs.declared.meaning.Bank.{Bank}
-use Rattle.tw_symbols.specs.declared.meaning.Binding.{Binding}
+use Rattle.tw_symbols.proofs.TextNames.{Bank, Binding, Bool, Bor, List, Table, [], ap, arith, false, is_listed, length, length-map, lists, lists_entry, refl, seen_entry, seen_table, slice_get, suc, sym, take, take_all, true, zero, ℕ, ◌+◌, ◌||◌, ◌∙◌, ◌∷◌, ◌≡◌, ◌≤◌}
 
 pub or_none : (x : Bool) → (x || false) ≡ x
 or_none true = refl

@@ -1,7 +1,5 @@
 -- The loops over a text's lines.
-use Rattle.std.proofs.Common.{[], ◌≡◌, ◌⊎◌, ◌≤◌, ℕ, suc, ◌+◌, List, ◌∷◌, ◌++◌, length, map, drop, Ok, Err, refl, sym, ap, subst, ◌∙◌, inl, inr, arith}
-use Rattle.tw_symbols.proofs.TextNames.{AreTaken, Bor, IsMemory, IsTaken, Line, Names, Procedures, Rejection, drop_all, length-append, expanded_from, map-append, no_names, procedures_of, expanded_if_read, seen_rejection, with_line}
-use Rattle.tw_symbols.specs.declared.rejection.NameError.{NameError}
+use Rattle.tw_symbols.proofs.TextNames.{AreTaken, Bor, Err, IsMemory, IsTaken, Line, List, NameError, Names, Ok, Procedures, Rejection, [], ap, arith, drop, drop_all, expanded_from, expanded_if_read, inl, inr, length, length-append, map, map-append, no_names, procedures_of, refl, seen_rejection, subst, suc, sym, with_line, ℕ, ◌++◌, ◌+◌, ◌∙◌, ◌∷◌, ◌≡◌, ◌≤◌, ◌⊎◌}
 use Rattle.tw_symbols.proofs.Walk.{taken_at, taken_length, taken_more, with_lines_more}
 
 abbrev pub Items : Type 0

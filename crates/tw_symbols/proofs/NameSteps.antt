@@ -1,22 +1,10 @@
 -- A relation between the names before and after a line, if each name that it adds keeps it.
 use Rattle.std.proofs.Common.{[], ◌≡◌, ◌<◌, ℕ, Bool, true, false, cond, List, ◌∷◌, ◌++◌, length, take, drop, Option, Some, None, Result, Ok, Err, refl, subst, codes, arith}
-use Rattle.tw_symbols.proofs.TextNames.{TokenError, Line, Names, Procedures, Expanded, and_then, at_head, flat_map, is_name, known, line_rest, line_words, expanded_results, may_name, name_register, nat_lt, parameters, pieces, procedure_name, expanded_taken, names_after_list}
-use Rattle.std.proofs.lemmas.Bool.Decides.{nat_tests}
-use Rattle.std.specs.Prelude.{is_none, not, ◌&&◌}
-use Rattle.std.specs.Str.{bytes_eq}
-use Rattle.tw_lexer.specs.Names.{before_colon}
-use Rattle.tw_code.specs.format.Table.{forms_of, opcode_in}
-use Rattle.tw_code.specs.declared.opcode.Opcode.{Opcode}
-use Rattle.tw_code.specs.format.Versions.{last_version}
-use Rattle.tw_symbols.specs.Meanings.{is_listed, with_constant, with_listed, with_register}
+use Rattle.tw_symbols.proofs.TextNames.{Bank, Binding, Expanded, Line, Listed, Names, Opcode, Procedures, TokenError, and_then, at_head, before_colon, bytes_eq, ended, expanded_results, expanded_taken, flat_map, forms_of, is_listed, is_name, is_none, known, last_version, line_rest, line_words, may_name, name_register, names_after_list, nat_lt, nat_tests, not, opcode_in, parameters, pieces, procedure_name, with_constant, with_listed, with_register, ◌&&◌}
 use Rattle.tw_symbols.specs.LineExpansion.{expected_of, banks_of, begins, begins_first, expanded_body, names_after_constant, counted, has_colon, expanded_head, expanded_instruction, is_listed_word, is_names_line, names_after_let, expanded_line, list_name, made_one, made_word, makes, name_before, checked_name, number_in, number_of, only_names, register_of, expanded_registers, value_after, expanded_words}
-use Rattle.tw_symbols.specs.Expansion.{ended}
-use Rattle.tw_symbols.specs.declared.meaning.Bank.{Bank}
 use Rattle.tw_symbols.specs.declared.meaning.Bank.TheVariants as bank
-use Rattle.tw_symbols.specs.declared.meaning.Listed.{Listed}
 use Rattle.tw_symbols.specs.declared.meaning.Listed.TheVariants as listed
 use Rattle.tw_symbols.specs.declared.meaning.Origin.TheVariants as origin
-use Rattle.tw_symbols.specs.declared.meaning.Binding.{Binding}
 use Rattle.tw_symbols.specs.declared.meaning.Binding.TheVariants as binding
 use Rattle.tw_symbols.proofs.SaidTexts.{ok_is, went_then, word_made}
 

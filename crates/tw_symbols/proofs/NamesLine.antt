@@ -1,9 +1,6 @@
 -- The line `names`.
 use Rattle.std.proofs.Common.{[], ◌≡◌, ℕ, Bool, true, false, List, ◌∷◌, ◌++◌, Option, Some, None, refl, sym, ap, subst, ◌∙◌, inl, inr, append-nil, arith}
-use Rattle.tw_lexer.specs.Words.{Bare, IsBare}
-use Rattle.tw_symbols.proofs.TextNames.{◌&&◌, AreWords, Broken, HasNames, IsTail, IsTaken, Line, Worded, codes, is_names_line, line_words, named_by}
-use Rattle.std.specs.Str.{bytes_eq}
-use Rattle.std.proofs.lemmas.Slice.Eq.{bytes_eq-Decides}
+use Rattle.tw_symbols.proofs.TextNames.{AreWords, Bare, Broken, HasNames, IsBare, IsTail, IsTaken, Line, Worded, bytes_eq, bytes_eq-Decides, codes, is_names_line, line_words, named_by, ◌&&◌}
 use Rattle.tw_symbols.proofs.Taking.{not_both_ways, words_once}
 use Rattle.tw_symbols.proofs.Walk.{not_blank}
 

@@ -1,9 +1,5 @@
 -- A name that may be defined has no meaning yet; one that is required is replaced by its meaning.
-use Rattle.std.proofs.Common.{◌≡◌, ℕ, Bool, true, false, cond, List, Option, Some, None, Ok, refl}
-use Rattle.tw_symbols.proofs.TextNames.{Names, Procedures, is_name, known, may_name, meaning, not_taken, or_else, rejected_word}
-use Rattle.tw_symbols.specs.declared.meaning.Binding.{Binding}
-use Rattle.tw_symbols.specs.LineExpansion.{named, expanded_word}
-use Rattle.tw_symbols.specs.declared.meaning.Expected.{Expected}
+use Rattle.tw_symbols.proofs.TextNames.{Binding, Bool, Expected, List, Names, None, Ok, Option, Procedures, Some, cond, expanded_word, false, is_name, known, may_name, meaning, named, not_taken, or_else, refl, rejected_word, true, ℕ, ◌≡◌}
 use Rattle.tw_symbols.specs.declared.meaning.Expected.TheVariants as asked
 use Rattle.tw_symbols.specs.declared.rejection.NameNo.TheVariants as no
 

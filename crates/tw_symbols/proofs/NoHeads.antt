@@ -1,16 +1,8 @@
 -- Lines that begin no procedure, as their first byte says.
 use Rattle.std.proofs.Common.{[], ◌≡◌, ℕ, Bool, true, false, List, ◌∷◌, ◌++◌, refl, sym, ap, ◌∙◌, append-nil, codes}
-use Rattle.std.specs.Str.{bytes_eq}
-use Rattle.std.proofs.lemmas.Slice.Eq.{bytes_eq-Decides}
-use Rattle.tw_lexer.proofs.Once.{gap_once}
-use Rattle.tw_lexer.specs.reading.Next.{IsAfterGap}
+use Rattle.tw_symbols.proofs.TextNames.{Broken, HasNoHead, IsAfterGap, IsTaken, Line, Procedures, Worded, begins_procedure, begins_with_p, bytes_eq, bytes_eq-Decides, gap_once, head_names, line_names, line_words, with_line, with_words}
 use Rattle.tw_symbols.proofs.EachLine.{line_of}
 use Rattle.tw_symbols.proofs.Taking.{text_here}
-use Rattle.tw_symbols.proofs.TextNames.{Broken, IsTaken, Line, Procedures, Worded, line_words, with_line}
-use Rattle.tw_symbols.specs.Answers.{begins_with_p}
-use Rattle.tw_symbols.specs.Expansion.{with_words}
-use Rattle.tw_symbols.specs.RightNames.{HasNoHead, begins_procedure}
-use Rattle.tw_symbols.specs.Symbols.{head_names, line_names}
 
 other_word : (word here after : List ℕ) → here ≡ word ++ after → begins_with_p here ≡ false → bytes_eq word (codes "proc") ≡ false
 other_word word here after parts none = by (bytes_eq word (codes "proc")) refl

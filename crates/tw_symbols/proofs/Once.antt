@@ -1,7 +1,5 @@
 -- A text has one result.
-use Rattle.std.proofs.Common.{◌≡◌, ℕ, List, Result, Ok, Err, inl, inr, refl, sym, ap, ◌∙◌}
-use Rattle.tw_symbols.proofs.TextNames.{Rejection, HasExpansion, lines, expansion_of}
-use Rattle.tw_symbols.specs.Theorems.{NotBoth, OneFirstRejection, ExpandsToItself, ExpandsToOne}
+use Rattle.tw_symbols.proofs.TextNames.{Err, ExpandsToItself, ExpandsToOne, HasExpansion, List, NotBoth, Ok, OneFirstRejection, Rejection, Result, ap, expansion_of, inl, inr, lines, refl, sym, ℕ, ◌∙◌, ◌≡◌}
 use Rattle.tw_symbols.proofs.Taking.{all_once}
 
 says_once : (text : List ℕ) (x y : Result (List ℕ) Rejection) → HasExpansion text x → HasExpansion text y → x ≡ y

@@ -1,14 +1,6 @@
 -- The names that are known after a line.
-use Rattle.std.proofs.Common.{[], ◌≡◌, ◌==◌, ◌≤◌, ◌⊎◌, ℕ, zero, suc, ◌+◌, ◌-◌, Bool, true, false, cond, List, ◌∷◌, ◌++◌, length, drop, take, Option, Some, None, Ok, Err, inl, inr, refl, sym, ap, subst, ◌∙◌, arith}
-use Rattle.tw_symbols.proofs.TextNames.{AreTaken, Bor, IsMemory, IsTaken, Line, Names, Procedures, Expanded, Table, drop-drop, drop_all, length-drop, length-map, no_names, now, option_map, option_or, seen_entry, seen_table, slice_get, take_all, expanded_taken}
-use Rattle.std.specs.Result.{IsErr}
-use Rattle.std.proofs.lemmas.Bool.{eqb-true}
-use Rattle.std.proofs.lemmas.Bool.Decides.{nat_tests}
+use Rattle.tw_symbols.proofs.TextNames.{AreTaken, Bank, Binding, Bool, Bor, Err, Expanded, IsErr, IsMemory, IsTaken, Line, List, NameError, Names, None, Ok, Option, Procedures, Some, Table, [], ap, arith, cond, drop, drop-drop, drop_all, entry_name, eqb-true, expanded_taken, false, first_part, inl, inr, is_register, last_name, length, length-drop, length-map, names_after_line, nat_tests, no_names, now, option_map, option_or, refl, seen_entry, seen_table, slice_get, subst, suc, sym, take, take_all, true, zero, ℕ, ◌++◌, ◌+◌, ◌-◌, ◌==◌, ◌∙◌, ◌∷◌, ◌≡◌, ◌≤◌, ◌⊎◌}
 use Rattle.tw_symbols.specs.declared.rejection.NameNo.TheVariants as no
-use Rattle.tw_symbols.specs.declared.rejection.NameError.{NameError}
-use Rattle.tw_symbols.specs.Registers.{entry_name, first_part, is_register, last_name, names_after_line}
-use Rattle.tw_symbols.specs.declared.meaning.Bank.{Bank}
-use Rattle.tw_symbols.specs.declared.meaning.Binding.{Binding}
 use Rattle.tw_symbols.proofs.Walk.{taken_at, taken_length}
 
 -- holds if the names after all lines are those after the lines from `n` on, with these names and after this text

@@ -1,13 +1,7 @@
 -- Operands expand alike if each name is replaced by another for the same thing.
-use Rattle.std.proofs.Common.{[], ◌≡◌, ℕ, Bool, true, false, cond, List, ◌∷◌, Option, Some, None, Result, Ok, drop, refl, ap, ◌∙◌}
+use Rattle.tw_symbols.proofs.TextNames.{Binding, Bool, Expected, IsRenaming, List, Names, None, Ok, Option, Procedures, RenamedAlike, Result, Some, Table, TokenError, [], and_then, ap, bytes_eq, cond, drop, expanded_word, expanded_words, expands, false, fitting, is_name, known, meaning, named, or_else, refl, renamed_names, renamed_procedures, renamed_table, renamed_word, renamed_words, true, with_word, ℕ, ◌∙◌, ◌∷◌, ◌≡◌}
 use Rattle.std.specs.Prelude.{slice_get, unwrap_or}
-use Rattle.std.specs.Str.{bytes_eq}
-use Rattle.tw_symbols.proofs.TextNames.{TokenError, Names, Procedures, Table, and_then, is_name, known, meaning, or_else, expanded_words}
-use Rattle.tw_symbols.specs.Theorems.{IsRenaming, RenamedAlike, renamed_names, renamed_procedures, renamed_table, renamed_word, renamed_words}
-use Rattle.tw_symbols.specs.LineExpansion.{fitting, named, expands, with_word, expanded_word}
-use Rattle.tw_symbols.specs.declared.meaning.Expected.{Expected}
 use Rattle.tw_symbols.specs.declared.meaning.Expected.TheVariants as asked
-use Rattle.tw_symbols.specs.declared.meaning.Binding.{Binding}
 use Rattle.tw_symbols.proofs.SaidTexts.{went_then}
 
 module _ (f : List ℕ → List ℕ) (is : IsRenaming f) where

@@ -1,18 +1,7 @@
 -- Renamed heads of procedures, and the procedures of a renamed text.
-use Rattle.std.proofs.Common.{[], ◌≡◌, ℕ, Bool, true, false, cond, List, ◌∷◌, ◌++◌, length, take, map, filter, Option, Some, None, Result, Ok, refl, sym, ap, ◌∙◌, ◌==◌}
-use Rattle.std.specs.List.{filter_map}
-use Rattle.std.specs.Option.{is_some, option_map_or}
+use Rattle.tw_symbols.proofs.TextNames.{Bank, Binding, Bool, Head, IsTextRenaming, List, Names, None, Ok, Option, Procedures, Result, Some, Table, TokenError, [], and_then, ap, at_head, bank_of_mode, before_colon, begins_at, checked_name, cond, expanded_head, false, filter, filter_map, followed_by, is_name, is_some, is_unnamed, length, map, meaning, names_after_list, option_map, option_map_or, parameters, procedure_name, refl, rejected_word, renamed_head, renamed_table, sym, take, true, value_types, with_head, with_name, ℕ, ◌++◌, ◌==◌, ◌∙◌, ◌∷◌, ◌≡◌}
 use Rattle.std.specs.Prelude.{◌||◌, slice_get}
-use Rattle.tw_lexer.specs.Names.{before_colon}
-use Rattle.tw_symbols.proofs.TextNames.{TokenError, Names, Procedures, Table, and_then, is_name, meaning, option_map, rejected_word, at_head, bank_of_mode, followed_by, expanded_head, is_unnamed, names_after_list, checked_name, parameters, procedure_name, value_types}
-use Rattle.tw_symbols.specs.Meanings.{Head}
-use Rattle.tw_symbols.specs.LineExpansion.{begins_at}
-use Rattle.tw_symbols.specs.Expansion.{with_head, with_name}
-use Rattle.tw_symbols.specs.Renaming.{IsTextRenaming, renamed_head}
-use Rattle.tw_symbols.specs.Theorems.{renamed_table}
-use Rattle.tw_symbols.specs.declared.meaning.Bank.{Bank}
 use Rattle.tw_symbols.specs.declared.meaning.Listed.TheVariants as listed
-use Rattle.tw_symbols.specs.declared.meaning.Binding.{Binding}
 use Rattle.tw_symbols.specs.declared.meaning.Binding.TheVariants as binding
 use Rattle.tw_symbols.specs.declared.rejection.NameNo.TheVariants as no
 use Rattle.tw_symbols.proofs.KeptTexts.{either}

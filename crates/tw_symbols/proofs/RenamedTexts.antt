@@ -1,28 +1,13 @@
 -- Renamed texts expand alike.
 use Rattle.std.proofs.Common.{[], ◌≡◌, ◌⊎◌, inl, inr, ℕ, zero, suc, ◌+◌, Bool, true, false, cond, List, ◌∷◌, ◌++◌, length, take, drop, map, Option, Some, None, Result, Ok, Err, refl, sym, ap, subst, ◌∙◌, codes}
 use Rattle.std.specs.Prelude.{is_none, ◌&&◌, ◌||◌, slice_get}
-use Rattle.std.specs.Option.{option_map_or}
-use Rattle.std.specs.Result.{result_ok}
-use Rattle.std.specs.Str.{bytes_eq}
-use Rattle.std.proofs.lemmas.Slice.Eq.{bytes_eq-Decides}
-use Rattle.tw_lexer.specs.Digits.{digits_in}
+use Rattle.tw_symbols.proofs.TextNames.{AreLineWords, AreRenamed, AreRenamedLines, Bank, Binding, Either, Expanded, Expected, Head, IfRead, IsRenamedBody, IsRenamedLine, IsRenamedRead, IsTextRenaming, Line, Names, Opcode, Procedures, Rejection, TextsRenamedAlike, TokenError, and_then, at_number, begins_unknown, bytes_eq, bytes_eq-Decides, calls_unknown, digits_in, ended, expanded_from, expanded_head, expanded_if_read, expanded_results, expanded_taken, expanded_words, expected_of, flat_map, is_call, is_name, is_names_line, is_open_call, is_past, known, last_version, line_rest, line_words, no_names, option_map_or, or_unread, pieces, procedures_of, reads_heads, renamed_first, renamed_head, renamed_listed, renamed_operands, renamed_words, result_ok, unread, with_head, with_line, with_lines, with_register, with_words}
 use Rattle.tw_code.specs.format.Table.{forms_of, opcode_in, opcode_of}
-use Rattle.tw_code.specs.declared.opcode.Opcode.{Opcode}
 use Rattle.tw_code.specs.declared.opcode.Opcode.TheVariants as opcode
-use Rattle.tw_code.specs.format.Versions.{last_version}
-use Rattle.tw_symbols.proofs.TextNames.{TokenError, Line, Names, Procedures, Rejection, Expanded, and_then, expected_of, at_number, ended, flat_map, expanded_head, is_name, is_names_line, known, line_rest, line_words, expanded_from, expanded_results, no_names, or_unread, pieces, procedures_of, expanded_if_read, reads_heads, expanded_taken, unread, with_line, with_lines, with_register, expanded_words}
-use Rattle.tw_symbols.specs.Meanings.{Head}
 use Rattle.tw_symbols.specs.LineExpansion.{expanded_line, banks_at, banks_of, expanded_body, callee, names_after_constant, expanded_instruction, is_empty, names_after_let, made_word, makes, named, only_names, expanded_registers, with_word, expanded_word}
-use Rattle.tw_symbols.specs.Expansion.{with_head, with_words}
-use Rattle.tw_symbols.specs.Renaming.{Either, AreLineWords, AreRenamed, AreRenamedLines, IfRead, IsRenamedBody, IsRenamedLine, IsRenamedRead, IsTextRenaming, TextsRenamedAlike, renamed_first, renamed_head, renamed_listed, renamed_operands}
-use Rattle.tw_symbols.specs.Unread.{begins_unknown, calls_unknown, is_call, is_open_call, is_past}
-use Rattle.tw_symbols.specs.Theorems.{renamed_words}
-use Rattle.tw_symbols.specs.declared.meaning.Expected.{Expected}
 use Rattle.tw_symbols.specs.declared.meaning.Expected.TheVariants as asked
-use Rattle.tw_symbols.specs.declared.meaning.Bank.{Bank}
 use Rattle.tw_symbols.specs.declared.meaning.Bank.TheVariants as bank
 use Rattle.tw_symbols.specs.declared.meaning.Origin.TheVariants as origin
-use Rattle.tw_symbols.specs.declared.meaning.Binding.{Binding}
 use Rattle.tw_symbols.specs.declared.meaning.Binding.TheVariants as binding
 use Rattle.tw_symbols.proofs.Renamed.{known_kept, word_kept, words_kept}
 use Rattle.tw_symbols.proofs.RenamedWords.{const_kept, let_kept, r, register_kept, registers_kept, rn, rp}

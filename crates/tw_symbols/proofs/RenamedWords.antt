@@ -1,25 +1,10 @@
 -- Renamed words of heads, of lines `regs` and of lines that define names.
 use Rattle.std.proofs.Common.{[], ◌≡◌, ℕ, Bool, true, false, cond, List, ◌∷◌, ◌++◌, length, take, map, filter, Option, Some, None, Result, Ok, refl, sym, ap, ◌∙◌, codes}
-use Rattle.std.specs.List.{filter_map}
-use Rattle.std.specs.Option.{is_some}
-use Rattle.std.specs.Prelude.{is_none, not, ◌&&◌, ◌||◌}
-use Rattle.std.specs.Str.{bytes_eq}
-use Rattle.std.proofs.lemmas.Slice.Eq.{bytes_eq-Decides}
-use Rattle.tw_lexer.specs.Names.{all_in_name, before_colon, is_in_name, is_letter}
+use Rattle.tw_symbols.proofs.TextNames.{Bank, Binding, IsRenaming, IsTextRenaming, Listed, Names, Origin, Procedures, Table, TokenError, all_in_name, and_then, bank_of_mode, before, before_colon, begins, begins_first, bytes_eq, bytes_eq-Decides, counted, expanded_registers, filter_map, followed_by, found_before, has_colon, is_in_name, is_letter, is_listed, is_listed_word, is_name, is_none, is_some, is_unnamed, known, list_name, lists, map-append, may_name, name_before, name_register, names_after_constant, names_after_let, names_after_list, names_if_unnamed, nat_lt, not, not_taken, number_in, number_of, register_of, rejected_word, renamed_before, renamed_first, renamed_listed, renamed_names, renamed_procedures, renamed_table, value_after, value_types, with_constant, with_listed, with_register, ◌&&◌, ◌||◌}
 use Rattle.tw_lexer.specs.Names as words
-use Rattle.tw_lexer.proofs.Colons.{before, found_before}
-use Rattle.tw_symbols.proofs.TextNames.{TokenError, Names, Procedures, Table, and_then, is_name, known, map-append, may_name, name_register, nat_lt, not_taken, rejected_word, with_constant, with_register, bank_of_mode, followed_by, is_unnamed, names_after_list, value_types}
-use Rattle.tw_symbols.specs.Meanings.{is_listed, lists, with_listed}
-use Rattle.tw_symbols.specs.LineExpansion.{begins, begins_first, names_after_constant, counted, has_colon, is_listed_word, names_after_let, list_name, name_before, number_in, number_of, register_of, expanded_registers, names_if_unnamed, value_after}
-use Rattle.tw_symbols.specs.Renaming.{IsTextRenaming, renamed_before, renamed_first, renamed_listed}
-use Rattle.tw_symbols.specs.Theorems.{IsRenaming, renamed_names, renamed_procedures, renamed_table}
-use Rattle.tw_symbols.specs.declared.meaning.Bank.{Bank}
 use Rattle.tw_symbols.specs.declared.meaning.Bank.TheVariants as bank
-use Rattle.tw_symbols.specs.declared.meaning.Listed.{Listed}
 use Rattle.tw_symbols.specs.declared.meaning.Listed.TheVariants as listed
-use Rattle.tw_symbols.specs.declared.meaning.Origin.{Origin}
 use Rattle.tw_symbols.specs.declared.meaning.Origin.TheVariants as origin
-use Rattle.tw_symbols.specs.declared.meaning.Binding.{Binding}
 use Rattle.tw_symbols.specs.declared.meaning.Binding.TheVariants as binding
 use Rattle.tw_symbols.specs.declared.rejection.NameNo.TheVariants as no
 use Rattle.tw_symbols.proofs.Renamed.{known_kept}

@@ -1,17 +1,8 @@
 -- The names of right registers, as lines are read one by one.
 use Rattle.std.proofs.Common.{[], ◌≡◌, ◌≢◌, ◌==◌, ◌<◌, ◌≤◌, ◌+◌, ◌⊎◌, inl, inr, ℕ, zero, suc, Bool, true, false, cond, List, ◌∷◌, ◌++◌, length, take, drop, get_or, Option, Some, None, Ok, refl, sym, ap, subst, ◌∙◌, append_assoc, codes, arith}
-use Rattle.std.specs.Prelude.{slice_set}
-use Rattle.std.specs.Result.{IsErr}
-use Rattle.std.specs.Str.{bytes_eq}
-use Rattle.std.proofs.lemmas.Bool.Decides.{eqb_tells}
-use Rattle.std.proofs.lemmas.List.{get_or-set_other, get_or-set_same, length-set}
-use Rattle.tw_symbols.proofs.TextNames.{AreTaken, Bor, IsTaken, Line, Names, Procedures, Expanded, Table, append-nil, length-map, line_words, no_names, now, procedures_of, seen_entry, seen_names, seen_procedures, seen_table, slice_get, take_all, take_at, expanded_taken, texts, unwrap_or}
-use Rattle.tw_symbols.specs.Registers.{last_name, names_after_line}
-use Rattle.tw_symbols.specs.RightNames.{AreLast, IsReady, begins_procedure, kept_entries, last_right, noted, registers_of, right_name}
-use Rattle.tw_symbols.specs.Unchanged.{Extends, IsAdded, IsPassed}
+use Rattle.tw_symbols.proofs.TextNames.{AreLast, AreTaken, Binding, Bor, Expanded, Extends, IsAdded, IsErr, IsPassed, IsReady, IsTaken, Line, Names, Procedures, Table, append-nil, begins_procedure, bytes_eq, eqb_tells, expanded_taken, get_or-set_other, get_or-set_same, kept_entries, last_name, last_right, length-map, length-set, line_words, names_after_line, no_names, noted, now, procedures_of, registers_of, right_name, seen_entry, seen_names, seen_procedures, seen_table, slice_get, slice_set, take_all, take_at, texts, unwrap_or}
 use Rattle.tw_symbols.specs.declared.meaning.Bank.TheVariants as bank
 use Rattle.tw_symbols.specs.declared.meaning.Origin.TheVariants as origin
-use Rattle.tw_symbols.specs.declared.meaning.Binding.{Binding}
 use Rattle.tw_symbols.specs.declared.meaning.Binding.TheVariants as binding
 use Rattle.tw_symbols.specs.declared.names.Names as code
 use Rattle.tw_symbols.specs.declared.right_names.Reader.{Reader}

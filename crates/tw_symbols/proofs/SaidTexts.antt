@@ -1,24 +1,12 @@
 -- A line's expansion keeps a property that its words have.
 use Rattle.std.proofs.Common.{[], ◌≡◌, ◌<◌, ◌≤◌, ℕ, ℤ, pos, negsuc, zero, suc, cond, List, ◌∷◌, ◌++◌, length, take, drop, filter, Option, Some, None, Result, Ok, Err, refl, sym, ap, subst, ◌∙◌, append_assoc, append-nil, codes, decimal, is_some, slice_get, arith}
-use Rattle.tw_symbols.proofs.TextNames.{TokenError, Names, Procedures, and_then, flat_map, is_name, known, may_name, name_register, nat_lt, pieces, unwrap_or, with_constant, with_register}
-use Rattle.tw_symbols.specs.Meanings.{is_listed, with_listed}
+use Rattle.tw_symbols.proofs.TextNames.{Bank, Binding, Expected, Listed, Names, Opcode, Origin, Procedures, TokenError, and_then, before_colon, bytes_eq, flat_map, forms_of, is_listed, is_name, known, last_version, may_name, name_register, nat_lt, not, opcode_in, pieces, unwrap_or, with_constant, with_listed, with_register, ◌&&◌}
 use Rattle.std.specs.Fmt.{signed_decimal}
-use Rattle.std.specs.Prelude.{not, ◌&&◌}
-use Rattle.std.specs.Str.{bytes_eq}
-use Rattle.tw_lexer.specs.Names.{before_colon}
-use Rattle.tw_code.specs.format.Table.{opcode_in, forms_of}
-use Rattle.tw_code.specs.declared.opcode.Opcode.{Opcode}
-use Rattle.tw_code.specs.format.Versions.{last_version}
 use Rattle.tw_symbols.specs.LineExpansion.{Expanded, expected_of, at_head, banks_of, begins, begins_first, followed_by, expanded_body, names_after_constant, counted, fitting, has_colon, expanded_head, expanded_instruction, is_listed_word, is_names_line, is_unnamed, names_after_let, expanded_line, number_of, list_name, names_after_list, made_one, expanded_results, made_word, makes, name_before, checked_name, named, number_in, only_names, parameters, procedure_name, register_of, expanded_registers, expands, value_after, value_types, with_word, expanded_word, expanded_words}
-use Rattle.tw_symbols.specs.declared.meaning.Expected.{Expected}
 use Rattle.tw_symbols.specs.declared.meaning.Expected.TheVariants as asked
-use Rattle.tw_symbols.specs.declared.meaning.Bank.{Bank}
 use Rattle.tw_symbols.specs.declared.meaning.Bank.TheVariants as bank
-use Rattle.tw_symbols.specs.declared.meaning.Listed.{Listed}
 use Rattle.tw_symbols.specs.declared.meaning.Listed.TheVariants as listed
-use Rattle.tw_symbols.specs.declared.meaning.Origin.{Origin}
 use Rattle.tw_symbols.specs.declared.meaning.Origin.TheVariants as origin
-use Rattle.tw_symbols.specs.declared.meaning.Binding.{Binding}
 use Rattle.tw_symbols.specs.declared.meaning.Binding.TheVariants as binding
 use Rattle.tw_symbols.specs.declared.rejection.NameNo.TheVariants as no
 use Rattle.tw_symbols.proofs.KeptTexts.{AllKept, IsKept, all_kept, either, number_kept}

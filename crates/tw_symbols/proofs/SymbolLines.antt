@@ -1,9 +1,6 @@
 -- The names of procedures, as a text's lines are read one by one.
-use Rattle.std.proofs.Common.{[], ◌≡◌, ℕ, List, ◌∷◌, ◌++◌, ap, ◌∙◌}
-use Rattle.std.proofs.lemmas.List.{flat_map_more}
-use Rattle.tw_symbols.proofs.TextNames.{AreTaken, IsTaken, Line, flat_map}
+use Rattle.tw_symbols.proofs.TextNames.{AreTaken, IsTaken, Line, List, [], ap, flat_map, flat_map_more, line_names, ℕ, ◌++◌, ◌∙◌, ◌∷◌, ◌≡◌}
 use Rattle.tw_symbols.proofs.Walk.{taken_more}
-use Rattle.tw_symbols.specs.Symbols.{line_names}
 
 -- holds if these are the names in the lines
 abbrev pub AreRead : List (List ℕ) → List (List ℕ) → Type 0

@@ -1,9 +1,6 @@
 -- A map of names is a table.
-use Rattle.std.proofs.Common.{[], ◌≡◌, ℕ, cond, List, ◌∷◌, ◌++◌, Some, refl, ap, ◌∙◌}
-use Rattle.tw_symbols.proofs.TextNames.{Bor, map-append, meaning, seen_entry, seen_table}
+use Rattle.tw_symbols.proofs.TextNames.{Binding, Bor, List, Some, [], ap, bytes_eq, cond, map-append, meaning, refl, seen_entry, seen_table, ℕ, ◌++◌, ◌∙◌, ◌∷◌, ◌≡◌}
 use Rattle.std.specs.Map.{lookup}
-use Rattle.std.specs.Str.{bytes_eq}
-use Rattle.tw_symbols.specs.declared.meaning.Binding.{Binding}
 
 pub meaning_seen : (name : List ℕ) (es : List (Bor (List ℕ) × Binding)) → lookup (λ (k : Bor (List ℕ)). bytes_eq name k.now) es ≡ meaning name (seen_table es)
 meaning_seen name [] = refl

@@ -1,9 +1,5 @@
 -- The words of a line are one list.
-use Rattle.std.proofs.Common.{[], ◌≡◌, ℕ, ◌+◌, ◌-◌, ◌<◌, List, ◌∷◌, ◌++◌, length, take, refl, sym, ap, subst, ◌∙◌, arith}
-use Rattle.tw_symbols.proofs.TextNames.{AreTaken, AreWords, Broken, IsTail, IsTaken, Line, StartWith, StartsWith, Worded, length-append, take_at}
-use Rattle.tw_lexer.specs.Words.{IsBlank, IsFirstWord, IsWord, Bare, Quoted, Word}
-use Rattle.tw_lexer.specs.reading.Next.{IsAfterGap}
-use Rattle.tw_lexer.proofs.Once.{blank_no_word, first_word_once, gap_once, word_here}
+use Rattle.tw_symbols.proofs.TextNames.{AreTaken, AreWords, Bare, Broken, IsAfterGap, IsBlank, IsFirstWord, IsTail, IsTaken, IsWord, Line, List, Quoted, StartWith, StartsWith, Word, Worded, [], ap, arith, blank_no_word, first_word_once, gap_once, length, length-append, refl, subst, sym, take, take_at, word_here, ℕ, ◌++◌, ◌+◌, ◌-◌, ◌<◌, ◌∙◌, ◌∷◌, ◌≡◌}
 
 -- returns what is before a text's end
 cut_front : (text after : List ℕ) → take (length (text ++ after) - length after) (text ++ after) ≡ text

@@ -1,14 +1,53 @@
 -- Imports for the proofs here: the definitions of symbolic assembly, of words and of names.
-pub use Rattle.std.proofs.lemmas.List.{append-nil, drop-drop, drop_all, get_or-drop, length-append, length-drop, length-map, map-append, take-append-drop, take-map, take_all, take_at}
-pub use Rattle.std.specs.List.{AllByRecursion, filter_map, flat_map, onto_first, slice_get, slice_split}
-pub use Rattle.std.specs.Option.{is_some, option_or, unwrap_or}
-pub use Rattle.std.specs.Prelude.{IsUtf8, codes, decimal, nat_lt, option_map, slice_index, ◌&&◌}
-pub use Rattle.std.specs.Str.Lines.{lines, lines_of_parts, strip_carriage_return}
-pub use Rattle.tw_symbols.specs.Answers.{IsMemory, IsNamed, IsExpanded, named_by, pieces_left, seen_rejection}
-pub use Rattle.tw_symbols.specs.Lines.{AreTaken, AreWords, Broken, IsTail, IsTaken, Line, StartWith, StartsWith, Worded, has_quote, is_sign, line_rest, line_words, pieces, pieces_after, some_piece}
-pub use Rattle.tw_symbols.specs.Meanings.{TokenError, Names, Procedures, Table, and_then, is_name, known, may_name, meaning, name_register, no_names, not_taken, or_else, rejected_word, with_constant, with_register}
-pub use Rattle.tw_symbols.specs.LineExpansion.{Expanded, expected_of, at_head, bank_of_mode, followed_by, expanded_head, is_names_line, is_unnamed, names_after_list, expanded_line, expanded_results, checked_name, parameters, procedure_name, value_types, expanded_words}
-pub use Rattle.tw_symbols.specs.Seen.{now, seen_entry, seen_names, seen_procedures, seen_table, texts}
-pub use Rattle.tw_symbols.specs.Unread.{reads_heads, unread}
-pub use Rattle.tw_symbols.specs.Expansion.{HasNames, Rejection, HasExpansion, at_number, ended, expanded_from, or_unread, procedures_of, expanded_if_read, expanded_taken, expansion_of, with_line, with_lines}
 pub use denote.Ref.{Bor}
+pub use Rattle.std.proofs.Common.{Bool, Bor, Err, IfOk, IfSome, List, None, Ok, Option, Result, Some, [], ap, append_assoc, arith, cond, drop, eqb, false, filter, get_or, if◌then◌else◌, inl, inr, length, map, refl, rules, subst, suc, sym, take, true, zero, ℕ, ◌%◌, ◌++◌, ◌+◌, ◌-◌, ◌/◌, ◌<◌, ◌==◌, ◌∙◌, ◌∷◌, ◌≡◌, ◌≢◌, ◌≤◌, ◌⊎◌}
+pub use Rattle.std.proofs.Math.Seq.{drop-cons, split_at, take-suc}
+pub use Rattle.std.proofs.lemmas.Bool.{eqb-true}
+pub use Rattle.std.proofs.lemmas.Bool.Decides.{eqb_tells, nat_tests}
+pub use Rattle.std.proofs.lemmas.Iterator.Consumers.{YieldsList-at, YieldsList-end, YieldsList-from_enumerate, YieldsList-so_far, YieldsList-turn}
+pub use Rattle.std.proofs.lemmas.Iterator.Splits.{YieldsList-from_lines}
+pub use Rattle.std.proofs.lemmas.List.{append-nil, drop-drop, drop-map, drop_all, flat_map_more, get_or-drop, get_or-set_other, get_or-set_same, length-append, length-drop, length-map, length-set, map-append, take-append-drop, take-map, take_all, take_at}
+pub use Rattle.std.proofs.lemmas.Result.{IfOk-weaker, err_from_is_err_and, on_ok_weaker}
+pub use Rattle.std.proofs.lemmas.Slice.Eq.{bytes_eq-Decides}
+pub use Rattle.std.proofs.lemmas.Str.{IsCharBoundary-before_ascii, IsUtf8-append, IsUtf8-nil, IsUtf8-take}
+pub use Rattle.std.specs.List.{AllByRecursion, filter_map, find, flat_map, onto_first, slice_get, slice_split}
+pub use Rattle.std.specs.Option.{is_some, option_map_or, option_or, unwrap_or}
+pub use Rattle.std.specs.Prelude.{IsUtf8, codes, decimal, is_none, nat_lt, not, option_map, slice_index, slice_set, ◌&&◌, ◌||◌}
+pub use Rattle.std.specs.Result.{IsErr, result_ok}
+pub use Rattle.std.specs.Str.{bytes_eq}
+pub use Rattle.std.specs.Str.Lines.{lines, lines_of_parts, strip_carriage_return}
+pub use Rattle.tw_code.specs.declared.opcode.Opcode.{Opcode}
+pub use Rattle.tw_code.specs.format.Table.{forms_of, opcode_in}
+pub use Rattle.tw_code.specs.format.Versions.{last_version}
+pub use Rattle.tw_lexer.proofs.Breaks.{HasNoLineFeed}
+pub use Rattle.tw_lexer.proofs.Colons.{before, found_before}
+pub use Rattle.tw_lexer.proofs.LineLoops.{all_lines, line_turn}
+pub use Rattle.tw_lexer.proofs.Once.{blank_no_word, first_word_once, gap_once, word_here}
+pub use Rattle.tw_lexer.proofs.Readings.{digits_same, signed_same}
+pub use Rattle.tw_lexer.proofs.Texts.{edge_small, parting_small, rest_utf8}
+pub use Rattle.tw_lexer.proofs.Utf8.{cut_front, cut_rest, one_ascii}
+pub use Rattle.tw_lexer.specs.Digits.{all_digits, digits_in}
+pub use Rattle.tw_lexer.specs.Names.{all_in_name, before_colon, is_in_name, is_letter}
+pub use Rattle.tw_lexer.specs.Seen.{seen}
+pub use Rattle.tw_lexer.specs.Words.{Bare, IsAtEdge, IsAtWord, IsBare, IsBlank, IsBroken, IsFirstWord, IsGap, IsWord, Quoted, Word, is_parting}
+pub use Rattle.tw_lexer.specs.reading.Next.{IsAfterGap, is_at_edge}
+pub use Rattle.tw_symbols.specs.Answers.{Gives, IsAccepted, IsExpanded, IsMemory, IsNamed, begins_with_p, is_plainly_blank, lists_entry, named_by, pieces_left, seen_rejection}
+pub use Rattle.tw_symbols.specs.Called.{called_in, head_called, head_line}
+pub use Rattle.tw_symbols.specs.Expansion.{HasExpansion, HasNames, Rejection, at_number, ended, expanded_from, expanded_if_read, expanded_taken, expansion_of, or_unread, procedures_of, with_head, with_line, with_lines, with_name, with_words}
+pub use Rattle.tw_symbols.specs.LineExpansion.{Expanded, argument_of, at_head, bank_of_mode, begins, begins_at, begins_first, checked_name, counted, expanded_head, expanded_line, expanded_registers, expanded_results, expanded_word, expanded_words, expands, expected_of, fitting, followed_by, has_colon, is_listed_word, is_names_line, is_unnamed, list_name, name_before, named, names_after_constant, names_after_let, names_after_list, names_if_unnamed, number_in, number_of, parameters, procedure_name, register_in, register_of, value_after, value_types, with_word}
+pub use Rattle.tw_symbols.specs.Lines.{AreTaken, AreWords, Broken, IsTail, IsTaken, Line, StartWith, StartsWith, Worded, has_quote, is_sign, line_rest, line_words, pieces, pieces_after, some_piece}
+pub use Rattle.tw_symbols.specs.Meanings.{Head, Names, Procedures, Table, TokenError, above, and_then, is_bank, is_listed, is_name, is_origin, known, lists, may_name, meaning, name_register, no_names, not_taken, or_else, rejected_word, with_constant, with_listed, with_register}
+pub use Rattle.tw_symbols.specs.Registers.{entry_name, first_part, is_register, last_name, names_after_line, names_then, registers_at}
+pub use Rattle.tw_symbols.specs.Renaming.{AreLineWords, AreRenamed, AreRenamedLines, Either, IfRead, IsRenamedBody, IsRenamedLine, IsRenamedRead, IsTextRenaming, TextsRenamedAlike, renamed_before, renamed_first, renamed_head, renamed_listed, renamed_operands}
+pub use Rattle.tw_symbols.specs.RightNames.{AreLast, HasNoHead, IsAfter, IsReady, begins_procedure, kept_entries, last_right, no_right_names, noted, registers_of, right_name}
+pub use Rattle.tw_symbols.specs.Seen.{now, seen_entry, seen_names, seen_procedures, seen_table, texts}
+pub use Rattle.tw_symbols.specs.Symbols.{head_names, line_names}
+pub use Rattle.tw_symbols.specs.Theorems.{AsManyLines, ExpandsToItself, ExpandsToOne, InUtf8, IsRenaming, ListedByPlace, NamesDiffer, NamesStay, NotBoth, OneFirstRejection, RenamedAlike, UsesAreRegisters, begun, read_in, renamed_names, renamed_procedures, renamed_table, renamed_word, renamed_words}
+pub use Rattle.tw_symbols.specs.Unchanged.{Extends, IsAdded, IsApart, IsPassed, Stays, is_label}
+pub use Rattle.tw_symbols.specs.Unread.{begins_unknown, calls_unknown, is_call, is_open_call, is_past, reads_heads, unread}
+pub use Rattle.tw_symbols.specs.declared.meaning.Bank.{Bank}
+pub use Rattle.tw_symbols.specs.declared.meaning.Binding.{Binding}
+pub use Rattle.tw_symbols.specs.declared.meaning.Expected.{Expected}
+pub use Rattle.tw_symbols.specs.declared.meaning.Listed.{Listed}
+pub use Rattle.tw_symbols.specs.declared.meaning.Origin.{Origin}
+pub use Rattle.tw_symbols.specs.declared.rejection.NameError.{NameError}

@@ -1,6 +1,5 @@
 -- Steps in sequence.
-use Rattle.std.proofs.Common.{◌≡◌, ℕ, List, ◌∷◌, ◌++◌, take, filter, Option, Result, Ok, refl, sym, ap, subst, ◌∙◌, append_assoc}
-use Rattle.tw_symbols.proofs.TextNames.{TokenError, Line, Names, Procedures, and_then, at_head, followed_by, ended, flat_map, expanded_head, is_unnamed, line_rest, expanded_line, line_words, names_after_list, checked_name, parameters, procedure_name, expanded_taken}
+use Rattle.tw_symbols.proofs.TextNames.{Line, List, Names, Ok, Option, Procedures, Result, TokenError, and_then, ap, append_assoc, at_head, checked_name, ended, expanded_head, expanded_line, expanded_taken, filter, flat_map, followed_by, is_unnamed, line_rest, line_words, names_after_list, parameters, procedure_name, refl, subst, sym, take, ℕ, ◌++◌, ◌∙◌, ◌∷◌, ◌≡◌}
 use Rattle.std.proofs.lemmas.Grind.{flat_map-append}
 use Rattle.tw_symbols.specs.declared.meaning.Listed.TheVariants.{Parameters}
 

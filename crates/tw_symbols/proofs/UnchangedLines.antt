@@ -1,23 +1,11 @@
 -- Lines that have at most a label.
 use Rattle.std.proofs.Common.{[], ◌≡◌, ℕ, Bool, true, false, cond, List, ◌∷◌, ◌++◌, Option, Some, None, Ok, refl, sym, ap, subst, ◌∙◌, append_assoc, codes}
-use Rattle.std.specs.List.{find}
-use Rattle.std.specs.Prelude.{◌&&◌}
-use Rattle.std.specs.Str.{bytes_eq}
+use Rattle.tw_symbols.proofs.TextNames.{Bare, Expanded, IsAdded, IsAfterGap, IsBlank, IsFirstWord, IsTaken, IsWord, Line, Names, Opcode, Procedures, Quoted, Stays, Word, Worded, and_then, append-nil, before, before_colon, begins_procedure, bytes_eq, bytes_eq-Decides, ended, expanded_taken, find, found_before, is_label, is_names_line, is_some, last_version, line_words, ◌&&◌}
 use Rattle.std.proofs.lemmas.Option.{none-some}
-use Rattle.std.proofs.lemmas.Slice.Eq.{bytes_eq-Decides}
-use Rattle.tw_code.specs.declared.opcode.Opcode.{Opcode}
 use Rattle.tw_code.specs.declared.opcode.Opcode.TheVariants as opcode
 use Rattle.tw_code.specs.declared.opcode.TheConstants.{OPCODES}
-use Rattle.tw_code.specs.format.Versions.{last_version}
 use Rattle.tw_code.specs.format.Table.{if_had, opcode_in, opcode_of, word_of}
-use Rattle.tw_lexer.proofs.Colons.{before, found_before}
-use Rattle.tw_lexer.specs.Names.{before_colon}
-use Rattle.tw_lexer.specs.Words.{Bare, IsBlank, IsFirstWord, IsWord, Quoted, Word}
-use Rattle.tw_lexer.specs.reading.Next.{IsAfterGap}
-use Rattle.tw_symbols.proofs.TextNames.{IsTaken, Line, Names, Procedures, Expanded, Worded, and_then, append-nil, ended, is_names_line, is_some, line_words, expanded_taken}
 use Rattle.tw_symbols.specs.LineExpansion.{expanded_body, expanded_line}
-use Rattle.tw_symbols.specs.RightNames.{begins_procedure}
-use Rattle.tw_symbols.specs.Unchanged.{IsAdded, Stays, is_label}
 use Rattle.tw_symbols.proofs.RenamedWords.{differs}
 use Rattle.tw_symbols.proofs.Taking.{taken_once, text_here}
 

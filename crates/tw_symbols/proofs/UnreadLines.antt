@@ -1,22 +1,9 @@
 -- Lines that aren't read.
 use Rattle.std.proofs.Common.{[], ◌≡◌, ◌≤◌, ◌+◌, ◌⊎◌, ℕ, zero, suc, Bool, true, false, cond, List, ◌∷◌, ◌++◌, length, Option, Some, None, Ok, Err, refl, sym, ap, subst, ◌∙◌, append_assoc, append-nil, codes, arith}
-use Rattle.std.specs.List.{filter_map}
-use Rattle.std.specs.Option.{option_map_or}
-use Rattle.std.specs.Prelude.{◌&&◌}
-use Rattle.std.specs.Str.{bytes_eq}
-use Rattle.std.proofs.lemmas.Bool.Decides.{nat_tests}
-use Rattle.std.proofs.lemmas.Slice.Eq.{bytes_eq-Decides}
-use Rattle.tw_code.specs.declared.opcode.Opcode.{Opcode}
-use Rattle.tw_code.specs.format.Versions.{last_version}
+use Rattle.tw_symbols.proofs.TextNames.{AllByRecursion, AreTaken, Expanded, Head, IsAdded, IsApart, IsMemory, IsTaken, Line, NameError, Names, Opcode, Procedures, bank_of_mode, bytes_eq, bytes_eq-Decides, calls_unknown, ended, expanded_if_read, expanded_taken, filter_map, flat_map, is_open_call, is_past, last_version, line_words, nat_lt, nat_tests, option_map_or, or_unread, pieces, procedures_of, reads_heads, slice_get, unread, with_head, with_line, with_lines, with_words, ◌&&◌}
 use Rattle.tw_code.specs.format.Table.{opcode_in, opcode_of}
 use Rattle.tw_symbols.proofs.EachLine.{line_of}
 use Rattle.tw_symbols.proofs.Loops.{AreGathered, no_procedures}
-use Rattle.tw_symbols.proofs.TextNames.{AllByRecursion, AreTaken, IsMemory, IsTaken, Line, Names, Procedures, Expanded, bank_of_mode, ended, flat_map, line_words, nat_lt, or_unread, pieces, procedures_of, expanded_if_read, reads_heads, slice_get, expanded_taken, unread, with_line, with_lines}
-use Rattle.tw_symbols.specs.Expansion.{with_head, with_words}
-use Rattle.tw_symbols.specs.Meanings.{Head}
-use Rattle.tw_symbols.specs.Unchanged.{IsAdded, IsApart}
-use Rattle.tw_symbols.specs.Unread.{calls_unknown, is_open_call, is_past}
-use Rattle.tw_symbols.specs.declared.rejection.NameError.{NameError}
 
 -- ---- procedures
 

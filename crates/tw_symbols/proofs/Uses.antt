@@ -1,27 +1,12 @@
 -- Names of registers stay, are given by their places, and are used for the registers that got them.
 use Rattle.std.proofs.Common.{[], ◌≡◌, ◌<◌, ◌+◌, ℕ, Bool, true, false, cond, List, ◌∷◌, ◌++◌, Option, Some, None, Result, Ok, Err, refl, sym, ap, subst, ◌∙◌, codes, decimal, arith}
-use Rattle.std.specs.Option.{option_map_or}
-use Rattle.std.specs.Result.{result_ok}
-use Rattle.std.specs.Str.{bytes_eq}
+use Rattle.tw_symbols.proofs.TextNames.{Bank, Binding, Expected, ListedByPlace, Names, NamesStay, Origin, Procedures, Table, TokenError, UsesAreRegisters, before, before_colon, begins, begun, bytes_eq, bytes_eq-Decides, counted, digits_in, digits_same, expands, fitting, is_bank, is_listed, is_name, known, list_name, may_name, meaning, name_before, name_register, named, names_after_list, nat_lt, not_taken, number_in, option_map_or, or_else, read_in, register_in, rejected_word, result_ok, with_listed, with_register, with_word}
 use Rattle.std.proofs.lemmas.List.Sums.{sum_by-cons}
 use Rattle.std.proofs.lemmas.Fmt.{decimal_is_IsNumeral}
-use Rattle.std.proofs.lemmas.Slice.Eq.{bytes_eq-Decides}
-use Rattle.tw_lexer.specs.Digits.{digits_in}
 use Rattle.tw_lexer.specs.declared.numbers.TokenError as numbers
-use Rattle.tw_lexer.specs.Names.{before_colon}
-use Rattle.tw_lexer.proofs.Colons.{before}
-use Rattle.tw_lexer.proofs.Readings.{digits_same}
-use Rattle.tw_symbols.proofs.TextNames.{TokenError, Names, Procedures, Table, is_name, known, names_after_list, may_name, meaning, name_register, nat_lt, not_taken, or_else, rejected_word}
-use Rattle.tw_symbols.specs.Theorems.{ListedByPlace, NamesStay, UsesAreRegisters, begun, read_in}
-use Rattle.tw_symbols.specs.Meanings.{is_bank, is_listed, with_listed, with_register}
-use Rattle.tw_symbols.specs.LineExpansion.{begins, counted, fitting, list_name, name_before, named, number_in, register_in, expands, with_word}
-use Rattle.tw_symbols.specs.declared.meaning.Expected.{Expected}
 use Rattle.tw_symbols.specs.declared.meaning.Expected.TheVariants as asked
-use Rattle.tw_symbols.specs.declared.meaning.Bank.{Bank}
 use Rattle.tw_symbols.specs.declared.meaning.Bank.TheVariants as bank
-use Rattle.tw_symbols.specs.declared.meaning.Origin.{Origin}
 use Rattle.tw_symbols.specs.declared.meaning.Origin.TheVariants as origin
-use Rattle.tw_symbols.specs.declared.meaning.Binding.{Binding}
 use Rattle.tw_symbols.specs.declared.meaning.Binding.TheVariants as binding
 use Rattle.tw_symbols.specs.declared.rejection.NameNo.TheVariants as no
 use Rattle.tw_symbols.proofs.NameSteps.{IsStep, by_test, list_step, taken_step}

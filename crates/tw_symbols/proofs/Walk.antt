@@ -1,6 +1,5 @@
 -- A text is read line by line.
-use Rattle.std.proofs.Common.{[], ◌≡◌, ℕ, zero, suc, ◌+◌, List, ◌∷◌, ◌++◌, length, drop, Some, None, refl, ap, subst, ◌∙◌, inl, inr, arith}
-use Rattle.tw_symbols.proofs.TextNames.{AreTaken, AreWords, HasNames, IsTaken, Line, Procedures, codes, slice_get, with_line, with_lines}
+use Rattle.tw_symbols.proofs.TextNames.{AreTaken, AreWords, HasNames, IsTaken, Line, List, None, Procedures, Some, [], ap, arith, codes, drop, inl, inr, length, refl, slice_get, subst, suc, with_line, with_lines, zero, ℕ, ◌++◌, ◌+◌, ◌∙◌, ◌∷◌, ◌≡◌}
 use Rattle.tw_symbols.proofs.Taking.{words_once}
 
 pub with_lines_more : (p : Procedures) (n : ℕ) (all : List Line) (t : Line) → with_lines p n (all ++ t ∷ []) ≡ with_line (with_lines p n all) (n + length all) t

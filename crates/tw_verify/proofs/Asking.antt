@@ -1,8 +1,5 @@
 -- The checks that RULE and PUT make of their arguments, one by one.
-use Rattle.std.proofs.Common.{◌≡◌, ◌⊎◌, inl, inr, ℕ, Bool, true, false, List, [], ◌∷◌, ◌++◌, refl, sym, ap, ◌∙◌}
-use Rattle.tw_verify.proofs.VerifierNames.{None, Question, Scalar, Typing, append-nil, requires_args, requires_value, if◌then◌else◌, lowest_of, right_fits_param, passes, rejection_in, right_at, slice_set, without_args}
-use Rattle.tw_types.specs.declared.param.Param.{Param}
-use Rattle.tw_types.specs.Mode.{is_val}
+use Rattle.tw_verify.proofs.VerifierNames.{Bool, List, None, Param, Question, Scalar, Typing, [], ap, append-nil, false, if◌then◌else◌, inl, inr, is_val, lowest_of, passes, refl, rejection_in, requires_args, requires_value, right_at, right_fits_param, slice_set, sym, true, without_args, ℕ, ◌++◌, ◌∙◌, ◌∷◌, ◌≡◌, ◌⊎◌}
 use Rattle.tw_verify.proofs.Numbers.{rejection_in-append}
 
 -- one argument, and the others when it has left its register

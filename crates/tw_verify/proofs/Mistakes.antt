@@ -1,9 +1,6 @@
 -- Errors at a place, and lists of typings extended by one place without an error.
 use Rattle.std.proofs.Common.{◌≡◌, ℕ, ◌+◌, ◌<◌, ◌≤◌, ◌⊎◌, inl, inr, Bool, true, false, List, [], ◌∷◌, ◌++◌, length, length-append, get_or, Option, Some, None, refl, sym, ap, ◌∙◌, subst, arith}
-use Rattle.tw_verify.proofs.VerifierNames.{Brings, HasChanged, Instr, IsEndOf, IsReached, IsRejectionAt, IsTypingRejection, IsWellTyped, LeadsTo, Procedure, Typing, after, requires_at, cases_lt, flow_of, lowest_at, onward, rejection_in, same_Some, slice_get, slice_get-get_or, slice_get_within, start_typing}
-use Rattle.tw_code.specs.declared.flow.Way.{Way}
-use Rattle.tw_code.specs.declared.flow.Way.TheVariants.{Completed, Skipped}
-use Rattle.tw_verify.specs.declared.reached.Reached.{Reached}
+use Rattle.tw_verify.proofs.VerifierNames.{Brings, Completed, HasChanged, Instr, IsEndOf, IsReached, IsRejectionAt, IsTypingRejection, IsWellTyped, LeadsTo, Procedure, Reached, Skipped, Typing, Way, after, cases_lt, flow_of, lowest_at, onward, rejection_in, requires_at, same_Some, slice_get, slice_get-get_or, slice_get_within, start_typing}
 use Rattle.tw_verify.proofs.Lists.{get_pushed}
 use Rattle.tw_verify.proofs.Causes.{IsCause, cause_at, least_at}
 use Rattle.tw_verify.proofs.Places.{loop_within}

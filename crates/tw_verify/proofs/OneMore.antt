@@ -1,9 +1,6 @@
 -- One more parameter.
 use Rattle.std.proofs.Common.{◌≡◌, ℕ, suc, ◌+◌, ◌-◌, ◌<◌, Bool, true, false, ◌&&◌, List, [], ◌∷◌, ◌++◌, length, map, set, replicate, take, get_or, Option, Some, None, refl, sym, ap, ◌∙◌, arith, length-append}
-use Rattle.tw_verify.proofs.VerifierNames.{RightType, Scalar, append-nil, append_assoc, if◌then◌else◌, option_map_or, option_to_list, right_of, rights_given, slice_get, start_typing, take_more, value_types, values_fit}
-use Rattle.tw_types.specs.declared.param.Param.{Param}
-use Rattle.tw_types.specs.DataType.{same_scalar}
-use Rattle.tw_types.specs.Mode.{is_val}
+use Rattle.tw_verify.proofs.VerifierNames.{Param, RightType, Scalar, append-nil, append_assoc, if◌then◌else◌, is_val, option_map_or, option_to_list, right_of, rights_given, same_scalar, slice_get, start_typing, take_more, value_types, values_fit}
 
 abbrev pub as_right : Param → RightType
 as_right p = record { mode = p.mode; ty = p.ty }

@@ -1,11 +1,6 @@
 -- The ENDs of loops, the loops begun at a place, and the tables of both.
 use Rattle.std.proofs.Common.{◌≡◌, ◌≢◌, ℕ, zero, suc, ◌+◌, ◌-◌, ◌<◌, ◌≤◌, ◌⊎◌, inl, inr, List, [], ◌∷◌, ◌++◌, length, length-append, drop, set, get_or, Option, Some, None, refl, sym, ap, ◌∙◌, subst, arith}
-use Rattle.tw_verify.proofs.VerifierNames.{AreFirsts, DepthsTo, EndsFrom, Instr, IsEndOf, cases_lt, depth_after, depth_of, end_from, end_of, flow_of, flows, length-map, length-set, same_Some, slice_get, slice_index}
-use Rattle.std.proofs.Math.ListN.{get_or-append}
-use Rattle.std.proofs.Math.Seq.{drop-length, get_or-append_seam}
-use Rattle.tw_code.specs.declared.flow.Flow.{Flow}
-use Rattle.tw_code.specs.declared.flow.Flow.TheVariants.{Straight, Branch, Jump, Begin, Close, Stop}
-use Rattle.tw_budget.proofs.Places.{drop_at, slide, end_is, end_past, straight_end, branch_end, jump_end, end_within, depth_next, end_depth}
+use Rattle.tw_verify.proofs.VerifierNames.{AreFirsts, Begin, Branch, Close, DepthsTo, EndsFrom, Flow, Instr, IsEndOf, Jump, Stop, Straight, branch_end, cases_lt, depth_after, depth_next, depth_of, drop-length, drop_at, end_depth, end_from, end_is, end_of, end_past, end_within, flow_of, flows, get_or-append, get_or-append_seam, jump_end, length-map, length-set, same_Some, slice_get, slice_index, slide, straight_end}
 use Rattle.tw_budget.proofs.Tables.{set_from}
 use Rattle.tw_verify.proofs.Lists.{get_set_at, get_set_other}
 

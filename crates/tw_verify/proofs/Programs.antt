@@ -1,8 +1,7 @@
 -- Accepted programs have no first error.
 use Rattle.std.proofs.Common.{◌≡◌, ◌≢◌, ℕ, ◌+◌, ◌<◌, ◌≤◌, ◌⊎◌, inl, inr, true, false, List, [], ◌∷◌, ◌++◌, length, length-append, take, get_or, Option, Some, None, refl, sym, ap, ◌∙◌, subst, arith}
-use Rattle.tw_verify.proofs.VerifierNames.{AreFindings, AreTyped, Findings, IfFault, IsAccepted, IsAcceptedProcedure, IsFirstRejection, IsProcedureRejection, IsRejection, IsSomeAnd, IsTyped, Procedure, is_memory, rejection_of, same_Some, slice_get, slice_get-get_or, slice_get_within, verify_error_code}
+use Rattle.tw_verify.proofs.VerifierNames.{AreFindings, AreTyped, Findings, IfFault, IsAccepted, IsAcceptedProcedure, IsFirstRejection, IsProcedureRejection, IsRejection, IsSomeAnd, IsTyped, Procedure, greatest_budget, is_memory, rejection_of, same_Some, slice_get, slice_get-get_or, slice_get_within, verify_error_code}
 use Rattle.tw_code.specs.accepting.MainShape.{has_main_shape}
-use Rattle.tw_code.specs.accepting.Walk.{greatest_budget}
 use Rattle.tw_verify.specs.declared.rejection.VerifyError.{VerifyError}
 use Rattle.tw_verify.specs.declared.rejection.VerifyError.TheVariants as rejection
 use Rattle.tw_verify.specs.declared.fault.Fault.{Fault}

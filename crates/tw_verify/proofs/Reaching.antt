@@ -1,18 +1,12 @@
 -- The typings that reach places, outcome by outcome.
 use Rattle.std.proofs.Common.{◌≡◌, ◌≢◌, ℕ, zero, suc, ◌+◌, ◌<◌, ◌≤◌, ◌==◌, ◌⊎◌, inl, inr, Bool, true, false, not, ◌||◌, List, [], ◌∷◌, ◌++◌, length, drop, take, get_or, Option, Some, None, refl, sym, ap, ◌∙◌, subst, arith}
-use Rattle.tw_verify.proofs.VerifierNames.{Brings, Instr, IsReached, LeadsTo, Procedure, RightType, Typing, after, and_parts, append-nil, cases_lt, eqb-false, eqb-true, first_row, flow_of, if◌then◌else◌, is_place, noted, onward, option_eq, same_Some, sent, slice_get, slice_get-get_or, slice_get_within, start_typing}
+use Rattle.tw_verify.proofs.VerifierNames.{Brings, Completed, Instr, IsReached, LeadsTo, Procedure, Reached, RightType, Skipped, Typing, Way, after, and_parts, append-nil, cases_lt, drop_of_length-le, eqb-false, eqb-true, first_row, flow_of, if◌then◌else◌, is_place, noted, onward, option_eq, same_Some, same_type, sent, slice_get, slice_get-get_or, slice_get_within, start_typing, take-length}
 use Rattle.std.specs.Bool.{Decides}
-use Rattle.std.proofs.Math.ListN.{drop_of_length-le}
-use Rattle.std.proofs.Math.Seq.{take-length}
 use Rattle.std.proofs.lemmas.Slice.Eq.{slice_eq-Decides}
 use Rattle.tw_types.specs.declared.param.Mode.{Mode}
 use Rattle.tw_types.specs.declared.param.Mode.TheVariants.{Val, Closed, Ref, Write}
-use Rattle.tw_types.specs.DataType.{same_type}
 use Rattle.tw_types.specs.Nesting.{NestedScalar}
-use Rattle.tw_code.specs.declared.flow.Way.{Way}
-use Rattle.tw_code.specs.declared.flow.Way.TheVariants.{Completed, Skipped}
 use Rattle.tw_verify.specs.Same.{mode_rank, same_right, same_typing}
-use Rattle.tw_verify.specs.declared.reached.Reached.{Reached}
 use Rattle.tw_verify.proofs.Lists.{get_front, get_last}
 use Rattle.tw_types.proofs.SameTypes.{same_types, type_itself}
 use Rattle.tw_verify.proofs.Typings.{onward_later}

@@ -1,7 +1,6 @@
 -- The place where a pass stops.
 use Rattle.std.proofs.Common.{◌≡◌, ℕ, ◌+◌, inl, inr, List, [], ◌∷◌, ◌++◌, None, refl}
-use Rattle.tw_verify.proofs.VerifierNames.{IsReached, IsWellTyped, Procedure, Typing}
-use Rattle.tw_verify.specs.Known.{AreUpTo}
+use Rattle.tw_verify.proofs.VerifierNames.{AreUpTo, IsReached, IsWellTyped, Procedure, Typing}
 use Rattle.tw_verify.proofs.Mistakes.{early_outcome}
 use Rattle.tw_verify.proofs.Reaching.{IsRow}
 

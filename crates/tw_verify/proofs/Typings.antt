@@ -1,10 +1,5 @@
 -- Lists of typings: a list that fits is the only one of its length, and has each typing that reaches one of its places.
-use Rattle.std.proofs.Common.{◌≡◌, ℕ, zero, suc, ◌+◌, ◌<◌, ◌≤◌, ◌⊎◌, inl, inr, List, take, get_or, Some, refl, sym, ap, ◌∙◌, subst, arith}
-use Rattle.tw_verify.proofs.VerifierNames.{Brings, Instr, IsReached, IsWellTyped, Procedure, Typing, after, cases_lt, flow_of, length-take, onward, same_Some, slice_get, slice_get-get_or, slice_get_within}
-use Rattle.tw_code.specs.declared.flow.Flow.{Flow}
-use Rattle.tw_code.specs.declared.flow.Flow.TheVariants.{Straight, Branch, Jump, Begin, Close, Stop}
-use Rattle.tw_code.specs.declared.flow.Way.{Way}
-use Rattle.tw_code.specs.declared.flow.Way.TheVariants.{Completed, Skipped}
+use Rattle.tw_verify.proofs.VerifierNames.{Begin, Branch, Brings, Close, Completed, Flow, Instr, IsReached, IsWellTyped, Jump, List, Procedure, Skipped, Some, Stop, Straight, Typing, Way, after, ap, arith, cases_lt, flow_of, get_or, inl, inr, length-take, onward, refl, same_Some, slice_get, slice_get-get_or, slice_get_within, subst, suc, sym, take, zero, ℕ, ◌+◌, ◌<◌, ◌∙◌, ◌≡◌, ◌≤◌, ◌⊎◌}
 use Rattle.tw_code.specs.machine.Position.{goal_of}
 use Rattle.tw_verify.proofs.Lists.{get-take}
 

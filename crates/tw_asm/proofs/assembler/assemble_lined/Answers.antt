@@ -1,5 +1,4 @@
-use Rattle.std.proofs.Common.{map}
-use Rattle.tw_asm.proofs.AsmNames.{err_from_is_err_and, seen_section}
+use Rattle.tw_asm.proofs.AsmNames.{err_from_is_err_and, map, seen_section}
 use Rattle.tw_asm.proofs.Origins.{origins}
 use Rattle.tw_asm.proofs.SpelledSections.{is_program, labels_fit, encodes_program}
 use Rattle.tw_asm.proofs.FaultTheorems.{not_linked, not_read}

@@ -1,6 +1,4 @@
-use Rattle.std.proofs.Common.{inr, sym, ap, ◌∙◌}
-use Rattle.std.specs.Option.{is_some}
-use Rattle.std.specs.Str.{bytes_eq}
+use Rattle.tw_asm.proofs.AsmNames.{ap, bytes_eq, inr, is_some, sym, ◌∙◌}
 use Rattle.indexmap.proofs.CallerLemmas.{insert_entry-new}
 use Rattle.tw_asm.proofs.LabelMaps.{added_is, name_absent, name_present}
 use Rattle.tw_asm.proofs.bodies.add_label.Goals as goal

@@ -1,5 +1,4 @@
-use Rattle.std.proofs.Common.{map}
-use Rattle.tw_asm.proofs.AsmNames.{bytes_of, err_from_is_err_and, seen_section}
+use Rattle.tw_asm.proofs.AsmNames.{bytes_of, err_from_is_err_and, map, seen_section}
 use Rattle.tw_asm.proofs.Taking.{draft_stopped}
 use Rattle.tw_asm.proofs.bodies.take_draft.Goals as goal
 

@@ -1,5 +1,4 @@
-use Rattle.std.proofs.Common.{◌∷◌, [], inr, refl, arith}
-use Rattle.tw_asm.proofs.AsmNames.{length-map, map-append, seen_draft}
+use Rattle.tw_asm.proofs.AsmNames.{[], arith, inr, length-map, map-append, refl, seen_draft, ◌∷◌}
 use Rattle.tw_asm.proofs.bodies.with_draft.Goals as goal
 
 pub returns-then-len-from : goal.returns-then-len-from

@@ -1,5 +1,4 @@
-use Rattle.std.proofs.Common.{◌≡◌, ◌++◌, ℕ, Global, List, Vec, true, false, sym, ap, subst, ◌∙◌}
-use Rattle.tw_asm.proofs.AsmNames.{IsUtf8, Procedure, EncodesProgram, Version, disassembly, flat_map, procedure_lines, version_line}
+use Rattle.tw_asm.proofs.AsmNames.{EncodesProgram, Global, IsUtf8, List, Procedure, Vec, Version, ap, disassembly, false, flat_map, procedure_lines, subst, sym, true, version_line, ℕ, ◌++◌, ◌∙◌, ◌≡◌}
 use Rattle.tw_asm.proofs.Disassembled.{disassembly_encodes, disassembly_text}
 use Rattle.tw_asm.proofs.disassembler.disassemble.Goals as goal
 

@@ -1,5 +1,4 @@
-use Rattle.std.proofs.Common.{ℕ, ◌+◌, sym, ap, ◌∙◌}
-use Rattle.tw_asm.proofs.AsmNames.{label_at, option_and_then}
+use Rattle.tw_asm.proofs.AsmNames.{ap, label_at, option_and_then, sym, ℕ, ◌+◌, ◌∙◌}
 use Rattle.tw_asm.proofs.disassembler.goal_label.Goals as goal
 
 pub returns-in-Some : goal.returns-in-Some

@@ -1,5 +1,4 @@
-use Rattle.std.proofs.Common.{◌≡◌}
-use Rattle.tw_asm.specs.Disassembly.{label_places}
+use Rattle.tw_asm.proofs.AsmNames.{label_places, ◌≡◌}
 use Rattle.tw_asm.proofs.Ones.{inserted_from}
 use Rattle.tw_asm.proofs.disassembler.label_places.Given as goal
 

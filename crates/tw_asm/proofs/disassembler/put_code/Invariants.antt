@@ -1,5 +1,4 @@
-use Rattle.std.proofs.Common.{◌≡◌, ◌++◌, drop}
-use Rattle.tw_asm.specs.Disassembly.{code_lines}
+use Rattle.tw_asm.proofs.AsmNames.{code_lines, drop, ◌++◌, ◌≡◌}
 use Rattle.tw_asm.proofs.disassembler.put_code.Given as goal
 
 -- the lines so far, with those of the other instructions, are all

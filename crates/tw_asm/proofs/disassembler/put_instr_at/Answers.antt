@@ -1,5 +1,4 @@
-use Rattle.std.proofs.Common.{◌≡◌, ◌++◌, ℕ, List, subst}
-use Rattle.std.specs.Prelude.{OnOk}
+use Rattle.tw_asm.proofs.AsmNames.{List, OnOk, subst, ℕ, ◌++◌, ◌≡◌}
 use Rattle.tw_asm.proofs.OwnLines.{label_of_goal}
 use Rattle.tw_asm.proofs.disassembler.put_instr_at.Goals as goal
 

@@ -1,5 +1,4 @@
-use Rattle.std.proofs.Common.{◌≡◌, ◌++◌, drop}
-use Rattle.tw_asm.proofs.AsmNames.{flat_map, procedure_lines}
+use Rattle.tw_asm.proofs.AsmNames.{drop, flat_map, procedure_lines, ◌++◌, ◌≡◌}
 use Rattle.tw_asm.proofs.disassembler.put_procedures.Given as goal
 
 -- the lines so far, with those of the other procedures, are all

@@ -1,5 +1,4 @@
-use Rattle.std.proofs.Common.{◌≡◌, drop, map}
-use Rattle.tw_asm.proofs.AsmNames.{as_is, each, each_from, scalar_in, seen}
+use Rattle.tw_asm.proofs.AsmNames.{as_is, drop, each, each_from, map, scalar_in, seen, ◌≡◌}
 use Rattle.tw_asm.proofs.gathering.scalar_list.Given as goal
 
 abbrev pub invariant-loop-word : goal.invariant-loop-word

@@ -1,5 +1,4 @@
-use Rattle.std.proofs.Common.{◌≡◌, drop, map}
-use Rattle.tw_asm.proofs.AsmNames.{seen, type_from}
+use Rattle.tw_asm.proofs.AsmNames.{drop, map, seen, type_from, ◌≡◌}
 use Rattle.tw_asm.proofs.gathering.type_of.Given as goal
 
 abbrev pub invariant-loop-index : goal.invariant-loop-index

@@ -1,5 +1,4 @@
-use Rattle.std.proofs.Common.{◌≡◌, drop, map}
-use Rattle.tw_asm.proofs.AsmNames.{params_from, seen}
+use Rattle.tw_asm.proofs.AsmNames.{drop, map, params_from, seen, ◌≡◌}
 use Rattle.tw_asm.specs.reading.Heads.{seen_params}
 use Rattle.tw_asm.proofs.heads.param_list.Given as goal
 

@@ -1,8 +1,4 @@
-use Rattle.std.proofs.Common.{◌∙◌, ap, map, sym}
-use Rattle.tw_code.specs.format.Operands.{plain}
-use Rattle.tw_lexer.specs.Digits.{as_is}
-use Rattle.tw_lexer.specs.Seen.{seen as seen_word}
-use Rattle.tw_code.proofs.TableRows.{split}
+use Rattle.tw_asm.proofs.AsmNames.{ap, as_is, map, plain, seen as seen_word, split, sym, ◌∙◌}
 use Rattle.tw_asm.proofs.ByForms.{goal_last, no_forms, no_word_left, none_read, one_read, type_last, words_split}
 use Rattle.tw_asm.proofs.instructions.+operands_of.Goals as goal
 

@@ -1,8 +1,6 @@
 use Rattle.std.proofs.Common.{◌≡◌, ◌∙◌, List, Ok, Err, ap, map, sym}
 use Rattle.tw_code.specs.declared.form.Form.{Form}
-use Rattle.tw_code.specs.format.Table.{forms_of}
-use Rattle.tw_lexer.specs.Seen.{seen as seen_word}
-use Rattle.tw_asm.specs.reading.ByForms.{gathered_in}
+use Rattle.tw_asm.proofs.AsmNames.{forms_of, gathered_in, seen as seen_word}
 use Rattle.tw_asm.proofs.ByForms.{drafts_none, drafts_one}
 use Rattle.tw_asm.proofs.instructions.plain_of.Goals as goal
 

@@ -1,5 +1,4 @@
-use Rattle.std.proofs.Common.{[], ◌∷◌, ◌++◌, ap, ◌∙◌}
-use Rattle.tw_asm.specs.reading.Progress.{seen_section, section_numbers}
+use Rattle.tw_asm.proofs.AsmNames.{[], ap, section_numbers, seen_section, ◌++◌, ◌∙◌, ◌∷◌}
 use Rattle.tw_asm.proofs.Origins.{one_taken}
 use Rattle.tw_asm.proofs.line_numbers.line_numbers.Goals as goal
 

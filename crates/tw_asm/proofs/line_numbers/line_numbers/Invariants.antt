@@ -1,5 +1,4 @@
-use Rattle.std.proofs.Common.{◌≡◌, map, take}
-use Rattle.tw_asm.specs.reading.Progress.{seen_section, section_numbers}
+use Rattle.tw_asm.proofs.AsmNames.{map, section_numbers, seen_section, take, ◌≡◌}
 use Rattle.tw_asm.proofs.line_numbers.line_numbers.Given as goal
 
 abbrev pub invariant-loop-section : goal.invariant-loop-section

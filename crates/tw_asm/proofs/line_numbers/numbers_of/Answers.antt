@@ -1,6 +1,5 @@
-use Rattle.std.proofs.Common.{◌≡◌, ◌<◌, List, length, get_or, subst}
+use Rattle.tw_asm.proofs.AsmNames.{Drafted, List, get_or, length, seen_draft, subst, ◌<◌, ◌≡◌}
 use Rattle.tw_asm.specs.declared.reading.UnlinkedLine.{UnlinkedLine}
-use Rattle.tw_asm.specs.reading.Progress.{Drafted, seen_draft}
 use Rattle.tw_asm.proofs.Origins.{one_taken}
 use Rattle.tw_asm.proofs.line_numbers.numbers_of.Goals as goal
 

@@ -1,5 +1,4 @@
-use Rattle.std.proofs.Common.{◌≡◌, take}
-use Rattle.tw_asm.specs.reading.Progress.{seen_section, section_numbers}
+use Rattle.tw_asm.proofs.AsmNames.{section_numbers, seen_section, take, ◌≡◌}
 use Rattle.tw_asm.proofs.line_numbers.numbers_of.Given as goal
 
 abbrev pub invariant-loop-line : goal.invariant-loop-line

@@ -1,8 +1,4 @@
-use Rattle.std.proofs.Common.{suc, List, [], ◌∷◌, length, map, drop, inl, inr, sym, subst, arith}
-use Rattle.std.proofs.lemmas.Iterator.Adapters.{YieldsList-from_vec}
-use Rattle.std.proofs.lemmas.Iterator.Consumers.{YieldsList-so_far, YieldsList-turn}
-use Rattle.tw_asm.proofs.AsmNames.{AllByRecursion, Section, err_from_is_err_and, flat_map, map-append, seen_section}
-use Rattle.tw_asm.specs.reading.Goals.{FirstUnlinked, HasLabelsWithin, section_goals}
+use Rattle.tw_asm.proofs.AsmNames.{AllByRecursion, FirstUnlinked, HasLabelsWithin, List, Section, YieldsList-from_vec, YieldsList-so_far, YieldsList-turn, [], arith, drop, err_from_is_err_and, flat_map, inl, inr, length, map, map-append, section_goals, seen_section, subst, suc, sym, ◌∷◌}
 use Rattle.tw_asm.proofs.Linked.{parts_of, procedures_more, section_unlinked, seen_parts, within_there}
 use Rattle.tw_asm.proofs.link.link.Goals as goal
 

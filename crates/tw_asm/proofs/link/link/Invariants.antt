@@ -1,6 +1,4 @@
-use Rattle.std.proofs.Common.{map}
-use Rattle.tw_asm.specs.reading.Goals.{AreLinkedProcedures}
-use Rattle.tw_asm.specs.reading.Progress.{seen_section}
+use Rattle.tw_asm.proofs.AsmNames.{AreLinkedProcedures, map, seen_section}
 use Rattle.tw_asm.proofs.link.link.Given as goal
 
 abbrev pub invariant-loop-section : goal.invariant-loop-section

@@ -1,9 +1,5 @@
-use Rattle.std.proofs.Common.{◌≡◌, ℕ, suc, ◌+◌, List, [], ◌∷◌, length, map, drop, inl, inr, sym, subst, arith}
-use Rattle.tw_asm.proofs.AsmNames.{Drafted, err_from_is_err_and, map-append, seen_draft, seen_label}
-use Rattle.tw_asm.specs.reading.Goals.{FirstUnlinked, IsLinked, IsUnlinked, goals_in}
+use Rattle.tw_asm.proofs.AsmNames.{Drafted, FirstUnlinked, IsLinked, IsUnlinked, List, YieldsList-from_vec, YieldsList-so_far, YieldsList-turn, [], arith, drop, err_from_is_err_and, goals_in, inl, inr, length, map, map-append, seen_draft, seen_label, subst, suc, sym, ℕ, ◌+◌, ◌∷◌, ◌≡◌}
 use Rattle.tw_asm.proofs.Linked.{linked_length, linked_more, parts_of, seen_parts, unlinked_there}
-use Rattle.std.proofs.lemmas.Iterator.Adapters.{YieldsList-from_vec}
-use Rattle.std.proofs.lemmas.Iterator.Consumers.{YieldsList-so_far, YieldsList-turn}
 use Rattle.tw_asm.proofs.link.link_code.Goals as goal
 
 pub loop-line-preserved : goal.loop-line-preserved

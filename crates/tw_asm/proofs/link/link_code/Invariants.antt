@@ -1,6 +1,4 @@
-use Rattle.std.proofs.Common.{map}
-use Rattle.tw_asm.specs.reading.Goals.{AreLinkedCode, goals_in}
-use Rattle.tw_asm.specs.reading.Progress.{seen_draft, seen_label}
+use Rattle.tw_asm.proofs.AsmNames.{AreLinkedCode, goals_in, map, seen_draft, seen_label}
 use Rattle.tw_asm.proofs.link.link_code.Given as goal
 
 abbrev pub invariant-loop-line : goal.invariant-loop-line

@@ -1,6 +1,4 @@
-use Rattle.std.proofs.Common.{map, inr, sym, subst, ap}
-use Rattle.tw_asm.proofs.AsmNames.{bytes_of, seen_label}
-use Rattle.tw_asm.specs.reading.Goals.{IsNoGoal}
+use Rattle.tw_asm.proofs.AsmNames.{IsNoGoal, ap, bytes_of, inr, map, seen_label, subst, sym}
 use Rattle.tw_asm.proofs.link.link_instr.Goals as goal
 
 pub returns-in-Ok : goal.returns-in-Ok

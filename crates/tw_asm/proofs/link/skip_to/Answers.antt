@@ -1,5 +1,4 @@
-use Rattle.std.proofs.Common.{◌≡◌, ℕ, ◌+◌, ◌-◌, ◌≤◌, map, inl, inr, refl, sym, subst, ap, arith}
-use Rattle.tw_asm.proofs.AsmNames.{Contains, Placed, is_some, seen_label}
+use Rattle.tw_asm.proofs.AsmNames.{Contains, Placed, ap, arith, inl, inr, is_some, map, refl, seen_label, subst, sym, ℕ, ◌+◌, ◌-◌, ◌≡◌, ◌≤◌}
 use Rattle.tw_asm.proofs.Walk.{all_of}
 use Rattle.tw_asm.proofs.LabelMaps.{label_found, name_absent}
 use Rattle.tw_asm.proofs.link.skip_to.Goals as goal

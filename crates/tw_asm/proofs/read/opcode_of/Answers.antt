@@ -1,5 +1,4 @@
-use Rattle.std.proofs.Common.{◌∙◌, Bor, List, Option, ℕ, ap, sym}
-use Rattle.std.specs.Option.{option_map}
+use Rattle.tw_asm.proofs.AsmNames.{Bor, List, Option, ap, option_map, sym, ℕ, ◌∙◌}
 use Rattle.tw_asm.proofs.Firsts.{label_unnamed}
 use Rattle.tw_asm.proofs.read.opcode_of.Goals as goal
 

@@ -1,5 +1,4 @@
-use Rattle.std.proofs.Common.{map}
-use Rattle.tw_lexer.specs.Seen.{seen}
+use Rattle.tw_asm.proofs.AsmNames.{map, seen}
 use Rattle.tw_asm.proofs.Whole.{all_fine, answered}
 use Rattle.tw_asm.proofs.read.statement_of.Goals as goal
 

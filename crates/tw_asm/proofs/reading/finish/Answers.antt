@@ -1,5 +1,4 @@
-use Rattle.std.proofs.Common.{map}
-use Rattle.tw_asm.specs.reading.Progress.{seen_section}
+use Rattle.tw_asm.proofs.AsmNames.{map, seen_section}
 use Rattle.tw_asm.proofs.Steps.{match_more}
 use Rattle.tw_asm.proofs.Taking.{finished, not_finished_there}
 use Rattle.tw_asm.proofs.reading.finish.Goals as goal

@@ -1,10 +1,7 @@
-use Rattle.std.proofs.Common.{None, map, refl, rules, sym, ◌∙◌}
-use Rattle.tw_asm.proofs.AsmNames.{err_from_is_err_and, lines, seen_reading}
-use Rattle.std.proofs.lemmas.Iterator.Consumers.{YieldsList-at, YieldsList-end, YieldsList-from_enumerate, YieldsList-so_far, YieldsList-turn}
+use Rattle.tw_asm.proofs.AsmNames.{None, YieldsList-at, YieldsList-end, YieldsList-from_enumerate, YieldsList-so_far, YieldsList-turn, err_from_is_err_and, line_turn, lines, map, refl, rules, seen_reading, sym, ◌∙◌}
 use Rattle.std.proofs.lemmas.Iterator.Splits.{YieldsList-from_lines}
 use Rattle.tw_asm.proofs.Steps.{items_more, line_stopped, lines_end}
 use Rattle.tw_asm.proofs.Blank.{no_words}
-use Rattle.tw_lexer.proofs.LineLoops.{line_turn}
 use Rattle.tw_asm.proofs.reading.read_lines.Goals as goal
 
 pub returns-in_err-reading : goal.returns-in_err-reading

@@ -1,5 +1,4 @@
-use Rattle.std.proofs.Common.{map}
-use Rattle.tw_asm.specs.reading.Progress.{AreTextRead, seen_reading}
+use Rattle.tw_asm.proofs.AsmNames.{AreTextRead, map, seen_reading}
 use Rattle.tw_asm.proofs.reading.read_lines.Given as goal
 
 abbrev pub invariant-loop-index : goal.invariant-loop-index

@@ -1,5 +1,4 @@
-use Rattle.std.proofs.Common.{refl}
-use Rattle.tw_asm.proofs.AsmNames.{err_from_is_err_and, seen_reading}
+use Rattle.tw_asm.proofs.AsmNames.{err_from_is_err_and, refl, seen_reading}
 use Rattle.tw_asm.proofs.Steps.{not_finished}
 use Rattle.tw_asm.proofs.reading.read_text.Goals as goal
 

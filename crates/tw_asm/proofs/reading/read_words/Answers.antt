@@ -1,9 +1,7 @@
 use Rattle.std.proofs.Common.{◌∙◌, ℕ, List, map, Err, inl, inr, subst, ap}
-use Rattle.tw_asm.proofs.AsmNames.{IsBrokenLine, IsLine, IsLineRead, Word, seen as seen_word, seen_reading, seen_stage, situation_of, slice_get, stage_of}
-use Rattle.tw_asm.specs.declared.rejection.Rejection.{Rejection}
+use Rattle.tw_asm.proofs.AsmNames.{Answers, IsBrokenLine, IsLine, IsLineRead, Rejection, Word, seen as seen_word, seen_reading, seen_stage, situation_of, slice_get, stage_of}
 use Rattle.tw_asm.specs.declared.rejection.Rejection.TheVariants as rejection
 use Rattle.tw_asm.specs.Seen.{IsRead, seen}
-use Rattle.tw_asm.specs.LineAnswers.{Answers}
 use Rattle.tw_asm.proofs.Taking.{a_first, any_word_fault, broken_fault, broken_operand, flaw_fault, may_follow, no_first}
 use Rattle.tw_asm.proofs.reading.read_words.Goals as goal
 use Rattle.tw_asm.proofs.reading.read_words.Goals.{then-read, else-read}

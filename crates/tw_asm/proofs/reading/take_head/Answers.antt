@@ -1,5 +1,4 @@
-use Rattle.std.proofs.Common.{◌≤◌, ◌<◌, length, map, arith}
-use Rattle.tw_asm.proofs.AsmNames.{err_from_is_err_and, length-map, seen_reading, seen_section}
+use Rattle.tw_asm.proofs.AsmNames.{arith, err_from_is_err_and, length, length-map, map, seen_reading, seen_section, ◌<◌, ◌≤◌}
 use Rattle.tw_asm.proofs.Taking.{head_stopped, head_taken, too_many_heads}
 use Rattle.tw_asm.proofs.reading.take_head.Goals as goal
 

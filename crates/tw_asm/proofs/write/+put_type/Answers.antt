@@ -1,7 +1,4 @@
-use Rattle.std.proofs.Common.{◌++◌, ◌∷◌, ◌∙◌, [], List, ap, ℕ}
-use Rattle.tw_types.proofs.Came.{on_ok}
-use Rattle.tw_asm.proofs.AsmNames.{spaced_all}
-use Rattle.tw_asm.specs.Parts.{type_words}
+use Rattle.tw_asm.proofs.AsmNames.{List, [], ap, on_ok, spaced_all, type_words, ℕ, ◌++◌, ◌∙◌, ◌∷◌}
 use Rattle.tw_asm.proofs.Lines.{container_words, spaced_more}
 use Rattle.tw_asm.proofs.write.+put_type.Goals as goal
 

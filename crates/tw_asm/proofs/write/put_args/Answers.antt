@@ -1,5 +1,4 @@
-use Rattle.std.proofs.Common.{◌∷◌, []}
-use Rattle.std.specs.Prelude.{decimal}
+use Rattle.tw_asm.proofs.AsmNames.{[], decimal, ◌∷◌}
 use Rattle.tw_asm.proofs.Lines.{wrote}
 use Rattle.tw_asm.proofs.write.put_args.Goals as goal
 

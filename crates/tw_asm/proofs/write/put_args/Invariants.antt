@@ -1,5 +1,4 @@
-use Rattle.std.proofs.Common.{◌≡◌, ◌++◌, ◌∷◌, [], take}
-use Rattle.tw_asm.proofs.AsmNames.{spaced_all, decimal, flat_map}
+use Rattle.tw_asm.proofs.AsmNames.{[], decimal, flat_map, spaced_all, take, ◌++◌, ◌∷◌, ◌≡◌}
 use Rattle.tw_asm.proofs.write.put_args.Given as goal
 
 abbrev pub invariant-loop-arg : goal.invariant-loop-arg

@@ -1,5 +1,4 @@
-use Rattle.std.proofs.Common.{◌≡◌, ◌++◌, ◌∷◌, [], ℕ, List, None, codes, subst}
-use Rattle.tw_asm.proofs.AsmNames.{OnOk, flat_map, goal_word, join_with_byte, kind_word, param_parts, part_words}
+use Rattle.tw_asm.proofs.AsmNames.{List, None, OnOk, [], codes, flat_map, goal_word, join_with_byte, kind_word, param_parts, part_words, subst, ℕ, ◌++◌, ◌∷◌, ◌≡◌}
 use Rattle.tw_asm.proofs.Lines.{flat_twice, wrote_item, wrote_line}
 use Rattle.tw_asm.proofs.write.put_head.Goals as goal
 

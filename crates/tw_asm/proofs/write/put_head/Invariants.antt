@@ -1,5 +1,4 @@
-use Rattle.std.proofs.Common.{◌≡◌, ◌++◌, ◌∷◌, [], None, codes, take}
-use Rattle.tw_asm.proofs.AsmNames.{spaced_all, flat_map, goal_word, kind_word, param_parts, part_words}
+use Rattle.tw_asm.proofs.AsmNames.{None, [], codes, flat_map, goal_word, kind_word, param_parts, part_words, spaced_all, take, ◌++◌, ◌∷◌, ◌≡◌}
 use Rattle.tw_asm.proofs.write.put_head.Given as goal
 
 abbrev pub invariant-loop-param : goal.invariant-loop-param

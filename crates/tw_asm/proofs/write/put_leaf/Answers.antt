@@ -1,8 +1,4 @@
-use Rattle.std.proofs.Common.{◌++◌, ◌∷◌, ◌∙◌, [], List, ap, ℕ}
-use Rattle.tw_types.specs.declared.data_type.Scalar.{Scalar}
-use Rattle.tw_types.proofs.Came.{on_ok}
-use Rattle.tw_asm.proofs.AsmNames.{spaced_all}
-use Rattle.tw_asm.specs.Parts.{scalar_word}
+use Rattle.tw_asm.proofs.AsmNames.{List, Scalar, [], ap, on_ok, scalar_word, spaced_all, ℕ, ◌++◌, ◌∙◌, ◌∷◌}
 use Rattle.tw_asm.proofs.Lines.{map_words, scalar_words, spaced_more}
 use Rattle.tw_asm.proofs.write.put_leaf.Goals as goal
 

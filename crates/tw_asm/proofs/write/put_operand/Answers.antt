@@ -1,5 +1,4 @@
-use Rattle.std.proofs.Common.{◌≡◌, ◌++◌, List, ℕ, subst}
-use Rattle.tw_asm.proofs.AsmNames.{OnOk, spaced_all, goal_word}
+use Rattle.tw_asm.proofs.AsmNames.{List, OnOk, goal_word, spaced_all, subst, ℕ, ◌++◌, ◌≡◌}
 use Rattle.tw_asm.proofs.Lines.{arg_words}
 use Rattle.tw_asm.proofs.write.put_operand.Goals as goal
 

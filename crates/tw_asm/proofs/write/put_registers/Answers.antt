@@ -1,5 +1,4 @@
-use Rattle.std.proofs.Common.{◌≡◌, ◌++◌, ◌∷◌, [], ℕ, List, None, codes, subst}
-use Rattle.tw_asm.proofs.AsmNames.{OnOk, goal_word, join_with_byte, part_words, register_part, scalar_word}
+use Rattle.tw_asm.proofs.AsmNames.{List, None, OnOk, [], codes, goal_word, join_with_byte, part_words, register_part, scalar_word, subst, ℕ, ◌++◌, ◌∷◌, ◌≡◌}
 use Rattle.tw_asm.proofs.Lines.{flat_mapped, wrote, wrote_line}
 use Rattle.tw_asm.proofs.write.put_registers.Goals as goal
 

@@ -1,5 +1,4 @@
-use Rattle.std.proofs.Common.{◌≡◌, ◌++◌, ◌∷◌, [], codes, take}
-use Rattle.tw_asm.proofs.AsmNames.{spaced_all, flat_map, scalar_word}
+use Rattle.tw_asm.proofs.AsmNames.{[], codes, flat_map, scalar_word, spaced_all, take, ◌++◌, ◌∷◌, ◌≡◌}
 use Rattle.tw_asm.proofs.write.put_registers.Given as goal
 
 abbrev pub invariant-loop-scalar : goal.invariant-loop-scalar

@@ -1,5 +1,4 @@
-use Rattle.std.proofs.Common.{◌≡◌, ◌++◌, ◌∷◌, [], ℕ, List, codes, subst}
-use Rattle.tw_asm.proofs.AsmNames.{OnOk, goal_word, join_with_byte, operand_words, word_of}
+use Rattle.tw_asm.proofs.AsmNames.{List, OnOk, [], codes, goal_word, join_with_byte, operand_words, subst, word_of, ℕ, ◌++◌, ◌∷◌, ◌≡◌}
 use Rattle.tw_code.specs.format.Sink.{seen}
 use Rattle.tw_asm.proofs.Lines.{row_words, wrote_item, wrote_line}
 use Rattle.tw_asm.proofs.write.put_row.Goals as goal

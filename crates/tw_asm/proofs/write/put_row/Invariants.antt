@@ -1,5 +1,4 @@
-use Rattle.std.proofs.Common.{◌≡◌, ◌++◌, [], take}
-use Rattle.tw_asm.proofs.AsmNames.{spaced_all, flat_map, goal_word, operand_words, word_of}
+use Rattle.tw_asm.proofs.AsmNames.{[], flat_map, goal_word, operand_words, spaced_all, take, word_of, ◌++◌, ◌≡◌}
 use Rattle.tw_code.specs.format.Sink.{seen}
 use Rattle.tw_asm.proofs.write.put_row.Given as goal
 

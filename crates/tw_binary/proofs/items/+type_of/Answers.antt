@@ -1,6 +1,4 @@
-use Rattle.std.proofs.Common.{rules, ◌≡◌, ◌∙◌, ◌<◌, ◌-◌, ap, sym, Some, None}
-use Rattle.tw_types.specs.DataType.{container_of}
-use Rattle.tw_binary.specs.Reading.{container_in, type_at}
+use Rattle.tw_binary.proofs.Names.{None, Some, ap, container_in, container_of, rules, sym, type_at, ◌-◌, ◌<◌, ◌∙◌, ◌≡◌}
 use Rattle.tw_binary.proofs.Types.{begins_container, begins_leaf, fails_within, inside, made, too_deep}
 use Rattle.tw_binary.proofs.items.+type_of.Goals as goal
 

@@ -1,5 +1,4 @@
-use Rattle.std.proofs.Common.{rules, ◌≡◌, Some, None}
-use Rattle.tw_binary.specs.Reading.{map_in}
+use Rattle.tw_binary.proofs.Names.{None, Some, map_in, rules, ◌≡◌}
 use Rattle.tw_binary.proofs.Types.{begins_map, begins_scalar}
 use Rattle.tw_binary.proofs.items.leaf_of.Goals as goal
 

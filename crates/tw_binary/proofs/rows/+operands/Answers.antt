@@ -1,7 +1,4 @@
-use Rattle.std.proofs.Common.{◌∙◌, Ok, ap, sym}
-use Rattle.std.proofs.lemmas.Result.{err_from_is_err_and}
-use Rattle.tw_code.specs.declared.operands.Operands.{Operands}
-use Rattle.tw_code.proofs.TableRows.{split}
+use Rattle.tw_binary.proofs.Names.{Ok, Operands, ap, err_from_is_err_and, split, sym, ◌∙◌}
 use Rattle.tw_binary.proofs.Gathering.{all_parsed, none_parsed, nothing_left, one_parsed}
 use Rattle.tw_binary.proofs.rows.+operands.Goals as goal
 

@@ -1,8 +1,4 @@
-use Rattle.std.proofs.Common.{◌≡◌, ◌∙◌, ap, sym, subst, Ok, List}
-use Rattle.std.proofs.lemmas.Result.{err_from_is_err_and}
-use Rattle.tw_code.specs.declared.form.Form.{Form}
-use Rattle.tw_code.specs.declared.instr.Instr.{Instr}
-use Rattle.tw_binary.specs.Reading.{Fails, gathers}
+use Rattle.tw_binary.proofs.Names.{Fails, Form, Instr, List, Ok, ap, err_from_is_err_and, gathers, subst, sym, ◌∙◌, ◌≡◌}
 use Rattle.tw_binary.proofs.Gathering.{made, not_made}
 use Rattle.tw_binary.proofs.rows.plain_instr.Goals as goal
 

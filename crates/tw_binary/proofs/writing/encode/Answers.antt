@@ -1,7 +1,4 @@
-use Rattle.std.proofs.Common.{[], ◌∷◌, length}
-use Rattle.std.proofs.lemmas.List.Elements.{All-from_recursion}
-use Rattle.tw_code.specs.format.Program.{IsProcedure, IsProgram}
-use Rattle.tw_binary.specs.Spelling.{procedure_items}
+use Rattle.tw_binary.proofs.Names.{All-from_recursion, IsProcedure, IsProgram, [], length, procedure_items, ◌∷◌}
 use Rattle.tw_binary.proofs.Joined.{wrote_item}
 use Rattle.tw_binary.proofs.writing.encode.Goals as goal
 

@@ -1,6 +1,4 @@
-use Rattle.std.proofs.Common.{◌≡◌, ◌++◌, [], ◌∷◌, length, take}
-use Rattle.std.specs.List.{concat, flat_map}
-use Rattle.tw_binary.specs.Spelling.{procedure_items}
+use Rattle.tw_binary.proofs.Names.{[], concat, flat_map, length, procedure_items, take, ◌++◌, ◌∷◌, ◌≡◌}
 use Rattle.tw_binary.proofs.writing.encode.Given as goal
 
 abbrev pub invariant-loop-procedure : goal.invariant-loop-procedure

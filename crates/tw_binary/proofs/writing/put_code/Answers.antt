@@ -1,6 +1,4 @@
-use Rattle.std.proofs.lemmas.List.Elements.{All-from_recursion}
-use Rattle.tw_code.specs.format.Program.{IsInstr}
-use Rattle.tw_binary.specs.Spelling.{instr_items}
+use Rattle.tw_binary.proofs.Names.{All-from_recursion, IsInstr, instr_items}
 use Rattle.tw_binary.proofs.Joined.{wrote_item}
 use Rattle.tw_binary.proofs.writing.put_code.Goals as goal
 

@@ -1,6 +1,4 @@
-use Rattle.std.proofs.Common.{◌≡◌, ◌++◌, length, take}
-use Rattle.std.specs.List.{concat, flat_map}
-use Rattle.tw_binary.specs.Spelling.{wide, instr_items}
+use Rattle.tw_binary.proofs.Names.{concat, flat_map, instr_items, length, take, wide, ◌++◌, ◌≡◌}
 use Rattle.tw_binary.proofs.writing.put_code.Given as goal
 
 abbrev pub invariant-loop-instr : goal.invariant-loop-instr

@@ -1,5 +1,4 @@
-use Rattle.std.proofs.Common.{◌∙◌, ap}
-use Rattle.tw_binary.specs.Spelling.{scalar_code}
+use Rattle.tw_binary.proofs.Names.{ap, scalar_code, ◌∙◌}
 use Rattle.tw_binary.proofs.Types.{appended, map_bytes, scalar_bytes}
 use Rattle.tw_binary.proofs.writing.put_leaf.Goals as goal
 

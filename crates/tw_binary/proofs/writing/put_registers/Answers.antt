@@ -1,5 +1,4 @@
-use Rattle.tw_binary.specs.Spelling.{scalar_items}
-use Rattle.std.proofs.Common.{◌++◌, [], ◌∷◌, ap, ◌∙◌}
+use Rattle.tw_binary.proofs.Names.{[], ap, scalar_items, ◌++◌, ◌∙◌, ◌∷◌}
 use Rattle.tw_binary.proofs.Joined.{wrote}
 use Rattle.tw_binary.proofs.writing.put_registers.Goals as goal
 

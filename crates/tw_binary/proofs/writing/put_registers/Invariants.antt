@@ -1,6 +1,4 @@
-use Rattle.std.proofs.Common.{◌≡◌, ◌++◌, length, take}
-use Rattle.std.specs.List.{concat, flat_map}
-use Rattle.tw_binary.specs.Spelling.{byte, scalar_items}
+use Rattle.tw_binary.proofs.Names.{byte, concat, flat_map, length, scalar_items, take, ◌++◌, ◌≡◌}
 use Rattle.tw_binary.proofs.writing.put_registers.Given as goal
 
 abbrev pub invariant-loop-register : goal.invariant-loop-register

@@ -1,12 +1,5 @@
-use Rattle.std.proofs.Common.{◌++◌, ◌∷◌, List, ap, ◌∙◌, append_assoc}
-use Rattle.std.specs.List.{concat, flat_map}
-use Rattle.std.proofs.lemmas.List.{take_all}
-use Rattle.std.proofs.lemmas.List.Elements.{All-from_recursion}
+use Rattle.tw_binary.proofs.Names.{All-from_recursion, IsOperand, Item, List, ap, append_assoc, byte, code_of, concat, flat_map, operand_items, seen, take_all, ◌++◌, ◌∙◌, ◌∷◌}
 use Rattle.tw_code.specs.declared.sink.Operand.{Operand}
-use Rattle.tw_code.specs.format.Program.{IsOperand}
-use Rattle.tw_code.specs.format.Sink.{seen}
-use Rattle.tw_binary.specs.Spelling.{Item, byte, operand_items}
-use Rattle.tw_code.specs.format.Table.{code_of}
 use Rattle.tw_binary.proofs.Joined.{flat_mapped, wrote_item}
 use Rattle.tw_binary.proofs.writing.put_row.Goals as goal
 

@@ -1,8 +1,4 @@
-use Rattle.std.proofs.Common.{◌≡◌, ◌++◌, take}
-use Rattle.std.specs.List.{concat, flat_map}
-use Rattle.tw_code.specs.format.Sink.{seen}
-use Rattle.tw_binary.specs.Spelling.{byte, operand_items}
-use Rattle.tw_code.specs.format.Table.{code_of}
+use Rattle.tw_binary.proofs.Names.{byte, code_of, concat, flat_map, operand_items, seen, take, ◌++◌, ◌≡◌}
 use Rattle.tw_binary.proofs.writing.put_row.Given as goal
 
 abbrev pub invariant-loop-operand : goal.invariant-loop-operand

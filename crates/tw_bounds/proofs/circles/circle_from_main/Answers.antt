@@ -1,11 +1,4 @@
-use Rattle.std.proofs.Common.{◌≡◌, ℕ, ◌+◌, true, false, List, [], ◌∷◌, length, length-append, refl, sym, ap, ◌∙◌, subst, arith}
-use Rattle.std.proofs.Math.Dec.{eqb}
-use Rattle.std.specs.List.{list_any}
-use Rattle.std.proofs.lemmas.Option.{slice_get_read}
-use Rattle.tw_code.specs.declared.instr.Instr.{Instr}
-use Rattle.tw_code.specs.declared.procedure.Procedure.{Procedure}
-use Rattle.tw_bounds.specs.Circles.{CallsEndless}
-use Rattle.tw_bounds.specs.Runs.{tasks_alone}
+use Rattle.tw_bounds.proofs.Names.{CallsEndless, Instr, List, Procedure, [], ap, arith, eqb, false, length, length-append, list_any, refl, slice_get_read, subst, sym, tasks_alone, true, ℕ, ◌+◌, ◌∙◌, ◌∷◌, ◌≡◌}
 use Rattle.tw_bounds.proofs.Circling.{IsChain, any_turned, begun, below_program, called, comes_back, goes_on, no_more, some_endless}
 use Rattle.tw_bounds.proofs.circles.circle_from_main.Goals as goal
 

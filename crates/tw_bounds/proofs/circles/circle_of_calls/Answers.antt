@@ -1,10 +1,4 @@
-use Rattle.std.proofs.Common.{◌≡◌, true, false, List, sym, ◌∙◌, subst}
-use Rattle.tw_code.specs.declared.procedure.Procedure.{Procedure}
-use Rattle.tw_code.specs.format.Program.{IsProgram}
-use Rattle.tw_bounds.specs.declared.bound.Bound.{Bound}
-use Rattle.tw_bounds.specs.Circles.{IsEndless}
-use Rattle.tw_bounds.specs.Runs.{tasks_alone}
-use Rattle.tw_bounds.specs.Solving.{IsBoundable}
+use Rattle.tw_bounds.proofs.Names.{Bound, IsBoundable, IsEndless, IsProgram, List, Procedure, false, subst, sym, tasks_alone, true, ◌∙◌, ◌≡◌}
 use Rattle.tw_bounds.proofs.Accepting.{is_boundable}
 use Rattle.tw_bounds.proofs.Circling.{ends_unless_endless}
 use Rattle.tw_bounds.proofs.circles.circle_of_calls.Goals as goal

@@ -1,9 +1,4 @@
-use Rattle.std.proofs.Common.{◌≡◌, ℕ, refl, sym, ◌∙◌, subst, arith, Some, inl, inr}
-use Rattle.std.specs.Prelude.{slice_get}
-use Rattle.std.proofs.lemmas.Bool.{cases_eq}
-use Rattle.std.proofs.lemmas.Option.{same_Some, slice_get_read, slice_get_within}
-use Rattle.tw_code.specs.declared.instr.Instr.{Instr}
-use Rattle.tw_bounds.specs.Circles.{IsCall}
+use Rattle.tw_bounds.proofs.Names.{Instr, IsCall, Some, arith, cases_eq, inl, inr, refl, same_Some, slice_get, slice_get_read, slice_get_within, subst, sym, ℕ, ◌∙◌, ◌≡◌}
 use Rattle.tw_bounds.proofs.circles.endless_call.Goals as goal
 
 pub loop-place-preserved : goal.loop-place-preserved

@@ -1,5 +1,4 @@
-use Rattle.std.proofs.Common.{ℕ, ◌<◌}
-use Rattle.tw_bounds.specs.Circles.{CallsEndless}
+use Rattle.tw_bounds.proofs.Names.{CallsEndless, ℕ, ◌<◌}
 use Rattle.tw_bounds.proofs.circles.endless_call.Given as goal
 
 -- no place before this one calls a procedure without a bound

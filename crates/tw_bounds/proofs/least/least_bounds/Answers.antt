@@ -1,6 +1,4 @@
-use Rattle.std.proofs.Common.{◌∙◌, ℕ, Option, ap, sym, subst, Some, None}
-use Rattle.tw_bounds.specs.declared.limited.LimitedBounds.{LimitedBounds}
-use Rattle.tw_bounds.specs.Least.{AreLeastBounds, LeastRuns, least}
+use Rattle.tw_bounds.proofs.Names.{AreLeastBounds, LeastRuns, LimitedBounds, None, Option, Some, ap, least, subst, sym, ℕ, ◌∙◌}
 use Rattle.tw_bounds.proofs.LeastRuns.{least_runs, main_runs}
 use Rattle.tw_bounds.proofs.least.least_bounds.Goals as goal
 

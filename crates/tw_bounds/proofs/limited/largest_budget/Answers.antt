@@ -1,6 +1,4 @@
-use Rattle.std.proofs.Common.{◌≡◌, ℕ, ◌+◌, List, ap, ◌∙◌, sym, subst, length, arith}
-use Rattle.tw_code.specs.declared.procedure.Procedure.{Procedure}
-use Rattle.tw_bounds.specs.Limited.{IsLargestOf}
+use Rattle.tw_bounds.proofs.Names.{IsLargestOf, List, Procedure, ap, arith, length, subst, sym, ℕ, ◌+◌, ◌∙◌, ◌≡◌}
 use Rattle.tw_bounds.proofs.Largest.{largest_first, largest_more}
 use Rattle.tw_bounds.proofs.limited.largest_budget.Goals as goal
 

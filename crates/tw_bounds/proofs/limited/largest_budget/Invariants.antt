@@ -1,6 +1,4 @@
-use Rattle.std.proofs.Common.{◌≤◌}
-use Rattle.tw_code.specs.accepting.Walk.{greatest_budget}
-use Rattle.tw_bounds.specs.Limited.{IsLargestOf}
+use Rattle.tw_bounds.proofs.Names.{IsLargestOf, greatest_budget, ◌≤◌}
 use Rattle.tw_bounds.proofs.limited.largest_budget.Given as goal
 
 -- the largest of those so far

@@ -1,8 +1,4 @@
-use Rattle.std.proofs.Common.{◌*◌, ℕ, Bool, if◌then◌else◌, List, Some, ap, ◌∙◌, subst}
-use Rattle.tw_code.specs.declared.procedure.Procedure.{Procedure}
-use Rattle.tw_code.specs.format.Program.{IsProgram}
-use Rattle.tw_bounds.specs.Limited.{AreLimitedBounds, adds_member, has_instr, is_on_data, makes_datum, makes_rule, most_texts}
-use Rattle.tw_bounds.specs.Reports.{reported}
+use Rattle.tw_bounds.proofs.Names.{AreLimitedBounds, Bool, IsProgram, List, Procedure, Some, adds_member, ap, has_instr, if◌then◌else◌, is_on_data, makes_datum, makes_rule, most_texts, reported, subst, ℕ, ◌*◌, ◌∙◌}
 use Rattle.tw_bounds.proofs.LimitedRuns.{limits_run}
 use Rattle.tw_bounds.proofs.limited.limited_bounds.Goals as goal
 

@@ -1,12 +1,4 @@
-use Rattle.std.proofs.Common.{◌≡◌, ◌+◌, ℕ, zero, suc, max, List, [], ◌∷◌, length, take, Some, refl, ap, ◌∙◌, arith}
-use Rattle.std.specs.Prelude.{slice_get}
-use Rattle.std.proofs.lemmas.Option.{same_Some, slice_get_read}
-use Rattle.tw_types.specs.declared.data_type.Scalar.{Scalar}
-use Rattle.tw_code.specs.declared.procedure.Procedure.{Procedure}
-use Rattle.tw_code.specs.format.Program.{IsProcedure}
-use Rattle.tw_soundness.proofs.Accepted.{all_found}
-use Rattle.tw_bounds.specs.Bounds.{text_registers}
-use Rattle.tw_bounds.specs.Limited.{most_text_registers}
+use Rattle.tw_bounds.proofs.Names.{IsProcedure, List, Procedure, Scalar, Some, [], all_found, ap, arith, length, max, most_text_registers, refl, same_Some, slice_get, slice_get_read, suc, take, text_registers, zero, ℕ, ◌+◌, ◌∙◌, ◌∷◌, ◌≡◌}
 use Rattle.tw_bounds.proofs.limited.most_text_registers.Goals as goal
 
 -- with one procedure more

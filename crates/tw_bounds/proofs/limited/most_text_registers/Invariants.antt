@@ -1,5 +1,4 @@
-use Rattle.std.proofs.Common.{◌≡◌, ◌≤◌, take}
-use Rattle.tw_bounds.specs.Limited.{most_text_registers}
+use Rattle.tw_bounds.proofs.Names.{most_text_registers, take, ◌≡◌, ◌≤◌}
 use Rattle.tw_bounds.proofs.limited.most_text_registers.Given as goal
 
 -- the most of those so far

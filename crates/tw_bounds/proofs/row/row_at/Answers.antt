@@ -1,6 +1,4 @@
-use Rattle.std.proofs.Common.{Some, ap, ◌∙◌, arith}
-use Rattle.tw_code.specs.accepting.Flow.{flows}
-use Rattle.tw_bounds.specs.Bounds.{cost_in}
+use Rattle.tw_bounds.proofs.Names.{Some, ap, arith, cost_in, flows, ◌∙◌}
 use Rattle.tw_bounds.proofs.Tables.{straight_row, branch_row, jump_row, close_row, stop_row}
 use Rattle.tw_bounds.proofs.row.row_at.Goals as goal
 

@@ -1,7 +1,4 @@
-use Rattle.std.proofs.Common.{arith}
-use Rattle.std.proofs.lemmas.List.{length-map}
-use Rattle.tw_code.specs.accepting.Flow.{flow_of, flows}
-use Rattle.tw_bounds.specs.Bounds.{cost_in}
+use Rattle.tw_bounds.proofs.Names.{arith, cost_in, flow_of, flows, length-map}
 use Rattle.tw_bounds.proofs.Tables.{known_row, capped_bound}
 use Rattle.tw_bounds.proofs.row.row_of.Goals as goal
 

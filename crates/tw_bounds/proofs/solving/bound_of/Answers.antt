@@ -1,11 +1,5 @@
-use Rattle.std.proofs.Common.{ℕ, List, ap, sym, subst, arith, ◌∙◌}
-use Rattle.tw_types.specs.declared.data_type.Scalar.{Scalar}
-use Rattle.tw_code.specs.declared.instr.Instr.{Instr}
-use Rattle.tw_code.specs.accepting.Flow.{flows}
-use Rattle.tw_budget.specs.Sound.{IsSound}
+use Rattle.tw_bounds.proofs.Names.{AreCosts, Instr, IsSound, List, Scalar, ap, arith, cost_in, flows, greatest_cost, subst, sym, ℕ, ◌∙◌}
 use Rattle.tw_budget.proofs.Sound.{sound_flows}
-use Rattle.tw_bounds.specs.Bounds.{AreCosts, cost_in}
-use Rattle.tw_bounds.specs.GreatestCost.{greatest_cost}
 use Rattle.tw_bounds.proofs.Partial.{capped_bound_made}
 use Rattle.tw_bounds.proofs.solving.bound_of.Goals as goal
 

@@ -1,8 +1,4 @@
-use Rattle.std.proofs.Common.{◌≡◌, ℕ, IfSome, List, length, replicate, Option, None, Some, sym, ap, ◌∙◌, subst, arith}
-use Rattle.tw_code.specs.declared.procedure.Procedure.{Procedure}
-use Rattle.tw_bounds.specs.declared.weights.Weights.{Weights}
-use Rattle.std.proofs.lemmas.Option.{slice_get_within}
-use Rattle.tw_bounds.specs.Solving.{AreCapped, AreWithin, IsFixpoint, IsNext}
+use Rattle.tw_bounds.proofs.Names.{AreCapped, AreWithin, IfSome, IsFixpoint, IsNext, List, None, Option, Procedure, Some, Weights, ap, arith, length, replicate, slice_get_within, subst, sym, ℕ, ◌∙◌, ◌≡◌}
 use Rattle.tw_bounds.proofs.Partial.{IsSolving, none_unknown_left, solving_begun, solving_done, solving_long, solving_more, solving_within, unknown_all, unknown_in, unknown_less}
 use Rattle.tw_bounds.proofs.solving.bounds.Goals as goal
 

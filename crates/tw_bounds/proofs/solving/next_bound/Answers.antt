@@ -1,6 +1,4 @@
-use Rattle.std.proofs.Common.{◌≡◌, ℕ, true, false, Option, None, refl, sym, ap, ◌∙◌, arith}
-use Rattle.std.specs.Option.{is_some}
-use Rattle.std.proofs.lemmas.Option.{get_or_from_slice_get, slice_get_read, slice_get_within}
+use Rattle.tw_bounds.proofs.Names.{None, Option, ap, arith, false, get_or_from_slice_get, is_some, refl, slice_get_read, slice_get_within, sym, true, ℕ, ◌∙◌, ◌≡◌}
 use Rattle.tw_bounds.proofs.Partial.{fixpoint_more, none_there}
 use Rattle.tw_bounds.proofs.solving.next_bound.Goals as goal
 use Rattle.tw_bounds.proofs.solving.next_bound.Goals.{then-is_none+in_ok-bound+in_default, else-is_none}

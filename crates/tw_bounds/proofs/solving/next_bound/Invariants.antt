@@ -1,7 +1,4 @@
-use Rattle.std.proofs.Common.{◌≡◌, ◌<◌, ℕ, Some, None}
-use Rattle.std.specs.Prelude.{slice_get}
-use Rattle.tw_code.specs.declared.procedure.Procedure.{Procedure}
-use Rattle.tw_bounds.specs.Solving.{CallsUnknown}
+use Rattle.tw_bounds.proofs.Names.{CallsUnknown, None, Procedure, Some, slice_get, ℕ, ◌<◌, ◌≡◌}
 use Rattle.tw_bounds.proofs.solving.next_bound.Given as goal
 
 -- each procedure before this one calls what isn't known

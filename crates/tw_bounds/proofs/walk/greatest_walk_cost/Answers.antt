@@ -1,9 +1,4 @@
-use Rattle.std.proofs.Common.{◌≡◌, ℕ, ◌+◌, ◌-◌, List, sym, subst, arith}
-use Rattle.std.proofs.lemmas.List.{length-map}
-use Rattle.tw_code.specs.accepting.Flow.{flow_of, flows}
-use Rattle.tw_bounds.specs.declared.row.Row.{Row}
-use Rattle.tw_bounds.specs.Bounds.{cost_in}
-use Rattle.tw_bounds.specs.Rows.{RowsFrom}
+use Rattle.tw_bounds.proofs.Names.{List, Row, RowsFrom, arith, cost_in, flow_of, flows, length-map, subst, sym, ℕ, ◌+◌, ◌-◌, ◌≡◌}
 use Rattle.tw_bounds.proofs.Tables.{rows_more}
 use Rattle.tw_bounds.proofs.walk.greatest_walk_cost.Goals as goal
 

@@ -1,6 +1,4 @@
-use Rattle.tw_code.specs.accepting.Flow.{flows}
-use Rattle.tw_bounds.specs.Bounds.{cost_in}
-use Rattle.tw_bounds.specs.Rows.{RowsFrom}
+use Rattle.tw_bounds.proofs.Names.{RowsFrom, cost_in, flows}
 use Rattle.tw_bounds.proofs.walk.greatest_walk_cost.Given as goal
 
 -- the rows from here on are known

@@ -1,6 +1,4 @@
-use Rattle.std.proofs.Common.{◌≡◌, map, take, Some}
-use Rattle.tw_bounds.specs.Bounds.{weight_of}
-use Rattle.tw_bounds.specs.Rows.{AreSmall}
+use Rattle.tw_bounds.proofs.Names.{AreSmall, Some, map, take, weight_of, ◌≡◌}
 use Rattle.tw_bounds.proofs.weighing.place_costs.Given as goal
 
 -- so far

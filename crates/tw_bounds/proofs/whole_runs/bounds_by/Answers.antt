@@ -1,12 +1,5 @@
-use Rattle.std.proofs.Common.{◌≡◌, IfOk, List, Vec, Global, map, sym, ap, ◌∙◌, subst}
-use Rattle.std.specs.Prelude.{Result, Ok, Err}
-use Rattle.tw_code.specs.format.Program.{IsProgram}
-use Rattle.tw_code.specs.declared.procedure.Procedure.{Procedure}
+use Rattle.tw_bounds.proofs.Names.{AreAllBounds, AreCappedBounds, AreReported, Bound, Err, Global, IfOk, IsBoundable, IsProgram, List, Ok, Procedure, Result, Vec, ap, map, reported, subst, sym, ◌∙◌, ◌≡◌}
 use Rattle.std.specs.declared.alloc.AllocError.{AllocError}
-use Rattle.tw_bounds.specs.declared.bound.Bound.{Bound}
-use Rattle.tw_bounds.specs.Bounds.{AreAllBounds}
-use Rattle.tw_bounds.specs.Reports.{AreReported, reported}
-use Rattle.tw_bounds.specs.Solving.{AreCappedBounds, IsBoundable}
 use Rattle.tw_bounds.proofs.Accepting.{is_boundable}
 use Rattle.tw_bounds.proofs.Reporting.{reported_exact}
 use Rattle.tw_bounds.proofs.whole_runs.bounds_by.Goals as goal

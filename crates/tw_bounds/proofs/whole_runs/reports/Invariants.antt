@@ -1,5 +1,4 @@
-use Rattle.std.proofs.Common.{◌≡◌, map, take}
-use Rattle.tw_bounds.specs.Reports.{reported}
+use Rattle.tw_bounds.proofs.Names.{map, reported, take, ◌≡◌}
 use Rattle.tw_bounds.proofs.whole_runs.reports.Given as goal
 
 -- those so far

@@ -1,6 +1,4 @@
-use Rattle.std.proofs.Common.{List, subst}
-use Rattle.tw_code.specs.declared.procedure.Procedure.{Procedure}
-use Rattle.tw_code.specs.format.Program.{IsProgram}
+use Rattle.tw_bounds.proofs.Names.{IsProgram, List, Procedure, subst}
 use Rattle.tw_bounds.proofs.Whole.{bounds_runs}
 use Rattle.tw_bounds.proofs.whole_runs.run_bounds.Goals as goal
 

@@ -1,10 +1,5 @@
-use Rattle.std.proofs.Common.{Bool, List, ◌∙◌, subst}
-use Rattle.std.specs.Prelude.{MatchOption}
-use Rattle.tw_code.specs.declared.procedure.Procedure.{Procedure}
-use Rattle.tw_code.specs.format.Program.{IsProgram}
+use Rattle.tw_copies.proofs.Names.{AllMet, Bool, IsFirst, IsMarkedInsertion, IsProgram, List, MatchOption, Nowhere, OnlyCopies, Procedure, subst, ◌∙◌}
 use Rattle.tw_verify.specs.Typed.{typings_of}
-use Rattle.tw_copies.specs.Copies.{IsFirst, Nowhere}
-use Rattle.tw_copies.specs.Marks.{AllMet, IsMarkedInsertion, OnlyCopies}
 use Rattle.tw_copies.proofs.Fitting.{answer, never_if}
 use Rattle.tw_copies.proofs.check.first_copy_insertion.Goals as goal
 

@@ -1,8 +1,4 @@
-use Rattle.std.proofs.Common.{◌≡◌, List, refl, sym, subst, arith, inl, inr}
-use Rattle.std.proofs.lemmas.Bool.{cases_eq, cases_lt}
-use Rattle.std.proofs.lemmas.Option.{slice_get_read, slice_get_within}
-use Rattle.tw_code.specs.declared.instr.Instr.{Instr}
-use Rattle.tw_copies.specs.Marks.{InsertsMarked}
+use Rattle.tw_copies.proofs.Names.{InsertsMarked, Instr, List, arith, cases_eq, cases_lt, inl, inr, refl, slice_get_read, slice_get_within, subst, sym, ◌≡◌}
 use Rattle.tw_copies.proofs.Marked.{insertion_here}
 use Rattle.tw_copies.proofs.insertions.first_insertion.Goals as goal
 

@@ -1,5 +1,4 @@
-use Rattle.std.proofs.Common.{◌<◌, ℕ}
-use Rattle.tw_copies.specs.Marks.{IsMarkedInsertion}
+use Rattle.tw_copies.proofs.Names.{IsMarkedInsertion, ℕ, ◌<◌}
 use Rattle.tw_copies.proofs.insertions.first_insertion.Given as goal
 
 -- no procedure so far has such a place

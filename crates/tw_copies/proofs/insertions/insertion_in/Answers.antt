@@ -1,9 +1,5 @@
-use Rattle.std.proofs.Common.{◌≡◌, ℕ, refl, sym, ◌∙◌, subst, arith, Some, inl, inr}
-use Rattle.std.proofs.lemmas.Bool.{cases_eq, cases_lt}
-use Rattle.std.proofs.lemmas.Option.{same_Some, slice_get_read, slice_get_within}
+use Rattle.tw_copies.proofs.Names.{InsertsInto, Instr, Some, arith, cases_eq, cases_lt, inl, inr, refl, same_Some, slice_get_read, slice_get_within, subst, sym, ℕ, ◌∙◌, ◌≡◌}
 use Rattle.std.specs.Prelude.{slice_get}
-use Rattle.tw_code.specs.declared.instr.Instr.{Instr}
-use Rattle.tw_copies.specs.Copies.{InsertsInto}
 use Rattle.tw_copies.proofs.insertions.insertion_in.Goals as goal
 
 pub returns-in-Some : goal.returns-in-Some

@@ -1,5 +1,4 @@
-use Rattle.std.proofs.Common.{◌<◌, ℕ}
-use Rattle.tw_copies.specs.Marks.{InsertsMarked}
+use Rattle.tw_copies.proofs.Names.{InsertsMarked, ℕ, ◌<◌}
 use Rattle.tw_copies.proofs.insertions.insertion_in.Given as goal
 
 -- no place so far inserts by a marked register

@@ -1,5 +1,4 @@
-use Rattle.std.proofs.Common.{Bool, true, List, length, ap, ◌∙◌, subst, arith}
-use Rattle.tw_copies.specs.Marks.{AllMet, SomeUnmet}
+use Rattle.tw_copies.proofs.Names.{AllMet, Bool, List, SomeUnmet, ap, arith, length, subst, true, ◌∙◌}
 use Rattle.tw_copies.proofs.Marked.{fewer, inside, length_set, still_copies}
 use Rattle.tw_copies.proofs.marks.marked.Goals as goal
 

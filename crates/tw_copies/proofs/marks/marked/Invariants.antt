@@ -1,5 +1,4 @@
-use Rattle.std.proofs.Common.{◌≡◌, ◌*◌, length}
-use Rattle.tw_copies.specs.Marks.{OnlyCopies}
+use Rattle.tw_copies.proofs.Names.{OnlyCopies, length, ◌*◌, ◌≡◌}
 use Rattle.tw_copies.proofs.Marked.{left}
 use Rattle.tw_copies.proofs.marks.marked.Given as goal
 

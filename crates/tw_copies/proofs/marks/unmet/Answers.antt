@@ -1,8 +1,4 @@
-use Rattle.std.proofs.Common.{◌≡◌, List, refl, subst, arith, inl, inr}
-use Rattle.std.proofs.lemmas.Bool.{cases_eq}
-use Rattle.std.proofs.lemmas.Option.{slice_get_read, slice_get_within}
-use Rattle.tw_code.specs.declared.instr.Instr.{Instr}
-use Rattle.tw_copies.specs.Marks.{CodeMet}
+use Rattle.tw_copies.proofs.Names.{CodeMet, Instr, List, arith, cases_eq, inl, inr, refl, slice_get_read, slice_get_within, subst, ◌≡◌}
 use Rattle.tw_copies.proofs.Marked.{met_here}
 use Rattle.tw_copies.proofs.marks.unmet.Goals as goal
 

@@ -1,8 +1,6 @@
-use Rattle.std.proofs.Common.{◌≤◌, ◌+◌, ℕ, length}
+use Rattle.tw_copies.proofs.Names.{ArgsRequire, IsMet, Passes, length, ℕ, ◌+◌, ◌≤◌}
 use Rattle.std.specs.Iterator.Adapters.{zip_first, zip_second}
 use Rattle.std.specs.Slice.Iter.{iter_rest}
-use Rattle.tw_copies.specs.Copies.{Passes}
-use Rattle.tw_copies.specs.Marks.{ArgsRequire, IsMet}
 use Rattle.tw_copies.proofs.marks.unmet_args.Given as goal
 
 -- all are met if the others are, and the others are among them

@@ -1,6 +1,4 @@
-use Rattle.std.proofs.Common.{◌≡◌, ◌<◌, ℕ, Some, slice_get}
-use Rattle.tw_code.specs.declared.instr.Instr.{Instr}
-use Rattle.tw_copies.specs.Marks.{IsMet, Requires}
+use Rattle.tw_copies.proofs.Names.{Instr, IsMet, Requires, Some, slice_get, ℕ, ◌<◌, ◌≡◌}
 use Rattle.tw_copies.proofs.marks.unmet_code.Given as goal
 
 -- the instructions so far are met

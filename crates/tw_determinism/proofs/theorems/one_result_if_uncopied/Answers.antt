@@ -1,6 +1,4 @@
-use Rattle.std.proofs.Common.{subst}
-use Rattle.tw_code.specs.format.Program.{IsProgram}
-use Rattle.tw_verify.specs.Typed.{typings_of}
+use Rattle.tw_determinism.proofs.MachineNames.{IsProgram, subst, typings_of}
 use Rattle.tw_determinism.proofs.EachFollows.{follows_each}
 use Rattle.tw_determinism.proofs.Theorem as theorem
 use Rattle.tw_determinism.proofs.theorems.one_result_if_uncopied.Goals as goal

@@ -1,5 +1,4 @@
-use Rattle.std.proofs.Common.{◌<◌, ℕ}
-use Rattle.tw_frame.specs.Banks.{IsText}
+use Rattle.tw_host.proofs.Names.{IsText, ℕ, ◌<◌}
 use Rattle.tw_host.proofs.batch.has_no_text.Given as goal
 
 abbrev pub invariant-loop-index : goal.invariant-loop-index

@@ -1,11 +1,4 @@
-use Rattle.std.proofs.Common.{◌≡◌, ℕ, Some, sym, ap, subst, ◌∙◌, List}
-use Rattle.std.specs.Prelude.{slice_get}
-use Rattle.std.proofs.lemmas.Option.{slice_get-get_or}
-use Rattle.tw_code.specs.declared.instr.Instr.{Instr}
-use Rattle.tw_code.specs.declared.procedure.Procedure.{Procedure}
-use Rattle.tw_frame.specs.Jobs.{JobView}
-use Rattle.tw_frame.specs.Ready.{IsStop}
-use Rattle.tw_verify.specs.Typed.{TypedProgram}
+use Rattle.tw_host.proofs.Names.{Instr, IsStop, JobView, List, Procedure, Some, TypedProgram, ap, slice_get, slice_get-get_or, subst, sym, ℕ, ◌∙◌, ◌≡◌}
 use Rattle.tw_host.proofs.batch.is_at_stop.Goals as goal
 
 pub returns-in-Some : goal.returns-in-Some

@@ -1,11 +1,4 @@
-use Rattle.std.proofs.Common.{◌≡◌, Some, sym, ap, subst, ◌∙◌, List}
-use Rattle.std.specs.Prelude.{slice_get}
-use Rattle.std.proofs.lemmas.Option.{slice_get-get_or}
-use Rattle.tw_types.specs.declared.data_type.Scalar.{Scalar}
-use Rattle.tw_code.specs.declared.procedure.Procedure.{Procedure}
-use Rattle.tw_code.specs.format.Program.{IsProgram}
-use Rattle.tw_frame.specs.Banks.{HasText}
-use Rattle.tw_frame.specs.Jobs.{JobView}
+use Rattle.tw_host.proofs.Names.{HasText, IsProgram, JobView, List, Procedure, Scalar, Some, ap, slice_get, slice_get-get_or, subst, sym, ◌∙◌, ◌≡◌}
 use Rattle.tw_host.proofs.Holding as holding
 use Rattle.tw_host.proofs.batch.is_brief.Goals as goal
 

@@ -1,5 +1,4 @@
-use Rattle.std.proofs.Common.{Some, sym, ap, ◌∙◌}
-use Rattle.std.proofs.lemmas.Option.{slice_get-get_or}
+use Rattle.tw_host.proofs.Names.{Some, ap, slice_get-get_or, sym, ◌∙◌}
 use Rattle.tw_host.proofs.Holding.{none_there}
 use Rattle.tw_host.proofs.batch.stops_at.Goals as goal
 

@@ -1,10 +1,4 @@
-use Rattle.std.proofs.Common.{[], ◌∷◌, ◌++◌, ap, sym, subst, ◌∙◌, arith, length-append, refl}
-use Rattle.tw_types.specs.Actor.{is_in}
-use Rattle.tw_verify.specs.Typed.{TypedProgram}
-use Rattle.tw_pool.specs.declared.answer.Turn.{Turn}
-use Rattle.tw_pool.specs.PoolView.{PoolView}
-use Rattle.tw_pool.specs.Turns.{IsTurn}
-use Rattle.tw_host.specs.Sees.{IsDoneOf}
+use Rattle.tw_host.proofs.Names.{IsDoneOf, IsTurn, PoolView, Turn, TypedProgram, [], ap, arith, is_in, length-append, refl, subst, sym, ◌++◌, ◌∙◌, ◌∷◌}
 use Rattle.tw_host.proofs.Holding as holding
 use Rattle.tw_host.proofs.batch.take_turns.Goals as goal
 

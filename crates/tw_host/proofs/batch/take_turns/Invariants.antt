@@ -1,11 +1,4 @@
-use Rattle.std.proofs.Common.{◌≡◌, ◌+◌, ◌++◌, List, Option, length, true}
-use Rattle.tw_types.specs.Actor.{is_in}
-use Rattle.tw_frame.specs.Jobs.{DoneView}
-use Rattle.tw_pool.specs.declared.answer.Turn.{Turn}
-use Rattle.tw_pool.specs.PoolView.{PoolView}
-use Rattle.tw_pool.specs.Turns.{IsTurn}
-use Rattle.tw_host.specs.Holds.{AreTurns}
-use Rattle.tw_host.specs.Sees.{IsDoneOf}
+use Rattle.tw_host.proofs.Names.{AreTurns, DoneView, IsDoneOf, IsTurn, List, Option, PoolView, Turn, is_in, length, true, ◌++◌, ◌+◌, ◌≡◌}
 use Rattle.tw_host.proofs.batch.take_turns.Given as goal
 
 -- the turns before the last one, and that one

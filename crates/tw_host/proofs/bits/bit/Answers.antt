@@ -1,5 +1,4 @@
-use Rattle.std.proofs.Common.{◌≡◌, ◌*◌, ◌%◌, ◌^◌, ℕ, ap, ◌∙◌, arith}
-use Rattle.std.proofs.lemmas.Nat.{one_shl, pow_pos}
+use Rattle.tw_host.proofs.Names.{ap, arith, one_shl, pow_pos, ℕ, ◌%◌, ◌*◌, ◌^◌, ◌∙◌, ◌≡◌}
 use Rattle.tw_host.proofs.bits.bit.Goals as goal
 
 pub returns-clause-is : goal.returns-clause-is

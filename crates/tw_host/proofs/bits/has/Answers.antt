@@ -1,6 +1,4 @@
-use Rattle.std.proofs.Common.{arith, tests, ap, bit_and}
-use Rattle.std.proofs.lemmas.Nat.{pow_pos}
-use Rattle.std.proofs.lemmas.Nat.Bits.{and_pow}
+use Rattle.tw_host.proofs.Names.{and_pow, ap, arith, bit_and, pow_pos, tests}
 use Rattle.tw_host.proofs.bits.has.Goals as goal
 
 pub returns : goal.returns

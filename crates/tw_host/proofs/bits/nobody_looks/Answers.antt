@@ -1,5 +1,4 @@
-use Rattle.std.proofs.Common.{arith}
-use Rattle.std.proofs.lemmas.Bool.{eqb-false}
+use Rattle.tw_host.proofs.Names.{arith, eqb-false}
 use Rattle.tw_host.proofs.Masks.{some_looks}
 use Rattle.tw_host.proofs.bits.nobody_looks.Goals as goal
 

@@ -1,8 +1,6 @@
 use Rattle.std.proofs.Common.{◌≡◌, true, [], ◌≤◌, ◌+◌, length, map, sym, subst, ap, ◌∙◌, arith, slice_get, get_or}
-use Rattle.tw_types.specs.Actor.{index_of, is_in}
-use Rattle.tw_code.specs.machine.History.{actor_of}
+use Rattle.tw_host.proofs.Names.{actor_of, get_or-map, index_of, is_in, length-set}
 use Rattle.tw_host.proofs.Comparing.{Found, as_many_seats, found_more, longer, made_by, match_by, missed, own_low, passed, whole}
-use Rattle.std.proofs.lemmas.List.{get_or-map, length-set}
 use Rattle.tw_host.proofs.close.differing.Goals as goal
 use Rattle.tw_host.proofs.close.differing.Goals.{then-has+else-not-is_next, else-has}
 

@@ -1,5 +1,4 @@
-use Rattle.std.proofs.Common.{◌∙◌, ap, sym}
-use Rattle.tw_pool.specs.Actors.{events_of}
+use Rattle.tw_host.proofs.Names.{ap, events_of, sym, ◌∙◌}
 use Rattle.tw_host.proofs.Comparing.{all_own, other_there}
 use Rattle.tw_host.proofs.close.first_other.Goals as goal
 

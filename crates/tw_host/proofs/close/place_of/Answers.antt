@@ -1,6 +1,4 @@
-use Rattle.std.proofs.Common.{◌≢◌, ◌≤◌, ℕ, map, sym, ◌∙◌, arith}
-use Rattle.std.specs.Prelude.{slice_index_or}
-use Rattle.tw_types.specs.declared.actor.Actor.{Actor}
+use Rattle.tw_host.proofs.Names.{Actor, arith, map, slice_index_or, sym, ℕ, ◌∙◌, ◌≢◌, ◌≤◌}
 use Rattle.tw_host.proofs.Ordering.{at_place, more_below}
 use Rattle.tw_host.proofs.close.place_of.Goals as goal
 

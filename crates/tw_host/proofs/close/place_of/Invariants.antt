@@ -1,6 +1,4 @@
-use Rattle.std.proofs.Common.{◌≢◌, ◌<◌, ◌≤◌, ℕ, map}
-use Rattle.std.specs.Prelude.{slice_index_or}
-use Rattle.tw_types.specs.declared.actor.Actor.{Actor}
+use Rattle.tw_host.proofs.Names.{Actor, map, slice_index_or, ℕ, ◌<◌, ◌≢◌, ◌≤◌}
 use Rattle.tw_host.proofs.close.place_of.Given as goal
 
 abbrev pub invariant-loop-k : goal.invariant-loop-k

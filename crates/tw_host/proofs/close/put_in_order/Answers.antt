@@ -1,5 +1,4 @@
-use Rattle.std.proofs.Common.{◌∙◌, arith}
-use Rattle.std.proofs.lemmas.List.Sorted.{IsPermutation-trans, length_permutation}
+use Rattle.tw_host.proofs.Names.{IsPermutation-trans, arith, length_permutation, ◌∙◌}
 use Rattle.tw_host.proofs.Ordering.{all_placed, none_of, placed_more}
 use Rattle.tw_host.proofs.close.put_in_order.Goals as goal
 

@@ -1,8 +1,4 @@
-use Rattle.std.proofs.Common.{◌≡◌, ◌<◌, ℕ, map}
-use Rattle.std.specs.Prelude.{slice_index_or}
-use Rattle.std.specs.List.Sorted.{IsPermutation}
-use Rattle.tw_types.specs.declared.actor.Actor.{Actor}
-use Rattle.tw_host.specs.Seats.{actor_at}
+use Rattle.tw_host.proofs.Names.{Actor, IsPermutation, actor_at, map, slice_index_or, ℕ, ◌<◌, ◌≡◌}
 use Rattle.tw_host.proofs.close.put_in_order.Given as goal
 
 abbrev pub invariant-loop-k : goal.invariant-loop-k

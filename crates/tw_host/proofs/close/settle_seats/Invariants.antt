@@ -1,7 +1,4 @@
-use Rattle.std.proofs.Common.{◌≡◌, ◌+◌, ◌≤◌, ◌++◌, length, map, vec_len, vec_capacity}
-use Rattle.std.specs.Prelude.{sum_by}
-use Rattle.std.specs.Vec.Iter.{into_iter_items, into_iter_len}
-use Rattle.tw_host.specs.Seats.{seen_by}
+use Rattle.tw_host.proofs.Names.{into_iter_items, into_iter_len, length, map, seen_by, sum_by, vec_capacity, vec_len, ◌++◌, ◌+◌, ◌≡◌, ◌≤◌}
 use Rattle.tw_host.proofs.close.settle_seats.Given as goal
 
 abbrev pub invariant-loop-seat : goal.invariant-loop-seat

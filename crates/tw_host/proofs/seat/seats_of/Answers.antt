@@ -1,7 +1,4 @@
-use Rattle.std.proofs.Common.{◌+◌, [], ap, sym, ◌∙◌, arith, map, List}
-use Rattle.std.specs.List.{range_with_len}
-use Rattle.tw_types.specs.declared.event.Event.{Event}
-use Rattle.tw_host.specs.Seats.{actor_at}
+use Rattle.tw_host.proofs.Names.{Event, List, [], actor_at, ap, arith, map, range_with_len, sym, ◌+◌, ◌∙◌}
 use Rattle.tw_host.proofs.Lists.{map_map, one_more}
 use Rattle.tw_host.proofs.seat.seats_of.Goals as goal
 

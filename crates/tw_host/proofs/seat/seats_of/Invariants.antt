@@ -1,6 +1,4 @@
-use Rattle.std.proofs.Common.{◌≡◌, ◌+◌, ◌≤◌, [], map, vec_len, vec_capacity}
-use Rattle.std.specs.List.{range_with_len}
-use Rattle.tw_host.specs.Seats.{actor_at, actor_count}
+use Rattle.tw_host.proofs.Names.{[], actor_at, actor_count, map, range_with_len, vec_capacity, vec_len, ◌+◌, ◌≡◌, ◌≤◌}
 use Rattle.tw_host.proofs.seat.seats_of.Given as goal
 
 abbrev pub invariant-loop-seat : goal.invariant-loop-seat

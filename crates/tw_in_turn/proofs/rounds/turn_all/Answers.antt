@@ -1,13 +1,4 @@
-use Rattle.std.proofs.Common.{◌≡◌, ◌+◌, ℕ, Option, Some, None, arith, refl, subst, sym}
-use Rattle.std.proofs.Math.Nat.{zero-mul}
-use Rattle.tw_types.specs.Actor.{actor_count}
-use Rattle.tw_types.specs.Layout.{ActorCounts}
-use Rattle.tw_in_turn.specs.InTurn.{IsAfter}
-use Rattle.tw_stop.specs.Looks.{Looked}
-use Rattle.tw_stop.proofs.Looking.{more_looks, more_noes}
-use Rattle.tw_in_turn.specs.Rounds.{IsRoundResult, is_stop, looks_at, turns_in}
-use Rattle.tw_in_turn.specs.Stopping.{looks_within}
-use Rattle.tw_in_turn.specs.declared.rounds.End.{End}
+use Rattle.tw_in_turn.proofs.Names.{ActorCounts, End, IsAfter, IsRoundResult, Looked, None, Option, Some, actor_count, arith, is_stop, looks_at, looks_within, more_looks, more_noes, refl, subst, sym, turns_in, zero-mul, ℕ, ◌+◌, ◌≡◌}
 use Rattle.tw_in_turn.proofs.Rounding as rounding
 use Rattle.tw_in_turn.proofs.rounds.turn_all.Goals as goal
 

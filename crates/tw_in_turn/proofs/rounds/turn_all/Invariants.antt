@@ -1,7 +1,4 @@
-use Rattle.std.proofs.Common.{◌≤◌, ◌+◌, ℕ, length}
-use Rattle.tw_stop.specs.Looks.{Looked, noes}
-use Rattle.tw_in_turn.specs.InTurn.{IsAfter}
-use Rattle.tw_in_turn.specs.Rounds.{AreKept, IsGrown, looks_at, turns_in}
+use Rattle.tw_in_turn.proofs.Names.{AreKept, IsAfter, IsGrown, Looked, length, looks_at, noes, turns_in, ℕ, ◌+◌, ◌≤◌}
 use Rattle.tw_in_turn.proofs.rounds.turn_all.Given as goal
 
 abbrev pub invariant-loop-rounds : goal.invariant-loop-rounds

@@ -1,15 +1,4 @@
-use Rattle.std.proofs.Common.{◌≡◌, ◌≢◌, ◌<◌, ◌+◌, ◌%◌, ◌∙◌, Option, Some, true, false, ap, arith, get_or, length, refl, subst, sym}
-use Rattle.tw_types.specs.declared.actor.Actor.{Actor}
-use Rattle.tw_types.specs.Actor.{actor_count}
-use Rattle.tw_frame.specs.Jobs.{DoneView}
-use Rattle.tw_stop.specs.Looks.{Looked}
-use Rattle.tw_stop.proofs.Looking.{last_look}
-use Rattle.tw_pool.specs.PoolView.{PoolView}
-use Rattle.tw_pool.specs.Work.{IsIdle}
-use Rattle.tw_in_turn.specs.InTurn.{IsAfter}
-use Rattle.tw_in_turn.specs.Rounds.{IsTurned, IsWatched, Keeps, MayTurn, looks_at}
-use Rattle.tw_in_turn.specs.Stopping.{looks_within}
-use Rattle.tw_in_turn.specs.declared.rounds.End.{End}
+use Rattle.tw_in_turn.proofs.Names.{Actor, DoneView, End, IsAfter, IsIdle, IsTurned, IsWatched, Keeps, Looked, MayTurn, Option, PoolView, Some, actor_count, ap, arith, false, get_or, last_look, length, looks_at, looks_within, refl, subst, sym, true, ◌%◌, ◌+◌, ◌<◌, ◌∙◌, ◌≡◌, ◌≢◌}
 use Rattle.tw_in_turn.proofs.Drawing as drawing
 use Rattle.tw_in_turn.proofs.Rounding as rounding
 use Rattle.tw_in_turn.proofs.Stops.{ends_after}

@@ -1,8 +1,4 @@
-use Rattle.std.proofs.Common.{◌≡◌, ◌<◌, ◌≤◌, ◌+◌, ℕ}
-use Rattle.tw_stop.specs.Looks.{Looked, noes}
-use Rattle.tw_pool.specs.Work.{IsIdle}
-use Rattle.tw_in_turn.specs.InTurn.{actor_from}
-use Rattle.tw_in_turn.specs.Rounds.{AreKept, looks_at}
+use Rattle.tw_in_turn.proofs.Names.{AreKept, IsIdle, Looked, actor_from, looks_at, noes, ℕ, ◌+◌, ◌<◌, ◌≡◌, ◌≤◌}
 use Rattle.tw_in_turn.proofs.rounds.turn_drawn.Given as goal
 
 abbrev pub invariant-loop-skipped : goal.invariant-loop-skipped

@@ -1,6 +1,4 @@
-use Rattle.std.proofs.Common.{ℕ, Option, subst, sym}
-use Rattle.tw_stop.specs.Looks.{Looked}
-use Rattle.tw_in_turn.specs.Rounds.{IsRoundResult}
+use Rattle.tw_in_turn.proofs.Names.{IsRoundResult, Looked, Option, subst, sym, ℕ}
 use Rattle.tw_in_turn.proofs.rounds.turn_next.Goals as goal
 
 pub returns-in-None-clause-round : goal.returns-in-None-clause-round

@@ -1,9 +1,4 @@
-use Rattle.std.proofs.Common.{◌≡◌, slice_get, IfSome, Option, Some, None, true, false, arith, inl, inr, refl, rules, subst, sym}
-use Rattle.tw_frame.specs.Jobs.{DoneView, JobView}
-use Rattle.tw_pool.specs.Kept.{IsOwedBy}
-use Rattle.tw_pool.specs.Turns.{IsTurn}
-use Rattle.tw_in_turn.specs.InTurn.{Continues, IsOutOfMemory, IsWorkOf}
-use Rattle.tw_in_turn.specs.Rounds.{ContinuesOrEnds, Keeps}
+use Rattle.tw_in_turn.proofs.Names.{Continues, ContinuesOrEnds, DoneView, IfSome, IsOutOfMemory, IsOwedBy, IsTurn, IsWorkOf, JobView, Keeps, None, Option, Some, arith, false, inl, inr, refl, rules, slice_get, subst, sym, true, ◌≡◌}
 use Rattle.tw_in_turn.specs.declared.rounds.End.TheVariants.{NoMemory, Over, Stopped}
 use Rattle.tw_in_turn.proofs.Cutting as cutting
 use Rattle.tw_in_turn.proofs.Moving as moving

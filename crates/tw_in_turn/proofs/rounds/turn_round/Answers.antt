@@ -1,16 +1,4 @@
-use Rattle.std.proofs.Common.{◌≡◌, ◌≢◌, ◌<◌, ◌+◌, ◌*◌, ◌∙◌, ℕ, Option, None, true, false, ap, arith, get_or, length, refl, subst, sym}
-use Rattle.tw_types.specs.declared.actor.Actor.{Actor}
-use Rattle.tw_types.specs.Actor.{actor_at, actor_count, is_in}
-use Rattle.tw_types.specs.Layout.{ActorCounts}
-use Rattle.tw_frame.specs.Jobs.{DoneView}
-use Rattle.tw_pool.specs.PoolView.{PoolView}
-use Rattle.tw_pool.specs.Work.{AreIdle}
-use Rattle.tw_in_turn.specs.InTurn.{IsAfter, IsMove}
-use Rattle.tw_stop.specs.Looks.{Looked}
-use Rattle.tw_stop.proofs.Looking.{last_look}
-use Rattle.tw_in_turn.specs.Rounds.{Ends, IsTurned, IsWatched, Keeps, looks_at}
-use Rattle.tw_in_turn.specs.Stopping.{looks_within}
-use Rattle.tw_in_turn.specs.declared.rounds.End.{End}
+use Rattle.tw_in_turn.proofs.Names.{Actor, ActorCounts, AreIdle, DoneView, End, Ends, IsAfter, IsMove, IsTurned, IsWatched, Keeps, Looked, None, Option, PoolView, actor_at, actor_count, ap, arith, false, get_or, is_in, last_look, length, looks_at, looks_within, refl, subst, sym, true, ℕ, ◌*◌, ◌+◌, ◌<◌, ◌∙◌, ◌≡◌, ◌≢◌}
 use Rattle.tw_in_turn.proofs.Rounding as rounding
 use Rattle.tw_in_turn.proofs.Stops.{ends_after}
 use Rattle.tw_in_turn.proofs.Watching as watching

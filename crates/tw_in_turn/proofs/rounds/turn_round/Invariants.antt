@@ -1,9 +1,4 @@
-use Rattle.std.proofs.Common.{◌≤◌, ◌+◌, ◌*◌, ◌-◌, ℕ, None}
-use Rattle.tw_types.specs.Actor.{actor_count}
-use Rattle.tw_stop.specs.Looks.{Looked, noes}
-use Rattle.tw_pool.specs.PoolView.{PoolView}
-use Rattle.tw_in_turn.specs.InTurn.{IsAfter}
-use Rattle.tw_in_turn.specs.Rounds.{AreKept, IsGrown, looks_at}
+use Rattle.tw_in_turn.proofs.Names.{AreKept, IsAfter, IsGrown, Looked, None, PoolView, actor_count, looks_at, noes, ℕ, ◌*◌, ◌+◌, ◌-◌, ◌≤◌}
 use Rattle.tw_in_turn.proofs.Rounding.{MoreOrIdle}
 use Rattle.tw_in_turn.proofs.rounds.turn_round.Given as goal
 

@@ -1,7 +1,4 @@
-use Rattle.std.proofs.Common.{◌≡◌, ◌<◌, Option, arith, length, subst, sym}
-use Rattle.tw_types.specs.Actor.{actor_at, actor_count}
-use Rattle.tw_frame.specs.Jobs.{DoneView}
-use Rattle.tw_in_turn.specs.Rounds.{Keeps}
+use Rattle.tw_in_turn.proofs.Names.{DoneView, Keeps, Option, actor_at, actor_count, arith, length, subst, sym, ◌<◌, ◌≡◌}
 use Rattle.tw_in_turn.proofs.Opening.{keeps_nothing}
 use Rattle.tw_in_turn.proofs.Watching.{none_owed}
 use Rattle.tw_in_turn.proofs.run.nothing_kept.Goals as goal

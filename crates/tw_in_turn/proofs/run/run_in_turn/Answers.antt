@@ -1,7 +1,4 @@
-use Rattle.std.proofs.Common.{◌≡◌, ◌∙◌, ap, subst, true}
-use Rattle.tw_stop.specs.Looks.{Looked, looks, always_no}
-use Rattle.tw_stop.proofs.Looking.{never_stops}
-use Rattle.tw_in_turn.specs.Stopping.{is_stopped}
+use Rattle.tw_in_turn.proofs.Names.{Looked, always_no, ap, is_stopped, looks, never_stops, subst, true, ◌∙◌, ◌≡◌}
 use Rattle.tw_in_turn.proofs.run.run_in_turn.Goals as goal
 
 pub unreachable-requires : goal.unreachable-requires

@@ -1,11 +1,4 @@
-use Rattle.std.proofs.Common.{◌∙◌, List, Option, ap, false, true, refl, subst, sym}
-use Rattle.tw_frame.specs.Jobs.{DoneView}
-use Rattle.tw_stop.specs.Looks.{looks}
-use Rattle.tw_pool.specs.Openings.{opened}
-use Rattle.tw_pool.specs.PoolView.{PoolView}
-use Rattle.tw_in_turn.specs.InTurn.{IsAfter, IsOutOfMemory}
-use Rattle.tw_in_turn.specs.Stopping.{IsReachedAfter}
-use Rattle.tw_in_turn.specs.Rounds.{AreKept, all_owed}
+use Rattle.tw_in_turn.proofs.Names.{AreKept, DoneView, IsAfter, IsOutOfMemory, IsReachedAfter, List, Option, PoolView, all_owed, ap, false, looks, opened, refl, subst, sym, true, ◌∙◌}
 use Rattle.tw_in_turn.proofs.Leaving.{left_in, left_over}
 use Rattle.tw_in_turn.proofs.Watching.{all_looks}
 use Rattle.tw_in_turn.proofs.run.run_until.Goals as goal

@@ -1,6 +1,4 @@
-use Rattle.std.proofs.Common.{◌∙◌, sym, refl}
-use Rattle.std.proofs.lemmas.Slice.Zip.{either_empty_from_Zip}
-use Rattle.tw_instr.specs.Arguments.{arg_of, test_of}
+use Rattle.tw_instr.proofs.Names.{arg_of, either_empty_from_Zip, refl, sym, test_of, ◌∙◌}
 use Rattle.tw_instr.proofs.Handing.{pass_at_end}
 use Rattle.tw_instr.proofs.arguments.all_pass.Goals as goal
 

@@ -1,8 +1,4 @@
-use Rattle.std.proofs.Common.{◌≡◌, map}
-use Rattle.std.specs.Iterator.Adapters.{zip_first, zip_second}
-use Rattle.std.specs.Slice.Iter.{iter_rest}
-use Rattle.tw_code.specs.machine.Arguments.{all_pass}
-use Rattle.tw_instr.specs.Arguments.{arg_of, test_of}
+use Rattle.tw_instr.proofs.Names.{all_pass, arg_of, iter_rest, map, test_of, zip_first, zip_second, ◌≡◌}
 use Rattle.tw_instr.proofs.arguments.all_pass.Given as goal
 
 abbrev pub invariant-loop-param : goal.invariant-loop-param

@@ -1,6 +1,4 @@
-use Rattle.std.proofs.Common.{◌∙◌, ap, refl, map}
-use Rattle.std.proofs.lemmas.Slice.Zip.{either_empty_from_Zip}
-use Rattle.tw_instr.specs.Arguments.{arg_of}
+use Rattle.tw_instr.proofs.Names.{ap, arg_of, either_empty_from_Zip, map, refl, ◌∙◌}
 use Rattle.tw_instr.proofs.Handing.{after, after_nothing, given_at_end}
 use Rattle.tw_instr.proofs.arguments.take_args.Goals as goal
 

@@ -1,8 +1,4 @@
-use Rattle.std.proofs.Common.{◌≡◌, ◌≤◌, ◌+◌, length, map}
-use Rattle.std.specs.Iterator.Adapters.{zip_first, zip_second}
-use Rattle.std.specs.Slice.Iter.{iter_rest}
-use Rattle.tw_code.specs.machine.Arguments.{moved_args}
-use Rattle.tw_instr.specs.Arguments.{arg_of}
+use Rattle.tw_instr.proofs.Names.{arg_of, iter_rest, length, map, moved_args, zip_first, zip_second, ◌+◌, ◌≡◌, ◌≤◌}
 use Rattle.tw_instr.proofs.Handing.{after}
 use Rattle.tw_instr.proofs.arguments.take_args.Given as goal
 

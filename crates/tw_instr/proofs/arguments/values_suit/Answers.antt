@@ -1,5 +1,4 @@
-use Rattle.std.proofs.Common.{◌∙◌, sym, refl}
-use Rattle.std.proofs.lemmas.Slice.Zip.{either_empty_from_Zip}
+use Rattle.tw_instr.proofs.Names.{either_empty_from_Zip, refl, sym, ◌∙◌}
 use Rattle.tw_instr.proofs.Handing.{suit_at_end}
 use Rattle.tw_instr.proofs.arguments.values_suit.Goals as goal
 

@@ -1,7 +1,4 @@
-use Rattle.std.proofs.Common.{◌≡◌}
-use Rattle.std.specs.Iterator.Adapters.{zip_first, zip_second}
-use Rattle.std.specs.Slice.Iter.{iter_rest}
-use Rattle.tw_code.specs.machine.Arguments.{values_suit}
+use Rattle.tw_instr.proofs.Names.{iter_rest, values_suit, zip_first, zip_second, ◌≡◌}
 use Rattle.tw_instr.proofs.arguments.values_suit.Given as goal
 
 abbrev pub invariant-loop-param : goal.invariant-loop-param

@@ -1,9 +1,5 @@
-use Rattle.std.proofs.Common.{ap, ◌∙◌, Some, None}
-use Rattle.tw_instr.specs.Parts.{bare, data_of}
+use Rattle.tw_instr.proofs.Names.{None, Some, absent_is, ap, bare, changed_is, data_of, insert, one_write_more, ◌∙◌}
 use Rattle.tw_instr.proofs.Live.{found, written}
-use Rattle.std.specs.FinMap.{insert}
-use Rattle.tw_types.specs.StoreCalls.{one_write_more}
-use Rattle.tw_types.proofs.Settled.{absent_is, changed_is}
 use Rattle.tw_instr.proofs.Views.{write_room}
 use Rattle.tw_instr.proofs.changes.add_write_in.Goals as goal
 

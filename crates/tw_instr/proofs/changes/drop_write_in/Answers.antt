@@ -1,9 +1,5 @@
-use Rattle.std.proofs.Common.{ap, ◌∙◌, Some, None}
-use Rattle.std.specs.FinMap.{insert}
-use Rattle.tw_instr.specs.Parts.{bare, data_of}
+use Rattle.tw_instr.proofs.Names.{None, Some, ap, bare, data_of, drop_write_live, drop_write_write, insert, none_is, one_write_less, ◌∙◌}
 use Rattle.tw_instr.proofs.Live.{found, written}
-use Rattle.tw_types.specs.StoreCalls.{one_write_less}
-use Rattle.tw_types.proofs.Passed.{none_is, drop_write_live, drop_write_write}
 use Rattle.tw_instr.proofs.Closes.{after_is}
 use Rattle.tw_instr.proofs.changes.drop_write_in.Goals as goal
 

@@ -1,11 +1,5 @@
-use Rattle.std.proofs.Common.{ap, ◌∙◌, Some, None}
-use Rattle.tw_instr.specs.Parts.{bare, data_of}
+use Rattle.tw_instr.proofs.Names.{None, Some, ap, bare, changed_is, data_of, insert, insert_container, insert_live, none_is, on_err, on_ok, same, with_member, ◌∙◌}
 use Rattle.tw_instr.proofs.Live.{found, written}
-use Rattle.tw_types.proofs.Settled.{same, changed_is}
-use Rattle.std.specs.FinMap.{insert}
-use Rattle.tw_types.specs.StoreCalls.{with_member}
-use Rattle.tw_types.proofs.Passed.{none_is, insert_live, insert_container}
-use Rattle.tw_types.proofs.Came.{on_ok, on_err}
 use Rattle.tw_instr.proofs.changes.insert_in.Goals as goal
 
 pub unreachable-requires : goal.unreachable-requires

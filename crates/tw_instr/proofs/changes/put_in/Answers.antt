@@ -1,10 +1,4 @@
-use Rattle.std.proofs.Common.{ap, subst, ◌∙◌, Some, None}
-use Rattle.std.specs.FinMap.{insert}
-use Rattle.tw_types.specs.StoreCalls.{with_entry}
-use Rattle.tw_types.proofs.Came.{on_ok, on_err}
-use Rattle.tw_types.proofs.Settled.{same, changed_is}
-use Rattle.tw_datum.specs.Puts.{TakesValue}
-use Rattle.tw_instr.specs.Parts.{bare, data_of}
+use Rattle.tw_instr.proofs.Names.{None, Some, TakesValue, ap, bare, changed_is, data_of, insert, on_err, on_ok, same, subst, with_entry, ◌∙◌}
 use Rattle.tw_instr.proofs.Live.{found, written}
 use Rattle.tw_instr.proofs.changes.put_in.Goals as goal
 

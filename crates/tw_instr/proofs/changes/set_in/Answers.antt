@@ -1,9 +1,5 @@
-use Rattle.std.proofs.Common.{ap, ◌∙◌, Some, None}
-use Rattle.std.specs.FinMap.{insert}
-use Rattle.tw_instr.specs.Parts.{bare, data_of}
+use Rattle.tw_instr.proofs.Names.{None, Some, ap, bare, data_of, insert, none_is, set_to, store_live, store_scalar, store_write, ◌∙◌}
 use Rattle.tw_instr.proofs.Live.{found, written}
-use Rattle.tw_types.specs.StoreCalls.{set_to}
-use Rattle.tw_types.proofs.Passed.{none_is, store_live, store_scalar, store_write}
 use Rattle.tw_instr.proofs.Closes.{after_is}
 use Rattle.tw_instr.proofs.changes.set_in.Goals as goal
 

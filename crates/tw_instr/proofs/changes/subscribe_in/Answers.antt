@@ -1,10 +1,5 @@
-use Rattle.std.proofs.Common.{ap, ◌∙◌, Some, None}
-use Rattle.tw_instr.specs.Parts.{bare, data_of}
+use Rattle.tw_instr.proofs.Names.{None, Some, absent_is, ap, bare, changed_is, data_of, insert, on_err, on_ok, same, with_subscriber, ◌∙◌}
 use Rattle.tw_instr.proofs.Live.{found, written}
-use Rattle.tw_types.proofs.Settled.{same, absent_is, changed_is}
-use Rattle.std.specs.FinMap.{insert}
-use Rattle.tw_types.specs.StoreCalls.{with_subscriber}
-use Rattle.tw_types.proofs.Came.{on_ok, on_err}
 use Rattle.tw_instr.proofs.changes.subscribe_in.Goals as goal
 
 pub returns-in_default-clause-noted : goal.returns-in_default-clause-noted

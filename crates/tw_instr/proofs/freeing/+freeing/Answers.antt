@@ -1,16 +1,7 @@
-use Rattle.std.proofs.Common.{◌≡◌, ◌+◌, ◌-◌, ◌<◌, ◌≤◌, sym, ap, ◌∙◌, subst, true, false, fold, drop, length, pos, arith, Some, None}
-use Rattle.std.specs.Cmp.{nat_cmp_total}
-use Rattle.std.specs.FinMap.{nat_cmp-IsAntisymmetric, insert, remove, len-entries}
-use Rattle.std.proofs.lemmas.List.{length-map}
-use Rattle.std.proofs.lemmas.Option.{slice_get-get_or}
+use Rattle.tw_instr.proofs.Names.{None, Some, ap, arith, bare, copied_there, data_of, drop, drop_read_within, each_same, false, fold, insert, is_unheld, len-entries, length, length-map, members_of, nat_cmp-IsAntisymmetric, nat_cmp_total, pos, remove, remove_insert, slice_get-get_or, subst, sym, true, ◌+◌, ◌-◌, ◌<◌, ◌∙◌, ◌≡◌, ◌≤◌}
 use Rattle.std.specs.FinMap as map
-use Rattle.tw_types.proofs.Maps.{remove_insert}
-use Rattle.tw_types.proofs.Mapped.{each_same}
-use Rattle.tw_instr.specs.Parts.{bare, data_of}
 use Rattle.tw_types.specs.declared.value.Value.TheVariants.{Int}
-use Rattle.tw_types.proofs.Came.{copied_there}
 use Rattle.tw_instr.proofs.Live.{found, looked, removed, same_kept, written, written_found}
-use Rattle.tw_types.specs.Store.{drop_read_within, is_unheld, members_of}
 use Rattle.tw_types.proofs.Drops.{drop_absent, drop_unread, drop_held, drop_lowest, drop_last, fold_next, fold_end}
 use Rattle.tw_instr.proofs.freeing.+freeing.Goals as goal
 use Rattle.tw_instr.proofs.freeing.+freeing.Goals.{drop_each-in-Some, drop_each-in_default}

@@ -1,7 +1,5 @@
-use Rattle.std.proofs.Common.{◌≡◌, ◌+◌, ◌*◌, drop, fold}
+use Rattle.tw_instr.proofs.Names.{data_of, drop, drop_read_within, fold, ◌*◌, ◌+◌, ◌≡◌}
 use Rattle.std.specs.FinMap as map
-use Rattle.tw_types.specs.Store.{drop_read_within}
-use Rattle.tw_instr.specs.Parts.{data_of}
 use Rattle.tw_instr.proofs.freeing.+freeing.Given as goal
 
 abbrev pub decreases-drop_each : goal.decreases-drop_each

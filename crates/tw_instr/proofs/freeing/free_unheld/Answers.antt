@@ -1,12 +1,6 @@
-use Rattle.std.proofs.Common.{sym, ap, ◌∙◌, fold, Some, None}
-use Rattle.std.specs.FinMap.{remove}
+use Rattle.tw_instr.proofs.Names.{None, Some, ap, data_of, drop_read_within, each_same, fold, if_none, if_some, remove, settled_gone, settled_held, sym, ◌∙◌}
 use Rattle.std.specs.FinMap as map
-use Rattle.tw_types.proofs.Mapped.{each_same}
-use Rattle.tw_instr.specs.Parts.{data_of}
 use Rattle.tw_instr.proofs.Live.{found, removed, same_kept}
-use Rattle.tw_types.specs.Store.{drop_read_within}
-use Rattle.tw_types.proofs.Maps.{if_none, if_some}
-use Rattle.tw_types.proofs.Settled.{settled_gone, settled_held}
 use Rattle.tw_instr.proofs.freeing.free_unheld.Goals as goal
 
 pub returns-in_default : goal.returns-in_default

@@ -1,6 +1,4 @@
-use Rattle.std.proofs.Common.{◌≡◌}
-use Rattle.tw_types.specs.Outcome.{Went}
-use Rattle.tw_code.specs.machine.Machine.{local_steps}
+use Rattle.tw_instr.proofs.Names.{Went, local_steps, ◌≡◌}
 use Rattle.tw_instr.proofs.local.count_local.Given as goal
 
 abbrev pub invariant-loop-steps : goal.invariant-loop-steps

@@ -1,5 +1,4 @@
-use Rattle.std.proofs.Common.{arith}
-use Rattle.std.proofs.lemmas.Result.{err_from_is_err_and}
+use Rattle.tw_instr.proofs.Names.{arith, err_from_is_err_and}
 use Rattle.tw_instr.proofs.Steps.{step_goes, step_stopped}
 use Rattle.tw_instr.proofs.local.local_steps.Goals as goal
 

@@ -1,5 +1,4 @@
-use Rattle.std.proofs.Common.{◌≡◌, ◌-◌}
-use Rattle.tw_code.specs.machine.Machine.{local_steps}
+use Rattle.tw_instr.proofs.Names.{local_steps, ◌-◌, ◌≡◌}
 use Rattle.tw_instr.proofs.local.local_steps.Given as goal
 
 abbrev pub invariant-loop : goal.invariant-loop

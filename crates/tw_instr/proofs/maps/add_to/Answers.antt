@@ -1,14 +1,7 @@
-use Rattle.std.proofs.Common.{◌≡◌, ◌∙◌, ap, arith, of_z, subst, sym, to_z, w64}
+use Rattle.tw_instr.proofs.Names.{Subscript, TakesValue, add_takes, ap, arith, entry_at, get, of_z, on_ok, scalar_of, subst, sym, to_z, value_put, w64, ◌∙◌, ◌≡◌}
 use Rattle.std.proofs.lemmas.Int.{to_z-of_z}
-use Rattle.std.specs.FinMap.{get}
-use Rattle.tw_types.specs.StoreCalls.{entry_at, value_put}
-use Rattle.tw_types.specs.Value.{scalar_of}
-use Rattle.tw_types.specs.ValueOrder.{Subscript}
-use Rattle.tw_types.proofs.Came.{on_ok}
 use Rattle.tw_code.specs.machine.Data.{sum_with}
 use Rattle.tw_code.proofs.Computing.{sum_int}
-use Rattle.tw_datum.specs.Puts.{TakesValue}
-use Rattle.tw_datum.proofs.Puts.{add_takes}
 use Rattle.tw_instr.proofs.maps.add_to.Goals as goal
 
 pub put-requires : goal.put-requires

@@ -1,11 +1,4 @@
-use Rattle.std.proofs.Common.{◌∙◌, ap, subst, sym}
-use Rattle.std.specs.FinMap.{get}
-use Rattle.tw_types.specs.declared.value.Value.{Value}
-use Rattle.tw_types.specs.StoreCalls.{value_put}
-use Rattle.tw_types.specs.ValueOrder.{Subscript}
-use Rattle.tw_types.proofs.Came.{on_ok}
-use Rattle.tw_datum.specs.Puts.{TakesValue}
-use Rattle.tw_datum.proofs.Puts.{put_takes}
+use Rattle.tw_instr.proofs.Names.{Subscript, TakesValue, Value, ap, get, on_ok, put_takes, subst, sym, value_put, ◌∙◌}
 use Rattle.tw_instr.proofs.maps.put_copies.Goals as goal
 
 pub put-requires : goal.put-requires

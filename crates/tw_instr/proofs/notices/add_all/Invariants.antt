@@ -1,6 +1,4 @@
-use Rattle.std.proofs.Common.{◌≡◌, ◌||◌, take}
-use Rattle.tw_types.specs.declared.notice.Notice.{Notice}
-use Rattle.tw_instr.specs.NoticeSets.{is_among, is_in}
+use Rattle.tw_instr.proofs.Names.{Notice, is_among, is_in, take, ◌||◌, ◌≡◌}
 use Rattle.tw_instr.proofs.notices.add_all.Given as goal
 
 abbrev pub invariant-loop-key : goal.invariant-loop-key

@@ -1,6 +1,4 @@
-use Rattle.std.proofs.Common.{◌≡◌, true, false, sym, ap, ◌∙◌, arith}
-use Rattle.tw_types.specs.Store.{notice_to}
-use Rattle.tw_instr.specs.NoticeSets.{is_in}
+use Rattle.tw_instr.proofs.Names.{ap, arith, false, is_in, notice_to, sym, true, ◌∙◌, ◌≡◌}
 use Rattle.tw_instr.proofs.NoticeSets.{one_missing, one_there}
 use Rattle.tw_instr.proofs.notices.missing.Goals as goal
 use Rattle.tw_instr.proofs.notices.missing.Goals.{then-not-contains+in_ok-push, else-not-contains}

@@ -1,7 +1,4 @@
-use Rattle.std.proofs.Common.{◌≡◌, ◌||◌, true, false, map, take}
-use Rattle.tw_types.specs.declared.notice.Notice.{Notice}
-use Rattle.tw_types.specs.Store.{notice_to}
-use Rattle.tw_instr.specs.NoticeSets.{is_among, is_in}
+use Rattle.tw_instr.proofs.Names.{Notice, false, is_among, is_in, map, notice_to, take, true, ◌||◌, ◌≡◌}
 use Rattle.tw_instr.proofs.notices.missing.Given as goal
 
 abbrev pub invariant-loop-subscriber : goal.invariant-loop-subscriber

@@ -1,5 +1,4 @@
-use Rattle.std.proofs.Common.{vec_len, ◌∙◌}
-use Rattle.tw_code.specs.machine.Position.{Loop}
+use Rattle.tw_instr.proofs.Names.{Loop, vec_len, ◌∙◌}
 use Rattle.tw_instr.proofs.Turns.{turn_last}
 use Rattle.tw_instr.proofs.position.last_turn_in.Goals as goal
 

@@ -1,5 +1,4 @@
-use Rattle.std.proofs.Common.{◌≡◌, ◌++◌, take, map}
-use Rattle.tw_types.specs.Value.{blank_of}
+use Rattle.tw_instr.proofs.Names.{blank_of, map, take, ◌++◌, ◌≡◌}
 use Rattle.tw_instr.proofs.task.add_blanks.Given as goal
 
 abbrev pub invariant-loop-ty : goal.invariant-loop-ty

@@ -1,5 +1,4 @@
-use Rattle.std.proofs.Common.{◌∙◌, ap, sym, arith, length}
-use Rattle.tw_code.specs.machine.Rights.{first_rights}
+use Rattle.tw_instr.proofs.Names.{ap, arith, first_rights, length, sym, ◌∙◌}
 use Rattle.tw_instr.proofs.Filling.{rights_more, rights_same}
 use Rattle.tw_instr.proofs.task.first_rights.Goals as goal
 use Rattle.tw_instr.proofs.task.first_rights.Goals.{in-Right, in_default}

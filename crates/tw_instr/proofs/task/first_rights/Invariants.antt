@@ -1,7 +1,4 @@
-use Rattle.std.proofs.Common.{◌≡◌, ◌≤◌, take, length, map}
-use Rattle.tw_code.specs.machine.State.{ids_in}
-use Rattle.tw_code.specs.machine.Rights.{first_rights}
-use Rattle.tw_instr.specs.Arguments.{arg_of}
+use Rattle.tw_instr.proofs.Names.{arg_of, first_rights, ids_in, length, map, take, ◌≡◌, ◌≤◌}
 use Rattle.tw_instr.proofs.task.first_rights.Given as goal
 
 abbrev pub invariant-loop-arg : goal.invariant-loop-arg

@@ -1,6 +1,4 @@
-use Rattle.std.proofs.Common.{◌≡◌, ◌≤◌, drop, length, map}
-use Rattle.tw_code.specs.machine.State.{filled, values_in}
-use Rattle.tw_instr.specs.Arguments.{arg_of}
+use Rattle.tw_instr.proofs.Names.{arg_of, drop, filled, length, map, values_in, ◌≡◌, ◌≤◌}
 use Rattle.tw_instr.proofs.Filling.{after}
 use Rattle.tw_instr.proofs.task.given_values.Given as goal
 

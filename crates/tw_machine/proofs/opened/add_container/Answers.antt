@@ -1,8 +1,4 @@
-use Rattle.std.proofs.Common.{sym, subst}
-use Rattle.tw_types.specs.Given.{members_by}
-use Rattle.tw_types.specs.Store.{Contains, Members}
-use Rattle.tw_datum.specs.Kept.{FitsType}
-use Rattle.tw_code.proofs.Givens.{given_kind}
+use Rattle.tw_machine.proofs.Names.{Contains, FitsType, Members, given_kind, members_by, subst, sym}
 use Rattle.tw_machine.proofs.InputData.{numbered_fit}
 use Rattle.tw_machine.proofs.opened.add_container.Goals as goal
 

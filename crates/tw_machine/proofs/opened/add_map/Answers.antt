@@ -1,11 +1,5 @@
-use Rattle.std.proofs.Common.{ap, subst, sym, ◌∙◌}
-use Rattle.tw_types.specs.DataType.{has_sums, map_with}
-use Rattle.tw_types.specs.Given.{members_by}
-use Rattle.tw_types.specs.Nesting.{NestedScalar}
-use Rattle.tw_types.specs.Store.{Maps, Values, added}
-use Rattle.tw_datum.specs.Kept.{FitsType, closed_datum}
+use Rattle.tw_machine.proofs.Names.{FitsType, Maps, NestedScalar, Values, added, ap, closed_datum, entries_short, entries_type, has_sums, map_with, members_by, subst, sym, ◌∙◌}
 use Rattle.tw_datum.proofs.EnteredValues.{entered_fit, map_itself}
-use Rattle.tw_code.proofs.Givens.{entries_short, entries_type}
 use Rattle.tw_machine.proofs.opened.add_map.Goals as goal
 
 pub entered-requires : goal.entered-requires

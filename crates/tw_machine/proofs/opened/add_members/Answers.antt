@@ -1,9 +1,5 @@
-use Rattle.std.proofs.Common.{◌≡◌, ◌∙◌, true, ap, subst, sym}
-use Rattle.tw_types.specs.Given.{Given, members_by}
+use Rattle.tw_machine.proofs.Names.{Given, added_given, ap, as_container, as_map, is_given_for, members_by, subst, sym, true, ◌∙◌, ◌≡◌}
 use Rattle.tw_types.proofs.Came.{on_ok}
-use Rattle.tw_code.specs.machine.Inputs.{is_given_for}
-use Rattle.tw_code.specs.machine.Opening.{added_given}
-use Rattle.tw_code.proofs.Givens.{as_container, as_map}
 use Rattle.tw_machine.proofs.opened.add_members.Goals as goal
 
 pub add_map-requires-clause-fits : goal.add_map-requires-clause-fits

@@ -1,7 +1,4 @@
-use Rattle.std.proofs.Common.{◌≡◌, true, rules, sym, subst}
-use Rattle.tw_types.specs.Value.{IsProper}
-use Rattle.tw_types.specs.DataType.{is_scalar}
-use Rattle.tw_types.proofs.Subscripts.{no_entries, no_kinds}
+use Rattle.tw_machine.proofs.Names.{IsProper, is_scalar, no_entries, no_kinds, rules, subst, sym, true, ◌≡◌}
 use Rattle.tw_datum.proofs.Members.{scalar_only}
 use Rattle.tw_machine.proofs.opened.add_scalar.Goals as goal
 

@@ -1,6 +1,4 @@
-use Rattle.std.proofs.Common.{◌≡◌, ◌+◌, drop, true}
-use Rattle.tw_code.specs.machine.Members.{are_short, with_members}
-use Rattle.tw_types.specs.Given.{members_by}
+use Rattle.tw_machine.proofs.Names.{are_short, drop, members_by, true, with_members, ◌+◌, ◌≡◌}
 use Rattle.tw_machine.proofs.opened.add_values.Given as goal
 
 abbrev pub invariant-loop-value : goal.invariant-loop-value

@@ -1,5 +1,4 @@
-use Rattle.std.proofs.Common.{◌<◌, ◌-◌, arith, length, sym, subst}
-use Rattle.tw_types.specs.Value.{IsProper}
+use Rattle.tw_machine.proofs.Names.{IsProper, arith, length, subst, sym, ◌-◌, ◌<◌}
 use Rattle.tw_machine.proofs.InputData.{short_subscript}
 use Rattle.tw_machine.proofs.opened.numbered.Goals as goal
 

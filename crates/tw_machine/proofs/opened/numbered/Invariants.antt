@@ -1,6 +1,4 @@
-use Rattle.std.proofs.Common.{◌≡◌, ◌+◌, drop}
-use Rattle.tw_types.specs.Given.{members_by}
-use Rattle.tw_code.specs.machine.Opening.{numbered}
+use Rattle.tw_machine.proofs.Names.{drop, members_by, numbered, ◌+◌, ◌≡◌}
 use Rattle.tw_machine.proofs.opened.numbered.Given as goal
 
 abbrev pub invariant-loop-index : goal.invariant-loop-index

@@ -1,7 +1,5 @@
-use Rattle.std.proofs.Common.{true, ap, subst, sym, ◌∙◌}
+use Rattle.tw_machine.proofs.Names.{AreSameIn, IsMarkedAt, OnErr, OnOk, Sets, ap, subst, sym, target_cmp, true, ◌∙◌}
 use Rattle.std.specs.BTreeMap.{get}
-use Rattle.std.specs.Result.{OnErr, OnOk}
-use Rattle.tw_machine.specs.Ranking.{AreSameIn, IsMarkedAt, Sets, target_cmp}
 use Rattle.tw_machine.proofs.RankSets.{added_there, refused_there}
 use Rattle.tw_machine.proofs.ranks.add_at.Goals as goal
 

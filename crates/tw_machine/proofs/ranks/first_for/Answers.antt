@@ -1,7 +1,5 @@
 use Rattle.std.proofs.Common.{◌≡◌, None, Some, true, false, rules, subst}
-use Rattle.std.specs.Ordering.{is_lt}
-use Rattle.tw_machine.specs.Rank.{rank_cmp}
-use Rattle.tw_machine.specs.Ranking.{IsLeast, has_rank_at}
+use Rattle.tw_machine.proofs.Names.{IsLeast, has_rank_at, is_lt, rank_cmp}
 use Rattle.tw_machine.proofs.Leasts.{neither, one_first, only_one, only_other, other_first}
 use Rattle.tw_machine.proofs.ranks.first_for.Goals as goal
 

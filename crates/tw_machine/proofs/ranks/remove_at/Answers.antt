@@ -1,5 +1,4 @@
-use Rattle.std.proofs.Common.{false, sym, subst}
-use Rattle.tw_machine.specs.Ranking.{IsMarkedAt, Sets}
+use Rattle.tw_machine.proofs.Names.{IsMarkedAt, Sets, false, subst, sym}
 use Rattle.tw_machine.proofs.RankSets.{nothing_there, written_at}
 use Rattle.tw_machine.proofs.ranks.remove_at.Goals as goal
 

@@ -1,6 +1,4 @@
-use Rattle.std.proofs.Common.{◌≡◌, map}
-use Rattle.std.specs.List.{list_any}
-use Rattle.tw_types.specs.Rule.{has_unasked}
+use Rattle.tw_machine.proofs.Names.{has_unasked, list_any, map, ◌≡◌}
 use Rattle.tw_machine.proofs.rules.has_unasked.Given as goal
 
 abbrev pub invariant-loop-rule : goal.invariant-loop-rule

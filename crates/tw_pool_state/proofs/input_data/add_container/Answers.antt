@@ -1,7 +1,6 @@
 use Rattle.tw_pool_state.proofs.Adding.{IsMade, made_added, made_live}
-use Rattle.tw_code.proofs.Givens.{given_type}
+use Rattle.tw_pool_state.proofs.PartNames.{given_type, members_by}
 use Rattle.tw_pool_state.proofs.Filled.{close_allowed, close_notified, closed_on, fill_before, fill_begun, index_absent, index_all, index_element, index_key_short, index_more, index_room, index_value_short}
-use Rattle.tw_types.specs.Given.{members_by}
 use Rattle.tw_pool_state.proofs.input_data.add_container.Goals as goal
 
 pub loop-subscript-init : goal.loop-subscript-init

@@ -1,5 +1,4 @@
-use Rattle.std.proofs.Common.{take}
-use Rattle.tw_types.specs.Given.{members_by}
+use Rattle.tw_pool_state.proofs.PartNames.{members_by, take}
 use Rattle.tw_pool_state.proofs.Filled.{IsFilled}
 use Rattle.tw_pool_state.proofs.input_data.add_container.Given as goal
 

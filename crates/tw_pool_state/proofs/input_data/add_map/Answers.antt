@@ -1,12 +1,8 @@
 use Rattle.std.proofs.Common.{◌∙◌, IfOk, ap, subst, sym}
-use Rattle.tw_types.specs.DataType.{has_sums, map_with}
-use Rattle.tw_types.specs.Given.{members_by}
-use Rattle.tw_types.specs.Nesting.{NestedScalar}
+use Rattle.tw_pool_state.proofs.PartNames.{IsAdded, NestedScalar, entries_short, entries_type, has_sums, map_with, members_by}
 use Rattle.tw_types.specs.Store.{Datum, Maps, Values, added}
 use Rattle.tw_datum.specs.Kept.{FitsType, closed_datum}
 use Rattle.tw_datum.proofs.EnteredValues.{entered_fit, map_itself}
-use Rattle.tw_code.proofs.Givens.{entries_short, entries_type}
-use Rattle.tw_pool_state.specs.Opening.{IsAdded}
 use Rattle.tw_pool_state.proofs.Adding.{closed_added, closed_live}
 use Rattle.tw_pool_state.proofs.input_data.add_map.Goals as goal
 

@@ -1,7 +1,5 @@
-use Rattle.std.proofs.Common.{◌≡◌, subst, sym}
+use Rattle.tw_pool_state.proofs.PartNames.{Inserted, IsInsertion, IsProper, Subscript, get, may_insert, scalar_of, subst, sym, ◌≡◌}
 use Rattle.std.specs.declared.result.Result.TheVariants.{Ok}
-use Rattle.tw_pool_state.proofs.PartNames.{IsInsertion, IsProper, Subscript, get, may_insert, scalar_of}
-use Rattle.tw_store.specs.declared.calls.Inserted.{Inserted}
 use Rattle.tw_pool_state.proofs.Adding.{member_added, member_allowed, member_not_there}
 use Rattle.tw_pool_state.proofs.input_data.add_member.Goals as goal
 

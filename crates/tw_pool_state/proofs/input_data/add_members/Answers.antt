@@ -1,9 +1,5 @@
 use Rattle.std.proofs.Common.{◌≡◌, ◌∙◌, IfOk, true, subst, sym}
-use Rattle.tw_types.specs.Given.{Given, members_by}
-use Rattle.tw_code.specs.machine.Inputs.{is_given_for}
-use Rattle.tw_code.specs.machine.Opening.{added_given}
-use Rattle.tw_code.proofs.Givens.{as_container, as_map}
-use Rattle.tw_pool_state.specs.Opening.{IsAdded}
+use Rattle.tw_pool_state.proofs.PartNames.{Given, IsAdded, added_given, as_container, as_map, is_given_for, members_by}
 use Rattle.tw_pool_state.proofs.input_data.add_members.Goals as goal
 
 pub add_map-requires-clause-fits : goal.add_map-requires-clause-fits

@@ -1,5 +1,4 @@
-use Rattle.std.proofs.Common.{◌∙◌, ap}
-use Rattle.tw_pool_state.proofs.PartNames.{created, scalar_of, scalar_type}
+use Rattle.tw_pool_state.proofs.PartNames.{ap, created, scalar_of, scalar_type, ◌∙◌}
 use Rattle.tw_pool_state.proofs.Adding.{IsMade, scalar_added, scalar_allowed, scalar_notified}
 use Rattle.tw_pool_state.proofs.input_data.add_scalar.Goals as goal
 

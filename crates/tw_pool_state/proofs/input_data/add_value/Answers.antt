@@ -1,5 +1,4 @@
-use Rattle.std.proofs.Common.{sym, subst}
-use Rattle.tw_types.specs.Value.{IsProper}
+use Rattle.tw_pool_state.proofs.PartNames.{IsProper, subst, sym}
 use Rattle.tw_pool_state.proofs.input_data.add_value.Goals as goal
 
 pub try_to_value-requires : goal.try_to_value-requires

@@ -1,5 +1,4 @@
-use Rattle.std.proofs.Common.{◌<◌, ◌∙◌, length, arith, slice_index_or, refl, sym, ap}
-use Rattle.tw_pool_state.proofs.PartNames.{Param, is_val, slice_get-get_or, slice_get_read}
+use Rattle.tw_pool_state.proofs.PartNames.{Param, ap, arith, is_val, length, refl, slice_get-get_or, slice_get_read, slice_index_or, sym, ◌<◌, ◌∙◌}
 use Rattle.tw_pool_state.proofs.Copied.{is_declared, past, with_value}
 use Rattle.tw_pool_state.proofs.operands.values_of.Goals as goal
 

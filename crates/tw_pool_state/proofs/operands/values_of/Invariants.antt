@@ -1,5 +1,4 @@
-use Rattle.std.proofs.Common.{◌≡◌, map as each, take, Some}
-use Rattle.tw_pool_state.specs.Copies.{named_values}
+use Rattle.tw_pool_state.proofs.PartNames.{Some, map as each, named_values, take, ◌≡◌}
 use Rattle.tw_pool_state.proofs.operands.values_of.Given as goal
 
 abbrev pub invariant-loop-index : goal.invariant-loop-index

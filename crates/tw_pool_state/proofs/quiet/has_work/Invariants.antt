@@ -1,5 +1,4 @@
-use Rattle.std.proofs.Common.{◌≡◌, ◌<◌, ℕ, None}
-use Rattle.tw_types.specs.Rule.{next_ask, next_release}
+use Rattle.tw_pool_state.proofs.PartNames.{None, next_ask, next_release, ℕ, ◌<◌, ◌≡◌}
 use Rattle.tw_pool_state.proofs.quiet.has_work.Given as goal
 
 abbrev pub invariant-loop-engine : goal.invariant-loop-engine

@@ -1,6 +1,4 @@
-use Rattle.std.proofs.Common.{◌≤◌}
-use Rattle.std.specs.Prelude.{vec_capacity}
-use Rattle.tw_pool_state.proofs.PartNames.{HasBuffers}
+use Rattle.tw_pool_state.proofs.PartNames.{HasBuffers, vec_capacity, ◌≤◌}
 use Rattle.tw_pool_state.proofs.task_slots.all_frame_buffers.Given as goal
 
 abbrev pub invariant-loop-task_slot : goal.invariant-loop-task_slot

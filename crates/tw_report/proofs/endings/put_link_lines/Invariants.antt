@@ -1,5 +1,4 @@
-use Rattle.std.proofs.Common.{◌≡◌, ◌++◌, take}
-use Rattle.tw_report.specs.Report.{link_lines}
+use Rattle.tw_report.proofs.Names.{link_lines, take, ◌++◌, ◌≡◌}
 use Rattle.tw_report.proofs.endings.put_link_lines.Given as goal
 
 abbrev pub invariant-loop-link : goal.invariant-loop-link

@@ -1,5 +1,4 @@
-use Rattle.std.proofs.Common.{◌≡◌, take}
-use Rattle.tw_report.specs.History.{HasNoLineFeed}
+use Rattle.tw_report.proofs.Names.{HasNoLineFeed, take, ◌≡◌}
 use Rattle.tw_report.proofs.history.first_line.Given as goal
 
 abbrev pub invariant-loop-byte : goal.invariant-loop-byte

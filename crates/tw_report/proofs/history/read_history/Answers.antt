@@ -1,6 +1,4 @@
-use Rattle.std.proofs.Common.{◌+◌, arith}
-use Rattle.std.proofs.lemmas.Result.{err_from_is_err_and}
-use Rattle.tw_report.specs.History.{lines_in}
+use Rattle.tw_report.proofs.Names.{arith, err_from_is_err_and, lines_in, ◌+◌}
 use Rattle.tw_report.proofs.Histories.{few_events, events_traced}
 use Rattle.tw_report.proofs.HistoryReading.{read_ended, read_fault, read_last, read_more, shorter, went}
 use Rattle.tw_report.proofs.history.read_history.Goals as goal

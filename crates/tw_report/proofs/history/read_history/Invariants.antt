@@ -1,5 +1,4 @@
-use Rattle.std.proofs.Common.{◌≤◌, ◌+◌, length}
-use Rattle.tw_report.specs.reading.History.{IsReadTo}
+use Rattle.tw_report.proofs.Names.{IsReadTo, length, ◌+◌, ◌≤◌}
 use Rattle.tw_report.proofs.history.read_history.Given as goal
 
 abbrev pub invariant-loop-events : goal.invariant-loop-events

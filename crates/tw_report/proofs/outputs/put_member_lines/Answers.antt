@@ -1,5 +1,4 @@
-use Rattle.std.specs.FinMap.{entries}
-use Rattle.tw_types.specs.StoreCalls.{members_in}
+use Rattle.tw_report.proofs.Names.{entries, members_in}
 use Rattle.tw_report.proofs.Reports.{all_members, is_there, one_member_more}
 use Rattle.tw_report.proofs.outputs.put_member_lines.Goals as goal
 

@@ -1,7 +1,4 @@
-use Rattle.std.proofs.Common.{◌≡◌, ◌++◌, take}
-use Rattle.std.specs.FinMap.{entries}
-use Rattle.tw_types.specs.StoreCalls.{members_in}
-use Rattle.tw_report.specs.Report.{member_lines}
+use Rattle.tw_report.proofs.Names.{entries, member_lines, members_in, take, ◌++◌, ◌≡◌}
 use Rattle.tw_report.proofs.outputs.put_member_lines.Given as goal
 
 abbrev pub invariant-loop-index : goal.invariant-loop-index

@@ -1,5 +1,4 @@
-use Rattle.std.proofs.Common.{◌≡◌, ◌++◌, take}
-use Rattle.tw_report.specs.Report.{output_texts}
+use Rattle.tw_report.proofs.Names.{output_texts, take, ◌++◌, ◌≡◌}
 use Rattle.tw_report.proofs.outputs.put_report.Given as goal
 
 abbrev pub invariant-loop-number : goal.invariant-loop-number

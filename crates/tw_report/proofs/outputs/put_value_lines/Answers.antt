@@ -1,10 +1,4 @@
-use Rattle.std.proofs.Common.{◌++◌, ◌∙◌, List, ap, sym}
-use Rattle.std.proofs.lemmas.List.{append-nil}
-use Rattle.std.specs.FinMap.{entries}
-use Rattle.tw_types.specs.StoreCalls.{entries_in}
-use Rattle.tw_types.specs.declared.value.Value.{Value}
-use Rattle.tw_types.specs.ValueOrder.{Subscript}
-use Rattle.tw_report.specs.Report.{value_lines}
+use Rattle.tw_report.proofs.Names.{List, Subscript, Value, ap, append-nil, entries, entries_in, sym, value_lines, ◌++◌, ◌∙◌}
 use Rattle.tw_report.proofs.Reports.{all_values, count_of_map, none_without_map, one_value_more, value_there}
 use Rattle.tw_report.proofs.outputs.put_value_lines.Goals as goal
 

@@ -1,7 +1,4 @@
-use Rattle.std.proofs.Common.{◌≡◌, ◌++◌, take}
-use Rattle.std.specs.FinMap.{entries}
-use Rattle.tw_types.specs.StoreCalls.{entries_in}
-use Rattle.tw_report.specs.Report.{value_lines}
+use Rattle.tw_report.proofs.Names.{entries, entries_in, take, value_lines, ◌++◌, ◌≡◌}
 use Rattle.tw_report.proofs.outputs.put_value_lines.Given as goal
 
 abbrev pub invariant-loop-index : goal.invariant-loop-index

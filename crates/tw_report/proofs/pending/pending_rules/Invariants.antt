@@ -1,5 +1,4 @@
-use Rattle.std.proofs.Common.{◌≡◌, ◌++◌, map}
-use Rattle.tw_code.specs.machine.Pending.{pending_of}
+use Rattle.tw_report.proofs.Names.{map, pending_of, ◌++◌, ◌≡◌}
 use Rattle.tw_report.proofs.pending.pending_rules.Given as goal
 
 abbrev pub invariant-loop-number : goal.invariant-loop-number

@@ -1,5 +1,4 @@
-use Rattle.std.proofs.Common.{drop}
-use Rattle.tw_instr.specs.Arguments.{arg_of}
+use Rattle.tw_report.proofs.Names.{arg_of, drop}
 use Rattle.tw_report.proofs.PendingRules.{waited_end, waited_step}
 use Rattle.tw_report.proofs.pending.waited_for.Goals as goal
 

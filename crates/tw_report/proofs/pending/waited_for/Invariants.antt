@@ -1,6 +1,4 @@
-use Rattle.std.proofs.Common.{◌≡◌, ◌++◌, drop, map}
-use Rattle.tw_instr.specs.Arguments.{arg_of}
-use Rattle.tw_code.specs.machine.Pending.{waited_for}
+use Rattle.tw_report.proofs.Names.{arg_of, drop, map, waited_for, ◌++◌, ◌≡◌}
 use Rattle.tw_report.proofs.pending.waited_for.Given as goal
 
 abbrev pub invariant-loop-stage : goal.invariant-loop-stage

@@ -1,6 +1,4 @@
-use Rattle.std.proofs.Common.{◌≡◌, ◌++◌, drop, map}
-use Rattle.tw_instr.specs.Arguments.{arg_of}
-use Rattle.tw_code.specs.machine.Pending.{written_by}
+use Rattle.tw_report.proofs.Names.{arg_of, drop, map, written_by, ◌++◌, ◌≡◌}
 use Rattle.tw_report.proofs.pending.written_by.Given as goal
 
 abbrev pub invariant-loop-param : goal.invariant-loop-param

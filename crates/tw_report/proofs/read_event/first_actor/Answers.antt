@@ -1,5 +1,4 @@
-use Rattle.tw_report.specs.Events.{words_in}
-use Rattle.tw_report.specs.reading.Event.{actor_in}
+use Rattle.tw_report.proofs.Names.{actor_in, words_in}
 use Rattle.tw_report.proofs.EventReading.{first_some, actor_none}
 use Rattle.tw_report.proofs.read_event.first_actor.Goals as goal
 

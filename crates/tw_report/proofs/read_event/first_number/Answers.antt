@@ -1,5 +1,4 @@
-use Rattle.tw_report.specs.Events.{words_in}
-use Rattle.tw_report.specs.reading.Event.{number_in}
+use Rattle.tw_report.proofs.Names.{number_in, words_in}
 use Rattle.tw_report.proofs.EventReading.{first_some, number_none}
 use Rattle.tw_report.proofs.read_event.first_number.Goals as goal
 

@@ -1,5 +1,4 @@
-use Rattle.tw_report.specs.Events.{words_in}
-use Rattle.tw_report.specs.reading.Event.{number_after}
+use Rattle.tw_report.proofs.Names.{number_after, words_in}
 use Rattle.tw_report.proofs.EventReading.{first_some, none_after}
 use Rattle.tw_report.proofs.read_event.first_number_after.Goals as goal
 

@@ -1,5 +1,4 @@
-use Rattle.tw_report.specs.Events.{words_in}
-use Rattle.tw_report.specs.reading.Event.{parameter_in}
+use Rattle.tw_report.proofs.Names.{parameter_in, words_in}
 use Rattle.tw_report.proofs.EventReading.{first_some, parameter_none}
 use Rattle.tw_report.proofs.read_event.first_parameter.Goals as goal
 

@@ -1,10 +1,4 @@
-use Rattle.std.proofs.Common.{◌≡◌, ◌∙◌, List, Option, Vec, Global, ap, map, option_map, sym}
-use Rattle.std.proofs.lemmas.Result.{IfOk-weaker}
-use Rattle.tw_types.specs.Circle.{circle_of}
-use Rattle.tw_types.specs.declared.pending.Link.{Link}
-use Rattle.tw_code.specs.declared.procedure.Procedure.{Procedure}
-use Rattle.tw_code.specs.machine.Pending.{circle, pending_of}
-use Rattle.tw_code.specs.machine.State.{State}
+use Rattle.tw_report.proofs.Names.{Global, IfOk-weaker, Link, List, Option, Procedure, State, Vec, ap, circle, circle_of, map, option_map, pending_of, sym, ◌∙◌, ◌≡◌}
 use Rattle.tw_report.proofs.PendingRules.{circle_some, pending_is}
 use Rattle.tw_report.proofs.state_report.circle_state.Goals as goal
 

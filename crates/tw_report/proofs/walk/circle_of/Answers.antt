@@ -1,11 +1,6 @@
-use Rattle.std.proofs.Common.{◌≡◌, ◌==◌, ◌-◌, ◌+◌, suc, length, true, false, Some, None, sym, ap, ◌∙◌, arith}
+use Rattle.tw_report.proofs.Names.{IfOk-weaker, None, Some, ap, arith, contains, false, is_met, length, nat_cmp, since, step_from, suc, sym, true, walk, ◌+◌, ◌-◌, ◌==◌, ◌||◌, ◌∙◌, ◌≡◌}
 use Rattle.std.proofs.lemmas.Grind.{common_steps}
-use Rattle.std.proofs.lemmas.Result.{IfOk-weaker}
-use Rattle.std.specs.Prelude.{◌||◌}
-use Rattle.std.specs.BTreeSet.{contains}
 use Rattle.std.specs.Option.{option_map}
-use Rattle.std.specs.Ordering.{nat_cmp}
-use Rattle.tw_types.specs.Circle.{is_met, since, step_from, walk}
 use Rattle.tw_report.proofs.Walks.{met_more, walk_ends, walk_lost, walk_met, walk_on}
 use Rattle.tw_report.proofs.walk.circle_of.Goals as goal
 

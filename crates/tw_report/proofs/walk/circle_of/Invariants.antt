@@ -1,7 +1,4 @@
-use Rattle.std.proofs.Common.{◌≡◌, ◌-◌, ℕ, length}
-use Rattle.std.specs.BTreeSet.{contains}
-use Rattle.std.specs.Ordering.{nat_cmp}
-use Rattle.tw_types.specs.Circle.{circle_of, is_met, walk}
+use Rattle.tw_report.proofs.Names.{circle_of, contains, is_met, length, nat_cmp, walk, ℕ, ◌-◌, ◌≡◌}
 use Rattle.tw_report.proofs.walk.circle_of.Given as goal
 
 abbrev pub invariant-loop-step : goal.invariant-loop-step

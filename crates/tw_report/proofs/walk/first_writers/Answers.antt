@@ -1,9 +1,4 @@
-use Rattle.std.proofs.Common.{◌≡◌, ◌-◌, ◌+◌, ◌<◌, suc, drop, length, ap, sym, ◌∙◌, arith, Some, if◌then◌else◌}
-use Rattle.std.specs.BTreeMap.{get}
-use Rattle.std.specs.Ordering.{nat_cmp}
-use Rattle.tw_types.specs.declared.pending.Pending.{Pending}
-use Rattle.tw_types.specs.Circle.{writer_of}
-use Rattle.tw_types.specs.Distinct.{is_among}
+use Rattle.tw_report.proofs.Names.{Pending, Some, ap, arith, drop, get, if◌then◌else◌, is_among, length, nat_cmp, suc, sym, writer_of, ◌+◌, ◌-◌, ◌<◌, ◌∙◌, ◌≡◌}
 use Rattle.tw_report.proofs.Writers.{put_first}
 use Rattle.tw_report.proofs.walk.first_writers.Goals as goal
 

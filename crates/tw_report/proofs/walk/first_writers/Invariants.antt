@@ -1,8 +1,4 @@
-use Rattle.std.proofs.Common.{◌≡◌, ◌-◌, ℕ, drop, length, slice_get}
-use Rattle.std.specs.BTreeMap.{get}
-use Rattle.std.specs.Option.{option_and_then}
-use Rattle.std.specs.Ordering.{nat_cmp}
-use Rattle.tw_types.specs.Circle.{writer_of}
+use Rattle.tw_report.proofs.Names.{drop, get, length, nat_cmp, option_and_then, slice_get, writer_of, ℕ, ◌-◌, ◌≡◌}
 use Rattle.tw_report.proofs.walk.first_writers.Given as goal
 
 abbrev pub invariant-loop-done : goal.invariant-loop-done

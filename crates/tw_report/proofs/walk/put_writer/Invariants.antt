@@ -1,7 +1,4 @@
-use Rattle.std.proofs.Common.{◌≡◌, ℕ, Some, if◌then◌else◌, take}
-use Rattle.std.specs.BTreeMap.{get}
-use Rattle.std.specs.Ordering.{nat_cmp}
-use Rattle.tw_types.specs.Distinct.{is_among}
+use Rattle.tw_report.proofs.Names.{Some, get, if◌then◌else◌, is_among, nat_cmp, take, ℕ, ◌≡◌}
 use Rattle.tw_report.proofs.walk.put_writer.Given as goal
 
 abbrev pub invariant-loop-datum : goal.invariant-loop-datum

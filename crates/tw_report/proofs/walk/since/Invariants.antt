@@ -1,5 +1,4 @@
-use Rattle.std.proofs.Common.{◌≡◌, drop}
-use Rattle.tw_types.specs.Circle.{since}
+use Rattle.tw_report.proofs.Names.{drop, since, ◌≡◌}
 use Rattle.tw_report.proofs.walk.since.Given as goal
 
 abbrev pub invariant-loop-index : goal.invariant-loop-index

@@ -1,5 +1,4 @@
-use Rattle.std.proofs.Common.{◌≡◌, length}
-use Rattle.tw_report.specs.Events.{words_in}
+use Rattle.tw_report.proofs.Names.{length, words_in, ◌≡◌}
 use Rattle.tw_report.proofs.words.without_gap.Given as goal
 
 abbrev pub invariant-loop-rest : goal.invariant-loop-rest

@@ -1,5 +1,4 @@
-use Rattle.std.proofs.Common.{◌≡◌, ◌+◌, drop}
-use Rattle.tw_report.specs.reading.Words.{word_length}
+use Rattle.tw_report.proofs.Names.{drop, word_length, ◌+◌, ◌≡◌}
 use Rattle.tw_report.proofs.words.word_length.Given as goal
 
 abbrev pub invariant-loop-byte : goal.invariant-loop-byte

@@ -1,6 +1,4 @@
-use Rattle.std.proofs.Common.{◌≡◌, true, sym, ◌∙◌}
-use Rattle.tw_rules.specs.Entries.{rules_in}
-use Rattle.tw_rules.specs.Indexed.{is_askable}
+use Rattle.tw_rules.proofs.Names.{is_askable, rules_in, sym, true, ◌∙◌, ◌≡◌}
 use Rattle.tw_rules.proofs.Changes.{first_passes, none_passes}
 use Rattle.tw_rules.proofs.agenda.trim_asks.Goals as goal
 

@@ -1,7 +1,4 @@
-use Rattle.std.proofs.Common.{◌≡◌, length, true}
-use Rattle.tw_rules.specs.Numbers.{from_first}
-use Rattle.tw_rules.specs.Entries.{rules_in}
-use Rattle.tw_rules.specs.Indexed.{is_askable}
+use Rattle.tw_rules.proofs.Names.{from_first, is_askable, length, rules_in, true, ◌≡◌}
 use Rattle.tw_rules.proofs.agenda.trim_asks.Given as goal
 
 abbrev pub invariant-loop-number : goal.invariant-loop-number

@@ -1,9 +1,5 @@
-use Rattle.std.proofs.Common.{◌≡◌, inl, inr, true, false, sym, subst, ◌∙◌, is_some}
-use Rattle.std.specs.FinMap.{get}
-use Rattle.std.proofs.lemmas.List.Sorted.{Contains-permutation, IsPermutation-sym}
-use Rattle.tw_rules.specs.Entries.{rules_in}
+use Rattle.tw_rules.proofs.Names.{Contains-permutation, IsPermutation-sym, contains_cases, contains_later, false, get, inl, inr, is_some, rules_in, subst, sym, true, ◌∙◌, ◌≡◌}
 use Rattle.tw_rules.proofs.Heaps.{fewer, least_same}
-use Rattle.tw_types.proofs.Elements.{contains_cases, contains_later}
 use Rattle.tw_rules.proofs.agenda.trim_releases.Goals as goal
 
 pub returns-then-is_pending-clause-numbers : goal.returns-then-is_pending-clause-numbers

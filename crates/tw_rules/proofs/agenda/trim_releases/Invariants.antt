@@ -1,7 +1,4 @@
-use Rattle.std.proofs.Common.{◌≡◌, ℕ, length, true, is_some}
-use Rattle.std.specs.FinMap.{get}
-use Rattle.std.specs.List.{Contains}
-use Rattle.tw_rules.specs.Entries.{rules_in}
+use Rattle.tw_rules.proofs.Names.{Contains, get, is_some, length, rules_in, true, ℕ, ◌≡◌}
 use Rattle.tw_rules.proofs.agenda.trim_releases.Given as goal
 
 abbrev pub invariant-loop-number : goal.invariant-loop-number

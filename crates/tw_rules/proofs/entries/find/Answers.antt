@@ -1,5 +1,4 @@
-use Rattle.std.proofs.Common.{sym, ap, ◌∙◌, option_map}
-use Rattle.tw_rules.specs.Entries.{rule_in}
+use Rattle.tw_rules.proofs.Names.{ap, option_map, rule_in, sym, ◌∙◌}
 use Rattle.tw_rules.proofs.Seen.{get_seen}
 use Rattle.tw_rules.proofs.entries.find.Goals as goal
 

@@ -1,5 +1,4 @@
-use Rattle.std.proofs.Common.{◌∙◌}
-use Rattle.tw_rules.specs.Entries.{rule_in}
+use Rattle.tw_rules.proofs.Names.{rule_in, ◌∙◌}
 use Rattle.tw_rules.proofs.Seen.{is_some_seen}
 use Rattle.tw_rules.proofs.entries.is_pending.Goals as goal
 

@@ -1,7 +1,4 @@
-use Rattle.std.proofs.Common.{◌≡◌, sym, ap, ◌∙◌, option_map}
-use Rattle.std.specs.Option.{option_copied}
-use Rattle.std.specs.declared.option.Option.TheVariants.{None}
-use Rattle.tw_rules.specs.Entries.{entry_of, rule_in}
+use Rattle.tw_rules.proofs.Names.{None, ap, entry_of, option_copied, option_map, rule_in, sym, ◌∙◌, ◌≡◌}
 use Rattle.tw_rules.proofs.Seen.{get_seen, some_seen}
 use Rattle.tw_rules.proofs.entries.pending.Goals as goal
 

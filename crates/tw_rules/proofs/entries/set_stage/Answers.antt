@@ -1,11 +1,5 @@
-use Rattle.std.proofs.Common.{◌≡◌, List, refl, sym, ap, subst, ◌∙◌, option_map, slice_set, IsSome}
-use Rattle.std.specs.declared.option.Option.TheVariants.{Some}
-use Rattle.std.specs.FinMap.{get, insert}
-use Rattle.tw_types.specs.declared.stage.Stage.{Stage}
-use Rattle.tw_types.specs.Rule.{RuleOf, is_releasable}
-use Rattle.tw_rights.specs.declared.arg.Arg.{Arg}
+use Rattle.tw_rules.proofs.Names.{Arg, IsSome, List, RuleOf, Some, Stage, ap, get, insert, is_releasable, option_map, refl, rule_in, rules_in, slice_set, subst, sym, ◌∙◌, ◌≡◌}
 use Rattle.tw_rules.specs.declared.pending.Pending.{Pending}
-use Rattle.tw_rules.specs.Entries.{rule_in, rules_in}
 use Rattle.tw_rules.proofs.Seen.{get_seen, seen_put, some_seen}
 use Rattle.tw_rules.proofs.Tables.{staged_is}
 use Rattle.tw_rules.proofs.entries.set_stage.Goals as goal

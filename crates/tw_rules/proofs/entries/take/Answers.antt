@@ -1,6 +1,4 @@
-use Rattle.std.proofs.Common.{◌≡◌, sym, ap, ◌∙◌, option_map}
-use Rattle.std.specs.declared.option.Option.TheVariants.{None}
-use Rattle.tw_rules.specs.Entries.{entry_of, rule_in}
+use Rattle.tw_rules.proofs.Names.{None, ap, entry_of, option_map, rule_in, sym, ◌∙◌, ◌≡◌}
 use Rattle.tw_rules.proofs.Seen.{get_seen, seen_gone, some_seen}
 use Rattle.tw_rules.proofs.entries.take.Goals as goal
 

@@ -1,5 +1,4 @@
-use Rattle.std.proofs.Common.{◌+◌, ◌++◌, ◌∷◌, [], sym, ap, ◌∙◌, map, take, arith}
-use Rattle.tw_rules.specs.Table.{erased_arg}
+use Rattle.tw_rules.proofs.Names.{[], ap, arith, erased_arg, map, sym, take, ◌++◌, ◌+◌, ◌∙◌, ◌∷◌}
 use Rattle.tw_rules.proofs.Numbered.{taken_next}
 use Rattle.tw_rules.proofs.pending.erased_args.Goals as goal
 

@@ -1,5 +1,4 @@
-use Rattle.std.proofs.Common.{◌≡◌, ◌≤◌, length, map, take}
-use Rattle.tw_rules.specs.Table.{erased_arg}
+use Rattle.tw_rules.proofs.Names.{erased_arg, length, map, take, ◌≡◌, ◌≤◌}
 use Rattle.tw_rules.proofs.pending.erased_args.Given as goal
 
 abbrev pub invariant-loop-place : goal.invariant-loop-place

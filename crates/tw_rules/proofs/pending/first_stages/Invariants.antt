@@ -1,5 +1,4 @@
-use Rattle.std.proofs.Common.{◌≡◌, map, take}
-use Rattle.tw_types.specs.Rule.{first_stage}
+use Rattle.tw_rules.proofs.Names.{first_stage, map, take, ◌≡◌}
 use Rattle.tw_rules.proofs.pending.first_stages.Given as goal
 
 abbrev pub invariant-loop-param : goal.invariant-loop-param

@@ -1,7 +1,4 @@
-use Rattle.std.proofs.Common.{◌∙◌, ℕ, List, ap, arith, refl, rules}
-use Rattle.std.specs.List.{sum_by}
-use Rattle.tw_store.specs.Amounts.{byte_count, member_count}
-use Rattle.tw_store.specs.declared.slot.Slot.{Slot}
+use Rattle.tw_store.proofs.Names.{List, Slot, ap, arith, byte_count, member_count, refl, rules, sum_by, ℕ, ◌∙◌}
 use Rattle.tw_store.proofs.Sums.{in_slot, sum_over, sum_step}
 use Rattle.tw_store.proofs.amounts.amounts_in.Goals as goal
 

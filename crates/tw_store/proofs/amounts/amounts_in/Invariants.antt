@@ -1,7 +1,4 @@
-use Rattle.std.proofs.Common.{◌≡◌, ◌+◌, ◌<◌, ◌^◌}
-use Rattle.std.specs.List.{sum_by}
-use Rattle.slab.specs.Slab.{entries_from}
-use Rattle.tw_store.specs.Amounts.{byte_count, capped, member_count}
+use Rattle.tw_store.proofs.Names.{byte_count, capped, entries_from, member_count, sum_by, ◌+◌, ◌<◌, ◌^◌, ◌≡◌}
 use Rattle.tw_store.proofs.Sums.{in_slot}
 use Rattle.tw_store.proofs.amounts.amounts_in.Given as goal
 

@@ -1,7 +1,4 @@
-use Rattle.std.proofs.Common.{◌∙◌, ap, arith, option_map}
-use Rattle.std.specs.declared.option.Option.{Option}
-use Rattle.tw_types.specs.declared.value.Value.{Value}
-use Rattle.tw_store.specs.Amounts.{text_bytes_if}
+use Rattle.tw_store.proofs.Names.{Option, Value, ap, arith, option_map, text_bytes_if, ◌∙◌}
 use Rattle.tw_store.proofs.Texts.{bytes_all, bytes_next}
 use Rattle.tw_store.proofs.amounts.datum_bytes.Goals as goal
 

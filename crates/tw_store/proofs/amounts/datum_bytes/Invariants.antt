@@ -1,5 +1,4 @@
-use Rattle.std.proofs.Common.{◌≡◌}
-use Rattle.tw_store.specs.Amounts.{capped}
+use Rattle.tw_store.proofs.Names.{capped, ◌≡◌}
 use Rattle.tw_store.proofs.Texts.{bytes_before}
 use Rattle.tw_store.proofs.amounts.datum_bytes.Given as goal
 

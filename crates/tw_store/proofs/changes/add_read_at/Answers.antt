@@ -1,5 +1,4 @@
-use Rattle.std.proofs.Common.{sym}
-use Rattle.tw_types.specs.StoreCalls.{one_read_more}
+use Rattle.tw_store.proofs.Names.{one_read_more, sym}
 use Rattle.tw_store.proofs.Remain.{changed_at}
 use Rattle.tw_store.proofs.changes.add_read_at.Goals as goal
 

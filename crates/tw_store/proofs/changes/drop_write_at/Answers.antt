@@ -1,6 +1,4 @@
-use Rattle.std.proofs.Common.{sym, ap}
-use Rattle.tw_types.specs.StoreCalls.{one_write_less}
-use Rattle.tw_store.specs.Placed.{PlacedDatum}
+use Rattle.tw_store.proofs.Names.{PlacedDatum, ap, one_write_less, sym}
 use Rattle.tw_store.proofs.Remain.{if_some, seated_left, written_remains, written_settled}
 use Rattle.tw_store.proofs.changes.drop_write_at.Goals as goal
 

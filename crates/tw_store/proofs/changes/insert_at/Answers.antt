@@ -1,5 +1,4 @@
-use Rattle.tw_types.specs.ValueOrder.{named}
-use Rattle.std.proofs.Common.{sym}
+use Rattle.tw_store.proofs.Names.{named, sym}
 use Rattle.tw_store.proofs.Remain.{inserted_at}
 use Rattle.tw_store.proofs.changes.insert_at.Goals as goal
 

@@ -1,6 +1,4 @@
-use Rattle.std.proofs.Common.{sym}
-use Rattle.tw_types.specs.StoreCalls.{with_entry}
-use Rattle.tw_types.proofs.Came.{on_ok}
+use Rattle.tw_store.proofs.Names.{on_ok, sym, with_entry}
 use Rattle.tw_store.proofs.Remain.{changed_at}
 use Rattle.tw_store.proofs.changes.put_at.Goals as goal
 

@@ -1,7 +1,5 @@
-use Rattle.std.proofs.Common.{sym}
-use Rattle.tw_types.specs.StoreCalls.{with_subscriber}
+use Rattle.tw_store.proofs.Names.{on_ok, sym, with_subscriber}
 use Rattle.tw_store.proofs.Remain.{changed_at}
-use Rattle.tw_types.proofs.Came.{on_ok}
 use Rattle.tw_store.proofs.changes.subscribe_at.Goals as goal
 
 pub returns-clause-noted : goal.returns-clause-noted

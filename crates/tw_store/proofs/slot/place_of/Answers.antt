@@ -1,5 +1,4 @@
-use Rattle.std.proofs.Common.{zero, ap, inl, inr, refl, sym, arith, ◌∙◌}
-use Rattle.slab.proofs.SlabLemmas.{Contains-cons, Contains-cons_cases, Contains-entries}
+use Rattle.tw_store.proofs.Names.{Contains-cons, Contains-cons_cases, Contains-entries, ap, arith, inl, inr, refl, sym, zero, ◌∙◌}
 use Rattle.tw_store.proofs.slot.place_of.Goals as goal
 
 pub loop-place-init : goal.loop-place-init

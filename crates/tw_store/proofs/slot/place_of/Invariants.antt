@@ -1,6 +1,4 @@
-use Rattle.std.proofs.Common.{◌≡◌, ℕ, Some, Contains}
-use Rattle.tw_store.specs.declared.slot.Slot.{Slot}
-use Rattle.tw_store.specs.Slots.{slot_at}
+use Rattle.tw_store.proofs.Names.{Contains, Slot, Some, slot_at, ℕ, ◌≡◌}
 use Rattle.tw_store.proofs.slot.place_of.Given as goal
 
 -- the slot of the id is among the entries that are left, and every entry left is the slab's

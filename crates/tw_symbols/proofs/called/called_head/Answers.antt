@@ -1,7 +1,6 @@
 use Rattle.std.proofs.Common.{◌-◌, ◌∙◌, ap, slice_get, sym}
-use Rattle.tw_symbols.proofs.TextNames.{Procedures, lines, procedures_of, seen_procedures}
+use Rattle.tw_symbols.proofs.TextNames.{Procedures, head_called, head_line, lines, procedures_of, seen_procedures}
 use Rattle.tw_symbols.proofs.Walk.{taken_none, taken_some}
-use Rattle.tw_symbols.specs.Called.{head_called, head_line}
 use Rattle.tw_symbols.proofs.called.called_head.Goals as goal
 
 pub returns-in-Some : goal.returns-in-Some

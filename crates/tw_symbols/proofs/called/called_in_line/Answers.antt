@@ -1,8 +1,5 @@
-use Rattle.std.proofs.Common.{List, ℕ, ap, ◌≡◌, ◌∙◌}
-use Rattle.std.proofs.lemmas.Result.{IfOk-weaker}
-use Rattle.tw_symbols.proofs.TextNames.{line_words, seen_procedures, texts}
+use Rattle.tw_symbols.proofs.TextNames.{IfOk-weaker, List, ap, called_in, line_words, seen_procedures, texts, ℕ, ◌∙◌, ◌≡◌}
 use Rattle.tw_symbols.proofs.Taking.{taken_once}
-use Rattle.tw_symbols.specs.Called.{called_in}
 use Rattle.tw_symbols.proofs.called.called_in_line.Goals as goal
 
 pub returns : goal.returns

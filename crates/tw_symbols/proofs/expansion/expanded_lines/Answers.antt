@@ -1,9 +1,4 @@
-use Rattle.std.proofs.Common.{◌≡◌, ◌+◌, ◌∙◌, List, ℕ, length, rules, subst, sym, ap}
-use Rattle.tw_symbols.proofs.TextNames.{lines, seen_names, seen_procedures}
-use Rattle.std.proofs.lemmas.Iterator.Consumers.{YieldsList-at, YieldsList-end, YieldsList-from_enumerate, YieldsList-so_far, YieldsList-turn}
-use Rattle.std.proofs.lemmas.Iterator.Splits.{YieldsList-from_lines}
-use Rattle.std.proofs.lemmas.Result.{err_from_is_err_and}
-use Rattle.tw_lexer.proofs.LineLoops.{all_lines, line_turn}
+use Rattle.tw_symbols.proofs.TextNames.{List, YieldsList-at, YieldsList-end, YieldsList-from_enumerate, YieldsList-from_lines, YieldsList-so_far, YieldsList-turn, all_lines, ap, err_from_is_err_and, length, line_turn, lines, rules, seen_names, seen_procedures, subst, sym, ℕ, ◌+◌, ◌∙◌, ◌≡◌}
 use Rattle.tw_symbols.proofs.Loops.{HasCome, come_end, come_more, lines_in, one_more_length, stopped}
 use Rattle.tw_symbols.proofs.UnreadLines.{apart_says, not_apart, read_line, read_refused}
 use Rattle.tw_symbols.proofs.expansion.expanded_lines.Goals as goal

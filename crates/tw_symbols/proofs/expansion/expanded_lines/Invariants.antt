@@ -1,5 +1,4 @@
-use Rattle.std.proofs.Common.{length}
-use Rattle.tw_symbols.proofs.TextNames.{lines, seen_names, seen_procedures}
+use Rattle.tw_symbols.proofs.TextNames.{length, lines, seen_names, seen_procedures}
 use Rattle.tw_symbols.proofs.Loops.{HasCome, lines_in}
 use Rattle.tw_symbols.proofs.expansion.expanded_lines.Given as goal
 

@@ -1,8 +1,4 @@
-use Rattle.std.proofs.Common.{◌≡◌, ◌++◌, ◌∷◌, [], ℕ, List, Bor, drop, length, map, sym, subst, suc, ap, take, ◌∙◌}
-use Rattle.tw_symbols.proofs.TextNames.{lines, map-append}
-use Rattle.std.proofs.Math.Seq.{split_at}
-use Rattle.std.proofs.lemmas.Iterator.Consumers.{YieldsList-at, YieldsList-end, YieldsList-so_far, YieldsList-turn}
-use Rattle.std.proofs.lemmas.Iterator.Splits.{YieldsList-from_lines}
+use Rattle.tw_symbols.proofs.TextNames.{Bor, List, YieldsList-at, YieldsList-end, YieldsList-from_lines, YieldsList-so_far, YieldsList-turn, [], ap, drop, length, lines, map, map-append, split_at, subst, suc, sym, take, ℕ, ◌++◌, ◌∙◌, ◌∷◌, ◌≡◌}
 use Rattle.tw_symbols.proofs.FirstNamed.{named_here, still_blank}
 use Rattle.tw_symbols.proofs.Walk.{AreBlank, blank_no_names}
 use Rattle.tw_symbols.proofs.expansion.is_named.Goals as goal

@@ -1,5 +1,4 @@
-use Rattle.std.proofs.Common.{ap, ◌∙◌}
-use Rattle.tw_symbols.proofs.TextNames.{named_by, texts}
+use Rattle.tw_symbols.proofs.TextNames.{ap, named_by, texts, ◌∙◌}
 use Rattle.tw_symbols.proofs.expansion.names_in.Goals as goal
 
 pub returns : goal.returns

@@ -1,5 +1,4 @@
-use Rattle.std.proofs.Common.{◌≡◌, ap, subst, ◌∙◌}
-use Rattle.tw_symbols.proofs.TextNames.{Expanded, IsExpanded, line_rest, line_words, seen_names, seen_procedures, texts}
+use Rattle.tw_symbols.proofs.TextNames.{Expanded, IsExpanded, ap, line_rest, line_words, seen_names, seen_procedures, subst, texts, ◌∙◌, ◌≡◌}
 use Rattle.tw_symbols.proofs.Taking.{taken_once}
 use Rattle.tw_symbols.proofs.Then.{line_said}
 use Rattle.tw_symbols.proofs.expansion.put_taken.Goals as goal

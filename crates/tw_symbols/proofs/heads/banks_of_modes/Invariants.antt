@@ -1,5 +1,4 @@
-use Rattle.std.proofs.Common.{◌≡◌, ◌++◌, drop}
-use Rattle.tw_symbols.proofs.TextNames.{bank_of_mode, filter_map, texts}
+use Rattle.tw_symbols.proofs.TextNames.{bank_of_mode, drop, filter_map, texts, ◌++◌, ◌≡◌}
 use Rattle.tw_symbols.proofs.heads.banks_of_modes.Given as goal
 
 abbrev pub invariant-loop-word : goal.invariant-loop-word

@@ -1,5 +1,4 @@
-use Rattle.std.proofs.Common.{◌≡◌, ◌++◌, length}
-use Rattle.tw_symbols.proofs.TextNames.{texts, value_types}
+use Rattle.tw_symbols.proofs.TextNames.{length, texts, value_types, ◌++◌, ◌≡◌}
 use Rattle.tw_symbols.proofs.heads.value_types.Given as goal
 
 abbrev pub invariant-loop-rest : goal.invariant-loop-rest

@@ -1,5 +1,4 @@
-use Rattle.std.proofs.Common.{◌≡◌, ◌++◌, drop}
-use Rattle.tw_symbols.proofs.TextNames.{expected_of, flat_map}
+use Rattle.tw_symbols.proofs.TextNames.{drop, expected_of, flat_map, ◌++◌, ◌≡◌}
 use Rattle.tw_symbols.proofs.instruction.expected_in.Given as goal
 
 abbrev pub invariant-loop-form : goal.invariant-loop-form

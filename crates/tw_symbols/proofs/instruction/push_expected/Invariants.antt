@@ -1,5 +1,4 @@
-use Rattle.std.proofs.Common.{◌≡◌, ◌++◌, drop, map}
-use Rattle.tw_symbols.specs.LineExpansion.{argument_of}
+use Rattle.tw_symbols.proofs.TextNames.{argument_of, drop, map, ◌++◌, ◌≡◌}
 use Rattle.tw_symbols.proofs.instruction.push_expected.Given as goal
 
 abbrev pub invariant-loop-bank : goal.invariant-loop-bank

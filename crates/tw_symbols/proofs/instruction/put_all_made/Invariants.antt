@@ -1,5 +1,4 @@
-use Rattle.std.proofs.Common.{◌≡◌, drop}
-use Rattle.tw_symbols.proofs.TextNames.{expanded_results, seen_names, seen_procedures, texts}
+use Rattle.tw_symbols.proofs.TextNames.{drop, expanded_results, seen_names, seen_procedures, texts, ◌≡◌}
 use Rattle.tw_symbols.proofs.instruction.put_all_made.Given as goal
 
 abbrev pub invariant-loop-word : goal.invariant-loop-word

@@ -1,6 +1,4 @@
-use Rattle.std.proofs.Common.{ℕ, List, subst, sym, arith}
-use Rattle.tw_lexer.specs.Seen.{seen}
-use Rattle.tw_symbols.specs.Lines.{StartsWith}
+use Rattle.tw_symbols.proofs.TextNames.{List, StartsWith, arith, seen, subst, sym, ℕ}
 use Rattle.tw_symbols.proofs.Taking.{cut_word_at, rest_length}
 use Rattle.tw_symbols.proofs.line.cut_word.Goals as goal
 

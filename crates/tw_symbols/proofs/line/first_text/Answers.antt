@@ -1,6 +1,4 @@
-use Rattle.tw_lexer.specs.Seen.{seen}
-use Rattle.tw_lexer.specs.Words.{IsFirstWord}
-use Rattle.tw_lexer.proofs.Texts.{rest_utf8}
+use Rattle.tw_symbols.proofs.TextNames.{IsFirstWord, rest_utf8, seen}
 use Rattle.tw_symbols.proofs.Taking.{shorter}
 use Rattle.tw_symbols.proofs.line.first_text.Goals as goal
 

@@ -1,5 +1,4 @@
-use Rattle.std.proofs.Common.{◌∙◌, List, ℕ, subst, sym}
-use Rattle.tw_lexer.specs.reading.Next.{IsAfterGap}
+use Rattle.tw_symbols.proofs.TextNames.{IsAfterGap, List, subst, sym, ℕ, ◌∙◌}
 use Rattle.tw_symbols.proofs.NoHeads.{no_head}
 use Rattle.tw_symbols.proofs.line.may_begin_procedure.Goals as goal
 

@@ -1,5 +1,4 @@
-use Rattle.std.proofs.Common.{ap, sym, ◌∙◌, []}
-use Rattle.tw_symbols.proofs.TextNames.{Worded, texts}
+use Rattle.tw_symbols.proofs.TextNames.{Worded, [], ap, sym, texts, ◌∙◌}
 use Rattle.tw_symbols.proofs.BlankLines.{blank_taken}
 use Rattle.tw_symbols.proofs.line.take_line.Goals as goal
 

@@ -1,7 +1,5 @@
 use Rattle.std.proofs.Common.{◌≡◌, ◌<◌, ◌++◌, ◌∷◌, [], List, ℕ, length, IsUtf8, refl, ap, sym, subst, ◌∙◌}
-use Rattle.std.proofs.lemmas.Result.{IfOk-weaker}
-use Rattle.tw_symbols.proofs.TextNames.{Broken, StartWith, StartsWith, Worded, map-append, now, texts}
-use Rattle.tw_lexer.specs.Words.{IsBlank, IsBroken}
+use Rattle.tw_symbols.proofs.TextNames.{Broken, IfOk-weaker, IsBlank, IsBroken, StartWith, StartsWith, Worded, map-append, now, texts}
 use Rattle.tw_symbols.proofs.Taking.{first_more}
 use Rattle.tw_symbols.proofs.line.take_words.Goals as goal
 

@@ -1,5 +1,4 @@
-use Rattle.std.proofs.Common.{◌≡◌, ◌≤◌, ◌+◌, length}
-use Rattle.tw_symbols.proofs.TextNames.{names_after_list, seen_names, seen_procedures, texts}
+use Rattle.tw_symbols.proofs.TextNames.{length, names_after_list, seen_names, seen_procedures, texts, ◌+◌, ◌≡◌, ◌≤◌}
 use Rattle.tw_symbols.proofs.listed.list.Given as goal
 
 abbrev pub invariant-loop-rest : goal.invariant-loop-rest

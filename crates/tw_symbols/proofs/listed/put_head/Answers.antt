@@ -1,6 +1,5 @@
-use Rattle.std.proofs.Common.{ap, ◌∙◌}
+use Rattle.tw_symbols.proofs.TextNames.{ap, followed_by, now, seen_names, seen_procedures, texts, ◌∙◌}
 use Rattle.std.specs.Option.{option_map}
-use Rattle.tw_symbols.proofs.TextNames.{followed_by, now, seen_names, seen_procedures, texts}
 use Rattle.tw_symbols.proofs.Then.{head_said}
 use Rattle.tw_symbols.proofs.listed.put_head.Goals as goal
 

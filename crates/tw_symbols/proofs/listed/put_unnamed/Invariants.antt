@@ -1,5 +1,4 @@
-use Rattle.std.proofs.Common.{◌≡◌, drop, filter}
-use Rattle.tw_symbols.proofs.TextNames.{followed_by, is_unnamed, texts}
+use Rattle.tw_symbols.proofs.TextNames.{drop, filter, followed_by, is_unnamed, texts, ◌≡◌}
 use Rattle.tw_symbols.proofs.listed.put_unnamed.Given as goal
 
 abbrev pub invariant-loop-word : goal.invariant-loop-word

@@ -1,5 +1,4 @@
-use Rattle.std.proofs.Common.{◌≡◌, drop}
-use Rattle.tw_lexer.specs.Digits.{all_digits}
+use Rattle.tw_symbols.proofs.TextNames.{all_digits, drop, ◌≡◌}
 use Rattle.tw_symbols.proofs.names.all_digits.Given as goal
 
 abbrev pub invariant-loop-byte : goal.invariant-loop-byte

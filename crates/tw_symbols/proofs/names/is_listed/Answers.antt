@@ -1,5 +1,4 @@
-use Rattle.std.proofs.Common.{◌≤◌, ◌∙◌, length, sym, arith}
-use Rattle.tw_symbols.proofs.TextNames.{seen_table}
+use Rattle.tw_symbols.proofs.TextNames.{arith, length, seen_table, sym, ◌∙◌, ◌≤◌}
 use Rattle.tw_symbols.proofs.ListedNames.{all_passed, found, passed}
 use Rattle.tw_symbols.proofs.names.is_listed.Goals as goal
 

@@ -1,6 +1,4 @@
-use Rattle.std.proofs.Common.{◌≡◌, false, take}
-use Rattle.tw_symbols.proofs.TextNames.{seen_table}
-use Rattle.tw_symbols.specs.Meanings.{is_listed}
+use Rattle.tw_symbols.proofs.TextNames.{false, is_listed, seen_table, take, ◌≡◌}
 use Rattle.tw_symbols.proofs.names.is_listed.Given as goal
 
 abbrev pub invariant-loop-index : goal.invariant-loop-index

@@ -1,5 +1,4 @@
-use Rattle.std.proofs.Common.{◌∙◌}
-use Rattle.std.specs.Str.{bytes_eq}
+use Rattle.tw_symbols.proofs.TextNames.{bytes_eq, ◌∙◌}
 use Rattle.indexmap.proofs.CallerLemmas.{insert_entry-new}
 use Rattle.tw_symbols.proofs.Tables.{meaning_seen, name_more}
 use Rattle.tw_symbols.proofs.names.put_name.Goals as goal

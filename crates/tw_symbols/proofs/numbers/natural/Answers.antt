@@ -1,6 +1,4 @@
-use Rattle.std.proofs.Common.{sym, ap, ◌∙◌}
-use Rattle.std.specs.Result.{result_ok}
-use Rattle.tw_lexer.proofs.Readings.{digits_same}
+use Rattle.tw_symbols.proofs.TextNames.{ap, digits_same, result_ok, sym, ◌∙◌}
 use Rattle.tw_symbols.proofs.numbers.natural.Goals as goal
 
 pub returns-in-Ok : goal.returns-in-Ok

@@ -1,6 +1,4 @@
-use Rattle.std.proofs.Common.{ap, ◌∙◌}
-use Rattle.std.specs.Result.{result_ok}
-use Rattle.tw_lexer.proofs.Readings.{signed_same}
+use Rattle.tw_symbols.proofs.TextNames.{ap, result_ok, signed_same, ◌∙◌}
 use Rattle.tw_symbols.proofs.numbers.signed.Goals as goal
 
 pub returns : goal.returns

@@ -1,5 +1,4 @@
-use Rattle.std.proofs.Common.{◌≡◌, drop}
-use Rattle.tw_symbols.proofs.TextNames.{followed_by, texts}
+use Rattle.tw_symbols.proofs.TextNames.{drop, followed_by, texts, ◌≡◌}
 use Rattle.tw_symbols.proofs.operand_text.put_all.Given as goal
 
 abbrev pub invariant-loop-word : goal.invariant-loop-word

@@ -1,8 +1,5 @@
-use Rattle.std.proofs.Common.{◌≡◌, ◌∙◌, true, subst, sym}
-use Rattle.tw_symbols.proofs.TextNames.{is_name, seen_names, seen_procedures}
+use Rattle.tw_symbols.proofs.TextNames.{Gives, is_name, named, seen_names, seen_procedures, subst, sym, true, ◌∙◌, ◌≡◌}
 use Rattle.tw_symbols.proofs.Naming.{word_asked}
-use Rattle.tw_symbols.specs.Answers.{Gives}
-use Rattle.tw_symbols.specs.LineExpansion.{named}
 use Rattle.tw_symbols.specs.declared.meaning.Expected.TheVariants.{Nothing}
 use Rattle.tw_symbols.proofs.operand_text.put_word.Goals.{in-Nothing, in_default}
 use Rattle.tw_symbols.proofs.operand_text.put_word.Goals as goal

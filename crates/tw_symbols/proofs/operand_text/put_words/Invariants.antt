@@ -1,5 +1,4 @@
-use Rattle.std.proofs.Common.{◌≡◌, drop}
-use Rattle.tw_symbols.proofs.TextNames.{seen_names, seen_procedures, texts, expanded_words}
+use Rattle.tw_symbols.proofs.TextNames.{drop, expanded_words, seen_names, seen_procedures, texts, ◌≡◌}
 use Rattle.tw_symbols.proofs.operand_text.put_words.Given as goal
 
 abbrev pub invariant-loop-word : goal.invariant-loop-word

@@ -1,5 +1,4 @@
-use Rattle.std.proofs.Common.{◌≡◌, ◌++◌, drop}
-use Rattle.tw_symbols.proofs.TextNames.{flat_map, pieces, texts}
+use Rattle.tw_symbols.proofs.TextNames.{drop, flat_map, pieces, texts, ◌++◌, ◌≡◌}
 use Rattle.tw_symbols.proofs.pieces.pieces_of.Given as goal
 
 abbrev pub invariant-loop-word : goal.invariant-loop-word

@@ -1,5 +1,4 @@
-use Rattle.std.proofs.Common.{◌++◌, ◌+◌, List, ℕ, ap, sym, ◌∙◌, append_assoc}
-use Rattle.tw_symbols.proofs.TextNames.{pieces_left, texts}
+use Rattle.tw_symbols.proofs.TextNames.{List, ap, append_assoc, pieces_left, sym, texts, ℕ, ◌++◌, ◌+◌, ◌∙◌}
 use Rattle.tw_symbols.proofs.Cutting.{ends}
 use Rattle.tw_symbols.proofs.pieces.push_ended.Goals as goal
 

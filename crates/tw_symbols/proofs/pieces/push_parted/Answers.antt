@@ -1,5 +1,4 @@
-use Rattle.std.proofs.Common.{◌≡◌, ◌++◌, List, ℕ, length, ap, sym, ◌∙◌, arith}
-use Rattle.tw_symbols.proofs.TextNames.{pieces_left, texts}
+use Rattle.tw_symbols.proofs.TextNames.{List, ap, arith, length, pieces_left, sym, texts, ℕ, ◌++◌, ◌∙◌, ◌≡◌}
 use Rattle.tw_symbols.proofs.Cutting.{left_last}
 use Rattle.tw_symbols.proofs.pieces.push_parted.Goals as goal
 

@@ -1,5 +1,4 @@
-use Rattle.std.proofs.Common.{[], ◌≡◌, ◌≤◌, ◌++◌}
-use Rattle.tw_symbols.proofs.TextNames.{pieces_after, pieces_left, texts}
+use Rattle.tw_symbols.proofs.TextNames.{[], pieces_after, pieces_left, texts, ◌++◌, ◌≡◌, ◌≤◌}
 use Rattle.tw_symbols.proofs.pieces.push_parted.Given as goal
 
 abbrev pub invariant-loop-index : goal.invariant-loop-index

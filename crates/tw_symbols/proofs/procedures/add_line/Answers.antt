@@ -1,7 +1,4 @@
-use Rattle.std.proofs.Common.{ℕ, List, ap, ◌∙◌}
-use Rattle.std.proofs.lemmas.Result.{on_ok_weaker}
-use Rattle.tw_symbols.proofs.TextNames.{seen_procedures, texts}
-use Rattle.tw_symbols.specs.Expansion.{with_words}
+use Rattle.tw_symbols.proofs.TextNames.{List, ap, on_ok_weaker, seen_procedures, texts, with_words, ℕ, ◌∙◌}
 use Rattle.tw_symbols.proofs.procedures.add_line.Goals as goal
 
 pub returns : goal.returns

@@ -1,12 +1,7 @@
-use Rattle.std.proofs.Common.{◌≡◌, ◌+◌, ◌∙◌, ◌∷◌, List, ℕ, rules, subst, sym}
-use Rattle.tw_symbols.proofs.TextNames.{lines, seen_procedures}
-use Rattle.std.proofs.lemmas.Iterator.Consumers.{YieldsList-at, YieldsList-end, YieldsList-from_enumerate, YieldsList-so_far, YieldsList-turn}
-use Rattle.std.proofs.lemmas.Iterator.Splits.{YieldsList-from_lines}
-use Rattle.tw_lexer.proofs.LineLoops.{all_lines, line_turn}
+use Rattle.tw_symbols.proofs.TextNames.{HasNoHead, List, YieldsList-at, YieldsList-end, YieldsList-from_enumerate, YieldsList-from_lines, YieldsList-so_far, YieldsList-turn, all_lines, line_turn, lines, rules, seen_procedures, subst, sym, ℕ, ◌+◌, ◌∙◌, ◌∷◌, ◌≡◌}
 use Rattle.tw_symbols.proofs.Loops.{AreGathered, gather_more, lines_in, one_line_in}
 use Rattle.tw_symbols.proofs.NoHeads.{no_procedure}
 use Rattle.tw_symbols.proofs.UnreadLines.{gathered_whole}
-use Rattle.tw_symbols.specs.RightNames.{HasNoHead}
 use Rattle.tw_symbols.proofs.procedures.procedures_of.Goals as goal
 
 pub loop-index-preserved-in-Continue-1 : goal.loop-index-preserved-in-Continue-1

@@ -1,5 +1,4 @@
-use Rattle.std.proofs.Common.{◌≡◌, ◌==◌, ◌∙◌, List, ℕ, true, false, ap, drop, length, rules, sym, take}
-use Rattle.tw_symbols.specs.Registers.{first_part}
+use Rattle.tw_symbols.proofs.TextNames.{List, ap, drop, false, first_part, length, rules, sym, take, true, ℕ, ◌==◌, ◌∙◌, ◌≡◌}
 use Rattle.tw_symbols.proofs.RegisterNames.{part_ends, part_more, part_taken, rest_is}
 use Rattle.tw_symbols.proofs.registers.cut.Goals as goal
 

@@ -1,5 +1,4 @@
-use Rattle.std.proofs.Common.{◌≡◌, ◌+◌, ◌-◌, ◌≤◌, drop, length}
-use Rattle.tw_symbols.specs.Registers.{first_part}
+use Rattle.tw_symbols.proofs.TextNames.{drop, first_part, length, ◌+◌, ◌-◌, ◌≡◌, ◌≤◌}
 use Rattle.tw_symbols.proofs.registers.cut.Given as goal
 
 abbrev pub invariant-loop-count : goal.invariant-loop-count

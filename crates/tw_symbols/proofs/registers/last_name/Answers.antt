@@ -1,5 +1,4 @@
-use Rattle.std.proofs.Common.{◌≤◌, length, arith}
-use Rattle.tw_symbols.proofs.TextNames.{now, option_map, seen_table}
+use Rattle.tw_symbols.proofs.TextNames.{arith, length, now, option_map, seen_table, ◌≤◌}
 use Rattle.tw_symbols.proofs.RegisterNames.{found_all, next_name}
 use Rattle.tw_symbols.proofs.registers.last_name.Goals as goal
 

@@ -1,6 +1,4 @@
-use Rattle.std.proofs.Common.{◌≡◌, None, take}
-use Rattle.tw_symbols.proofs.TextNames.{now, option_map, seen_table}
-use Rattle.tw_symbols.specs.Registers.{last_name}
+use Rattle.tw_symbols.proofs.TextNames.{None, last_name, now, option_map, seen_table, take, ◌≡◌}
 use Rattle.tw_symbols.proofs.registers.last_name.Given as goal
 
 abbrev pub invariant-loop-index : goal.invariant-loop-index

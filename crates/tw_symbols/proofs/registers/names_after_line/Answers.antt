@@ -1,11 +1,5 @@
-use Rattle.std.proofs.Common.{◌≡◌, ◌+◌, Bool, ℕ, ap, length, rules, subst, sym}
-use Rattle.tw_symbols.proofs.TextNames.{lines, seen_names, seen_procedures}
-use Rattle.std.proofs.lemmas.Iterator.Consumers.{YieldsList-at, YieldsList-end, YieldsList-from_enumerate, YieldsList-so_far, YieldsList-turn}
-use Rattle.std.proofs.lemmas.Iterator.Splits.{YieldsList-from_lines}
-use Rattle.tw_lexer.proofs.LineLoops.{all_lines, line_turn}
+use Rattle.tw_symbols.proofs.TextNames.{Bool, IsAccepted, YieldsList-at, YieldsList-end, YieldsList-from_enumerate, YieldsList-from_lines, YieldsList-so_far, YieldsList-turn, all_lines, ap, expanded_taken, length, line_turn, lines, rules, seen_names, seen_procedures, subst, sym, ℕ, ◌+◌, ◌≡◌}
 use Rattle.tw_symbols.proofs.Loops.{lines_in, one_more_length}
-use Rattle.tw_symbols.specs.Answers.{IsAccepted}
-use Rattle.tw_symbols.proofs.TextNames.{expanded_taken}
 use Rattle.tw_symbols.proofs.RegisterNames.{HasGone, gone_end, gone_here, gone_more, gone_refused}
 use Rattle.tw_symbols.proofs.registers.names_after_line.Goals as goal
 

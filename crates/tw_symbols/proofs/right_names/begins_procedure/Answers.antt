@@ -1,6 +1,4 @@
-use Rattle.std.proofs.Common.{◌∙◌, List, ℕ, ap}
-use Rattle.tw_symbols.proofs.TextNames.{Line, line_words, texts}
-use Rattle.tw_symbols.specs.RightNames.{begins_procedure}
+use Rattle.tw_symbols.proofs.TextNames.{Line, List, ap, begins_procedure, line_words, texts, ℕ, ◌∙◌}
 use Rattle.tw_symbols.proofs.Taking.{taken_once}
 use Rattle.tw_symbols.proofs.right_names.begins_procedure.Goals as goal
 

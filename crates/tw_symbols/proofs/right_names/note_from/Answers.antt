@@ -1,5 +1,4 @@
-use Rattle.std.proofs.Common.{◌≤◌, length, arith}
-use Rattle.tw_symbols.proofs.TextNames.{seen_table, texts}
+use Rattle.tw_symbols.proofs.TextNames.{arith, length, seen_table, texts, ◌≤◌}
 use Rattle.tw_symbols.proofs.RightLines.{all_noted, one_noted}
 use Rattle.tw_symbols.proofs.right_names.note_from.Goals as goal
 

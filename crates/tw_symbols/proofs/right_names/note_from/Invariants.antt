@@ -1,6 +1,4 @@
-use Rattle.std.proofs.Common.{take}
-use Rattle.tw_symbols.proofs.TextNames.{seen_table, texts}
-use Rattle.tw_symbols.specs.RightNames.{AreLast}
+use Rattle.tw_symbols.proofs.TextNames.{AreLast, seen_table, take, texts}
 use Rattle.tw_symbols.proofs.right_names.note_from.Given as goal
 
 abbrev pub invariant-loop-index : goal.invariant-loop-index

@@ -1,6 +1,4 @@
-use Rattle.std.proofs.Common.{Bool, subst}
-use Rattle.tw_symbols.specs.Answers.{IsAccepted}
-use Rattle.tw_symbols.proofs.TextNames.{seen_names, seen_procedures, expanded_taken, texts}
+use Rattle.tw_symbols.proofs.TextNames.{Bool, IsAccepted, expanded_taken, seen_names, seen_procedures, subst, texts}
 use Rattle.tw_symbols.proofs.RightLines.{line_read, line_rejected}
 use Rattle.tw_symbols.proofs.right_names.read_line.Goals as goal
 

@@ -1,5 +1,4 @@
-use Rattle.std.proofs.Common.{Bool, None, Some, if◌then◌else◌, subst}
-use Rattle.tw_symbols.specs.RightNames.{IsAfter}
+use Rattle.tw_symbols.proofs.TextNames.{Bool, IsAfter, None, Some, if◌then◌else◌, subst}
 use Rattle.tw_symbols.proofs.RightLines.{nothing_read}
 use Rattle.tw_symbols.proofs.right_names.read_next.Goals as goal
 

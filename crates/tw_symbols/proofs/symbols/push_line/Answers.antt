@@ -1,7 +1,4 @@
-use Rattle.std.proofs.Common.{List, ℕ, ap, ◌∙◌, ◌++◌}
-use Rattle.std.proofs.lemmas.Result.{on_ok_weaker}
-use Rattle.tw_symbols.proofs.TextNames.{texts}
-use Rattle.tw_symbols.specs.Symbols.{head_names}
+use Rattle.tw_symbols.proofs.TextNames.{List, ap, head_names, on_ok_weaker, texts, ℕ, ◌++◌, ◌∙◌}
 use Rattle.tw_symbols.proofs.symbols.push_line.Goals as goal
 
 pub returns : goal.returns

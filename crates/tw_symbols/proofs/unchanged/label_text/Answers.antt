@@ -1,5 +1,4 @@
-use Rattle.std.proofs.Common.{sym, ◌∙◌}
-use Rattle.tw_lexer.specs.Seen.{seen}
+use Rattle.tw_symbols.proofs.TextNames.{seen, sym, ◌∙◌}
 use Rattle.tw_symbols.proofs.UnchangedLines.{label_stays}
 use Rattle.tw_symbols.proofs.unchanged.label_text.Goals as goal
 

@@ -1,5 +1,4 @@
-use Rattle.std.proofs.Common.{IfOk, IfSome, List, ℕ, subst, sym, ◌∙◌}
-use Rattle.tw_symbols.specs.Unchanged.{Stays}
+use Rattle.tw_symbols.proofs.TextNames.{IfOk, IfSome, List, Stays, subst, sym, ℕ, ◌∙◌}
 use Rattle.tw_symbols.proofs.BlankLines.{blank_taken}
 use Rattle.tw_symbols.proofs.UnchangedLines.{blank_stays}
 use Rattle.tw_symbols.proofs.unchanged.line_text.Goals as goal

@@ -1,5 +1,4 @@
-use Rattle.std.proofs.Common.{subst, sym}
-use Rattle.tw_symbols.specs.Unchanged.{Extends, Stays}
+use Rattle.tw_symbols.proofs.TextNames.{Extends, Stays, subst, sym}
 use Rattle.tw_symbols.proofs.unchanged.put_unchanged.Goals as goal
 
 pub returns-in_ok-put_ended-in-Some : goal.returns-in_ok-put_ended-in-Some

@@ -1,8 +1,5 @@
-use Rattle.std.proofs.Common.{List, ℕ, ap, ◌≡◌, ◌∙◌}
-use Rattle.std.proofs.lemmas.Result.{IfOk-weaker}
-use Rattle.tw_symbols.proofs.TextNames.{line_words, seen_names, seen_procedures, texts}
+use Rattle.tw_symbols.proofs.TextNames.{IfOk-weaker, List, ap, is_open_call, line_words, seen_names, seen_procedures, texts, ℕ, ◌∙◌, ◌≡◌}
 use Rattle.tw_symbols.proofs.Taking.{taken_once}
-use Rattle.tw_symbols.specs.Unread.{is_open_call}
 use Rattle.tw_symbols.proofs.unread.is_open_line.Goals as goal
 
 pub returns : goal.returns

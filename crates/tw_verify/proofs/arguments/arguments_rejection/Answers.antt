@@ -1,10 +1,4 @@
-use Rattle.std.proofs.Common.{◌∷◌, [], ℕ, List, Option, refl, sym, ap, subst, ◌∙◌}
-use Rattle.std.proofs.lemmas.Slice.Zip.{Zip-more, either_empty_from_Zip}
-use Rattle.std.specs.Iterator.Adapters.{zip_first, zip_second}
-use Rattle.std.specs.List.{AllByRecursion}
-use Rattle.tw_verify.proofs.VerifierNames.{IsRegister, Typing, requires_args, lowest_of, option_map, rejection_in, verify_error_code, without_args}
-use Rattle.std.specs.Slice.Iter.{iter_rest}
-use Rattle.tw_types.specs.declared.param.Param.{Param}
+use Rattle.tw_verify.proofs.VerifierNames.{AllByRecursion, IsRegister, List, Option, Param, Typing, Zip-more, [], ap, either_empty_from_Zip, iter_rest, lowest_of, option_map, refl, rejection_in, requires_args, subst, sym, verify_error_code, without_args, zip_first, zip_second, ℕ, ◌∙◌, ◌∷◌}
 use Rattle.tw_verify.proofs.Asking.{ask_more, nothing_asked}
 use Rattle.tw_verify.proofs.Numbers.{lowest_nothing, lowest_of_three}
 use Rattle.tw_verify.proofs.arguments.arguments_rejection.Goals as goal

@@ -1,8 +1,4 @@
-use Rattle.std.proofs.Common.{◌≡◌}
-use Rattle.std.specs.Iterator.Adapters.{zip_first, zip_second}
-use Rattle.std.specs.List.{AllByRecursion}
-use Rattle.tw_verify.proofs.VerifierNames.{IsRegister, requires_args, lowest_of, option_map, rejection_in, verify_error_code}
-use Rattle.std.specs.Slice.Iter.{iter_rest}
+use Rattle.tw_verify.proofs.VerifierNames.{AllByRecursion, IsRegister, iter_rest, lowest_of, option_map, rejection_in, requires_args, verify_error_code, zip_first, zip_second, ◌≡◌}
 use Rattle.tw_verify.proofs.arguments.arguments_rejection.Given as goal
 
 -- the error so far, and the remaining checks

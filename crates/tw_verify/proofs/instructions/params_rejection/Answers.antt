@@ -1,6 +1,5 @@
 use Rattle.std.proofs.Common.{Bool, true, ◌&&◌, ap, sym, ◌∙◌, arith, length, length-append, take, ◌∷◌, []}
-use Rattle.tw_verify.proofs.VerifierNames.{Scalar, option_map_or, slice_get, value_types, values_fit}
-use Rattle.tw_types.specs.DataType.{same_scalar}
+use Rattle.tw_verify.proofs.VerifierNames.{Scalar, option_map_or, same_scalar, slice_get, value_types, values_fit}
 use Rattle.tw_verify.proofs.OneMore.{next_value, next_right, next_fits}
 use Rattle.tw_verify.proofs.instructions.params_rejection.Goals as goal
 use Rattle.tw_verify.proofs.instructions.params_rejection.Goals.{then-is_val, else-is_val}

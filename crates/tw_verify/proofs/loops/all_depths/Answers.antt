@@ -1,6 +1,4 @@
-use Rattle.std.proofs.Common.{ℕ, ◌+◌, List, sym, ap, ◌∙◌, subst, arith, [], ◌∷◌}
-use Rattle.tw_verify.proofs.VerifierNames.{DepthsTo, depth_after, flows}
-use Rattle.tw_budget.proofs.Places.{depth_next}
+use Rattle.tw_verify.proofs.VerifierNames.{DepthsTo, List, [], ap, arith, depth_after, depth_next, flows, subst, sym, ℕ, ◌+◌, ◌∙◌, ◌∷◌}
 use Rattle.tw_verify.proofs.Places.{depths_more}
 use Rattle.tw_verify.proofs.loops.all_depths.Goals as goal
 

@@ -1,5 +1,4 @@
-use Rattle.std.proofs.Common.{◌≡◌, ◌≤◌}
-use Rattle.tw_verify.proofs.VerifierNames.{DepthsTo, depth_of, flows}
+use Rattle.tw_verify.proofs.VerifierNames.{DepthsTo, depth_of, flows, ◌≡◌, ◌≤◌}
 use Rattle.tw_verify.proofs.loops.all_depths.Given as goal
 
 abbrev pub invariant-loop-place : goal.invariant-loop-place

@@ -1,6 +1,4 @@
-use Rattle.std.proofs.Common.{◌+◌, Some, sym, ap, ◌∙◌, arith}
-use Rattle.tw_verify.proofs.VerifierNames.{flow_of, flows, length-map}
-use Rattle.tw_budget.proofs.Places.{end_within, close_end}
+use Rattle.tw_verify.proofs.VerifierNames.{Some, ap, arith, close_end, end_within, flow_of, flows, length-map, sym, ◌+◌, ◌∙◌}
 use Rattle.tw_verify.proofs.Places.{begin_end, begin_no_end, passes_end}
 use Rattle.tw_verify.proofs.loops.end_at.Goals as goal
 

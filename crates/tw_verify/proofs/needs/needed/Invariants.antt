@@ -1,5 +1,4 @@
-use Rattle.std.proofs.Common.{◌≡◌, drop, max}
-use Rattle.tw_code.specs.accepting.Needs.{needed, needed_by_all}
+use Rattle.tw_verify.proofs.VerifierNames.{drop, max, needed, needed_by_all, ◌≡◌}
 use Rattle.tw_verify.proofs.needs.needed.Given as goal
 
 -- the most so far, and of those that are left

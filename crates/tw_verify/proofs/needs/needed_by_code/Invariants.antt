@@ -1,5 +1,4 @@
-use Rattle.std.proofs.Common.{◌≡◌, drop, max}
-use Rattle.tw_code.specs.accepting.Needs.{needed_by_code}
+use Rattle.tw_verify.proofs.VerifierNames.{drop, max, needed_by_code, ◌≡◌}
 use Rattle.tw_verify.proofs.needs.needed_by_code.Given as goal
 
 -- the most so far, and of those that are left

@@ -1,7 +1,4 @@
-use Rattle.std.proofs.Common.{◌≡◌, ℕ, ◌+◌, ◌∷◌, [], ◌++◌, List, Option, Some, drop, take, refl, sym, ap, ◌∙◌, subst, arith}
-use Rattle.tw_verify.proofs.VerifierNames.{HasChanged, Instr, IsEndOf, IsWellTyped, Typing, requires_at, first_row, length, lowest_at, option_map, rejection_in, slice_get, slice_get_read, start_typing, verify_error_code}
-use Rattle.tw_verify.specs.Known.{AreUpTo}
-use Rattle.tw_verify.specs.declared.reached.Reached.{Reached}
+use Rattle.tw_verify.proofs.VerifierNames.{AreUpTo, HasChanged, Instr, IsEndOf, IsWellTyped, List, Option, Reached, Some, Typing, [], ap, arith, drop, first_row, length, lowest_at, option_map, refl, rejection_in, requires_at, slice_get, slice_get_read, start_typing, subst, sym, take, verify_error_code, ℕ, ◌++◌, ◌+◌, ◌∙◌, ◌∷◌, ◌≡◌}
 use Rattle.tw_verify.proofs.Causes.{nothing_at}
 use Rattle.tw_verify.proofs.Mistakes.{none_typed, typed_more, unreached, rejection_at}
 use Rattle.tw_verify.proofs.Reaching.{IsRow, HasReached, start_row, rows_more, whole_slice}

@@ -1,6 +1,5 @@
 use Rattle.std.proofs.Common.{◌≡◌, ℕ, ◌+◌, length, Option, Some}
-use Rattle.tw_verify.proofs.VerifierNames.{IsWellTyped, slice_get}
-use Rattle.tw_verify.specs.declared.reached.Reached.{Reached}
+use Rattle.tw_verify.proofs.VerifierNames.{IsWellTyped, Reached, slice_get}
 use Rattle.tw_verify.proofs.Reaching.{IsRow}
 use Rattle.tw_verify.proofs.pass.typing_pass.Given as goal
 

@@ -1,6 +1,5 @@
-use Rattle.std.proofs.Common.{◌++◌}
+use Rattle.tw_verify.proofs.VerifierNames.{requires_value, ◌++◌}
 use Rattle.tw_types.specs.declared.data_type.Scalar.TheVariants as scalar
-use Rattle.tw_verify.proofs.VerifierNames.{requires_value}
 use Rattle.tw_verify.proofs.questions.byte_rejection.Goals as goal
 
 pub returns : goal.returns

@@ -1,5 +1,4 @@
-use Rattle.std.proofs.Common.{ℕ, Option, ◌++◌, ap, sym, ◌∙◌}
-use Rattle.tw_verify.proofs.VerifierNames.{requires_value, lowest_of, option_map, rejection_in, verify_error_code}
+use Rattle.tw_verify.proofs.VerifierNames.{Option, ap, lowest_of, option_map, rejection_in, requires_value, sym, verify_error_code, ℕ, ◌++◌, ◌∙◌}
 use Rattle.tw_verify.proofs.Numbers.{rejection_in-append}
 use Rattle.tw_verify.proofs.questions.values_rejection.Goals as goal
 

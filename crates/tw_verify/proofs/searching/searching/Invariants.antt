@@ -1,5 +1,4 @@
-use Rattle.std.proofs.Common.{◌≡◌, ◌+◌, ◌≤◌, drop}
-use Rattle.tw_verify.specs.Searching.{searching}
+use Rattle.tw_verify.proofs.VerifierNames.{drop, searching, ◌+◌, ◌≡◌, ◌≤◌}
 use Rattle.tw_verify.proofs.searching.searching.Given as goal
 
 -- those so far, and of those that are left

@@ -1,5 +1,4 @@
-use Rattle.std.proofs.Common.{subst}
-use Rattle.tw_verify.proofs.VerifierNames.{IsProgram, typings_of}
+use Rattle.tw_verify.proofs.VerifierNames.{IsProgram, subst, typings_of}
 use Rattle.tw_soundness.proofs.Ends as ends
 use Rattle.tw_soundness.proofs.Safe.{reached_is_held}
 use Rattle.tw_verify.proofs.theorems.ends_well.Goals as goal

@@ -1,5 +1,4 @@
-use Rattle.std.proofs.Common.{subst}
-use Rattle.tw_verify.proofs.VerifierNames.{IsProgram, typings_of}
+use Rattle.tw_verify.proofs.VerifierNames.{IsProgram, subst, typings_of}
 use Rattle.tw_soundness.proofs.Safe as safe
 use Rattle.tw_soundness.proofs.StaysInOrder as order
 use Rattle.tw_verify.proofs.theorems.no_trap.Goals as goal

@@ -1,5 +1,4 @@
-use Rattle.std.proofs.Common.{List, subst}
-use Rattle.tw_verify.proofs.VerifierNames.{IsAccepted, IsRejection, Procedure}
+use Rattle.tw_verify.proofs.VerifierNames.{IsAccepted, IsRejection, List, Procedure, subst}
 use Rattle.tw_verify.proofs.Programs.{accepted, rejection_is_memory}
 use Rattle.tw_verify.proofs.verifier.verify.Goals as goal
 

@@ -1,6 +1,4 @@
-use Rattle.std.proofs.Common.{◌≡◌, ◌∙◌, ◌++◌, ◌-◌, ℕ, List, [], length, take, codes, ap, arith}
-use Rattle.std.proofs.Math.Seq.{take-append_seam}
-use Rattle.std.proofs.lemmas.List.{length-append}
+use Rattle.tw_asm.proofs.AsmNames.{List, [], ap, arith, codes, length, length-append, take, take-append_seam, ℕ, ◌++◌, ◌-◌, ◌∙◌, ◌≡◌}
 use Rattle.tw_asm.specs.Listing.{instr_text}
 use Rattle.tw_asm.proofs.listing.LabelPlaces.instr_text.Goals as goal
 

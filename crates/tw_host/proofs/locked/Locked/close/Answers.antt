@@ -1,12 +1,5 @@
-use Rattle.std.proofs.Common.{◌<◌, refl, sym, ap, ◌∙◌, arith, subst, inl, inr, length, map}
-use Rattle.std.proofs.lemmas.List.{length-map}
-use Rattle.std.proofs.lemmas.List.Sorted.{length_permutation}
+use Rattle.tw_host.proofs.Names.{IsOther, Run, actors_of, ap, arith, events_of, inl, inr, is_in, length, length-map, length_permutation, map, refl, seen_by, subst, sym, ◌<◌, ◌∙◌}
 use Rattle.tw_soundness.specs.EndsWell.{EndsWell}
-use Rattle.tw_types.specs.Actor.{is_in}
-use Rattle.tw_host.specs.Run.{Run}
-use Rattle.tw_host.specs.Seats.{actors_of, seen_by}
-use Rattle.tw_pool.specs.Actors.{events_of}
-use Rattle.tw_host.specs.Ends.{IsOther}
 use Rattle.tw_host.proofs.Comparing.{either_way, some_if}
 use Rattle.tw_host.proofs.Lists.{at_same}
 use Rattle.tw_host.proofs.Ordering.{all_at, by_seat, held, lacking, issued_back, list_at, moved_from, one_each, sums}

@@ -1,6 +1,4 @@
-use Rattle.std.proofs.Common.{◌≤◌, sym, ap, subst, ◌∙◌, length}
-use Rattle.tw_pool.specs.PoolView.{PoolView}
-use Rattle.tw_host.specs.Run.{run_of}
+use Rattle.tw_host.proofs.Names.{PoolView, ap, length, run_of, subst, sym, ◌∙◌, ◌≤◌}
 use Rattle.tw_host.proofs.Reported.{stopped}
 use Rattle.tw_host.proofs.Settling.{all_awake}
 use Rattle.tw_host.proofs.locked.Locked.stop.Goals as goal

@@ -1,8 +1,4 @@
-use Rattle.std.proofs.Common.{◌≡◌, ◌++◌, ◌≤◌, ◌*◌, sym, ap, subst, ◌∙◌, arith, length, drop}
-use Rattle.tw_pool.specs.Actors.{events_of}
-use Rattle.tw_host.specs.Sees.{IsAnswerOf, IsDoneOf}
-use Rattle.tw_types.specs.Actor.{index_of}
-use Rattle.tw_host.specs.Sleeping.{AreWoken, HasCleared}
+use Rattle.tw_host.proofs.Names.{AreWoken, HasCleared, IsAnswerOf, IsDoneOf, ap, arith, drop, events_of, index_of, length, subst, sym, ◌*◌, ◌++◌, ◌∙◌, ◌≡◌, ◌≤◌}
 use Rattle.tw_host.proofs.Batching as batching
 use Rattle.tw_host.proofs.Holding as holding
 use Rattle.tw_host.proofs.locked.Locked.turn_seat.Goals as goal

@@ -1,5 +1,4 @@
-use Rattle.std.proofs.Common.{◌≡◌, ◌≤◌, ◌<◌, ◌⊎◌, ℕ, true}
-use Rattle.tw_host.specs.Sleeping.{Is, WakesOne, WakesOwn}
+use Rattle.tw_host.proofs.Names.{Is, WakesOne, WakesOwn, true, ℕ, ◌<◌, ◌≡◌, ◌≤◌, ◌⊎◌}
 use Rattle.tw_host.proofs.sleepers.Sleepers.due_among.Given as goal
 
 abbrev pub invariant-loop-index : goal.invariant-loop-index

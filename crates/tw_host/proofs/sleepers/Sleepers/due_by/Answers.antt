@@ -1,7 +1,4 @@
-use Rattle.std.proofs.Common.{bit_or, sym, subst}
-use Rattle.tw_types.specs.declared.actor.Actor.{Actor}
-use Rattle.tw_types.specs.declared.actor.Kind.TheVariants.{Control, Leaf}
-use Rattle.tw_host.specs.Sleeping.{Wakes}
+use Rattle.tw_host.proofs.Names.{Actor, Control, Leaf, Wakes, bit_or, subst, sym}
 use Rattle.tw_host.proofs.Waking.{kind_first, kind_second, servers_first, servers_second}
 use Rattle.tw_host.proofs.sleepers.Sleepers.due_by.Goals as goal
 

@@ -1,6 +1,4 @@
-use Rattle.std.proofs.Common.{◌||◌, Bool, ℕ, true, sym, ap, subst, ◌∙◌, arith}
-use Rattle.tw_types.specs.Actor.{index_of}
-use Rattle.tw_host.specs.Sleeping.{HasCleared, IsMarked, WakesAfter, is_over_turn}
+use Rattle.tw_host.proofs.Names.{Bool, HasCleared, IsMarked, WakesAfter, ap, arith, index_of, is_over_turn, subst, sym, true, ℕ, ◌||◌, ◌∙◌}
 use Rattle.tw_host.proofs.Settling.{due_are, few, idle_no_job, not_over, over_if, own_low, settled}
 use Rattle.tw_host.proofs.sleepers.Sleepers.to_wake.Goals as goal
 

@@ -1,6 +1,5 @@
-use Rattle.std.proofs.Common.{ap, ◌+◌}
+use Rattle.tw_instr.proofs.Names.{ap, with_live, ◌+◌}
 use Rattle.tw_instr.proofs.Live.{inserted}
-use Rattle.tw_types.proofs.Settled.{with_live}
 use Rattle.tw_instr.proofs.data.Data.add.Goals as goal
 
 pub returns-clause-made : goal.returns-clause-made

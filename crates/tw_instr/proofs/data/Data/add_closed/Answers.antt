@@ -1,8 +1,5 @@
-use Rattle.std.proofs.Common.{ap, subst, sym, ◌∙◌}
-use Rattle.tw_types.specs.Store.{added}
-use Rattle.tw_datum.specs.Kept.{FitsType, closed_datum}
+use Rattle.tw_instr.proofs.Names.{FitsType, added, ap, closed_datum, on_ok, subst, sym, ◌∙◌}
 use Rattle.tw_instr.proofs.Live.{content_kept}
-use Rattle.tw_types.proofs.Came.{on_ok}
 use Rattle.tw_instr.proofs.data.Data.add_closed.Goals as goal
 
 pub new_closed-requires : goal.new_closed-requires

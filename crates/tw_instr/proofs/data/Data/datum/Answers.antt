@@ -1,6 +1,4 @@
-use Rattle.std.proofs.Common.{ap, ◌∙◌, sym}
-use Rattle.std.specs.FinMap.{get}
-use Rattle.tw_instr.specs.Parts.{data_of}
+use Rattle.tw_instr.proofs.Names.{ap, data_of, get, sym, ◌∙◌}
 use Rattle.tw_instr.proofs.Live.{found}
 use Rattle.tw_instr.proofs.data.Data.datum.Goals as goal
 

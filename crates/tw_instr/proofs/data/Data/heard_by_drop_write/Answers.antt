@@ -1,5 +1,4 @@
-use Rattle.std.proofs.Common.{sym, ap, ◌∙◌, map as each}
-use Rattle.tw_types.specs.Store.{notice_to}
+use Rattle.tw_instr.proofs.Names.{ap, map as each, notice_to, sym, ◌∙◌}
 use Rattle.tw_instr.proofs.Views.{drop_heard, drop_unheard}
 use Rattle.tw_instr.proofs.data.Data.heard_by_drop_write.Goals as goal
 

@@ -1,7 +1,5 @@
-use Rattle.std.proofs.Common.{ap, ◌∙◌}
-use Rattle.tw_instr.specs.Parts.{store_of}
+use Rattle.tw_instr.proofs.Names.{ap, store_of, with_live, ◌∙◌}
 use Rattle.tw_instr.proofs.Live.{none_live}
-use Rattle.tw_types.proofs.Settled.{with_live}
 use Rattle.tw_instr.proofs.data.Data.new.Goals as goal
 
 pub returns : goal.returns

@@ -1,7 +1,5 @@
-use Rattle.std.proofs.Common.{of_z, sym, to_z, w64}
+use Rattle.tw_instr.proofs.Names.{get, kind_found, of_z, sym, to_z, w64}
 use Rattle.std.specs.Option.{option_copied}
-use Rattle.std.specs.FinMap.{get}
-use Rattle.tw_datum.proofs.Subscripts.{kind_found}
 use Rattle.tw_instr.proofs.Views.{no_subscript}
 use Rattle.tw_instr.proofs.data.Data.subscript_at.Goals as goal
 

@@ -1,11 +1,4 @@
-use Rattle.std.proofs.Common.{◌≡◌, ◌<◌, List, Some, IfOk, sym, ap, subst, ◌∙◌}
-use Rattle.std.specs.Prelude.{slice_get}
-use Rattle.std.proofs.lemmas.Option.{slice_get-get_or}
-use Rattle.tw_types.specs.Outcome.{Went}
-use Rattle.tw_code.specs.declared.instr.Instr.{Instr}
-use Rattle.tw_code.specs.machine.State.{Frame}
-use Rattle.tw_code.specs.machine.Position.{Position}
-use Rattle.tw_code.specs.machine.Machine.{local_step, local_steps}
+use Rattle.tw_instr.proofs.Names.{Frame, IfOk, Instr, List, Position, Some, Went, ap, local_step, local_steps, slice_get, slice_get-get_or, subst, sym, ◌<◌, ◌∙◌, ◌≡◌}
 use Rattle.tw_instr.proofs.Stretches.{stretched}
 use Rattle.tw_instr.proofs.frame.Frame.local_steps.Goals as goal
 

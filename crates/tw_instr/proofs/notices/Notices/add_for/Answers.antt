@@ -1,7 +1,4 @@
-use Rattle.std.proofs.Common.{List, map, ◌≡◌, ◌||◌, subst, sym}
-use Rattle.tw_types.specs.declared.notice.Notice.{Notice}
-use Rattle.tw_types.specs.Store.{notice_to}
-use Rattle.tw_instr.specs.NoticeSets.{is_among, is_in}
+use Rattle.tw_instr.proofs.Names.{List, Notice, is_among, is_in, map, notice_to, subst, sym, ◌||◌, ◌≡◌}
 use Rattle.tw_instr.proofs.NoticeSets.{notified_is, refused_is}
 use Rattle.tw_instr.proofs.notices.Notices.add_for.Goals as goal
 

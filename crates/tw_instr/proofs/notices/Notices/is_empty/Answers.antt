@@ -1,6 +1,4 @@
-use Rattle.std.proofs.Common.{ap, ◌∙◌, ◌==◌}
-use Rattle.std.specs.FinSet.{len}
-use Rattle.tw_types.specs.Notices.{Notices}
+use Rattle.tw_instr.proofs.Names.{Notices, ap, len, ◌==◌, ◌∙◌}
 use Rattle.tw_instr.proofs.Empty.{is_empty_set}
 use Rattle.tw_instr.proofs.notices.Notices.is_empty.Goals as goal
 

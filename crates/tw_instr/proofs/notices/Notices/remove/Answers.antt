@@ -1,10 +1,4 @@
-use Rattle.std.proofs.Common.{◌∙◌, sym, ap, false, subst}
-use Rattle.std.specs.BTreeSet.{Updates}
-use Rattle.std.specs.FinSet.{contains, contains-from_list}
-use Rattle.tw_types.specs.declared.notice.Notice.{Notice}
-use Rattle.tw_types.specs.Notices.{Notices, notice_cmp}
-use Rattle.tw_types.proofs.NoticeOrder.{notice_cmp_total}
-use Rattle.tw_instr.specs.NoticeSets.{is_in}
+use Rattle.tw_instr.proofs.Names.{Notice, Notices, Updates, ap, contains, contains-from_list, false, is_in, notice_cmp, notice_cmp_total, subst, sym, ◌∙◌}
 use Rattle.tw_instr.proofs.NoticeSets.{removed_notice}
 use Rattle.tw_instr.proofs.notices.Notices.remove.Goals as goal
 

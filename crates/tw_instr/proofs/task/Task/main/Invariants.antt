@@ -1,6 +1,5 @@
-use Rattle.std.proofs.Common.{◌≡◌, take, map}
+use Rattle.tw_instr.proofs.Names.{arg_of, map, take, ◌≡◌}
 use Rattle.tw_types.specs.Task.{RightArg}
-use Rattle.tw_instr.specs.Arguments.{arg_of}
 use Rattle.tw_instr.proofs.task.Task.main.Given as goal
 
 abbrev pub invariant-loop-id : goal.invariant-loop-id

@@ -1,10 +1,4 @@
-use Rattle.std.proofs.Common.{ap}
-use Rattle.std.specs.declared.option.Option.TheVariants.{None, Some}
-use Rattle.tw_code.specs.machine.Machine.{call_event}
-use Rattle.tw_machine.specs.Events.{with_frames, with_tables}
-use Rattle.tw_machine.specs.Parts.{frames_of}
-use Rattle.tw_types.proofs.ActorOrder.{actor_cmp_total, actor_cmp-IsAntisymmetric}
-use Rattle.tw_types.proofs.Maps.{found_view}
+use Rattle.tw_machine.proofs.Names.{None, Some, actor_cmp-IsAntisymmetric, actor_cmp_total, ap, call_event, found_view, frames_of, with_frames, with_tables}
 use Rattle.tw_machine.proofs.Frames.{is_few, call_idle, tables_come}
 use Rattle.tw_machine.proofs.events.calls.call.Goals as goal
 

@@ -1,6 +1,4 @@
-use Rattle.std.proofs.Common.{refl}
-use Rattle.std.proofs.lemmas.Result.{err_from_is_err_and}
-use Rattle.tw_instr.proofs.Stops.{fails_then}
+use Rattle.tw_machine.proofs.Names.{err_from_is_err_and, fails_then, refl}
 use Rattle.tw_machine.proofs.events.calls.make_rule.Goals as goal
 
 pub returns-in_err-task : goal.returns-in_err-task

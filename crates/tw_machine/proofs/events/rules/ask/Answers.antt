@@ -1,6 +1,4 @@
-use Rattle.std.proofs.Common.{sym, ◌∙◌, refl}
-use Rattle.tw_machine.specs.Events.{with_frames, with_tables}
-use Rattle.tw_machine.specs.Parts.{frames_of}
+use Rattle.tw_machine.proofs.Names.{frames_of, refl, sym, with_frames, with_tables, ◌∙◌}
 use Rattle.tw_machine.proofs.Pending.{ask_other, ask_settled, ask_freed, asks_open, closed_asked, open_asked}
 use Rattle.tw_machine.proofs.events.rules.ask.Goals as goal
 

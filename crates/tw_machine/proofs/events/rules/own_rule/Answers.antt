@@ -1,9 +1,4 @@
-use Rattle.std.proofs.Common.{sym, ap, ◌∙◌, refl, is_some}
-use Rattle.tw_types.specs.declared.actor.Actor.TheVariants.{Engine}
-use Rattle.tw_types.proofs.ActorOrder.{actor_cmp_total, actor_cmp-IsAntisymmetric}
-use Rattle.tw_types.proofs.Maps.{found_view}
-use Rattle.tw_machine.specs.Events.{with_frames, with_tables}
-use Rattle.tw_machine.specs.Parts.{frames_of}
+use Rattle.tw_machine.proofs.Names.{Engine, actor_cmp-IsAntisymmetric, actor_cmp_total, ap, found_view, frames_of, is_some, refl, sym, with_frames, with_tables, ◌∙◌}
 use Rattle.tw_machine.proofs.Pending.{own_busy, own_is}
 use Rattle.tw_machine.proofs.events.rules.own_rule.Goals as goal
 

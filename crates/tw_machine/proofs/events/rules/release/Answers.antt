@@ -1,7 +1,4 @@
-use Rattle.std.proofs.Common.{sym, refl}
-use Rattle.std.proofs.lemmas.Result.{err_from_is_err_and}
-use Rattle.tw_machine.specs.Events.{with_frames, with_tables}
-use Rattle.tw_machine.specs.Parts.{frames_of}
+use Rattle.tw_machine.proofs.Names.{err_from_is_err_and, frames_of, refl, sym, with_frames, with_tables}
 use Rattle.tw_machine.proofs.Pending.{release_other, release_held, release_stopped, released, releases}
 use Rattle.tw_machine.proofs.events.rules.release.Goals as goal
 

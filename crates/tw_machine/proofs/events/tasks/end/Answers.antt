@@ -1,11 +1,4 @@
-use Rattle.std.proofs.Common.{sym, ap, ◌∙◌, refl}
-use Rattle.std.proofs.lemmas.Result.{err_from_is_err_and}
-use Rattle.std.specs.declared.option.Option.TheVariants.{None, Some}
-use Rattle.tw_types.specs.Outcome.{Went}
-use Rattle.tw_machine.specs.Events.{with_frames}
-use Rattle.tw_machine.specs.Parts.{frames_of}
-use Rattle.tw_types.proofs.ActorOrder.{actor_cmp_total, actor_cmp-IsAntisymmetric}
-use Rattle.tw_types.proofs.Maps.{found_view, removed_view}
+use Rattle.tw_machine.proofs.Names.{None, Some, Went, actor_cmp-IsAntisymmetric, actor_cmp_total, ap, err_from_is_err_and, found_view, frames_of, refl, removed_view, sym, with_frames, ◌∙◌}
 use Rattle.tw_machine.proofs.Frames.{end_idle}
 use Rattle.tw_machine.proofs.events.tasks.end.Goals as goal
 

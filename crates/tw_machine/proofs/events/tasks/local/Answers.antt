@@ -1,10 +1,4 @@
-use Rattle.std.proofs.Common.{ap}
-use Rattle.std.specs.declared.option.Option.TheVariants.{None, Some}
-use Rattle.tw_code.specs.machine.Machine.{local_event}
-use Rattle.tw_machine.specs.Events.{with_frames}
-use Rattle.tw_machine.specs.Parts.{frames_of}
-use Rattle.tw_types.proofs.ActorOrder.{actor_cmp_total, actor_cmp-IsAntisymmetric}
-use Rattle.tw_types.proofs.Maps.{found_view}
+use Rattle.tw_machine.proofs.Names.{None, Some, actor_cmp-IsAntisymmetric, actor_cmp_total, ap, found_view, frames_of, local_event, with_frames}
 use Rattle.tw_machine.proofs.Frames.{is_few, local_idle, frames_come}
 use Rattle.tw_machine.proofs.events.tasks.local.Goals as goal
 

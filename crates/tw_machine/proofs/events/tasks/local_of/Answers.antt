@@ -1,5 +1,4 @@
-use Rattle.std.proofs.Common.{refl}
-use Rattle.std.proofs.lemmas.Result.{err_from_is_err_and}
+use Rattle.tw_machine.proofs.Names.{err_from_is_err_and, refl}
 use Rattle.tw_machine.proofs.Frames.{local_stopped}
 use Rattle.tw_machine.proofs.events.tasks.local_of.Goals as goal
 

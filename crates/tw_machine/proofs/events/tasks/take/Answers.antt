@@ -1,12 +1,4 @@
-use Rattle.std.proofs.Common.{sym, ap, ◌∙◌, refl, is_some}
-use Rattle.std.proofs.lemmas.Result.{err_from_is_err_and}
-use Rattle.std.specs.FinMap.{insert}
-use Rattle.tw_types.specs.Outcome.{Went}
-use Rattle.tw_machine.specs.Events.{with_frames, with_tasks}
-use Rattle.tw_machine.specs.Parts.{frames_of}
-use Rattle.tw_machine.specs.Waiting.{TaskTable}
-use Rattle.tw_types.proofs.ActorOrder.{actor_cmp_total, actor_cmp-IsAntisymmetric}
-use Rattle.tw_types.proofs.Maps.{found_view, inserted_view}
+use Rattle.tw_machine.proofs.Names.{TaskTable, Went, actor_cmp-IsAntisymmetric, actor_cmp_total, ap, err_from_is_err_and, found_view, frames_of, insert, inserted_view, is_some, refl, sym, with_frames, with_tasks, ◌∙◌}
 use Rattle.tw_machine.proofs.Takes.{take_outside, take_busy, take_none, take_stopped, take_enabled, take_goes}
 use Rattle.tw_machine.proofs.events.tasks.take.Goals as goal
 use Rattle.tw_machine.proofs.events.tasks.take.Goals.{then-not-has-via-then-not-has, then-not-has-via-else-not-has+then-contains_key}

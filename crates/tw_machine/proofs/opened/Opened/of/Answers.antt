@@ -1,6 +1,4 @@
-use Rattle.std.proofs.Common.{Bor, List, ◌∷◌, sym, ap, ◌∙◌}
-use Rattle.tw_types.specs.declared.input.Input.{Input}
-use Rattle.tw_code.proofs.Givens.{next_param}
+use Rattle.tw_machine.proofs.Names.{Bor, Input, List, ap, next_param, sym, ◌∙◌, ◌∷◌}
 use Rattle.tw_machine.proofs.Parameters.{input_begun, nothing_begun, output_begun}
 use Rattle.tw_machine.proofs.opened.Opened.of.Goals as goal
 use Rattle.tw_machine.proofs.opened.Opened.of.Goals.{then-is_write+in_ok-add_output, else-is_write+in-Some+in_ok-add_input, else-is_write+in_default}

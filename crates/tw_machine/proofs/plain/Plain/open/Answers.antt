@@ -1,6 +1,4 @@
-use Rattle.std.proofs.Common.{sym, ap, subst}
-use Rattle.tw_code.specs.machine.Bounds.{AreBelow, opening_bound}
-use Rattle.tw_code.specs.machine.State.{State}
+use Rattle.tw_machine.proofs.Names.{AreBelow, State, ap, opening_bound, subst, sym}
 use Rattle.tw_machine.specs.PlainView.{PlainView}
 use Rattle.tw_machine.proofs.Parameters.{is_small, opened_as}
 use Rattle.tw_machine.proofs.plain.Plain.open.Goals as goal

@@ -1,9 +1,4 @@
-use Rattle.std.proofs.Common.{◌+◌, ap}
-use Rattle.std.specs.Cmp.{nat_cmp_total}
-use Rattle.std.specs.FinMap.{nat_cmp-IsAntisymmetric}
-use Rattle.tw_types.specs.Rule.{Rules}
-use Rattle.tw_types.proofs.Maps.{inserted_view}
-use Rattle.tw_machine.specs.Waiting.{RuleTable}
+use Rattle.tw_machine.proofs.Names.{RuleTable, Rules, ap, inserted_view, nat_cmp-IsAntisymmetric, nat_cmp_total, ◌+◌}
 use Rattle.tw_machine.proofs.rules.Rules.add.Goals as goal
 
 pub returns-clause-added : goal.returns-clause-added

@@ -1,8 +1,4 @@
-use Rattle.std.proofs.Common.{ℕ, sym, ap, ◌∙◌}
-use Rattle.std.specs.Cmp.{nat_cmp_total}
-use Rattle.std.specs.FinMap.{nat_cmp-IsAntisymmetric, get}
-use Rattle.tw_types.proofs.Maps.{found_view}
-use Rattle.tw_machine.specs.Parts.{rules_of}
+use Rattle.tw_machine.proofs.Names.{ap, found_view, get, nat_cmp-IsAntisymmetric, nat_cmp_total, rules_of, sym, ℕ, ◌∙◌}
 use Rattle.tw_machine.proofs.rules.Rules.get.Goals as goal
 
 pub returns : goal.returns

@@ -1,10 +1,4 @@
-use Rattle.std.proofs.Common.{ℕ, ap, ◌∙◌}
-use Rattle.std.specs.Cmp.{nat_cmp_total}
-use Rattle.std.specs.FinMap.{nat_cmp-IsAntisymmetric, remove}
-use Rattle.tw_types.specs.Rule.{Rules}
-use Rattle.tw_types.proofs.Maps.{removed_view}
-use Rattle.tw_machine.specs.Parts.{rules_of}
-use Rattle.tw_machine.specs.Waiting.{RuleTable}
+use Rattle.tw_machine.proofs.Names.{RuleTable, Rules, ap, nat_cmp-IsAntisymmetric, nat_cmp_total, remove, removed_view, rules_of, ℕ, ◌∙◌}
 use Rattle.tw_machine.proofs.rules.Rules.remove.Goals as goal
 
 pub returns : goal.returns

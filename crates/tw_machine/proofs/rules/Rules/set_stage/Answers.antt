@@ -1,11 +1,4 @@
-use Rattle.std.proofs.Common.{ap, ◌∙◌}
-use Rattle.std.specs.Cmp.{nat_cmp_total}
-use Rattle.std.specs.declared.option.Option.TheVariants.{None, Some}
-use Rattle.std.specs.FinMap.{nat_cmp-IsAntisymmetric, insert}
-use Rattle.tw_types.specs.Rule.{Rule, Rules}
-use Rattle.tw_types.proofs.Maps.{found_view, written_view}
-use Rattle.tw_machine.specs.Parts.{rules_of}
-use Rattle.tw_machine.specs.Waiting.{RuleTable}
+use Rattle.tw_machine.proofs.Names.{None, Rule, RuleTable, Rules, Some, ap, found_view, insert, nat_cmp-IsAntisymmetric, nat_cmp_total, rules_of, written_view, ◌∙◌}
 use Rattle.tw_machine.specs.contracts.rules.Rules.{the_view}
 use Rattle.tw_machine.proofs.Numbered.{staged_none, staged_some}
 use Rattle.tw_machine.proofs.rules.Rules.set_stage.Goals as goal

@@ -1,6 +1,4 @@
-use Rattle.std.proofs.Common.{sym}
-use Rattle.tw_types.proofs.ActorOrder.{actor_cmp_total, actor_cmp-IsAntisymmetric}
-use Rattle.tw_types.proofs.Maps.{found_view}
+use Rattle.tw_machine.proofs.Names.{actor_cmp-IsAntisymmetric, actor_cmp_total, found_view, sym}
 use Rattle.tw_machine.proofs.state.State.frame.Goals as goal
 
 pub returns : goal.returns

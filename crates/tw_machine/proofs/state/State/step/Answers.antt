@@ -1,9 +1,5 @@
-use Rattle.std.proofs.Common.{◌^◌, subst, sym}
-use Rattle.std.proofs.lemmas.Result.{err_from_is_err_and}
-use Rattle.tw_code.specs.machine.Bounds.{AreBelow}
-use Rattle.tw_code.specs.machine.State.{State}
+use Rattle.tw_machine.proofs.Names.{AreBelow, State, err_from_is_err_and, subst, sym, the_view, ◌^◌}
 use Rattle.tw_code.specs.machine.Machine.{step}
-use Rattle.tw_machine.specs.contracts.state.State.{the_view}
 use Rattle.tw_machine.proofs.Frames.{few_at, room_below}
 use Rattle.tw_machine.proofs.state.State.step.Goals as goal
 

@@ -1,9 +1,5 @@
 use Rattle.std.proofs.Common.{None, Some, ap, sym, ◌∙◌}
-use Rattle.std.specs.Cmp.{nat_cmp_total}
-use Rattle.std.specs.FinMap.{nat_cmp-IsAntisymmetric}
-use Rattle.tw_types.specs.Task.{best}
-use Rattle.tw_types.proofs.Maps.{found_view}
-use Rattle.tw_machine.specs.Parts.{tasks_of}
+use Rattle.tw_machine.proofs.Names.{best, found_view, nat_cmp-IsAntisymmetric, nat_cmp_total, tasks_of}
 use Rattle.tw_machine.proofs.Bests.{best_first, best_without, has_task}
 use Rattle.tw_machine.proofs.tasks.Tasks.best.Goals as goal
 

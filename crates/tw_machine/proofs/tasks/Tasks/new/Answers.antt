@@ -1,6 +1,4 @@
-use Rattle.std.proofs.Common.{subst, sym}
-use Rattle.tw_machine.specs.Parts.{tasks_of}
-use Rattle.tw_machine.specs.Ranking.{AreRanked}
+use Rattle.tw_machine.proofs.Names.{AreRanked, subst, sym, tasks_of}
 use Rattle.tw_machine.proofs.RankChanges.{none_ranked}
 use Rattle.tw_machine.proofs.tasks.Tasks.new.Goals as goal
 

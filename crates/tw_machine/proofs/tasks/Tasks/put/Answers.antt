@@ -1,15 +1,5 @@
 use Rattle.std.proofs.Common.{◌≡◌, ℕ, ◌+◌, ap, refl, subst, sym, true, false, is_err, List, OnErr, OnOk, Result, Ok, Err}
-use Rattle.std.specs.declared.option.Option.{Option}
-use Rattle.std.specs.Cmp.{nat_cmp_total}
-use Rattle.std.specs.FinMap.{nat_cmp-IsAntisymmetric}
-use Rattle.tw_types.specs.declared.actor.Kind.{Kind}
-use Rattle.tw_types.specs.Task.{Tasks}
-use Rattle.tw_types.proofs.Maps.{inserted_view}
-use Rattle.tw_machine.specs.declared.rank.Rank.{Rank}
-use Rattle.tw_machine.specs.Parts.{tasks_of}
-use Rattle.tw_machine.specs.Rank.{rank_of}
-use Rattle.tw_machine.specs.Ranking.{AreRanked, IsMarked}
-use Rattle.tw_machine.specs.Waiting.{TaskTable}
+use Rattle.tw_machine.proofs.Names.{AreRanked, IsMarked, Kind, Option, Rank, TaskTable, Tasks, inserted_view, nat_cmp-IsAntisymmetric, nat_cmp_total, rank_of, tasks_of}
 use Rattle.tw_machine.proofs.RankChanges.{put_ranked, undone_ranked}
 use Rattle.tw_machine.proofs.tasks.Tasks.put.Goals as goal
 

@@ -1,16 +1,6 @@
 use Rattle.std.proofs.Common.{ℕ, Some, ap, false, subst, sym}
-use Rattle.std.specs.declared.option.Option.{Option}
-use Rattle.std.specs.Cmp.{nat_cmp_total}
-use Rattle.std.specs.FinMap.{nat_cmp-IsAntisymmetric}
-use Rattle.tw_types.specs.Task.{Tasks}
-use Rattle.tw_types.specs.declared.actor.Kind.{Kind}
-use Rattle.tw_types.proofs.Maps.{found_view, removed_view}
-use Rattle.tw_machine.specs.declared.rank.Rank.{Rank}
-use Rattle.tw_machine.specs.Parts.{tasks_of}
-use Rattle.tw_machine.specs.Rank.{rank_of}
-use Rattle.tw_machine.specs.Ranking.{AreRanked, IsMarked}
+use Rattle.tw_machine.proofs.Names.{AreRanked, IsMarked, Kind, Option, Rank, TaskTable, Tasks, found_view, nat_cmp-IsAntisymmetric, nat_cmp_total, rank_of, removed_view, tasks_of}
 use Rattle.tw_machine.proofs.RankChanges.{removed_ranked}
-use Rattle.tw_machine.specs.Waiting.{TaskTable}
 use Rattle.tw_machine.proofs.tasks.Tasks.remove.Goals as goal
 
 pub returns : goal.returns

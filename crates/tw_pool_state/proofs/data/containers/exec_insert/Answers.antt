@@ -1,7 +1,6 @@
 use Rattle.std.proofs.Common.{◌∙◌, ◌+◌, ap, sym, refl, subst, slice_set, Some, Ok}
-use Rattle.tw_pool_state.proofs.PartNames.{FrameView, IsInsertion, at_goal, at_next_place, frame_after, draft_of, job_of, named}
+use Rattle.tw_pool_state.proofs.PartNames.{FrameView, Inserted, IsInsertion, at_goal, at_next_place, draft_of, frame_after, job_of, named}
 use Rattle.tw_rights.specs.declared.held.Held.TheVariants as held
-use Rattle.tw_store.specs.declared.calls.Inserted.{Inserted}
 use Rattle.tw_pool_state.proofs.Inserts.{insert_absent, insert_allowed, insert_here, insert_inside, insert_member_here, insert_read, insert_write, inserted_none, inserted_some}
 use Rattle.tw_pool_state.proofs.Registers.{put_back}
 use Rattle.tw_pool_state.proofs.data.containers.exec_insert.Goals as goal

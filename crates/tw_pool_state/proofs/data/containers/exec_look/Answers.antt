@@ -1,6 +1,5 @@
-use Rattle.std.proofs.Common.{◌∙◌, ◌+◌, ap, sym, slice_set, slice_index_or, Some, None}
+use Rattle.tw_pool_state.proofs.PartNames.{FrameView, None, Some, ap, at_goal, at_next_place, draft_of, frame_after, named, slice_index_or, slice_set, sym, ◌+◌, ◌∙◌}
 use Rattle.tw_rights.specs.declared.held.Held.TheVariants as held
-use Rattle.tw_pool_state.proofs.PartNames.{FrameView, at_goal, at_next_place, frame_after, draft_of, named}
 use Rattle.tw_pool_state.proofs.Looks.{look_allowed, look_empty, look_here, look_inside, look_right, look_room, looked_none, looked_some}
 use Rattle.tw_pool_state.proofs.data.containers.exec_look.Goals as goal
 

@@ -1,7 +1,6 @@
 use Rattle.std.proofs.Common.{◌∙◌, ◌<◌, ◌+◌, ◌^◌, ℤ, ap, arith, slice_get, to_z, w64}
-use Rattle.std.proofs.lemmas.Int.{to_z_pos}
+use Rattle.tw_pool_state.proofs.PartNames.{FrameView, at_next_place, frame_after, option_map, scalar_of, to_z_pos, with_value}
 use Rattle.tw_types.specs.declared.value.Value.TheVariants as value
-use Rattle.tw_pool_state.proofs.PartNames.{FrameView, at_next_place, frame_after, option_map, scalar_of, with_value}
 use Rattle.tw_pool_state.proofs.Sizes.{size_allowed, size_done, size_few, size_fits, size_here, size_right}
 use Rattle.tw_pool_state.proofs.data.containers.exec_size.Goals as goal
 

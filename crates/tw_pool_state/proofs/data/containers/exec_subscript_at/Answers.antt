@@ -1,7 +1,5 @@
 use Rattle.std.proofs.Common.{◌≡◌, ◌∙◌, ◌+◌, Some, sym, ap, refl, arith, to_z, of_z, w64, slice_get, option_map}
-use Rattle.std.proofs.lemmas.Int.{to_z-of_z}
-use Rattle.tw_pool_state.proofs.PartNames.{FrameView, at_goal, at_next_place, frame_after, draft_of, scalar_of, subscript_after, subscripts_at, with_value}
-use Rattle.tw_store.proofs.Here.{unchanged}
+use Rattle.tw_pool_state.proofs.PartNames.{FrameView, at_goal, at_next_place, draft_of, frame_after, scalar_of, subscript_after, subscripts_at, to_z-of_z, unchanged, with_value}
 use Rattle.tw_pool_state.proofs.Sizes.{subscript_allowed, subscript_by, subscript_fits, subscript_here, subscript_int, subscript_none, subscript_right, subscript_some, subscript_there}
 use Rattle.tw_pool_state.proofs.data.containers.exec_subscript_at.Goals as goal
 

@@ -1,9 +1,4 @@
-use Rattle.std.proofs.Common.{◌≡◌, ◌∙◌, ◌+◌, sym, ap, refl, subst, arith, to_z, of_z, w64}
-use Rattle.std.proofs.lemmas.Int.{to_z-of_z}
-use Rattle.std.specs.FinMap.{get}
-use Rattle.tw_datum.specs.Puts.{TakesValue}
-use Rattle.tw_store.specs.Served.{IsNow}
-use Rattle.tw_pool_state.proofs.PartNames.{FrameView, Value, at_next_place, frame_after, draft_of, entry_at, named, sum_with, value_put}
+use Rattle.tw_pool_state.proofs.PartNames.{FrameView, IsNow, TakesValue, Value, ap, arith, at_next_place, draft_of, entry_at, frame_after, get, named, of_z, refl, subst, sum_with, sym, to_z, to_z-of_z, value_put, w64, ◌+◌, ◌∙◌, ◌≡◌}
 use Rattle.tw_pool_state.proofs.Maps.{add_done, add_here, add_inside, add_int, add_right, add_takes_it}
 use Rattle.tw_pool_state.proofs.data.maps.exec_add_value.Goals as goal
 

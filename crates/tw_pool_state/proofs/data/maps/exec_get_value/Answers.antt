@@ -1,6 +1,5 @@
 use Rattle.std.proofs.Common.{◌∙◌, ◌+◌, Some, sym, ap, refl, slice_get, option_map}
-use Rattle.tw_pool_state.proofs.PartNames.{FrameView, at_goal, at_next_place, frame_after, draft_of, named, scalar_of, with_value}
-use Rattle.tw_store.proofs.Here.{unchanged}
+use Rattle.tw_pool_state.proofs.PartNames.{FrameView, at_goal, at_next_place, draft_of, frame_after, named, scalar_of, unchanged, with_value}
 use Rattle.tw_pool_state.proofs.Maps.{read_fits, read_here, read_inside, read_none, read_right, read_some, read_text}
 use Rattle.tw_pool_state.proofs.data.maps.exec_get_value.Goals as goal
 

@@ -1,6 +1,4 @@
-use Rattle.std.proofs.Common.{◌∙◌, ◌+◌, sym, ap, refl}
-use Rattle.tw_pool_state.proofs.PartNames.{FrameView, at_goal, at_next_place, frame_after, draft_of, named}
-use Rattle.tw_store.proofs.Here.{unchanged}
+use Rattle.tw_pool_state.proofs.PartNames.{FrameView, ap, at_goal, at_next_place, draft_of, frame_after, named, refl, sym, unchanged, ◌+◌, ◌∙◌}
 use Rattle.tw_pool_state.proofs.Maps.{none_copied, put_absent, put_declared, put_done, put_here, put_inside, put_refused, put_right, put_takes_it, there_copied}
 use Rattle.tw_pool_state.proofs.data.maps.exec_insert_value.Goals as goal
 

@@ -1,6 +1,5 @@
-use Rattle.std.proofs.Common.{◌∙◌, ◌+◌, ap, sym, slice_set, slice_index_or, Some, None}
+use Rattle.tw_pool_state.proofs.PartNames.{FrameView, None, Some, ap, at_next_place, draft_of, frame_after, slice_index_or, slice_set, sym, ◌+◌, ◌∙◌}
 use Rattle.tw_rights.specs.declared.held.Held.TheVariants as held
-use Rattle.tw_pool_state.proofs.PartNames.{FrameView, at_next_place, frame_after, draft_of}
 use Rattle.tw_pool_state.proofs.Copies.{copy_read_empty, copy_read_here, copy_read_right, read_copied_done, read_room}
 use Rattle.tw_pool_state.proofs.data.rights.exec_copy_read.Goals as goal
 

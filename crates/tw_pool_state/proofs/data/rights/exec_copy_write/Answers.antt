@@ -1,6 +1,5 @@
-use Rattle.std.proofs.Common.{◌∙◌, ◌+◌, ap, sym, slice_set, slice_index_or, Some, None}
+use Rattle.tw_pool_state.proofs.PartNames.{FrameView, None, Some, ap, at_next_place, draft_of, frame_after, slice_index_or, slice_set, sym, ◌+◌, ◌∙◌}
 use Rattle.tw_rights.specs.declared.held.Held.TheVariants as held
-use Rattle.tw_pool_state.proofs.PartNames.{FrameView, at_next_place, frame_after, draft_of}
 use Rattle.tw_pool_state.proofs.Copies.{copy_write_allowed, copy_write_empty, copy_write_here, copy_write_right, write_copied_done, write_room}
 use Rattle.tw_pool_state.proofs.data.rights.exec_copy_write.Goals as goal
 

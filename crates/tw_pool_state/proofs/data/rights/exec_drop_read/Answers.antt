@@ -1,5 +1,4 @@
-use Rattle.std.proofs.Common.{◌∙◌, ◌+◌, ap, sym}
-use Rattle.tw_pool_state.proofs.PartNames.{FrameView, at_next_place, frame_after, draft_of, job_of}
+use Rattle.tw_pool_state.proofs.PartNames.{FrameView, ap, at_next_place, draft_of, frame_after, job_of, sym, ◌+◌, ◌∙◌}
 use Rattle.tw_pool_state.proofs.Drops.{drop_read_allowed, drop_read_here, drop_read_right, read_dropped_done}
 use Rattle.tw_pool_state.proofs.data.rights.exec_drop_read.Goals as goal
 

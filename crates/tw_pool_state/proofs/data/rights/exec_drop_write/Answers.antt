@@ -1,6 +1,5 @@
-use Rattle.std.proofs.Common.{◌∙◌, ◌+◌, ap, sym, refl}
+use Rattle.tw_pool_state.proofs.PartNames.{FrameView, ap, at_next_place, draft_of, frame_after, job_of, refl, sym, ◌+◌, ◌∙◌}
 use Rattle.tw_rights.specs.declared.held.Held.TheVariants as held
-use Rattle.tw_pool_state.proofs.PartNames.{FrameView, at_next_place, frame_after, draft_of, job_of}
 use Rattle.tw_pool_state.proofs.Drops.{drop_write_allowed, drop_write_here, drop_write_right, write_dropped_done}
 use Rattle.tw_pool_state.proofs.Registers.{id_at, more_than, put_back}
 use Rattle.tw_pool_state.proofs.data.rights.exec_drop_write.Goals as goal

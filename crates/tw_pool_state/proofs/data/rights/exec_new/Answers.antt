@@ -1,6 +1,5 @@
-use Rattle.std.proofs.Common.{◌∙◌, ◌+◌, ap, sym, refl, slice_set, slice_index_or, Some, None}
+use Rattle.tw_pool_state.proofs.PartNames.{FrameView, None, Some, ap, at_next_place, draft_of, frame_after, refl, slice_index_or, slice_set, sym, ◌+◌, ◌∙◌}
 use Rattle.tw_rights.specs.declared.held.Held.TheVariants as held
-use Rattle.tw_pool_state.proofs.PartNames.{FrameView, at_next_place, frame_after, draft_of}
 use Rattle.tw_pool_state.proofs.News.{made_done, read_empty, write_empty}
 use Rattle.tw_pool_state.proofs.Registers.{nothing_left}
 use Rattle.tw_pool_state.proofs.data.rights.exec_new.Goals as goal

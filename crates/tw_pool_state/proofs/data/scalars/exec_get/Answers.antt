@@ -1,9 +1,7 @@
-use Rattle.std.proofs.Common.{◌∙◌, ◌+◌, slice_get, ap, refl}
+use Rattle.tw_pool_state.proofs.PartNames.{FrameView, ap, at_next_place, frame_after, option_map, refl, scalar_of, slice_get, unchanged, with_value, ◌+◌, ◌∙◌}
 use Rattle.tw_types.specs.declared.value.Value.TheVariants as value
-use Rattle.tw_pool_state.proofs.PartNames.{FrameView, at_next_place, frame_after, option_map, scalar_of, with_value}
 use Rattle.tw_pool_state.proofs.Gets.{get_allowed, get_fits, get_here, get_right, got_done}
 use Rattle.tw_pool_state.proofs.ValueRegisters.{text_there}
-use Rattle.tw_store.proofs.Here.{unchanged}
 use Rattle.tw_pool_state.proofs.data.scalars.exec_get.Goals as goal
 
 pub peek_read-requires : goal.peek_read-requires

@@ -1,9 +1,7 @@
-use Rattle.std.proofs.Common.{◌∙◌, ◌+◌, sym, ap, refl, inl, inr}
-use Rattle.tw_pool_state.proofs.PartNames.{FrameView, Right, Value, at_next_place, frame_after, draft_of, job_of}
+use Rattle.tw_pool_state.proofs.PartNames.{FrameView, Right, Value, ap, at_next_place, draft_of, frame_after, inl, inr, job_of, refl, sym, unchanged, ◌+◌, ◌∙◌}
 use Rattle.tw_rights.specs.declared.held.Held.TheVariants as held
 use Rattle.tw_pool_state.proofs.Registers.{id_at, more_than, put_back}
 use Rattle.tw_pool_state.proofs.Stores.{store_allowed, store_declared, store_here, store_right, stored_done}
-use Rattle.tw_store.proofs.Here.{unchanged}
 use Rattle.tw_pool_state.proofs.data.scalars.exec_store.Goals as goal
 
 pub value-requires : goal.value-requires

@@ -1,7 +1,4 @@
-use Rattle.std.proofs.Common.{Bor, List, ◌∷◌, Some, sym, ap, subst, ◌∙◌}
-use Rattle.tw_types.specs.declared.input.Input.{Input}
-use Rattle.tw_pool_state.proofs.PartNames.{Adds, OpenedParts, with_given, with_output}
-use Rattle.tw_code.proofs.Givens.{next_param}
+use Rattle.tw_pool_state.proofs.PartNames.{Adds, Bor, Input, List, OpenedParts, Some, ap, next_param, subst, sym, with_given, with_output, ◌∙◌, ◌∷◌}
 use Rattle.tw_pool_state.proofs.MainParameters.{begun_first, given_begun, may_add, output_begun}
 use Rattle.tw_pool_state.proofs.open.Opened.add_all.Goals as goal
 use Rattle.tw_pool_state.proofs.open.Opened.add_all.Goals.{then-is_write+in_ok-add_output, else-is_write+in-Some+in_ok-add_given}

@@ -1,5 +1,4 @@
-use Rattle.std.proofs.Common.{◌++◌, ◌∷◌, [], Some, arith, length, length-append, sym, ap, subst}
-use Rattle.tw_pool_state.proofs.PartNames.{IsMade, OpenedParts, Read, with_given}
+use Rattle.tw_pool_state.proofs.PartNames.{IsMade, OpenedParts, Read, Some, [], ap, arith, length, length-append, subst, sym, with_given, ◌++◌, ◌∷◌}
 use Rattle.tw_pool_state.proofs.MainParameters.{given_made, has_place}
 use Rattle.tw_pool_state.proofs.open.Opened.add_given.Goals as goal
 

@@ -1,5 +1,4 @@
-use Rattle.std.proofs.Common.{map as each, ◌++◌, ◌∷◌, [], arith, length, length-append, sym, ap, subst, ◌∙◌}
-use Rattle.tw_pool_state.proofs.PartNames.{IsMade, OpenedParts, Right, Write, map-append, with_output}
+use Rattle.tw_pool_state.proofs.PartNames.{IsMade, OpenedParts, Right, Write, [], ap, arith, length, length-append, map as each, map-append, subst, sym, with_output, ◌++◌, ◌∙◌, ◌∷◌}
 use Rattle.tw_pool_state.proofs.MainParameters.{has_place, output_made}
 use Rattle.tw_pool_state.proofs.open.Opened.add_output.Goals as goal
 

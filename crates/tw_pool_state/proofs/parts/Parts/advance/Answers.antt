@@ -1,5 +1,4 @@
-use Rattle.std.proofs.Common.{Some, ap, arith}
-use Rattle.tw_pool_state.proofs.PartNames.{bare_frame, frame_after, RunningView}
+use Rattle.tw_pool_state.proofs.PartNames.{RunningView, Some, ap, arith, bare_frame, frame_after}
 use Rattle.tw_pool_state.proofs.Fitting.{seen}
 use Rattle.tw_pool_state.proofs.Goings.{is_issued}
 use Rattle.tw_pool_state.proofs.Law.{runner_has_slot}

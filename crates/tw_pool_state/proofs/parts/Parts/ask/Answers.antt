@@ -1,6 +1,5 @@
 use Rattle.std.proofs.Common.{◌∙◌, sym, ap, refl, IsSome, subst, ◌≡◌, ℕ}
-use Rattle.tw_pool_state.proofs.PartNames.{IsAskOfOpen, IsAsking, IsAt, Right, closed_by, get, same_Some, state_of}
-use Rattle.tw_types.specs.declared.stage.Stage.TheVariants.{Waiting, Ready}
+use Rattle.tw_pool_state.proofs.PartNames.{IsAskOfOpen, IsAsking, IsAt, Ready, Right, Waiting, closed_by, get, same_Some, state_of}
 use Rattle.std.specs.declared.alloc.AllocError.{AllocError}
 use Rattle.std.specs.declared.result.Result.TheVariants.{Ok}
 use Rattle.tw_pool_state.proofs.Staging.{right_is, reads, stage_is, unsettled, closed_leads, open_leads, asks, asks_open}

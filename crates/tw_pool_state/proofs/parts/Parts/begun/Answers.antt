@@ -1,5 +1,4 @@
-use Rattle.std.proofs.Common.{ap, ◌∙◌}
-use Rattle.tw_pool_state.proofs.PartNames.{Arg, TasksOf, get, get-empty, nat_cmp}
+use Rattle.tw_pool_state.proofs.PartNames.{Arg, TasksOf, ap, get, get-empty, nat_cmp, ◌∙◌}
 use Rattle.tw_pool_state.proofs.parts.Parts.begun.Goals as goal
 
 pub put-requires-clause-new : goal.put-requires-clause-new

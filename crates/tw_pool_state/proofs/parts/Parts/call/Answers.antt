@@ -1,7 +1,4 @@
-use Rattle.std.proofs.Common.{◌≡◌, ◌∙◌, refl, sym, ap, subst}
-use Rattle.tw_pool_state.proofs.PartNames.{Call, FrameView, IsAtInstr, IsIssued, IsOwed, JobView, Makes, MakesAfter, Parts, TakesMemory, Untouched, frame_after, insert, job_of, same_Some, with_done, RunningView, TasksByActor, with_running}
-use Rattle.tw_code.specs.declared.instr.Instr.{Instr}
-use Rattle.tw_pool_state.specs.Memory.{CallTakes}
+use Rattle.tw_pool_state.proofs.PartNames.{Call, CallTakes, FrameView, Instr, IsAtInstr, IsIssued, IsOwed, JobView, Makes, MakesAfter, Parts, RunningView, TakesMemory, TasksByActor, Untouched, ap, frame_after, insert, job_of, refl, same_Some, subst, sym, with_done, with_running, ◌∙◌, ◌≡◌}
 use Rattle.tw_pool_state.proofs.Answering.{when_back, when_done, when_issued, when_refused}
 use Rattle.tw_pool_state.proofs.Calling.{called, may_do}
 use Rattle.tw_pool_state.proofs.Goings.{is_issued, issued_goes}

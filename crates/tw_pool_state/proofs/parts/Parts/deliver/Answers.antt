@@ -1,5 +1,4 @@
-use Rattle.std.proofs.Common.{◌∙◌, sym, ap, refl, set}
-use Rattle.tw_pool_state.specs.Notes.{queue_at}
+use Rattle.tw_pool_state.proofs.PartNames.{ap, queue_at, refl, set, sym, ◌∙◌}
 use Rattle.tw_pool_state.proofs.Notes.{first_of}
 use Rattle.tw_pool_state.proofs.Delivers.{may_mark, delivers}
 use Rattle.tw_pool_state.proofs.parts.Parts.deliver.Goals as goal

@@ -1,5 +1,4 @@
-use Rattle.std.proofs.Common.{◌≡◌, ◌∙◌, refl, sym, ap, slice_get, is_some}
-use Rattle.tw_pool_state.proofs.PartNames.{FrameView, actor_cmp-IsAntisymmetric, actor_cmp_total, frame_after, same_Some, with_done, RunningView}
+use Rattle.tw_pool_state.proofs.PartNames.{FrameView, RunningView, actor_cmp-IsAntisymmetric, actor_cmp_total, ap, frame_after, is_some, refl, same_Some, slice_get, sym, with_done, ◌∙◌, ◌≡◌}
 use Rattle.tw_types.proofs.Maps.{remove_insert}
 use Rattle.tw_pool_state.proofs.Ends.{ended}
 use Rattle.tw_pool_state.proofs.Law.{runner_has_slot}

@@ -1,5 +1,4 @@
-use Rattle.std.proofs.Common.{◌≡◌, ◌<◌, sym, ap, subst, arith}
-use Rattle.tw_pool_state.proofs.PartNames.{Succeeds, nat_tests, with_done}
+use Rattle.tw_pool_state.proofs.PartNames.{Succeeds, ap, arith, nat_tests, subst, sym, with_done, ◌<◌, ◌≡◌}
 use Rattle.tw_types.specs.declared.event.Event.TheVariants as event
 use Rattle.tw_pool_state.proofs.Goings.{gone, leads, stayed}
 use Rattle.tw_pool_state.proofs.parts.Parts.event_of.Goals as goal

@@ -1,5 +1,4 @@
-use Rattle.std.proofs.Common.{sym, subst}
-use Rattle.tw_types.specs.declared.actor.Actor.{Actor}
+use Rattle.tw_pool_state.proofs.PartNames.{Actor, subst, sym}
 use Rattle.tw_queue.specs.Targets.{IsNoTarget}
 use Rattle.tw_pool_state.specs.Work.{HasNoWork}
 use Rattle.tw_pool_state.proofs.parts.Parts.has_own_work.Goals as goal

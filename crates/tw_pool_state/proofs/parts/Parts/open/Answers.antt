@@ -1,6 +1,5 @@
-use Rattle.std.proofs.Common.{◌≡◌, ℕ, List, ap, subst, ◌∙◌, rules}
+use Rattle.tw_pool_state.proofs.PartNames.{IsLayout, IsMade, IsProgram, List, MainWaits, Param, RunningView, ap, main_params, nothing_opened, opened, rules, subst, ℕ, ◌∙◌, ◌≡◌}
 use Rattle.std.specs.FinMap as map
-use Rattle.tw_pool_state.proofs.PartNames.{IsLayout, IsMade, IsProgram, MainWaits, Param, RunningView, main_params, nothing_opened, opened}
 use Rattle.tw_pool_state.proofs.Openings.{is_opening}
 use Rattle.tw_pool_state.proofs.parts.Parts.open.Goals as goal
 

@@ -1,6 +1,4 @@
-use Rattle.std.proofs.Common.{◌≡◌, ◌∙◌, Some, refl, sym, ap, arith, to_z, of_z, w64}
-use Rattle.std.proofs.lemmas.Int.{to_z-of_z}
-use Rattle.tw_pool_state.proofs.PartNames.{Call, frame_after, get, frame_at_next, insert, with_done, RunningView}
+use Rattle.tw_pool_state.proofs.PartNames.{Call, RunningView, Some, ap, arith, frame_after, frame_at_next, get, insert, of_z, refl, sym, to_z, to_z-of_z, w64, with_done, ◌∙◌, ◌≡◌}
 use Rattle.tw_code.specs.declared.instr.Instr.TheVariants as instr
 use Rattle.tw_pool_state.proofs.AfterJob.{few, here_too, in_queue, kind_of_callee, operands, params_of_callee, runs_there, runs_too, slot_there, is_running_ready, so_bundled, so_valued, there}
 use Rattle.tw_pool_state.proofs.Goings.{is_issued, issued_goes}

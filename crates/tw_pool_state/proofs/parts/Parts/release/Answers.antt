@@ -1,9 +1,7 @@
 use Rattle.std.proofs.Common.{◌≡◌, ◌∙◌, sym, ap, refl, Some, arith, to_z-of_z, to_z, of_z, w64, IsSome, subst, List, slice_get, option_map}
-use Rattle.tw_pool_state.proofs.PartNames.{Arg, Procedure, RuleOf, get, insert, same_Some, task_from}
+use Rattle.tw_pool_state.proofs.PartNames.{Arg, IsTarget, Procedure, RuleOf, action_of, get, insert, same_Some, task_from, waiting}
 use Rattle.std.specs.declared.option.Option.{Option}
 use Rattle.tw_rules.specs.declared.planned.PlannedTask.{PlannedTask}
-use Rattle.tw_rules.specs.Table.{action_of}
-use Rattle.tw_queue.specs.Queues.{IsTarget, waiting}
 use Rattle.tw_pool_state.proofs.Releases.{its, fresh, releasable, procedure, releases, target}
 use Rattle.tw_pool_state.proofs.parts.Parts.release.Goals as goal
 

@@ -1,8 +1,5 @@
-use Rattle.std.proofs.Common.{◌≡◌, ◌∙◌, ◌+◌, Some, refl, sym, ap, arith, to_z, of_z, w64}
-use Rattle.std.proofs.lemmas.Int.{to_z-of_z}
-use Rattle.tw_pool_state.proofs.PartNames.{Call, frame_after, frame_at_next, insert, number_in_kind, with_done, RunningView}
+use Rattle.tw_pool_state.proofs.PartNames.{Call, RunningView, Some, ap, arith, bundled, frame_after, frame_at_next, insert, number_in_kind, of_z, refl, sym, to_z, to_z-of_z, w64, with_done, ◌+◌, ◌∙◌, ◌≡◌}
 use Rattle.tw_code.specs.declared.instr.Instr.TheVariants as instr
-use Rattle.tw_rights.specs.Bundled.{bundled}
 use Rattle.tw_rules.specs.Table.{new_rule}
 use Rattle.tw_rules.proofs.Fitting.{bundled_suit}
 use Rattle.tw_pool_state.proofs.AfterJob.{few, here_too, params_of_callee, runs_there, runs_too, slot_there, is_running_ready, so_bundled, so_valued, there}

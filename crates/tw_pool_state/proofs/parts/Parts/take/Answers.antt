@@ -1,6 +1,4 @@
-use Rattle.std.proofs.Common.{◌∙◌, refl, ap}
-use Rattle.tw_store.proofs.Here.{unchanged}
-use Rattle.tw_pool_state.proofs.PartNames.{begun, get, ActorCounts, is_in}
+use Rattle.tw_pool_state.proofs.PartNames.{ActorCounts, ap, begun, get, is_in, refl, unchanged, ◌∙◌}
 use Rattle.tw_pool_state.proofs.Runners.{get_own}
 use Rattle.tw_pool_state.proofs.Takes.{begun_fits, may_start, taken, takes}
 use Rattle.tw_pool_state.proofs.parts.Parts.take.Goals as goal

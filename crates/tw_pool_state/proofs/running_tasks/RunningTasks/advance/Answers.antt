@@ -1,9 +1,5 @@
-use Rattle.std.proofs.Common.{◌≡◌, ◌<◌, ◌∙◌, None, Some, ap, subst, sym}
-use Rattle.std.specs.Prelude.{◌^◌}
-use Rattle.tw_frame.proofs.Lending.{may_go_on}
-use Rattle.tw_pool_state.specs.Coming.{frame_after, issued_as}
+use Rattle.tw_pool_state.proofs.PartNames.{FrameView, JobView, MayBeAt, None, Some, ap, frame_after, issued_as, job_of, may_go_on, same_Some, subst, sym, with_running, ◌<◌, ◌^◌, ◌∙◌, ◌≡◌}
 use Rattle.tw_pool_state.proofs.FrameBufferLists.{slots_kept}
-use Rattle.tw_pool_state.proofs.PartNames.{FrameView, JobView, MayBeAt, job_of, same_Some, with_running}
 use Rattle.tw_pool_state.proofs.Runners.{changed, read_there}
 use Rattle.tw_pool_state.proofs.running_tasks.RunningTasks.advance.Goals as goal
 

@@ -1,7 +1,5 @@
-use Rattle.std.proofs.Common.{◌≡◌, ◌∙◌, None, Some, ap, subst, sym}
-use Rattle.tw_pool_state.specs.Coming.{frame_after}
+use Rattle.tw_pool_state.proofs.PartNames.{FrameView, IsIssuedAfter, IsOutOfMemory, MayDo, None, Some, ap, frame_after, job_of, same_Some, subst, sym, ◌∙◌, ◌≡◌}
 use Rattle.tw_pool_state.proofs.FrameBufferLists.{slots_kept}
-use Rattle.tw_pool_state.proofs.PartNames.{FrameView, IsIssuedAfter, IsOutOfMemory, MayDo, job_of, same_Some}
 use Rattle.tw_pool_state.proofs.Runners.{changed, read_there}
 use Rattle.tw_pool_state.proofs.running_tasks.RunningTasks.exec_data.Goals as goal
 use Rattle.tw_pool_state.proofs.running_tasks.RunningTasks.exec_data.Goals.{in-Ok, in-Err}

@@ -1,6 +1,4 @@
-use Rattle.std.proofs.Common.{sym, ap, ◌∙◌}
-use Rattle.std.specs.FinMap.{len}
-use Rattle.tw_pool_state.proofs.PartNames.{RunningView}
+use Rattle.tw_pool_state.proofs.PartNames.{RunningView, ap, len, sym, ◌∙◌}
 use Rattle.tw_pool_state.proofs.Runners.{count_by_actor}
 use Rattle.tw_pool_state.proofs.running_tasks.RunningTasks.running.Goals as goal
 

@@ -1,9 +1,7 @@
 use Rattle.std.proofs.Common.{◌≡◌, ◌<◌, ◌∙◌, ℕ, List, Some, None, Ok, [], arith, ap, cond, count_by, get_or, is_some, length, length-set, option_map, refl, set, slice_get, subst, sym}
-use Rattle.tw_pool_state.proofs.PartNames.{Actor, AreKept, Arg, FrameView, MayBeAt, Procedure, RunningView, StartsAsMachine, TaskOf, TypedProgram, Value, bare_frame, begun, get, insert, is_in, job_of, issued_as, same_Some, slot_of, by_actor, started}
+use Rattle.tw_pool_state.proofs.PartNames.{Actor, AreKept, Arg, FrameView, MayBeAt, Procedure, RunningView, StartsAsMachine, TaskOf, TypedProgram, Value, bare_frame, begun, by_actor, filed, get, insert, is_in, issued_as, job_of, rights_in, same_Some, slot_of, started, taken_task, without}
 use Rattle.std.specs.declared.option.Option.{Option}
-use Rattle.tw_rights.specs.Filed.{filed, rights_in}
 use Rattle.tw_rights.specs.declared.task.Task.{Task}
-use Rattle.tw_queue.specs.Queues.{taken_task, without}
 use Rattle.tw_pool_state.proofs.FrameBufferLists.{kept_begun, kept_laid, room_there}
 use Rattle.tw_pool_state.proofs.Runners.{count_set, get_by_actor, low_slot, by_actor_put}
 use Rattle.tw_pool_state.proofs.running_tasks.RunningTasks.start.Goals as goal

@@ -1,9 +1,6 @@
 use Rattle.std.proofs.Common.{◌≡◌, ◌<◌, ◌+◌, ◌∙◌, IsSome, None, Some, ap, arith, subst, sym}
-use Rattle.std.specs.Prelude.{◌^◌}
-use Rattle.tw_rights.specs.Bundled.{bundled}
-use Rattle.tw_pool_state.specs.Coming.{frame_after, frame_at_next, issued_as}
+use Rattle.tw_pool_state.proofs.PartNames.{FrameView, MayBeAt, at_next_place, bundled, frame_after, frame_at_next, issued_as, job_of, same_Some, with_running, ◌^◌}
 use Rattle.tw_pool_state.proofs.FrameBufferLists.{slots_kept}
-use Rattle.tw_pool_state.proofs.PartNames.{FrameView, MayBeAt, at_next_place, job_of, same_Some, with_running}
 use Rattle.tw_pool_state.proofs.Runners.{changed, read_there}
 use Rattle.tw_pool_state.proofs.running_tasks.RunningTasks.take_args.Goals as goal
 

@@ -1,7 +1,4 @@
-use Rattle.std.proofs.Common.{◌≡◌, ◌∷◌, sym, ap, subst, ◌∙◌, length, arith}
-use Rattle.std.specs.BinaryHeap.{heap_items, heap_len}
-use Rattle.std.specs.List.Sorted.{IsPermutation}
-use Rattle.tw_rules.specs.Numbers.{IsLeast, numbers_in}
+use Rattle.tw_rules.proofs.Names.{IsLeast, IsPermutation, ap, arith, heap_items, heap_len, length, numbers_in, subst, sym, ◌∙◌, ◌∷◌, ◌≡◌}
 use Rattle.tw_rules.proofs.Heaps.{emptied, popped}
 use Rattle.tw_rules.proofs.release_heap.Releases.drop_first.Goals as goal
 

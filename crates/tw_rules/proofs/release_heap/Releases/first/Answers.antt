@@ -1,6 +1,4 @@
-use Rattle.std.proofs.Common.{sym, subst, ◌∙◌}
-use Rattle.std.specs.BinaryHeap.{heap_items}
-use Rattle.tw_rules.specs.Numbers.{IsLeast}
+use Rattle.tw_rules.proofs.Names.{IsLeast, heap_items, subst, sym, ◌∙◌}
 use Rattle.tw_rules.proofs.Heaps.{peeked}
 use Rattle.tw_rules.proofs.release_heap.Releases.first.Goals as goal
 

@@ -1,7 +1,4 @@
-use Rattle.std.proofs.Common.{◌∷◌, subst}
-use Rattle.std.specs.List.Sorted.{IsPermutation}
-use Rattle.std.proofs.lemmas.List.Sorted.{IsPermutation-map}
-use Rattle.tw_rules.specs.Numbers.{numbers_in}
+use Rattle.tw_rules.proofs.Names.{IsPermutation, IsPermutation-map, numbers_in, subst, ◌∷◌}
 use Rattle.tw_rules.proofs.release_heap.Releases.push.Goals as goal
 
 pub returns-clause-numbers : goal.returns-clause-numbers

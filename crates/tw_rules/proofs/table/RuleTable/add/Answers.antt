@@ -1,16 +1,4 @@
-use Rattle.std.proofs.Common.{◌≡◌, ◌<◌, ◌+◌, ℕ, true, List, length, get_or, sym, ap, subst, ◌∙◌, slice_set, arith}
-use Rattle.std.specs.declared.option.Option.TheVariants.{Some}
-use Rattle.std.specs.Prelude.{slice_get}
-use Rattle.std.specs.FinMap.{insert}
-use Rattle.std.specs.HashMap.{hash_map_len, spare}
-use Rattle.std.specs.List.{list_all}
-use Rattle.std.specs.Vec.{vec_capacity}
-use Rattle.std.proofs.lemmas.Option.{slice_get-get_or}
-use Rattle.tw_types.specs.declared.stage.Stage.{Stage}
-use Rattle.tw_types.specs.Rule.{is_settled}
-use Rattle.tw_rules.specs.Entries.{rule_in, rules_in}
-use Rattle.tw_rules.specs.Indexed.{AreFitting, IsIndexed, has_place}
-use Rattle.tw_rules.specs.Table.{new_rule, room_for}
+use Rattle.tw_rules.proofs.Names.{AreFitting, IsIndexed, List, Some, Stage, ap, arith, get_or, has_place, hash_map_len, insert, is_settled, length, list_all, new_rule, room_for, rule_in, rules_in, slice_get, slice_get-get_or, slice_set, spare, subst, sym, true, vec_capacity, ℕ, ◌+◌, ◌<◌, ◌∙◌, ◌≡◌}
 use Rattle.tw_rules.proofs.Rooms.{has_room, place_capacity}
 use Rattle.tw_rules.proofs.Fitting.{fitting_added, new_fits}
 use Rattle.tw_rules.proofs.Tables.{index_added}

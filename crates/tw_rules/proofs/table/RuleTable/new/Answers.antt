@@ -1,6 +1,4 @@
-use Rattle.std.proofs.Common.{◌≡◌, [], ◌∷◌, length, sym, subst, arith}
-use Rattle.tw_rules.specs.Entries.{rules_in}
-use Rattle.tw_rules.specs.Indexed.{AreFitting, IsIndexed}
+use Rattle.tw_rules.proofs.Names.{AreFitting, IsIndexed, [], arith, length, rules_in, subst, sym, ◌∷◌, ◌≡◌}
 use Rattle.tw_rules.proofs.Fitting.{fitting_empty}
 use Rattle.tw_rules.proofs.Tables.{empty_four}
 use Rattle.tw_rules.proofs.table.RuleTable.new.Goals as goal

@@ -1,9 +1,5 @@
-use Rattle.std.proofs.Common.{◌≡◌, ℕ, is_some, sym, ap, subst, ◌∙◌}
+use Rattle.tw_rules.proofs.Names.{None, Some, Table, ap, is_some, next_ask, right_at, rule_in, rules_in, subst, sym, ℕ, ◌∙◌, ◌≡◌}
 use Rattle.std.specs.Prelude.{IsSome, slice_get}
-use Rattle.std.specs.declared.option.Option.TheVariants.{None, Some}
-use Rattle.tw_types.specs.Rule.{next_ask}
-use Rattle.tw_rules.specs.Entries.{rule_in, rules_in}
-use Rattle.tw_rules.specs.Table.{Table, right_at}
 use Rattle.tw_rules.proofs.Tables.{agenda_at, agenda_past, ask_found, ask_is, ask_none, ask_past, ask_there}
 use Rattle.tw_rules.proofs.Fitting.{asked_right}
 use Rattle.tw_rules.proofs.table.RuleTable.next_ask.Goals as goal

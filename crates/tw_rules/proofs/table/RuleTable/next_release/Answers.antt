@@ -1,7 +1,4 @@
-use Rattle.std.proofs.Common.{ℕ, sym, ap, ◌∙◌}
-use Rattle.std.specs.declared.option.Option.TheVariants.{Some}
-use Rattle.tw_types.specs.Rule.{next_release}
-use Rattle.tw_rules.specs.Entries.{rules_in}
+use Rattle.tw_rules.proofs.Names.{Some, ap, next_release, rules_in, sym, ℕ, ◌∙◌}
 use Rattle.tw_rules.proofs.Tables.{agenda_at, agenda_past, release_is, release_none, release_past}
 use Rattle.tw_rules.proofs.table.RuleTable.next_release.Goals as goal
 

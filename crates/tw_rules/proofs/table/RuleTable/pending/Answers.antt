@@ -1,6 +1,5 @@
-use Rattle.std.proofs.Common.{sym, ap, ◌∙◌}
+use Rattle.tw_rules.proofs.Names.{ap, rule_in, sym, ◌∙◌}
 use Rattle.std.specs.FinMap as map
-use Rattle.tw_rules.specs.Entries.{rule_in}
 use Rattle.tw_rules.proofs.Seen.{seen_len}
 use Rattle.tw_rules.proofs.table.RuleTable.pending.Goals as goal
 

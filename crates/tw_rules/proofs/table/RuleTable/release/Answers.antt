@@ -1,13 +1,4 @@
-use Rattle.std.proofs.Common.{◌≡◌, ◌<◌, ◌+◌, true, length, get_or, sym, ap, subst, ◌∙◌, option_map, arith, slice_set}
-use Rattle.std.specs.declared.option.Option.TheVariants.{Some}
-use Rattle.std.specs.FinMap.{get}
-use Rattle.std.specs.HashMap.{hash_map_len, spare}
-use Rattle.std.specs.Vec.{vec_capacity}
-use Rattle.std.proofs.lemmas.Option.{slice_get-get_or}
-use Rattle.tw_types.specs.Rule.{is_releasable}
-use Rattle.tw_rules.specs.Entries.{rule_in, rules_in}
-use Rattle.tw_rules.specs.Indexed.{AreFitting, IsIndexed, IsTrimmed, has_place}
-use Rattle.tw_rules.specs.Table.{room_for}
+use Rattle.tw_rules.proofs.Names.{AreFitting, IsIndexed, IsTrimmed, Some, ap, arith, get, get_or, has_place, hash_map_len, is_releasable, length, option_map, room_for, rule_in, rules_in, slice_get-get_or, slice_set, spare, subst, sym, true, vec_capacity, ◌+◌, ◌<◌, ◌∙◌, ◌≡◌}
 use Rattle.tw_rules.proofs.Rooms.{place_kept, room_kept}
 use Rattle.tw_rules.proofs.Fitting.{fitting_gone}
 use Rattle.tw_rules.proofs.Tables.{can_be_released, gone_at, gone_engine}

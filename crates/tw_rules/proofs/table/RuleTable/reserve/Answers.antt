@@ -1,10 +1,4 @@
-use Rattle.std.proofs.Common.{◌≡◌, ◌<◌, true, length, get_or, sym, ap, subst, ◌∙◌, arith}
-use Rattle.std.specs.HashMap.{hash_map_len, spare}
-use Rattle.std.specs.Vec.{vec_capacity}
-use Rattle.std.proofs.lemmas.Option.{slice_get-get_or}
-use Rattle.tw_rules.specs.Entries.{rule_in, rules_in}
-use Rattle.tw_rules.specs.Indexed.{AreFitting, IsIndexed, has_place}
-use Rattle.tw_rules.specs.Table.{room_for}
+use Rattle.tw_rules.proofs.Names.{AreFitting, IsIndexed, ap, arith, get_or, has_place, hash_map_len, length, room_for, rule_in, rules_in, slice_get-get_or, spare, subst, sym, true, vec_capacity, ◌<◌, ◌∙◌, ◌≡◌}
 use Rattle.tw_rules.proofs.Rooms.{has_room, index_same, place_capacity, place_kept, place_spare, room_kept, room_same}
 use Rattle.tw_rules.proofs.Seen.{seen_same}
 use Rattle.tw_rules.proofs.table.RuleTable.reserve.Goals as goal

@@ -1,12 +1,4 @@
-use Rattle.std.proofs.Common.{◌≡◌, ◌<◌, true, false, length, get_or, sym, ap, subst, ◌∙◌, option_map, arith}
-use Rattle.std.specs.declared.option.Option.TheVariants.{Some}
-use Rattle.std.specs.HashMap.{hash_map_len, spare}
-use Rattle.std.specs.Vec.{vec_capacity}
-use Rattle.std.proofs.lemmas.Option.{slice_get-get_or}
-use Rattle.tw_types.specs.Rule.{is_settled}
-use Rattle.tw_rules.specs.Entries.{rules_in}
-use Rattle.tw_rules.specs.Indexed.{AreFitting, has_place}
-use Rattle.tw_rules.specs.Table.{room_for, stage_at}
+use Rattle.tw_rules.proofs.Names.{AreFitting, Some, ap, arith, false, get_or, has_place, hash_map_len, is_settled, length, option_map, room_for, rules_in, slice_get-get_or, spare, stage_at, subst, sym, true, vec_capacity, ◌<◌, ◌∙◌, ◌≡◌}
 use Rattle.tw_rules.proofs.Rooms.{place_kept, room_kept}
 use Rattle.tw_rules.proofs.Fitting.{fitting_staged}
 use Rattle.tw_rules.proofs.Tables.{index_at, low_at, promised_at}

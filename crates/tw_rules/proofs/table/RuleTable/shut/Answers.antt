@@ -1,8 +1,4 @@
-use Rattle.std.proofs.Common.{map, rules}
-use Rattle.std.specs.FinMap.{entries}
-use Rattle.std.proofs.lemmas.List.Sorted.{IsNonDecreasingBy-from_sort, IsPermutation-trans, answers_always}
-use Rattle.tw_rules.specs.declared.erased.ErasedRule.{ErasedRule}
-use Rattle.tw_rules.specs.Table.{erasure}
+use Rattle.tw_rules.proofs.Names.{ErasedRule, IsNonDecreasingBy-from_sort, IsPermutation-trans, answers_always, entries, erasure, map, rules}
 use Rattle.tw_rules.proofs.SameOrder.{same_order}
 use Rattle.tw_rules.proofs.Erasing.{erased_rise}
 use Rattle.tw_rules.proofs.table.RuleTable.shut.Goals as goal

@@ -1,10 +1,5 @@
-use Rattle.std.proofs.Common.{◌≡◌, [], ◌∷◌, ◌++◌, map, length, sym, ap, subst, ◌∙◌, arith}
-use Rattle.std.specs.FinMap.{entries}
-use Rattle.std.specs.List.Sorted.{IsPermutation}
+use Rattle.tw_rules.proofs.Names.{IsPermutation, IsPermutation-map, IsPermutation-pop_more, IsPermutation-refl, [], ap, arith, entries, erasure, length, map, rule_in, rules_in, subst, sym, ◌++◌, ◌∙◌, ◌∷◌, ◌≡◌}
 use Rattle.std.proofs.lemmas.List.{append-nil}
-use Rattle.std.proofs.lemmas.List.Sorted.{IsPermutation-map, IsPermutation-pop_more, IsPermutation-refl}
-use Rattle.tw_rules.specs.Entries.{rule_in, rules_in}
-use Rattle.tw_rules.specs.Table.{erasure}
 use Rattle.tw_rules.proofs.Seen.{entry_out, is_some_seen, no_entries}
 use Rattle.tw_rules.proofs.table.RuleTable.spend_all.Goals as goal
 

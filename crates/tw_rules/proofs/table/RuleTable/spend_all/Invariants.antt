@@ -1,10 +1,4 @@
-use Rattle.std.proofs.Common.{◌≤◌, ◌+◌, ◌++◌, map}
-use Rattle.std.specs.FinMap.{entries}
-use Rattle.std.specs.HashMap.{hash_map_len}
-use Rattle.std.specs.Vec.{vec_capacity, vec_len}
-use Rattle.std.specs.List.Sorted.{IsPermutation}
-use Rattle.tw_rules.specs.Entries.{rules_in}
-use Rattle.tw_rules.specs.Table.{erasure}
+use Rattle.tw_rules.proofs.Names.{IsPermutation, entries, erasure, hash_map_len, map, rules_in, vec_capacity, vec_len, ◌++◌, ◌+◌, ◌≤◌}
 use Rattle.tw_rules.proofs.table.RuleTable.spend_all.Given as goal
 
 abbrev pub invariant-loop-number : goal.invariant-loop-number

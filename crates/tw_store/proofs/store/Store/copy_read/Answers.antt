@@ -1,7 +1,4 @@
-use Rattle.std.proofs.Common.{◌<◌, subst}
-use Rattle.tw_types.specs.StoreCalls.{one_read_more}
-use Rattle.tw_types.specs.Room.{HasReadRoom}
-use Rattle.tw_store.specs.declared.slot.Slot.{Slot}
+use Rattle.tw_store.proofs.Names.{HasReadRoom, Slot, one_read_more, subst, ◌<◌}
 use Rattle.tw_store.proofs.Remain.{if_some}
 use Rattle.tw_store.proofs.Here.{seat, is_there, now_is, now_seated}
 use Rattle.tw_store.proofs.store.Store.copy_read.Goals as goal

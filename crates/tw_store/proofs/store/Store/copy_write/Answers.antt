@@ -1,7 +1,4 @@
-use Rattle.std.proofs.Common.{◌<◌, subst}
-use Rattle.tw_types.specs.StoreCalls.{one_write_more}
-use Rattle.tw_types.specs.Room.{HasWriteRoom}
-use Rattle.tw_store.specs.declared.slot.Slot.{Slot}
+use Rattle.tw_store.proofs.Names.{HasWriteRoom, Slot, one_write_more, subst, ◌<◌}
 use Rattle.tw_store.proofs.Remain.{if_some}
 use Rattle.tw_store.proofs.Here.{seat, is_there, now_is, now_seated}
 use Rattle.tw_store.proofs.store.Store.copy_write.Goals as goal

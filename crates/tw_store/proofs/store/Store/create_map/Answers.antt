@@ -1,11 +1,4 @@
-use Rattle.std.proofs.Common.{◌+◌, sym, ap, ◌∙◌, Some}
-use Rattle.std.specs.FinMap.{get, insert}
-use Rattle.tw_types.specs.Store.{Maps, added}
-use Rattle.tw_rights.specs.Rights.{Right}
-use Rattle.tw_datum.specs.Kept.{closed_datum}
-use Rattle.tw_store.specs.Served.{Served}
-use Rattle.tw_store.specs.Slots.{live_of, places_of, datum_in, place_in}
-use Rattle.tw_types.proofs.Settled.{with_live}
+use Rattle.tw_store.proofs.Names.{Maps, Right, Served, Some, added, ap, closed_datum, datum_in, get, insert, live_of, place_in, places_of, sym, with_live, ◌+◌, ◌∙◌}
 use Rattle.tw_store.proofs.Remain.{add_seated, add_shown, place_at}
 use Rattle.tw_store.proofs.store.Store.create_map.Goals as goal
 

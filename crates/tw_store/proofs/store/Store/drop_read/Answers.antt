@@ -1,7 +1,4 @@
-use Rattle.std.proofs.Common.{sym, ap, subst, ◌∙◌, Some}
-use Rattle.std.specs.FinMap.{get}
-use Rattle.tw_store.specs.Served.{Served}
-use Rattle.tw_store.specs.Slots.{IsAt}
+use Rattle.tw_store.proofs.Names.{IsAt, Served, Some, ap, get, subst, sym, ◌∙◌}
 use Rattle.tw_store.proofs.Remain.{seat_at, seated_left}
 use Rattle.tw_store.proofs.Roomy.{rooms_kept, same_room}
 use Rattle.tw_store.proofs.Here.{keeps}

@@ -1,14 +1,4 @@
-use Rattle.std.proofs.Common.{◌≡◌, ◌<◌, sym, ap, subst, ◌∙◌, is_some, option_map, Some}
-use Rattle.std.specs.FinMap.{get}
-use Rattle.tw_types.specs.StoreCalls.{member_at, read_copied, one_read_more}
-use Rattle.tw_rights.specs.Rights.{Right}
-use Rattle.tw_types.specs.Room.{HasReadRoom}
-use Rattle.tw_types.specs.ValueOrder.{named}
-use Rattle.tw_store.specs.Served.{IsHere, IsNow}
-use Rattle.tw_store.specs.Parts.{served_of}
-use Rattle.tw_store.specs.declared.member.Member.{Member}
-use Rattle.tw_store.specs.declared.slot.Slot.{Slot}
-use Rattle.tw_types.proofs.Passed.{look_kept}
+use Rattle.tw_store.proofs.Names.{HasReadRoom, IsHere, IsNow, Member, Right, Slot, Some, ap, get, is_some, look_kept, member_at, named, one_read_more, option_map, read_copied, served_of, subst, sym, ◌<◌, ◌∙◌, ◌≡◌}
 use Rattle.tw_store.proofs.Remain.{if_some}
 use Rattle.tw_store.proofs.Here.{seat, is_there, read_is, member_is, no_member, member_here, member_seat, member_room, right_on, now_is, now_seated, unchanged}
 use Rattle.tw_store.proofs.store.Store.look_under.Goals as goal

@@ -1,5 +1,4 @@
-use Rattle.std.proofs.Common.{◌≡◌, Some, sym}
-use Rattle.std.specs.FinMap.{get}
+use Rattle.tw_store.proofs.Names.{Some, get, sym, ◌≡◌}
 use Rattle.tw_store.proofs.Members.{member_is, member_knows}
 use Rattle.tw_store.proofs.store.Store.member.Goals as goal
 

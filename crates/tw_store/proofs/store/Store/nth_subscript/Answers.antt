@@ -1,7 +1,4 @@
-use Rattle.std.proofs.Common.{◌≡◌, arith, to_z-of_z, to_z, of_z, w64, ap, ◌∙◌}
-use Rattle.std.specs.FinMap.{get}
-use Rattle.std.specs.Option.{option_copied}
-use Rattle.tw_types.specs.StoreCalls.{subscript_after, subscripts_of}
+use Rattle.tw_store.proofs.Names.{ap, arith, get, of_z, option_copied, subscript_after, subscripts_of, to_z, to_z-of_z, w64, ◌∙◌, ◌≡◌}
 use Rattle.tw_datum.proofs.Subscripts.{kind_found}
 use Rattle.tw_store.proofs.Here.{seat, is_there, read_is, subscripts_is}
 use Rattle.tw_store.proofs.store.Store.nth_subscript.Goals as goal

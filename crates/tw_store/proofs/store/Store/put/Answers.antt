@@ -1,14 +1,5 @@
-use Rattle.std.proofs.Common.{◌≡◌, true, refl, subst, sym}
-use Rattle.std.specs.FinMap.{get}
-use Rattle.tw_types.specs.DataType.{is_map_of}
-use Rattle.tw_types.specs.StoreCalls.{value_put, with_entry}
-use Rattle.tw_types.specs.Value.{scalar_of}
-use Rattle.tw_types.specs.ValueOrder.{Subscript}
-use Rattle.tw_types.proofs.Came.{on_err, on_ok}
+use Rattle.tw_store.proofs.Names.{IsNow, Slot, Subscript, get, is_map_of, on_err, on_ok, refl, scalar_of, served_of, subst, sym, true, value_put, with_entry, ◌≡◌}
 use Rattle.tw_datum.specs.Puts.{TakesValue}
-use Rattle.tw_store.specs.Parts.{served_of}
-use Rattle.tw_store.specs.Served.{IsNow}
-use Rattle.tw_store.specs.declared.slot.Slot.{Slot}
 use Rattle.tw_store.proofs.Remain.{if_some}
 use Rattle.tw_store.proofs.Roomy.{same_room}
 use Rattle.tw_store.proofs.Here.{is_there, now_is, same_is, seat, then_seated}

@@ -1,9 +1,4 @@
-use Rattle.std.proofs.Common.{◌<◌, ◌≤◌, ◌%◌, sym, ap, subst, length, get_or, List}
-use Rattle.std.specs.FinMap.{get}
-use Rattle.tw_types.specs.declared.notice.Subscriber.{Subscriber}
-use Rattle.tw_store.specs.Served.{waiting_for}
-use Rattle.tw_store.specs.Parts.{rooms_in}
-use Rattle.tw_types.proofs.Came.{on_ok}
+use Rattle.tw_store.proofs.Names.{List, Subscriber, ap, get, get_or, length, on_ok, rooms_in, subst, sym, waiting_for, ◌%◌, ◌<◌, ◌≤◌}
 use Rattle.tw_store.proofs.Here.{seat, is_there, read_is, room_is, set_count, notice_room}
 use Rattle.tw_store.proofs.Own.{own_same}
 use Rattle.tw_store.proofs.store.Store.reserve_notices.Goals as goal

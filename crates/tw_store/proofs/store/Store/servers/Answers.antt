@@ -1,5 +1,4 @@
-use Rattle.std.proofs.Common.{subst}
-use Rattle.tw_store.specs.Served.{AreOwn, Served}
+use Rattle.tw_store.proofs.Names.{AreOwn, Served, subst}
 use Rattle.tw_store.proofs.store.Store.servers.Goals as goal
 
 pub returns-clause-own : goal.returns-clause-own

@@ -1,5 +1,4 @@
-use Rattle.std.proofs.Common.{◌∙◌}
-use Rattle.tw_types.specs.ValueOrder.{named}
+use Rattle.tw_store.proofs.Names.{named, ◌∙◌}
 use Rattle.tw_store.proofs.Here.{entry_is, is_there, read_is, seat}
 use Rattle.tw_store.proofs.store.Store.written_entry.Goals as goal
 

@@ -1,6 +1,4 @@
-use Rattle.std.proofs.Common.{ap, inl, inr, refl, rules, subst, sym}
-use Rattle.tw_symbols.proofs.TextNames.{Names, seen_names, seen_procedures, texts}
-use Rattle.tw_symbols.specs.RightNames.{AreLast, no_right_names, right_name}
+use Rattle.tw_symbols.proofs.TextNames.{AreLast, Names, ap, inl, inr, no_right_names, refl, right_name, rules, seen_names, seen_procedures, subst, sym, texts}
 use Rattle.tw_symbols.proofs.RightLines.{not_begun}
 use Rattle.tw_symbols.proofs.right_names.RightNames.of.Goals as goal
 

@@ -1,5 +1,4 @@
-use Rattle.std.proofs.Common.{length, subst}
-use Rattle.tw_symbols.specs.Unchanged.{IsPassed}
+use Rattle.tw_symbols.proofs.TextNames.{IsPassed, length, subst}
 use Rattle.tw_symbols.proofs.right_names.RightNames.read.Goals as goal
 
 pub returns-then-branch : goal.returns-then-branch

@@ -1,9 +1,5 @@
-use Rattle.std.proofs.Common.{List, ◌∷◌, [], Bor, ℕ, map, subst, sym}
-use Rattle.tw_symbols.proofs.TextNames.{map-append}
-use Rattle.std.proofs.lemmas.Iterator.Consumers.{YieldsList-at, YieldsList-end}
-use Rattle.std.proofs.lemmas.Iterator.Splits.{YieldsList-from_lines}
+use Rattle.tw_symbols.proofs.TextNames.{Bor, HasNoHead, List, YieldsList-at, YieldsList-end, YieldsList-from_lines, [], map, map-append, subst, sym, ℕ, ◌∷◌}
 use Rattle.tw_symbols.proofs.NoHeads.{no_name}
-use Rattle.tw_symbols.specs.RightNames.{HasNoHead}
 use Rattle.tw_symbols.proofs.SymbolLines.{AreRead, none_read, read_more}
 use Rattle.tw_symbols.proofs.symbols.Symbols.of.Goals as goal
 

@@ -1,6 +1,4 @@
-use Rattle.std.proofs.Common.{sym, ◌∙◌, arith}
-use Rattle.tw_verify.proofs.VerifierNames.{flow_of, flows, length-map}
-use Rattle.tw_budget.proofs.Places.{end_within}
+use Rattle.tw_verify.proofs.VerifierNames.{arith, end_within, flow_of, flows, length-map, sym, ◌∙◌}
 use Rattle.tw_verify.proofs.loops.Loops.block.Goals as goal
 
 pub depth-requires-clause-within : goal.depth-requires-clause-within

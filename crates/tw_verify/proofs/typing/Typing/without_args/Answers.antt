@@ -1,5 +1,4 @@
-use Rattle.std.proofs.Common.{refl, sym, ◌∙◌}
-use Rattle.std.proofs.lemmas.Slice.Zip.{either_empty_from_Zip}
+use Rattle.tw_verify.proofs.VerifierNames.{either_empty_from_Zip, refl, sym, ◌∙◌}
 use Rattle.tw_verify.proofs.Asking.{nothing_leaves}
 use Rattle.tw_verify.proofs.typing.Typing.without_args.Goals as goal
 

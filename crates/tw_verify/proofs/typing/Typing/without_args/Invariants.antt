@@ -1,8 +1,4 @@
-use Rattle.std.proofs.Common.{◌≡◌}
-use Rattle.std.specs.Iterator.Adapters.{zip_first, zip_second}
-use Rattle.std.specs.List.{AllByRecursion}
-use Rattle.std.specs.Slice.Iter.{iter_rest}
-use Rattle.tw_verify.proofs.VerifierNames.{IsRegister, without_args}
+use Rattle.tw_verify.proofs.VerifierNames.{AllByRecursion, IsRegister, iter_rest, without_args, zip_first, zip_second, ◌≡◌}
 use Rattle.tw_verify.proofs.typing.Typing.without_args.Given as goal
 
 -- the arguments that are still to leave the registers

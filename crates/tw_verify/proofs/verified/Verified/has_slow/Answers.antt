@@ -1,6 +1,5 @@
 use Rattle.std.proofs.Common.{◌≡◌, List, length, Some, refl, sym, subst, arith}
-use Rattle.tw_verify.proofs.VerifierNames.{AreTyped, Findings, IsSomeAnd, TypedProgram, slice_get, slice_get_read}
-use Rattle.tw_verify.specs.Searching.{has_slow}
+use Rattle.tw_verify.proofs.VerifierNames.{AreTyped, Findings, IsSomeAnd, TypedProgram, has_slow, slice_get, slice_get_read}
 use Rattle.tw_verify.proofs.Programs.{found_of}
 use Rattle.tw_verify.proofs.verified.Verified.has_slow.Goals as goal
 
