@@ -682,14 +682,16 @@ uint8_t yuglemit_session_text(const uint8_t *words, size_t words_length, const u
 
 /* Like yuglemit_load_with. If the program is refused, `words` says why in words: what `tw check --text` prints if the error is in a line of a text, else
  * what `tw explain` says of the code. If memory runs out for them, they are as they were. _ONE_HANDLE. */
+uint8_t yuglemit_raw_load_told(const uint8_t *source, size_t length, uint8_t format, const uint64_t *options, size_t option_count,
+                               yuglemit_program *program, uint64_t *verdict, size_t count, yuglemit_text *words);
 static inline uint8_t yuglemit_load_told(const uint8_t *source, size_t length, uint8_t format, const yuglemit_load_options *options,
                                          yuglemit_program *program, yuglemit_verdict *verdict, yuglemit_text *words) {
-    const char check[] = "check\0--text";
     char explain[] = "explain\0V00";
-    uint8_t code = (uint8_t)YUGLEMIT_ONE_HANDLE;
-    if ((void *)program != (void *)words) code = yuglemit_load_with(source, length, format, options, program, verdict);
-    if (code != YUGLEMIT_REJECTED) return code;
-    if (verdict->line && yuglemit_session_text((const uint8_t *)check, sizeof check - 1, source, length, words) == YUGLEMIT_STATUS_REFUSED) return code;
+    if ((void *)program == (void *)words) return YUGLEMIT_ONE_HANDLE;
+    if (!yuglemit_raw_is_size(options->size) || !yuglemit_raw_is_size(verdict->size)) return YUGLEMIT_NO_SIZE;
+    uint8_t code = yuglemit_raw_load_told(source, length, format, &options->most_bytes, yuglemit_raw_count(options->size), program, &verdict->letter,
+                                          yuglemit_raw_count(verdict->size), words);
+    if (code != YUGLEMIT_REJECTED || verdict->line) return code;
     explain[8] = (char)verdict->letter;
     explain[9] = (char)('0' + verdict->number / 10);
     explain[10] = (char)('0' + verdict->number % 10);

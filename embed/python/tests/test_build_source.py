@@ -424,7 +424,7 @@ class Hostile(unittest.TestCase):
     def test_errors_are_printable(self) -> None:
         """Leaves what a terminal would obey, or show in another order, out of messages."""
         for line in ("out.y = 'a\x1b[1A' + x", "out.y = f('\u202eb')", "out.y = '\x9b' % x", "x.b['\x07\x85\u2066']"):
-            why = error_of(HEAD + f"@control\ndef main(x: Int, y: Out[Text]):\n    {line}\n")
+            why = error_of(HEAD + f"@control\ndef main(x: Int, y: Out[Text]):\n    {line}\n", "\x1b[1A\u202e.py")
             self.assertTrue(str(why).isprintable(), ascii(str(why)))
 
 
@@ -456,6 +456,24 @@ class Files(unittest.TestCase):
             done = subprocess.run([sys.executable, "-m", "yuglemit", "build", str(self.path)], capture_output=True, text=True)
             self.assertEqual((done.returncode, done.stdout), (1, ""), data[:40])
             self.assertRegex(done.stderr, f"^{self.path}:\\d+:\\d+: [^\n]*\n$")
+
+    def test_the_command_shows_no_hidden_characters(self) -> None:
+        """A report has them as the text does, but not on a terminal; errors have none."""
+        hidden = "\x1b[31m\x9b\u202e"
+        command, odd = [sys.executable, "-m", "yuglemit"], self.path.with_name(f"{hidden}.py")
+        odd.write_text(HEAD + "@control\ndef main(x: Int, y: Out[Int]):\n    out.y = 1 // x  # \x1b\x9b\n", encoding="utf-8")
+        self.path.write_text(HEAD + "@control\ndef main(x: Text, y: Out[Text]):\n    out.y = x\n", encoding="utf-8")
+        for words in (["check", f"{odd}x"], ["check", str(odd), hidden], ["check", "--" + hidden, str(odd)], ["run", str(odd), hidden], ["run", str(odd), "0"]):
+            done = subprocess.run([*command, *words], capture_output=True, text=True)
+            self.assertTrue((done.stdout + done.stderr).replace("\n", "").isprintable(), (words, done))
+            self.assertRegex(done.stdout + done.stderr, r"\\(u\{1b\}|x1b)\[31m\\(u\{9b\}|x9b)\\u\{?202e")
+        ours, theirs = os.openpty()
+        status = subprocess.run([*command, "run", str(self.path), hidden[5:]], stdout=theirs).returncode
+        self.assertEqual((status, os.read(ours, 4096)), (0, b'out 0 text "\\u{9b}\\u{202e}"\r\nquiet\r\n'))
+        os.close(ours)
+        os.close(theirs)
+        done = subprocess.run([*command, "run", str(self.path), hidden[5:]], capture_output=True, text=True)
+        self.assertEqual(done.stdout, f'out 0 text "{hidden[5:]}"\nquiet\n')
 
     def test_the_command_says_that_it_cannot_write(self) -> None:
         self.path.write_text(HEAD + "N = 'é'\n@control\ndef main(y: Out[Text]):\n    out.y = N\n", encoding="utf-8")

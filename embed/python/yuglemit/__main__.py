@@ -7,29 +7,41 @@ import argparse
 import ast
 import sys
 from pathlib import Path
-from typing import Optional, Sequence
+from typing import NoReturn, Optional, Sequence
 
 from ._errors import Refused
 from ._inputs import Input, read_input
 from ._listing import Parameter
 from ._program import Program
 from ._report import Report
+from ._visible import visible
 from .build import BuildError, Built, build_file
 
 _STATUS = {"quiet": 0, "stuck": 3, "limit": 4, "stopped": 4}
 _KINDS = ("int:", "text:", "ints:", "texts:")
 
 
+class _Parser(argparse.ArgumentParser):
+    """A parser whose errors quote arguments without hidden characters."""
+
+    def error(self, message: str) -> NoReturn:
+        super().error(visible(message))
+
+
+def _complain(why: object) -> None:
+    print(visible(str(why)), file=sys.stderr)
+
+
 def _write(text: str, output: Optional[str] = None) -> int:
     """Writes a text into a file, or to standard output if there is none, as UTF-8. Returns the exit status."""
     try:
         if output is None:
-            sys.stdout.buffer.write(text.encode())
+            sys.stdout.buffer.write((visible(text) if sys.stdout.isatty() else text).encode())
             sys.stdout.buffer.flush()
         else:
             Path(output).write_text(text, encoding="utf-8")
     except OSError as why:
-        print(f"{output or 'standard output'}: {why}", file=sys.stderr)
+        _complain(f"{output or 'standard output'}: {why}")
         return 73
     return 0
 
@@ -63,7 +75,7 @@ def _run(program: Program, words: argparse.Namespace) -> int:
     try:
         report = _report_of(program, words.inputs, words.limit, words.seconds)
     except (Refused, TypeError, ValueError) as why:
-        print(why, file=sys.stderr)
+        _complain(why)
         return 2
     return _write(report.text + "".join(f"{it}\n" for it in report.refused())) or _STATUS[report.end]
 
@@ -76,7 +88,7 @@ def _act(built: Built, words: argparse.Namespace) -> int:
 
 
 def _words() -> argparse.Namespace:
-    parser = argparse.ArgumentParser(prog="python -m yuglemit", description="Compiles programs from a subset of Python.")
+    parser = _Parser(prog="python -m yuglemit", description="Compiles programs from a subset of Python.")
     commands = parser.add_subparsers(dest="command", required=True)
     build = commands.add_parser("build", help="writes FILE.py as assembly text with names (.twn)")
     run = commands.add_parser("run", help="runs FILE.py, and prints the report")
@@ -100,13 +112,13 @@ def main() -> int:
     try:
         return _act(build_file(words.file), words)
     except (BuildError, Refused) as why:
-        print(why, file=sys.stderr)
+        _complain(why)
         return 1
     except ImportError as why:
-        print(f"{words.file} isn't verified: {why}", file=sys.stderr)
+        _complain(f"{words.file} isn't verified: {why}")
         return 70
     except OSError as why:
-        print(f"{words.file}: {why}", file=sys.stderr)
+        _complain(f"{words.file}: {why}")
         return 66
 
 

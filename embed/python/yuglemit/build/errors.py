@@ -5,6 +5,8 @@ from __future__ import annotations
 
 from typing import Tuple
 
+from .._visible import visible
+
 
 class BuildError(Exception):
     """Says what can't be compiled, and where: `file`, `line` and `column`, both counted from 1, and `message`."""
@@ -14,7 +16,7 @@ class BuildError(Exception):
         self.file, self.line, self.column, self.message = file, line, column, message
 
     def __str__(self) -> str:
-        return f"{self.file}:{self.line}:{self.column}: {self.message}"
+        return visible(f"{self.file}:{self.line}:{self.column}: {self.message}")
 
     def __reduce__(self) -> Tuple[object, ...]:
         return BuildError, (self.file, self.line, self.column, self.message)
