@@ -1,11 +1,9 @@
 """Does what the arguments of ./dev say."""
 
-from __future__ import annotations
-
 import importlib
 import os
-import runpy
 import sys
+from typing import Any
 
 from tools import ROOT
 from tools.harnesses import TOOLS, Tool, path_of
@@ -15,14 +13,18 @@ README = ROOT / "tools" / "README.md"
 COMMANDS = {"check": "tools.night.check", "night": "tools.night.night", "record": "tools.night.record"}
 
 
+def module_of(file: str) -> Any:
+    """Returns the module of a file below tools/."""
+    return importlib.import_module(f"tools.{file.removesuffix('.py').replace('/', '.')}")
+
+
 def run_tool(tool: Tool, words: list[str]) -> int:
     """Runs a tool in this process; returns its exit status."""
     path, (file, *first) = path_of(tool.file), tool.file.split()
     if path.suffix == ".sh" or tool.file.startswith("./"):
         os.execv(path, [str(path), *words])
-    sys.argv[1:] = [*first, *words]
-    runpy.run_module(f"tools.{file.removesuffix('.py').replace('/', '.')}", run_name="__main__", alter_sys=True)
-    return 0
+    sys.argv[0] = f"./dev {tool.name}"
+    return int(module_of(file).main([*first, *words]))
 
 
 def listed() -> str:
@@ -34,7 +36,7 @@ def table() -> str:
     """Returns the tools of each folder, as rows for tools/README.md. Kinds of fuzz tests are one."""
     names: dict[str, list[str]] = {}
     for tool in TOOLS:
-        folder = str(path_of(tool.file).relative_to(ROOT)).rpartition("/")[0].removesuffix("/proofs/believe")
+        folder = str(path_of(tool.file).relative_to(ROOT)).rpartition("/")[0].removesuffix("/believe")
         names.setdefault(folder, []).append("fuzz_KIND" if tool.name.startswith("fuzz_") else tool.name)
     rows = (f"| `{folder}` | {', '.join(f'`{name}`' for name in dict.fromkeys(found))} |" for folder, found in sorted(names.items()))
     return "\n".join(["| Folder | Tools |", "|---|---|", *rows]) + "\n"

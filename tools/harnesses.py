@@ -4,8 +4,6 @@ nights and release/HARNESSES take them from here.
 The arguments of a harness are those of CI and of quick nights (`short`), and of whole ones (`whole`), each with the least number of things that
 it has to count as passed. `@seed` is the run's, `@seconds` and `@count` those of a whole night; `NAME=1` is a variable."""
 
-from __future__ import annotations
-
 from pathlib import Path
 from typing import NamedTuple
 
@@ -77,7 +75,7 @@ TOOLS = (
          needs="rt", depends="sources/instructions.py sources/instruction_rows.py", limit=1200),
     Tool("stacks", "sources/stacks.py", "which crate depends on which", Run("--check")),
     Tool("site", "release/site.py", "the manual as HTML: its titles, contents and links", Run("--check")),
-    Tool("believed", "proofs/believe", "the table of docs/PROOFS.md of what must be believed", Run("--check")),
+    Tool("believed", "proofs/believe/main.py", "the table of docs/PROOFS.md of what must be believed", Run("--check"), depends="proofs/believe"),
     Tool("scale", "sources/scale.py", "how many lines each group of crates has, and its ceiling", Run("--check", 3), depends="sources/ceilings.txt"),
     Tool("walks", "sources/walks.py", "that each step of a walk of docs/ARCHITECTURE.md is called by one before", Run("--check")),
     Tool("edits", "proofs/mutants.py", "that what mutants edit is there", Run("--list")),
@@ -90,20 +88,20 @@ TOOLS = (
     Tool("shown", "program/shown.sh", "every command that documents show", Run("", 200), tests=PROGRAM),
     Tool("json_runs", "program/json_runs.py", "--json of each command against what is printed without it, and the schemas", Run("", 500), tests=PROGRAM, is_beside=True),
     Tool("stream", "program/stream.py", "--each as a process that answers line by line: order, bytes, long lines, memory, signals", Run("--short", 14), Run("", 18), PROGRAM),
-    Tool("echoes", "program/echoes.py", "that no hidden character is printed wherever tw echoes a text", Run("--texts 100 --seed @seed", 1900),
-         Run("--texts 10000 --seed @seed", 190_000), PROGRAM, limit=3600, shard=6, is_beside=True),
+    Tool("echoes", "program/echoes.py", "that no hidden character is printed wherever tw echoes a text", Run("--texts 100 --seed @seed", 2400),
+         Run("--texts 10000 --seed @seed", 240_000), PROGRAM, limit=3600, shard=6, is_beside=True),
     Tool("loaded", "library/loaded.sh", "loaded programs against the program", Run("--quick", 190), Run("", 190), LINKED, "cc", "library/callers.c library/callers.h library/loaded.c library/loaded.py", 900),
     Tool("abi", "library/abi.sh", "the tests of earlier releases, with the library", Run("", 5), tests="tw_embed libyuglemit.a", needs="cc c++ readelf"),
     Tool("replayed", "program/replayed.py", "runs in threads, replayed", Run("1", 25), Run("200", 5000), PROGRAM, limit=3600),
     Tool("scarce", "program/scarce.sh", "sessions that are short of memory, with one arena of malloc", Run("1", 1), Run("5", 5), "tw_cases", "cc taskset", limit=1200),
-    Tool("installed", "release/installed.sh", "./tw install, help pages, completions, the Python package of a clone", Run("", 13), tests=BOTH, is_beside=True),
+    Tool("installed", "release/installed.sh", "./tw install, help pages, completions, the Python package of a clone", Run("", 14), tests=BOTH, is_beside=True),
     Tool("python", "./embed/python/test.sh", "the Python package", Run("", 280), tests="tw_embed", limit=900, is_beside=True),
     Tool("events", "program/events.py", "instructions of an event, by callgrind, against bench/events.csv", Run("--check", 9), tests=PROGRAM, needs="valgrind",
          depends="./bench/events.csv", limit=900, is_beside=True),
     *(fuzz(kind) for kind in KINDS),
     # For nights alone: they take long, or measure.
-    Tool("progress", "program/progress.py", "standard error on a terminal", Run("", 13), tests=PROGRAM, in_ci=False),
-    Tool("seconds", "program/seconds.py", "that --seconds stops runs after their time, and a session of the library rejects it", Run("", 18), tests=BOTH, in_ci=False),
+    Tool("progress", "program/progress.py", "progress and colours on a terminal", Run("", 19), tests=PROGRAM, in_ci=False),
+    Tool("seconds", "program/seconds.py", "that --seconds stops runs after their time, and a session of the library rejects it; that Ctrl-C prints a report", Run("", 21), tests=BOTH, in_ci=False),
     Tool("memory", "program/memory.py", "runs with the memory that docs/HOSTING.md says", Run("--only pipeline", 1), Run("", 70), PROGRAM, limit=1800, in_ci=False),
     Tool("prices", "program/prices.py", "the seconds of the dearest instructions and events, by which runs are bounded", Run("ADD", 1), Run("", 40), "tw_embed", shard=3, in_ci=False),
     Tool("orders", "program/orders.py", "runs in several layouts and orders", Run("--examples --runs 1 --seeds 5", 50), Run("--examples --runs 20 --seeds 100", 50), PROGRAM,
@@ -133,13 +131,11 @@ TOOLS = (
          depends="night harnesses.py", limit=1800, in_ci=False, is_beside=True),
     # These make or print something.
     Tool("fuzz", "fuzz/main.py", "fuzz tests of the library and the program, by their arguments"),
-    Tool("believe", "proofs/believe", "prints the definitions on which a promise depends"),
+    Tool("believe", "proofs/believe/main.py", "prints the definitions on which a promise depends"),
     Tool("shares", "sources/shares.py", "what an edit of a crate has proved again"),
-    Tool("editor", "sources/editor.sh", "the files of editors and shells in script/install"),
+    Tool("editor", "sources/editor.py", "the files of editors and shells in script/install"),
     Tool("prooftime", "proofs/prooftime.py", "what proofs cost, by crate and by function"),
-    Tool("gatetime", "proofs/prooftime.py --gate", "what a run of rt ci costs, by crate"),
     Tool("alone", "proofs/alone.py", "a crate over unproved sources"),
-    Tool("collisions", "program/collisions.py", "prints names whose hashes collide"),
     Tool("release", "release/release.py", "makes the release, and compares it"),
     Tool("package", "release/package.py", "writes the packages into dist/ (./tw package)"),
 )

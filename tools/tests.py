@@ -1,8 +1,5 @@
 """Runs the tests of the tools, or those whose names have one of these words: ./dev test WORD.."""
 
-from __future__ import annotations
-
-import sys
 import unittest
 
 from tools import ROOT
@@ -14,7 +11,3 @@ def main(words: list[str]) -> int:
     loader.testNamePatterns = [f"*{word}*" for word in words] or None
     result = unittest.TextTestRunner().run(loader.discover(str(ROOT / "tools"), top_level_dir=str(ROOT)))
     return 0 if result.wasSuccessful() and result.testsRun else 1
-
-
-if __name__ == "__main__":
-    sys.exit(main(sys.argv[1:]))

@@ -11,8 +11,6 @@ CONTRIBUTING.md, "Cases", has the format. A file is a list of blocks of text:
         proc control
 """
 
-from __future__ import annotations
-
 import re
 from collections.abc import Iterable, Iterator
 from dataclasses import dataclass, field

@@ -1,4 +1,3 @@
-#!/usr/bin/env python3
 # SPDX-License-Identifier: Apache-2.0
 """Checks the JSON that cases expect against docs/COMMAND.schema.json, without a program.
 
@@ -9,12 +8,9 @@ status, or in an error, has to be in some case. Objects of stopped runs are in n
 checks them.
 """
 
-from __future__ import annotations
-
 import collections
 import importlib
 import json
-import sys
 from collections.abc import Iterable, Iterator
 from dataclasses import dataclass
 from typing import Any
@@ -119,7 +115,7 @@ def complaints(schemas: dict[str, Any], expected: list[Expected]) -> Iterator[st
         yield from unseen_of_errors(command, schema_of(command), expected)
 
 
-def main() -> int:
+def main(words: list[str]) -> int:
     """Checks all cases, and returns 1 if there is a complaint."""
     schemas = validators()
     expected = [one for case in read_book(ROOT / "cases").cases for one in objects_of(case)]
@@ -133,7 +129,3 @@ def main() -> int:
     print(f"JSON of cases: {checked}")
     print(f"{len(expected)} checked, {len(found)} complaints")
     return 1 if found or not expected else 0
-
-
-if __name__ == "__main__":
-    sys.exit(main())

@@ -1,4 +1,3 @@
-#!/usr/bin/env python3
 """The cases of cases/: runs them, lists them, and makes what CI reads of them.
 
     cases.py --check                    says whether the crates that run cases have what cases/ gives
@@ -10,8 +9,6 @@
 
 A pattern is a case's name, a part of a name or of a file's (as names/errors), or has `*`, `?` or `[` and is the whole of one.
 """
-
-from __future__ import annotations
 
 import fnmatch
 import os
@@ -142,7 +139,7 @@ def chosen(book: Book, patterns: list[str]) -> list[Case]:
     names = {case.name for case in book.cases}
     for pattern in patterns:
         if not any(matches(case, pattern) for case in book.cases):
-            raise SystemExit(f"tw: no case or file matches {pattern}; ./tw test --list lists them")
+            raise SystemExit(f"tw: no case or file matches {pattern!r}; ./tw test --list lists them")
     def fits(case: Case, pattern: str) -> bool:
         return case.name == pattern if pattern in names else matches(case, pattern)
     return [case for case in book.cases if not patterns or any(fits(case, pattern) for pattern in patterns)]
@@ -269,10 +266,12 @@ def command(words: list[str]) -> int:
             return 2
 
 
-if __name__ == "__main__":
+def main(words: list[str]) -> int:
+    """Does what the arguments say; returns an exit status."""
     try:
-        sys.exit(command(sys.argv[1:]))
+        return command(words)
     except Fault as fault:
-        sys.exit(f"tw: {fault}")
+        print(f"tw: {fault}", file=sys.stderr)
     except BrokenPipeError:
-        sys.exit(1)
+        pass
+    return 1

@@ -4,8 +4,6 @@ A program reads lines, and prints a line for each case that differs. After each 
 its complaint says that the case is done.
 """
 
-from __future__ import annotations
-
 import contextlib
 import os
 import queue

@@ -1,7 +1,5 @@
 """Tests of ./dev cases, case_files.py and case_runs.py."""
 
-from __future__ import annotations
-
 import contextlib
 import io
 import os
@@ -13,8 +11,8 @@ from pathlib import Path
 from unittest import mock
 
 from tools import ROOT
-from tools.cases import files
-from tools.cases import runs
+from tools.common.testing import folder_of, said
+from tools.cases import files, runs
 from tools.cases import main as cases
 
 # A program in place of those of crates/: it prints what a case is given in place of its expected output, and ends at `dies`.
@@ -219,8 +217,8 @@ class Lists(unittest.TestCase):
         self.assertEqual(cases.stdin_of(book, "tw_host_cases").split("\n")[3:], ["let a = 01", "y | rounds 1 1 1 | @a | quiet", "z | drives | @a | quiet", ""])
         self.assertEqual(cases.stdout_of(book, "tw_host_cases"), "2 cases as wanted\n")
         for words, crates in (("x", "tw_cases\n"), ("y --update", "tw_host_cases\n"), ("", "tw_cases\ntw_host_cases\n")):
-            with mock.patch.object(cases, "read_book", return_value=book), contextlib.redirect_stdout(io.StringIO()) as said:
-                self.assertEqual((cases.command(["--crates", *words.split()]), said.getvalue()), (0, crates))
+            with mock.patch.object(cases, "read_book", return_value=book):
+                self.assertEqual(said(cases.command, ["--crates", *words.split()]), (0, crates))
 
     def test_patterns(self) -> None:
         book = read("# W.\nab | layout | 1 | x\nabc | layout | 1 | x\ncd | layout | 1 | x\n")
@@ -244,9 +242,7 @@ class Lists(unittest.TestCase):
 
 class Running(unittest.TestCase):
     def setUp(self) -> None:
-        room = tempfile.TemporaryDirectory()
-        self.addCleanup(room.cleanup)
-        self.room = Path(room.name)
+        self.room = folder_of(self)
         self.program = self.room / "program"
         self.program.write_text(f"#!{sys.executable}\n{PROGRAM}", encoding="utf-8")
         self.program.chmod(0o755)
@@ -390,7 +386,3 @@ class Shown(unittest.TestCase):
         lines = runs.side_by_side(["a", "b"], ["a"], 80)
         self.assertTrue(lines[2].startswith("  > b"))
         self.assertIn("^", lines[3])
-
-
-if __name__ == "__main__":
-    unittest.main()

@@ -1,16 +1,12 @@
-#!/usr/bin/env python3
 # SPDX-License-Identifier: Apache-2.0
 """Tests of ./dev json_cases and ./dev json_runs on wrong objects."""
 
-from __future__ import annotations
-
-import contextlib
-import io
 import pathlib
 import unittest
 from typing import Any
 from unittest import mock
 
+from tools.common.testing import said
 from tools.cases import json_cases
 from tools.program import json_runs
 from tools.cases.files import Case
@@ -25,8 +21,6 @@ def case(kind: str, wanted: str) -> Case:
 
 
 class Objects(unittest.TestCase):
-    """The objects of cases are found, whole."""
-
     def expected(self, kind: str, wanted: str) -> list[Any]:
         return [one.found for one in json_cases.objects_of(case(kind, wanted))]
 
@@ -43,8 +37,6 @@ class Objects(unittest.TestCase):
 
 @unittest.skipUnless(json_cases.validators(), "jsonschema is not installed")
 class Schemas(unittest.TestCase):
-    """A wrong object doesn't fit."""
-
     def fits(self, command: str, found: dict[str, Any]) -> bool:
         return not json_cases.faults(json_cases.validators(), command, found)
 
@@ -66,12 +58,9 @@ class Schemas(unittest.TestCase):
 
 
 class WholeCheck(unittest.TestCase):
-    """All cases, with a schema that is wrong, and without schemas."""
-
     def lines(self) -> tuple[int, list[str]]:
-        with contextlib.redirect_stdout(io.StringIO()) as out:
-            status = json_cases.main()
-        return status, out.getvalue().splitlines()
+        status, text = said(json_cases.main, [])
+        return status, text.splitlines()
 
     @unittest.skipUnless(json_cases.validators(), "jsonschema is not installed")
     def test_a_wrong_schema_fails(self) -> None:
@@ -86,8 +75,6 @@ class WholeCheck(unittest.TestCase):
 
 
 class Unseen(unittest.TestCase):
-    """A member that no case has is named."""
-
     def test_each_status(self) -> None:
         schema: dict[str, Any] = {"oneOf": [{"properties": {"status": {"enum": ["a", "b"]}, "more": {}}}, {"properties": {"status": {"const": "c"}}}]}
         objects: list[dict[str, Any]] = [{"status": "a", "more": 1}, {"status": "b"}]
@@ -129,8 +116,6 @@ class Unseen(unittest.TestCase):
 
 
 class Differences(unittest.TestCase):
-    """An object that isn't what is printed differs."""
-
     def test_report(self) -> None:
         found = {"status": "stuck", "pending": 2, "circle": [[1, 4, 2], [2, 5, 1]], "events": 9, "instructions": 8}
         found |= {"outputs": [7, 'a\t"\\', {"5": 6}, None], "kinds": ["int", "text", "cont int closed", "unset"]}
@@ -138,7 +123,3 @@ class Differences(unittest.TestCase):
         self.assertEqual(list(json_runs.differences(session, 3, REPORT.encode(), found)), [])
         for key in ("status", "pending", "circle", "outputs", "kinds"):
             self.assertEqual(len(list(json_runs.differences(session, 3, REPORT.encode(), found | {key: 1}))), 1, key)
-
-
-if __name__ == "__main__":
-    unittest.main()

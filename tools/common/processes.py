@@ -1,7 +1,5 @@
 """The use of processors and memory by processes."""
 
-from __future__ import annotations
-
 import os
 from collections.abc import Sequence
 from pathlib import Path

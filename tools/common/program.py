@@ -1,7 +1,5 @@
 """Finds what the tools test. script/pick.sh has the rule: the folder that TW_OUT names, else what is built of these sources, or the release's."""
 
-from __future__ import annotations
-
 import hashlib
 import importlib
 import os

@@ -1,7 +1,5 @@
 """Reads examples/sessions.txt, which has commands on examples with what they print."""
 
-from __future__ import annotations
-
 import re
 import shlex
 from collections.abc import Iterator

@@ -1,7 +1,5 @@
 """Things that the kinds of fuzz tests share: a test, its answer, and its form as a file of cases/."""
 
-from __future__ import annotations
-
 import random
 import re
 from dataclasses import dataclass, field, replace
@@ -42,7 +40,7 @@ class FuzzTest:
         """Returns what the summary counts of a test that passed."""
         return ()
 
-    def smaller(self) -> Iterator[FuzzTest]:
+    def smaller(self) -> Iterator["FuzzTest"]:
         """Yields tests with less in them, the ones with the least first."""
         return iter(())
 
@@ -196,7 +194,7 @@ class RunTest(FuzzTest):
     def is_accepted(self, library: Library) -> bool:
         return not library.verify(encode(self.program)).code
 
-    def smaller(self) -> Iterator[FuzzTest]:
+    def smaller(self) -> Iterator["FuzzTest"]:
         for program in smaller(self.program):
             yield replace(self, program=program)
         for place, value in enumerate(self.inputs):

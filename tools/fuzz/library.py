@@ -1,7 +1,5 @@
 """Calls the library, by the Python package, and the program `tw`. No other module of the fuzz tests does."""
 
-from __future__ import annotations
-
 import ctypes
 import subprocess
 from dataclasses import dataclass

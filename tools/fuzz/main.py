@@ -1,4 +1,3 @@
-#!/usr/bin/env python3
 """Fuzz tests of the library and the program: ./dev fuzz KIND SEED COUNT [--seconds N]
 
     ./dev fuzz --list                    lists the kinds
@@ -9,8 +8,6 @@
 
 A test that fails is shrunk and printed as a case, which can go into cases/. The status is 1 if a test failed, or a call crashed or took too long.
 """
-
-from __future__ import annotations
 
 import argparse
 import ctypes
@@ -25,15 +22,7 @@ from typing import Any
 
 sys.dont_write_bytecode = True
 from tools.common.processes import fields_of, seconds_in
-from tools.fuzz.kinds import calls
-from tools.fuzz.kinds import each
-from tools.fuzz.kinds import handles
-from tools.fuzz.kinds import inputs
-from tools.fuzz.kinds import orders
-from tools.fuzz.kinds import reached
-from tools.fuzz.kinds import runs
-from tools.fuzz.kinds import texts
-from tools.fuzz.kinds import verify
+from tools.fuzz.kinds import calls, each, handles, inputs, orders, reached, runs, texts, verify
 from tools.fuzz.library import Library
 from tools.fuzz.common import Corpus, Failure, Kind, FuzzTest
 
@@ -72,7 +61,7 @@ class Shared:
     marks: Any
 
     @classmethod
-    def fresh(cls) -> Shared:
+    def fresh(cls) -> "Shared":
         return cls(multiprocessing.Value(ctypes.c_int64, -1), multiprocessing.Value(ctypes.c_int64, 0), multiprocessing.Array(ctypes.c_char, 1000))
 
 
@@ -196,7 +185,3 @@ def main(words: list[str]) -> int:
         numbers = range(max(1, given.count)) if given.only is None else range(given.only, given.only + 1)
         well &= run_kind(kind, given.seed, numbers, given.seconds)
     return 0 if well else 1
-
-
-if __name__ == "__main__":
-    sys.exit(main(sys.argv[1:]))

@@ -1,7 +1,5 @@
 """Makes random programs that the verifier accepts, with inputs and layouts for them."""
 
-from __future__ import annotations
-
 import random
 from dataclasses import dataclass, field, replace
 

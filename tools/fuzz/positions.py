@@ -1,8 +1,6 @@
 # SPDX-License-Identifier: Apache-2.0
 """Reads where a text has an error off the lines that are printed: for tools/library/loaded.py, ./dev json_runs and tools/fuzz/kinds/texts.py."""
 
-from __future__ import annotations
-
 import re
 
 # The signs that separate names in a line, and those that may also follow one.
@@ -14,6 +12,14 @@ CUT = " .."
 HIDDEN = re.compile(r"\\u\{([0-9a-f]+)\}")
 # The reason of which the name has its own colon.
 OF_A_COLON = "needs a type after it"
+# The first line of an error after a text's first.
+FURTHER = re.compile(r"also [ANV]\d\d( at line \d+| in procedure \d+ at place \d+)|more than 20 errors")
+
+
+def errors_in(lines: list[str]) -> list[list[str]]:
+    """Returns the lines of each error of a text."""
+    heads = [0, *(number for number in range(2, len(lines)) if FURTHER.fullmatch(lines[number]))]
+    return [lines[head:end] for head, end in zip(heads, [*heads[1:], len(lines)])]
 
 
 def name_pattern(reason: str) -> str:
@@ -38,12 +44,13 @@ def of_name(line: str, reason: str) -> tuple[int, int]:
 
 
 def of_error(lines: list[str], line: str) -> tuple[int, int]:
-    """Returns word and column of an error with these lines in a line of a text; zeros if it is at no word, or if the line expands to another."""
-    if len(lines) > 3 and (lines[3].startswith("at line ") or lines[0].startswith("refused A01")):  # the head of the procedure that is called; what to type
+    """Returns word and column of the first error of these lines in a line of a text; zeros if it is at no word, or if the line expands to another."""
+    lines = errors_in(lines)[0]
+    if len(lines) > 3 and (lines[3].startswith("at line ") or " A01 " in lines[0]):  # the head of the procedure that is called; what to type
         lines = lines[:3]
-    if len(lines) != 3 or lines[0][:9] not in ("refused A", "refused N"):
+    if len(lines) != 3 or not re.match("(refused|also) [AN]", lines[0]):
         return 0, 0
-    if lines[0].startswith("refused N"):
+    if re.match("(refused|also) N", lines[0]):
         return of_name(line, lines[2])
     word = re.match(r"word (\d+), column (\d+): ", lines[2])
     return (int(word[1]), int(word[2])) if word else (0, 0)

@@ -1,7 +1,5 @@
 """Tests of ./dev fuzz and its modules."""
 
-from __future__ import annotations
-
 import contextlib
 import io
 import os
@@ -18,11 +16,8 @@ from unittest import mock
 from tools import ROOT
 from tools.cases import files
 from tools.fuzz import main as fuzz
-from tools.fuzz.kinds import calls
-from tools.fuzz.kinds import inputs
+from tools.fuzz.kinds import calls, inputs, orders, runs
 from tools.fuzz import make
-from tools.fuzz.kinds import orders
-from tools.fuzz.kinds import runs
 from tools.fuzz.oracle.assembler import Error, assembled
 from tools.fuzz.oracle.bounds import COUNTED, bound, bound_lines, budgets, check_lines, has_circle, is_circle
 from tools.fuzz.oracle.code import Fault, Instr, Param, Procedure, Program, decode, disassembled, encode, program_text, quoted, smaller, without
@@ -63,8 +58,6 @@ def main_of(*code: Instr, registers: tuple[int, ...] = (1,), params: tuple[Param
 
 
 class Lying(Library):
-    """A library with a mistake: it changes the last digit of what it writes, and moves the place of a verdict."""
-
     def session(self, words: list[str], data: str | bytes = b"") -> Answer:
         status, text = super().session(words, data)
         at = max(text.rfind(digit) for digit in "0123456789")
@@ -370,8 +363,6 @@ class CallsTest(unittest.TestCase):
 
 
 class KindsTest(unittest.TestCase):
-    """Each kind passes with the library, and notices one that lies."""
-
     def faults(self, kind: str, library: Library, count: int) -> list[str]:
         corpus = Corpus(Library())
         tests = [fuzz.KINDS[kind].make(random.Random(f"test {number}"), corpus) for number in range(count)]
@@ -403,8 +394,6 @@ class KindsTest(unittest.TestCase):
 
 @dataclass(frozen=True)
 class Numbers(FuzzTest):
-    """Fails if it has a 7."""
-
     numbers: tuple[int, ...]
 
     def fault(self, library: Library) -> str | None:
@@ -489,7 +478,3 @@ class RunnerTest(unittest.TestCase):
 
     def test_texts_of_programs(self) -> None:
         self.assertIn("RULE 1 0 any 3 4\n", program_text(PIPELINE))
-
-
-if __name__ == "__main__":
-    unittest.main()

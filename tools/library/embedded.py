@@ -1,8 +1,6 @@
 # SPDX-License-Identifier: Apache-2.0
 """Compares the library's examples with the program tw: ./dev embedded says how."""
 
-from __future__ import annotations
-
 import doctest
 import os
 import re

@@ -1,8 +1,6 @@
 # SPDX-License-Identifier: Apache-2.0
 """Compares programs that are loaded once with the program tw: ./dev loaded says how."""
 
-from __future__ import annotations
-
 import os
 import re
 import subprocess

@@ -9,8 +9,6 @@
 What is tested is the release, or what is built here (script/pick.sh). The seed of the fuzz tests is the sum of what they test, so that they are
 the same ones before a commit, after it and in CI."""
 
-from __future__ import annotations
-
 import os
 import sys
 import tempfile

@@ -12,8 +12,6 @@ processor time and its last line. What crashes, takes longer than its limit, or 
 Program and libraries are what script/pick.sh finds: the first lines say which they are. A harness is left out if what it needs isn't installed.
 Logs are kept in out/night, a folder for each run, with `summary` and `results`. Exit status 1 if something failed, or nothing passed."""
 
-from __future__ import annotations
-
 import argparse
 import datetime
 import json

@@ -4,12 +4,9 @@ and a library without calls. Prints a line for each harness, and ends with `N no
     ./dev planted          all
     ./dev planted NAME..   these harnesses"""
 
-from __future__ import annotations
-
 import os
 import shutil
 import subprocess
-import sys
 import tempfile
 from collections.abc import Callable, Iterator
 from pathlib import Path
@@ -20,11 +17,14 @@ from tools.harnesses import TOOLS, Run, Tool
 from tools.night.runner import FAILED, Runner, heed_signals
 
 # Harnesses that answer by ./tw itself, or build programs that take long.
-LEFT = {"test", "planted", "installed", "released", "packaged", "page", "mutants", "many", "callers", "embedded", "wheel", "must_fail", "builder", "python_calls"}
+LEFT = {"planted", "installed", "released", "packaged", "page", "mutants", "wheel", "must_fail"}
 # Kinds of fuzz tests that call the program, and the others that do.
 BY_PROGRAM = {tool.name for tool in TOOLS if not tool.name.startswith("fuzz_")} | {"fuzz_args", "fuzz_each", "fuzz_orders", "fuzz_run"}
+# Those that don't call the library, or only in a part that isn't tried.
+BY_LIBRARY = {tool.name for tool in TOOLS} - {"many", "embedded", "test"}
 # Of these a part is enough.
-PARTS = {"hostile": "--only line --commands 2", "memory": "--only pipeline", "prices": "ADD", "refused": "--most 3", "python": "test_program"}
+PARTS = {"hostile": "--only line --commands 2", "memory": "--only pipeline", "prices": "ADD", "refused": "--most 3", "python": "test_program",
+         "builder": "test_build", "many": "lines", "embedded": "c", "test": "test_orders"}
 SECONDS = 300
 
 
@@ -48,13 +48,23 @@ def empty(path: Path) -> None:
     subprocess.run(["cc", "-x", "c", "-shared", "-o", str(path), "-"], input=b"int none;", check=True)
 
 
+def no_archive(path: Path) -> None:
+    """Writes an archive without calls."""
+    with tempfile.TemporaryDirectory() as room:
+        subprocess.run(["cc", "-x", "c", "-c", "-o", f"{room}/none.o", "-"], input=b"int none;", check=True)
+        path.unlink(missing_ok=True)
+        subprocess.run(["ar", "rc", str(path), f"{room}/none.o"], check=True)
+
+
 # The file that is planted for each, and which harnesses have to notice: those that test its crate, or these.
 FAULTS: tuple[tuple[str, str, Callable[[Path], None], set[str]], ...] = (
     ("a program that always rejects", PROGRAM, script("echo 'refused V10 in procedure 0 at place 0'; exit 1"), BY_PROGRAM),
     ("a program that is always quiet", PROGRAM, script("echo quiet"), BY_PROGRAM),
     ("a program that answers at the end", PROGRAM, script("read line; cat >/dev/null; echo '{\"line\":1,\"status\":\"quiet\"}'"), {"stream"}),
     ("a static program", PROGRAM, static, {"refused"}),
-    ("a library without calls", LIBRARY, empty, set()),
+    ("a library without calls", LIBRARY, empty, BY_LIBRARY),
+    ("an archive without calls", ARCHIVE, no_archive, set()),
+    ("cases that are quiet", "tw_cases", script("echo quiet"), set()),
 )
 
 
@@ -98,7 +108,3 @@ def main(words: list[str]) -> int:
             noticed, missed = noticed + sum(outcomes), missed + outcomes.count(False)
     print(f"{noticed} noticed, {missed} not")
     return 1 if missed or not noticed else 0
-
-
-if __name__ == "__main__":
-    sys.exit(main(sys.argv[1:]))

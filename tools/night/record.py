@@ -8,8 +8,6 @@ A row has the harness, the version, a sum of what it depends on, how many things
 The sum is that of the sources of what it tests, and of its own files. A release needs a row of this version or the one before it for each
 harness, with no fewer things than the release before had."""
 
-from __future__ import annotations
-
 import datetime
 import hashlib
 import json

@@ -1,7 +1,5 @@
 """Runs harnesses, and judges each by its exit status and by the number of things that it says have passed."""
 
-from __future__ import annotations
-
 import importlib.util
 import os
 import re

@@ -6,13 +6,10 @@ with 1 where an end was none that the command's help names, or said nothing.
     ./dev broken
 """
 
-from __future__ import annotations
-
 import collections
 import concurrent.futures
 import re
 import subprocess
-import sys
 from pathlib import Path
 from typing import NamedTuple
 
@@ -97,14 +94,10 @@ def is_well(program: str, trial: Trial) -> bool:
     return all(is_known for is_known, _ in answers)
 
 
-def main() -> int:
+def main(words: list[str]) -> int:
     made = trials(program(), ROOT / "examples")
     differ = [trial.title for trial in made if not is_well(program(), trial)]
     for title in differ:
         print(f"an end that isn't known: {title}")
     print(f"{sum(len(trial.inputs) for trial in made if trial.title not in differ)} passed, {len(differ)} of {len(made)} kinds failed")
     return 1 if differ or not made else 0
-
-
-if __name__ == "__main__":
-    sys.exit(main())

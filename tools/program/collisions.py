@@ -1,17 +1,9 @@
-#!/usr/bin/env python3
 # SPDX-License-Identifier: Apache-2.0
-"""Prints COUNT names that collide where the hash of names has a fixed seed.
+"""Makes names that collide where the hash of names has a fixed seed, for the worst inputs of ./dev hostile.
 
-usage: ./dev collisions COUNT [const | label]
-
-Each name starts at one of the first groups of a table of COUNT names, so that finding one passes all before it.
-With `const` they are in a text of constants, with `label` in assembly text with labels; else one a line.
-./dev hostile takes the texts for its worst inputs; names hashed with the text they are in don't collide.
+Each name starts at one of the first groups of a table, so that finding one passes all before it. Names hashed with the text they are in don't collide.
 """
 
-from __future__ import annotations
-
-import sys
 from collections.abc import Iterator
 
 SEED = 0x243F6A8885A308D3
@@ -78,30 +70,3 @@ def colliding(count: int) -> Iterator[str]:
                 yield (front + bytes([letter])).decode("ascii")
         if left == 0:
             return
-
-
-def lines_of(kind: str, count: int) -> Iterator[str]:
-    """Yields the lines of a text of this kind that has so many names."""
-    if kind == "const":
-        yield "names"
-        yield from (f"const {name} = 1" for name in colliding(count))
-        yield from ("proc control main()", "regs", "RET")
-    elif kind == "label":
-        yield from ("proc control", "regs", "RET")
-        yield from (f"{name}:" for name in colliding(count))
-    else:
-        yield from colliding(count)
-
-
-def main(words: list[str]) -> int:
-    """Prints the names, or how the tool is used."""
-    if len(words) not in (1, 2) or not words[0].isdigit() or words[1:] not in ([], ["const"], ["label"]):
-        print(__doc__, file=sys.stderr)
-        return 2
-    for line in lines_of("".join(words[1:]), int(words[0])):
-        print(line)
-    return 0
-
-
-if __name__ == "__main__":
-    sys.exit(main(sys.argv[1:]))

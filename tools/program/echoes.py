@@ -4,20 +4,18 @@ line feeds, and none that changes the direction of text. Where a text is printed
 
     ./dev echoes [--texts COUNT] [--seed N] [PLACE..]
 
-COUNT texts are sent to each place, 10,000 by default; together they have all code points. With fewer each has a hidden one. Prints what differs, then
-`N as wanted, M not`, and fails if one differs.
+COUNT texts are sent to each place, 10,000 by default; together they have all code points. With fewer each has a hidden one. A command echoes several
+texts, where it prints them whole. Prints what differs, then `N as wanted, M not`, and fails if one differs.
 """
 
-from __future__ import annotations
-
 import argparse
-import concurrent.futures
 import json
+import multiprocessing
 import os
 import pty
 import random
+import re
 import subprocess
-import sys
 import tempfile
 from pathlib import Path
 from typing import Callable, NamedTuple
@@ -28,7 +26,6 @@ SECONDS = 60
 POINTS = [point for point in range(1, 0x110000) if point != 0x0A and not 0xD800 <= point < 0xE000]
 TURNS = {0x61C, 0x200E, 0x200F, *range(0x202A, 0x202F), *range(0x2066, 0x206A)}
 HIDDEN = [*range(1, 0x0A), *range(0x0B, 0x20), *range(0x7F, 0xA0), *sorted(TURNS)]
-COPY = "proc control closed text write text\nregs text\nGET v0 d0\nDROPR d0\nSTORE d1 v0\nRET\n"
 
 
 def is_hidden(character: str) -> bool:
@@ -57,7 +54,7 @@ def answer(words: list[str], data: str = "") -> Answer:
 
 
 def on_terminal(words: list[str], data: str = "") -> Answer:
-    """Runs a command whose standard output is a terminal."""
+    """Runs a command whose standard output is a terminal. The colours of its own lines are left out."""
     ours, theirs = pty.openpty()
     process = subprocess.Popen([program(), *words], stdin=subprocess.PIPE, stdout=theirs, stderr=theirs)
     os.close(theirs)
@@ -75,7 +72,7 @@ def on_terminal(words: list[str], data: str = "") -> Answer:
         printed += more
     process.wait(SECONDS)
     os.close(ours)
-    text = printed.decode().replace("\r\n", "\n")
+    text = re.sub("\x1b\\[(31|32|33|0)m", "", printed.decode().replace("\r\n", "\n"))
     return Answer(text, text)
 
 
@@ -84,14 +81,14 @@ def quoted(text: str) -> str:
     return '"' + "".join(f"\\x{ord(c):02x}" if ord(c) < 0x20 or ord(c) == 0x7F or c in '"\\' else c for c in text) + '"'
 
 
-def holds(text: str) -> Callable[[Answer], bool]:
-    """Returns whether an answer has a text as messages have it."""
-    return lambda got: visible(text) in got.printed
+def holds(texts: list[str]) -> Callable[[Answer], bool]:
+    """Returns whether an answer has texts as messages have them."""
+    return lambda got: all(visible(text) in got.printed for text in texts)
 
 
-def reads_back(text: str) -> Callable[[Answer], bool]:
-    """Returns whether the output is a JSON line of a run whose output is this text."""
-    return lambda got: bool(json.loads(got.output)["outputs"] == [text])
+def reads_back(wanted: list[object], member: str) -> Callable[[Answer], bool]:
+    """Returns whether the output is JSON lines with these members."""
+    return lambda got: [json.loads(line)[member] for line in got.output[:-1].split("\n")] == wanted
 
 
 class Trial(NamedTuple):
@@ -106,93 +103,143 @@ def anything(got: Answer) -> bool:
     return bool(got.printed)
 
 
-def line_of_verifier(text: str) -> Trial:
-    return Trial(lambda: answer(["check", "--text"], f"proc control\nregs\nDROPR d0 ; {text} .\nRET\n"), holds(text))
+def commented(texts: list[str]) -> str:
+    """Returns a comment of assembly text with these texts."""
+    return f"; {' . '.join(texts)} ."
 
 
-def first_word(text: str) -> Trial:
-    return Trial(lambda: answer(["asm", "--names"], f"proc control\n.{text}.\nRET\n"), anything)
+def lines_with(texts: list[str]) -> str:
+    """Returns a procedure with a text after each of its instructions."""
+    return "proc control\nregs int\n" + "".join(f"INT v0 1 ; {text} .\n" for text in texts) + "RET\n"
 
 
-def operand(text: str) -> Trial:
-    return Trial(lambda: answer(["check", "--text", "--json"], f"proc control\nregs int\nINT .{text}. 7\nRET\n"), anything)
+def literals(texts: list[str]) -> str:
+    """Returns a procedure whose instructions have these texts."""
+    return "proc control\nregs text\n" + "".join(f"TEXT v0 {quoted(text)}\n" for text in texts) + "RET\n"
 
 
-def name(text: str) -> Trial:
-    return Trial(lambda: answer(["check", "--text"], f"names\nproc control main()\nregs\nDROPR a ; {text} .\nRET\n"), holds(text))
+def copying(count: int) -> str:
+    """Returns a program that copies so many texts to its outputs."""
+    body = "".join(f"GET v0 d{at}\nDROPR d{at}\nSTORE d{count + at} v0\n" for at in range(count))
+    return f"proc control{' closed text' * count}{' write text' * count}\nregs text\n{body}RET\n"
 
 
-def listing(text: str) -> Trial:
-    return Trial(lambda: answer(["check", "--text", "--places"], f"proc control ; {text} .\nregs\nRET ; {text} .\n"), holds(text))
+def line_of_verifier(texts: list[str]) -> Trial:
+    return Trial(lambda: answer(["check", "--text"], f"proc control\nregs\nDROPR d0 {commented(texts)}\nRET\n"), holds(texts))
 
 
-def disassembly(text: str) -> Trial:
-    return Trial(lambda: answer(["disasm", "--text", "--places"], f"proc control\nregs text\nTEXT v0 {quoted(text)}\nRET\n"), anything)
+def further_errors(texts: list[str]) -> Trial:
+    lines = "".join(f"INT v0 {commented([text])}\n" for text in texts)
+    return Trial(lambda: answer(["check", "--text"], f"proc control\nregs int\n{lines}RET\n"), holds(texts))
 
 
-def disassembly_on_terminal(text: str) -> Trial:
-    return Trial(lambda: on_terminal(["disasm", "--text"], f"proc control\nregs text\nTEXT v0 {quoted(text)}\nRET\n"), anything)
+def lines_of_check(texts: list[str]) -> Trial:
+    insertion, call = map(commented, (texts[:1], texts[1:]))
+    text = f"version 4\nproc control write map int\nregs int\nDUPW d1 d0\nMINS d0 v0 v0 +0 {insertion}\nDROPW d0\nDROPW d1\nPUT 1 0 any\nRET\n"
+    return Trial(lambda: answer(["check", "--text", "--order", "--bounds"], f"{text}proc control\nregs\nPUT 1 0 any {call}\nRET\n"), holds(texts))
 
 
-def listing_in_json(text: str) -> Trial:
-    return Trial(lambda: answer(["check", "--text", "--places", "--json"], f"proc control\nregs\nRET ; {text} .\n"), anything)
+def line_of_rule(texts: list[str]) -> Trial:
+    text = f"proc control\nregs\nNEW d0 d1 int\nRULE 1 0 any 1 0 {commented(texts)}\nRET\nproc leaf closed int write int\nregs int\nDROPR d0\nSTORE d1 v0\nRET\n"
+    return Trial(lambda: answer(["run", "--text"], text), holds(texts))
 
 
-def expansion_in_json(text: str) -> Trial:
-    return Trial(lambda: answer(["asm", "--plain", "--json"], f"proc control\nregs\nRET ; {text}\n"), lambda got: text in json.loads(got.output)["text"])
+def first_word(texts: list[str]) -> Trial:
+    return Trial(lambda: answer(["asm", "--names"], f"proc control\n.{texts[0]}.\nRET\n"), anything)
 
 
-def input_word(text: str) -> Trial:
-    return Trial(lambda: answer(["run", "--text", f"ints:{text}"], COPY), anything)
+def operand(texts: list[str]) -> Trial:
+    return Trial(lambda: answer(["check", "--text", "--json"], f"proc control\nregs int\nINT .{texts[0]}. 7\nRET\n"), anything)
 
 
-def option(text: str) -> Trial:
-    return Trial(lambda: answer(["run", f"--{text}"], ""), anything)
+def name(texts: list[str]) -> Trial:
+    return Trial(lambda: answer(["check", "--text"], f"names\nproc control main()\nregs\nDROPR a {commented(texts)}\nRET\n"), holds(texts))
 
 
-def value(text: str) -> Trial:
-    return Trial(lambda: answer(["run", "--limit", text], ""), anything)
+def no_name(texts: list[str]) -> Trial:
+    return Trial(lambda: answer(["check", "--text"], f"names\nproc control main(.{texts[0]}: write int)\nregs\nRET\n"), anything)
 
 
-def command(text: str) -> Trial:
-    return Trial(lambda: answer([f".{text}"], ""), anything)
+def listing(texts: list[str]) -> Trial:
+    return Trial(lambda: answer(["check", "--text", "--places"], lines_with(texts)), holds(texts))
 
 
-def file_name(text: str) -> Trial:
-    return Trial(lambda: answer(["check", f"/nothing/{text}."], ""), holds(text))
+def disassembly(texts: list[str]) -> Trial:
+    return Trial(lambda: answer(["disasm", "--text", "--places"], literals(texts)), anything)
 
 
-def odd_file(text: str) -> Trial:
+def disassembly_on_terminal(texts: list[str]) -> Trial:
+    return Trial(lambda: on_terminal(["disasm", "--text"], literals(texts)), anything)
+
+
+def listing_in_json(texts: list[str]) -> Trial:
+    return Trial(lambda: answer(["check", "--text", "--places", "--json"], lines_with(texts)), anything)
+
+
+def expansion_in_json(texts: list[str]) -> Trial:
+    return Trial(lambda: answer(["asm", "--plain", "--json"], lines_with(texts)), lambda got: all(text in json.loads(got.output)["text"] for text in texts))
+
+
+def input_word(texts: list[str]) -> Trial:
+    return Trial(lambda: answer(["run", "--text", f"ints:{texts[0]}"], copying(1)), anything)
+
+
+def line_of_inputs(texts: list[str]) -> Trial:
+    return Trial(lambda: answer(["run", "--text", "--inputs"], f"{copying(1)}inputs\nints:{texts[0]}\n"), anything)
+
+
+def option(texts: list[str]) -> Trial:
+    return Trial(lambda: answer(["run", f"--{' '.join(texts)}"]), anything)
+
+
+def value(texts: list[str]) -> Trial:
+    return Trial(lambda: answer(["run", "--limit", " ".join(texts)]), anything)
+
+
+def command(texts: list[str]) -> Trial:
+    return Trial(lambda: answer([f".{' '.join(texts)}"]), anything)
+
+
+def file_name(texts: list[str]) -> Trial:
+    return Trial(lambda: answer(["check", f"/nothing/{' '.join(texts)}."]), holds(texts))
+
+
+def odd_file(texts: list[str]) -> Trial:
+    names = [text.replace("/", "") for text in texts]
+
     def run() -> Answer:
         with tempfile.TemporaryDirectory() as folder:
-            path = Path(folder) / (text.replace("/", "") + ".twn")
+            path = Path(folder, *names, "odd.twn")
+            path.parent.mkdir(parents=True)
             path.write_text("proc control\nregs\n", encoding="utf-8")
             return answer(["check", str(path)])
-    return Trial(run, holds(text.replace("/", "")))
+    return Trial(run, holds(names))
 
 
-def report_on_terminal(text: str) -> Trial:
-    return Trial(lambda: on_terminal(["run", "--text", f"text:{text}"], COPY), anything)
+def report_on_terminal(texts: list[str]) -> Trial:
+    return Trial(lambda: on_terminal(["run", "--text", *(f"text:{text}" for text in texts)], copying(len(texts))), anything)
 
 
-def output_in_json(text: str) -> Trial:
-    return Trial(lambda: answer(["run", "--text", "--json", f"text:{text}"], COPY), reads_back(text))
+def output_in_json(texts: list[str]) -> Trial:
+    return Trial(lambda: answer(["run", "--text", "--json", *(f"text:{text}" for text in texts)], copying(len(texts))), reads_back([texts], "outputs"))
 
 
-def line_of_each(text: str) -> Trial:
-    return Trial(lambda: answer(["run", "--text", "--each"], f"{COPY}inputs\n{json.dumps([text])}\n"), reads_back(text))
+def line_of_each(texts: list[str]) -> Trial:
+    lines = "".join(json.dumps([text]) + "\n" for text in texts)
+    return Trial(lambda: answer(["run", "--text", "--each"], f"{copying(1)}inputs\n{lines}"), reads_back([[text] for text in texts], "outputs"))
 
 
-def id_of_each(text: str) -> Trial:
-    line = json.dumps({"id": text, "inputs": [""]}, ensure_ascii=False)
-    return Trial(lambda: answer(["run", "--text", "--each"], f"{COPY}inputs\n{line}\n"), lambda got: bool(json.loads(got.output)["id"] == text))
+def id_of_each(texts: list[str]) -> Trial:
+    lines = "".join(json.dumps({"id": text, "inputs": [""]}, ensure_ascii=False) + "\n" for text in texts)
+    return Trial(lambda: answer(["run", "--text", "--each"], f"{copying(1)}inputs\n{lines}"), reads_back([*texts], "id"))
 
 
-PLACES: dict[str, Callable[[str], Trial]] = {
-    place.__name__: place for place in (
-        line_of_verifier, first_word, operand, name, listing, disassembly, disassembly_on_terminal, listing_in_json, expansion_in_json, input_word, option, value,
-        command, file_name, odd_file, report_on_terminal, output_in_json, line_of_each, id_of_each)
-}
+# How many texts a command echoes at a time: of a line or a word the beginning is printed, a procedure has eight parameters, a path 4,096 bytes.
+PLACES: dict[Callable[[list[str]], Trial], int] = {
+    line_of_verifier: 1, further_errors: 19, lines_of_check: 2, line_of_rule: 1, first_word: 1, operand: 1, name: 1, no_name: 1, listing: 20,
+    disassembly: 20, disassembly_on_terminal: 20, listing_in_json: 20, expansion_in_json: 20, input_word: 1, line_of_inputs: 1, option: 20, value: 20,
+    command: 20, file_name: 8, odd_file: 8, report_on_terminal: 4, output_in_json: 4, line_of_each: 50, id_of_each: 50}
+NAMES = {place.__name__: place for place in PLACES}
 # A file's name has at most 255 bytes.
 MOST_BYTES = {"odd_file": 200}
 
@@ -206,39 +253,47 @@ def texts(count: int, seed: str) -> list[str]:
     return ["".join(map(chr, [*some, HIDDEN[at % len(HIDDEN)]])) for at, some in enumerate(made)]
 
 
-def fault(place: str, text: str) -> str:
+class Job(NamedTuple):
+    """Texts that a command echoes together."""
+
+    place: str
+    texts: list[str]
+
+
+def fault(job: Job) -> str:
     """Returns what is wrong with an answer, or nothing."""
-    kept = text.encode()[:MOST_BYTES.get(place, 100_000)].decode(errors="ignore")
-    trial = PLACES[place](kept)
+    kept = [text.encode()[:MOST_BYTES.get(job.place, 100_000)].decode(errors="ignore") for text in job.texts]
+    trial = NAMES[job.place](kept)
     try:
         got = trial.run()
         raw = sorted({f"{ord(c):x}" for c in got.printed if is_hidden(c)})
         if raw:
-            return f"{place}: prints {' '.join(raw)}"
-        return "" if trial.holds(got) else f"{place}: {got.printed[:300]!r} of {kept!r}"
-    except (UnicodeDecodeError, ValueError, KeyError, subprocess.TimeoutExpired) as error:
-        return f"{place}: {error!r} of {kept!r}"
+            return f"{job.place}: prints {' '.join(raw)}"
+        return "" if trial.holds(got) else f"{job.place}: {got.printed[:300]!r} of {kept!r}"
+    except (UnicodeDecodeError, ValueError, KeyError, OSError, subprocess.TimeoutExpired) as error:
+        return f"{job.place}: {error!r} of {kept!r}"
 
 
-def main() -> int:
+def jobs_of(places: list[str], sent: list[str]) -> list[Job]:
+    """Returns the commands that send the texts to each place."""
+    most = {place: PLACES[NAMES[place]] for place in places}
+    return [Job(place, sent[at:at + most[place]]) for place in places for at in range(0, len(sent), most[place])]
+
+
+def main(words: list[str]) -> int:
     parser = argparse.ArgumentParser(description=__doc__, formatter_class=argparse.RawDescriptionHelpFormatter)
     parser.add_argument("--texts", type=int, default=10_000)
     parser.add_argument("--seed", default="1")
-    parser.add_argument("places", nargs="*", choices=[[], *PLACES], metavar="PLACE")
-    given = parser.parse_args()
-    places = given.places or list(PLACES)
-    sent = texts(given.texts, given.seed)
+    parser.add_argument("places", nargs="*", choices=[[], *NAMES], metavar="PLACE")
+    given = parser.parse_args(words)
+    jobs = jobs_of(given.places or list(NAMES), texts(given.texts, given.seed))
     program()
     wanted = others = 0
-    with concurrent.futures.ThreadPoolExecutor(os.cpu_count()) as pool:
-        for found in pool.map(lambda job: fault(*job), [(place, text) for place in places for text in sent]):
-            wanted += not found
-            others += bool(found)
-            if found and others <= 20:
-                print(found)
+    with multiprocessing.Pool(os.cpu_count()) as pool:
+        for job, found in zip(jobs, pool.imap(fault, jobs, 16)):
+            wanted += 0 if found else len(job.texts)
+            others += len(job.texts) if found else 0
+            if found and others <= 1000:
+                print(found[:1000])
     print(f"{wanted} as wanted, {others} not")
     return 1 if others else 0
-
-
-if __name__ == "__main__":
-    sys.exit(main())

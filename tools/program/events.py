@@ -1,4 +1,3 @@
-#!/usr/bin/env python3
 # SPDX-License-Identifier: Apache-2.0
 """Counts the instructions of an event with valgrind's callgrind. In turn they depend on the program alone, in threads on who comes first, too.
 
@@ -9,13 +8,10 @@
 A row is a run of 100,000 events of a program of bench/, in threads or in turn, with so many engines, servers and workers.
 """
 
-from __future__ import annotations
-
 import argparse
 import csv
 import re
 import subprocess
-import sys
 import tempfile
 from pathlib import Path
 
@@ -90,7 +86,3 @@ def main(words: list[str]) -> int:
     wrong = risen(rows, figures) if compared else []
     print(*wrong, f"{len(rows) - len(wrong)} passed, {len(wrong)} failed", sep="\n")
     return int(bool(wrong))
-
-
-if __name__ == "__main__":
-    sys.exit(main(sys.argv[1:]))

@@ -10,21 +10,19 @@ least 64 MB; 96 for a program with the most instructions that there may be, whos
 Needs Python 3.9, and 100 MB in the folder for temporary files. It takes some minutes.
 """
 
-from __future__ import annotations
-
 import argparse
 import itertools
 import os
 import re
 import resource
 import string
-import sys
 import tempfile
 from collections.abc import Callable, Iterator
 from pathlib import Path
 from typing import NamedTuple
 
 from tools.common.program import program
+from tools.program import collisions
 
 WHOLE = 16 * 1024 * 1024  # bytes of the longest input
 SECONDS = 3.0  # more processor time fails
@@ -136,8 +134,6 @@ def colliding(front: str, line: str, back: str) -> Maker:
     """Makes a line, repeated between two texts with `%` as a name; all names collide where the hash of names has a fixed seed."""
 
     def made(most: int) -> str:
-        from tools.program import collisions  # ./dev collisions; only its names take long
-
         count = min(COLLIDING, (most - len(front) - len(back)) // (len(line) + collisions.LENGTH))
         return front + "".join(line.replace("%", name) for name in collisions.colliding(count)) + back
 
@@ -403,12 +399,12 @@ def try_input(program: str, given: Input, most: int, room: Path, statuses: set[i
     return len(uses) - failed, failed
 
 
-def main() -> int:
+def main(words: list[str]) -> int:
     """Runs all inputs, or those whose names have a word."""
     parser = argparse.ArgumentParser(description="Runs the command tw on hostile inputs.")
     parser.add_argument("--only", default="", metavar="WORD", help="the inputs whose names have this word")
     parser.add_argument("--commands", type=int, default=99, metavar="N", help="at most so many commands of each input")
-    asked = parser.parse_args()
+    asked = parser.parse_args(words)
     passed = failed = 0
     statuses: set[int] = set()
     with tempfile.TemporaryDirectory() as room:
@@ -421,7 +417,3 @@ def main() -> int:
         print(f"the statuses are {statuses}, though some inputs are accepted and others rejected")
     print(f"{passed} passed, {failed} failed")
     return 1 if failed or not passed else 0
-
-
-if __name__ == "__main__":
-    sys.exit(main())

@@ -1,4 +1,3 @@
-#!/usr/bin/env python3
 # SPDX-License-Identifier: Apache-2.0
 """Runs examples and hostile programs with as much memory as docs/HOSTING.md says for their bounds: ./dev memory [--only TEXT]
 
@@ -6,14 +5,11 @@ The bounds are those of `tw check --bounds --limit`, and the memory is limited a
 signal. Prints a line a run, with its memory, and ends with `N passed, M failed`.
 """
 
-from __future__ import annotations
-
 import argparse
 import os
 import re
 import resource
 import subprocess
-import sys
 from typing import Iterator, NamedTuple
 
 from tools.common.program import program
@@ -30,9 +26,9 @@ THREAD = 9_000_000  # a thread with MALLOC_ARENA_MAX=1
 RESERVED = 145_000_000  # a thread otherwise: of this the C library reserves up to 128 MiB
 PRICES = {"tasks": 600, "data": 300, "members": 400, "rules": 3_500}
 BYTE = 1.1
-PRINTED = 80_000  # a text that an output prints of a member
+PRINTED = 100_000  # a text that an output prints of a member
 LISTED = 400  # an event of a trace, of statistics or of a timeline
-KEPT, JOINED = 2.2, 3.2  # a byte that --each prints; with --jobs
+KEPT, JOINED = 5.1, 5.6  # a byte that --each prints; with --jobs
 LISTS = {"--trace", "--stats", "--picture"}
 BOUNDS = (*PRICES, "bytes", "events")
 ONE_ARENA = {"MALLOC_ARENA_MAX": "1"}
@@ -335,15 +331,11 @@ def passes(program: str, run: Run) -> bool:
     return well
 
 
-def main() -> int:
+def main(words: list[str]) -> int:
     """Runs all programs, or those whose names have a text."""
     parser = argparse.ArgumentParser(description="Runs programs with the memory that docs/HOSTING.md says.")
     parser.add_argument("--only", default="", metavar="TEXT", help="the programs whose names have this text")
-    asked = parser.parse_args()
+    asked = parser.parse_args(words)
     answers = [passes(program(), run) for run in (*examples(), *hostile()) if asked.only in run.name]
     print(f"{sum(answers)} passed, {len(answers) - sum(answers)} failed")
     return 0 if answers and all(answers) else 1
-
-
-if __name__ == "__main__":
-    sys.exit(main())

@@ -1,4 +1,3 @@
-#!/usr/bin/env python3
 # SPDX-License-Identifier: Apache-2.0
 """Runs a program in several layouts and orders of events, and says whether its outputs and its end are the same.
 
@@ -15,8 +14,6 @@ reports that were found, each with how often it came and the first command that 
 Exit status 1 if runs differ; of the examples, if they do although no insertion is by a right that may be a copy. 2 if a run is rejected, 4 if
 all reached the limit.
 """
-
-from __future__ import annotations
 
 import argparse
 import subprocess
@@ -143,14 +140,14 @@ def compare_examples(orders: Orders) -> int:
     return DIFFERENT if failed or not passed else SAME
 
 
-def main() -> int:
+def main(words: list[str]) -> int:
     parser = argparse.ArgumentParser(usage="./dev orders [--runs N] [--seeds N] [--limit N] FILE [INPUT..] | --examples")
     parser.add_argument("--examples", action="store_true")
     parser.add_argument("--runs", type=int, default=3)
     parser.add_argument("--seeds", type=int, default=20)
     parser.add_argument("--limit", type=int, default=10_000)
     parser.add_argument("file", nargs="?")
-    given, words = parser.parse_known_args()
+    given, words = parser.parse_known_args(words)
     orders = Orders(Path(program()), given.runs, given.seeds, given.limit)
     if given.examples:
         return compare_examples(orders)
@@ -163,7 +160,3 @@ def main() -> int:
         return REJECTED
     print("\n".join(found.lines()))
     return found.status
-
-
-if __name__ == "__main__":
-    sys.exit(main())

@@ -1,4 +1,3 @@
-#!/usr/bin/env python3
 # SPDX-License-Identifier: Apache-2.0
 """Measures what the dearest instructions and events take, and compares it with the prices by which a run's seconds are bounded.
 
@@ -10,11 +9,8 @@ one kind of work. Prints its nanoseconds an instruction or an event, and how muc
 a row takes more than its price. The time is the processor's, so other work on the machine counts little.
 """
 
-from __future__ import annotations
-
 import argparse
 import re
-import sys
 import time
 from typing import Any, Iterator, NamedTuple
 
@@ -153,11 +149,11 @@ def script_prices() -> dict[str, tuple[float, float]]:
     return {kind: (1 / float(instructions), 1 / float(events)) for kind, instructions, events in found}
 
 
-def main() -> int:
+def main(words: list[str]) -> int:
     """Prints a line a row; returns 1 if one takes more than its price, none has a word, or bound.sh has other prices."""
     parser = argparse.ArgumentParser(description=__doc__.split("\n")[0])
     parser.add_argument("words", nargs="*")
-    words = parser.parse_args().words
+    words = parser.parse_args(words).words
     prices = package("yuglemit._listing").PRICES
     passed, failed = 0, int(script_prices() != prices)
     if failed:
@@ -170,7 +166,3 @@ def main() -> int:
         print(f"{row.name:40} {nanoseconds:10.1f} ns an {row.counted:12} {100 * part:6.1f}%{'  TOO DEAR' if part > 1 else ''}", flush=True)
     print(f"{passed} passed, {failed} failed")
     return 1 if failed or not passed else 0
-
-
-if __name__ == "__main__":
-    sys.exit(main())

@@ -1,20 +1,16 @@
-#!/usr/bin/env python3
 # SPDX-License-Identifier: Apache-2.0
-"""Checks the progress that `tw` prints on standard error, with a pseudo terminal.
+"""Checks what `tw` prints on a terminal: its progress on standard error, and colours.
 
 A run of some seconds prints once a second how many events there are so far, and --each how many lines are answered, and at which rate.
-Each such line replaces the one before, and the last is cleared. Nothing is printed with --quiet, by --in-turn, into a pipe, or of a short
-run whose program comes late. A rejected command line prints the reason and a hint. Standard output and the status are the same each time. A command that
+By --in-turn it prints how many turns. Each such line replaces the one before, and the last is cleared. Nothing is printed with --quiet, into a
+pipe, or of a short run whose program comes late. A rejected command line prints the reason and a hint. Standard output and the status are the same each time. A command that
 reads a terminal says so first, except with --help. Prints each that differs, ends with `N as wanted, M not`, and fails if one differs.
 """
-
-from __future__ import annotations
 
 import os
 import pty
 import re
 import subprocess
-import sys
 import threading
 import time
 from typing import Callable, NamedTuple
@@ -22,12 +18,14 @@ from typing import Callable, NamedTuple
 from tools.common.program import program
 
 SECONDS = 60
+# How many runs of some seconds are made before one that isn't timely is a fault.
+TRIES = 5
 SHORT = "proc control write int\nregs int\nINT v0 7\nSTORE d0 v0\nRET\n"
 NO_LINES = (
     "tw: --each needs lines of inputs: tw run FILE --each LINES; those in FILE itself follow a line `inputs`\n"
     "tw: tw run --help lists its arguments\n"
 )
-REFUSED = "error: --workers takes a number from 1 to 16\ntw: tw run --help lists its arguments\n"
+REFUSED = "\x1b[31merror: --workers takes a number from 1 to 16\n\x1b[0mtw: tw run --help lists its arguments\n"
 # The most tasks that an event limit of 1,000,000 allows, with five events each.
 MOST_TASKS = 199_000
 # Tasks of a hundred thousand iterations each, one after the other on one worker.
@@ -66,6 +64,8 @@ RET
 """
 # The most lines that are tried.
 MOST_LINES = 2_000_000
+# A terminal that has colours.
+COLOURED = {**os.environ, "NO_COLOR": "", "TERM": "xterm"}
 # Clears a terminal's line.
 CLEAR = "\r\x1b[K"
 
@@ -78,10 +78,18 @@ class Answer(NamedTuple):
     status: int
 
 
-def run(words: list[str], text: str, on_terminal: bool = True, late: float = 0.0) -> tuple[Answer, float]:
+class Took(NamedTuple):
+    """The seconds of a run by the clock, and those after the first line that it printed, or 0."""
+
+    all: float
+    printing: float
+
+
+def run(words: list[str], text: str, on_terminal: bool = True, late: float = 0.0) -> tuple[Answer, Took]:
     """Runs a program, which comes so many seconds late, and returns what came of it and how long it took."""
     ours, theirs = pty.openpty() if on_terminal else os.pipe()
     printed: list[bytes] = []
+    first: list[float] = []
 
     def listen() -> None:
         while True:
@@ -91,16 +99,18 @@ def run(words: list[str], text: str, on_terminal: bool = True, late: float = 0.0
                 return
             if not more:
                 return
+            first.append(time.monotonic())
             printed.append(more)
 
     begun = time.monotonic()
-    process = subprocess.Popen([program(), "run", "--text", "--limit=1000000", *words], stdin=subprocess.PIPE, stdout=subprocess.PIPE, stderr=theirs)
+    process = subprocess.Popen([program(), "run", "--text", "--limit=1000000", *words], stdin=subprocess.PIPE, stdout=subprocess.PIPE, stderr=theirs, env=COLOURED)
     os.close(theirs)
     listener = threading.Thread(target=listen)
     listener.start()
     time.sleep(late)
     written = process.communicate(text.encode())[0].decode()
-    took = time.monotonic() - begun
+    ended = time.monotonic()
+    took = Took(ended - begun, ended - first[0] if first else 0.0)
     listener.join()
     os.close(ours)
     return Answer(b"".join(printed).decode().replace("\r\n", "\n"), written, process.returncode), took
@@ -129,17 +139,21 @@ TASKS = Work(tasks, 16, MOST_TASKS, [])
 LINES = Work(each_text, 1000, MOST_LINES, ["--each"])
 
 
-def run_long(work: Work, words: list[str], on_terminal: bool) -> tuple[int, Answer, float]:
-    """Runs work of growing counts until a run takes four seconds. Returns the last run's count, what came of it and how long it took.
+def run_long(work: Work, words: list[str], on_terminal: bool, is_printed: bool) -> tuple[int, Answer, Took]:
+    """Runs work of growing counts until a run takes four seconds, and prints its lines in time if it prints some. Returns the last run's count, what
+    came of it and how long it took.
 
-    A run isn't timed beforehand: on a busy machine the next one may be much shorter, or longer.
+    A run isn't timed beforehand: on a busy machine the next one may be much shorter, or longer. There a process may also begin so late that little of
+    its time is left for lines, or a thread may be late. So one of five runs of four seconds has to be timely.
     """
-    count = work.least
+    count, tries = work.least, 0
     while True:
         got, took = run([*work.words, *words], work.text(count), on_terminal=on_terminal)
-        if took >= 4 or count >= work.most:
+        is_long = took.all >= 4
+        tries += is_long
+        if count >= work.most or tries == TRIES or is_long and (not is_printed or is_timely(len(printed_lines(got.printed)), took)):
             return count, got, took
-        count = min(work.most, int(count * min(8, 5.5 / max(took, 0.1))))
+        count = min(work.most, int(count * (2 if is_long else min(8, 5.5 / max(took.all, 0.1)))))
 
 
 def printed_lines(printed: str) -> list[str]:
@@ -148,12 +162,12 @@ def printed_lines(printed: str) -> list[str]:
     return parts[1:-1] if parts[0] == "" and parts[-1] == "" else []
 
 
-def is_timely(count: int, took: float) -> bool:
+def is_timely(count: int, took: Took) -> bool:
     """Returns whether work of so many seconds prints this many lines: one for each second from the second on.
 
     One line in five may be missing, since the thread that writes them may be late on a busy machine.
     """
-    return int(0.8 * took) - 2 <= count <= int(took) - 1 and count > 1
+    return int(0.8 * took.printing) <= count <= int(took.all) - 1 and count > 1
 
 
 def is_rising(numbers: list[int]) -> bool:
@@ -161,11 +175,11 @@ def is_rising(numbers: list[int]) -> bool:
     return numbers == sorted(numbers) and numbers[0] < numbers[-1]
 
 
-def is_progress(printed: str, took: float) -> bool:
-    """Returns whether these are the lines of a run that took so many seconds, and the events rise."""
-    found = [re.fullmatch(r"tw: ([0-9]+) events so far", line) for line in printed_lines(printed)]
-    events = [int(it[1]) for it in found if it]
-    return len(events) == len(found) and is_timely(len(events), took) and is_rising(events)
+def is_progress(printed: str, what: str, took: Took) -> bool:
+    """Returns whether these are the lines of a run that took so many seconds, and the events or turns rise."""
+    found = [re.fullmatch(f"tw: ([0-9]+) {what} so far", line) for line in printed_lines(printed)]
+    numbers = [int(it[1]) for it in found if it]
+    return len(numbers) == len(found) and is_timely(len(numbers), took) and is_rising(numbers)
 
 
 def second_of(answered: int, rate: str, took: float) -> int:
@@ -177,12 +191,12 @@ def second_of(answered: int, rate: str, took: float) -> int:
     return 0
 
 
-def is_line_progress(printed: str, took: float, lines: int) -> bool:
+def is_line_progress(printed: str, took: Took, lines: int) -> bool:
     """Returns whether these are the lines of `--each` that took so many seconds: answered lines and seconds rise, and the rates follow."""
     form = re.compile(r"tw: ([1-9][0-9]*) lines so far, ([0-9]+\.[0-9]) a second")
     found = [form.fullmatch(line) for line in printed_lines(printed)]
     rows = [(int(it[1]), it[2]) for it in found if it]
-    seconds = [second_of(answered, rate, took) for answered, rate in rows]
+    seconds = [second_of(answered, rate, took.all) for answered, rate in rows]
     return (
         len(rows) == len(found) and is_timely(len(rows), took) and is_rising([row[0] for row in rows])
         and rows[-1][0] <= lines and 0 not in seconds and seconds == sorted(set(seconds))
@@ -206,24 +220,25 @@ def each_faults() -> list[str]:
         ("--each --quiet", ["--quiet"], True, False), ("--each into a pipe", [], False, False),
     ]
     for name, words, on_terminal, is_printed in rows:
-        lines, got, took = run_long(LINES, words, on_terminal)
+        lines, got, took = run_long(LINES, words, on_terminal, is_printed)
         is_right = is_line_progress(got.printed, took, lines) if is_printed else not got.printed
         is_well = is_right and are_answers(got.written, lines) and got.status == 0
-        faults.append("" if is_well else f"{name}, {lines} lines, {took:.1f} seconds: {got.printed!r}, status {got.status}, {got.written[-200:]}")
+        faults.append("" if is_well else f"{name}, {lines} lines, {took.all:.1f} seconds: {got.printed!r}, status {got.status}, {got.written[-200:]}")
     return faults
 
 
 def long_faults() -> list[str]:
     """Returns what is wrong with runs of some seconds, or nothing for each that is well."""
     faults: list[str] = []
-    rows: list[tuple[str, list[str], bool]] = [
-        ("a run on a terminal", [], True), ("--quiet", ["--quiet"], True), ("--in-turn", ["--in-turn"], True), ("into a pipe", [], False),
+    rows: list[tuple[str, list[str], bool, str]] = [
+        ("a run on a terminal", [], True, "events"), ("--quiet", ["--quiet"], True, ""), ("into a pipe", [], False, ""),
+        ("--in-turn", ["--in-turn"], True, "turns"), ("--in-turn --quiet", ["--in-turn", "--quiet"], True, ""),
     ]
-    for name, words, on_terminal in rows:
-        _, got, took = run_long(TASKS, words, on_terminal)
-        is_right = is_progress(got.printed, took) if on_terminal and not words else not got.printed
+    for name, words, on_terminal, what in rows:
+        _, got, took = run_long(TASKS, words, on_terminal, bool(what))
+        is_right = is_progress(got.printed, what, took) if what else not got.printed
         is_well = is_right and (got.written, got.status) == ("quiet\n", 0)
-        faults.append("" if is_well else f"{name}, {took:.1f} seconds: {got}")
+        faults.append("" if is_well else f"{name}, {took.all:.1f} seconds: {got}")
     return faults
 
 
@@ -261,12 +276,31 @@ def terminal_faults() -> list[str]:
     ]
 
 
-def main() -> int:
-    results = long_faults() + each_faults() + short_faults() + terminal_faults()
+def shown(words: list[str], text: str, **environment: str) -> str:
+    """Returns what a command writes to a terminal."""
+    ours, theirs = pty.openpty()
+    subprocess.run([program(), *words], input=text, stdout=theirs, stderr=subprocess.DEVNULL, text=True, timeout=SECONDS, check=False, env=COLOURED | environment)
+    os.close(theirs)
+    written = os.read(ours, 65536).decode().replace("\r\n", "\n")
+    os.close(ours)
+    return written
+
+
+def coloured_faults() -> list[str]:
+    """Returns what is wrong with colours, likewise: lines of errors are red, ends green or yellow."""
+    rows: list[tuple[list[str], str, dict[str, str], str]] = [
+        (["run", "--text"], SHORT, {}, "out 0 int 7\n\x1b[32mquiet\n\x1b[0m"),
+        (["run", "--text", "--limit=1"], SHORT, {}, "out 0 unset\n\x1b[33mlimit\n\x1b[0mevents 1; --limit takes up to 1000000\n"),
+        (["run", "--text", "int:7"], SHORT, {}, "\x1b[31mrefused O01\n\x1b[0minputs given: 1, required: 0\n"),
+        (["run", "--text"], SHORT, {"NO_COLOR": "1"}, "out 0 int 7\nquiet\n"),
+        (["run", "--text"], SHORT, {"TERM": "dumb"}, "out 0 int 7\nquiet\n"),
+    ]
+    found = [(words, environment, wanted, shown(words, text, **environment)) for words, text, environment, wanted in rows]
+    return ["" if got == wanted else f"{words} {environment}: {got!r}" for words, environment, wanted, got in found]
+
+
+def main(words: list[str]) -> int:
+    results = long_faults() + each_faults() + short_faults() + terminal_faults() + coloured_faults()
     faults = [fault for fault in results if fault]
     print("\n".join([*faults, f"{len(results) - len(faults)} as wanted, {len(faults)} not"]))
     return 1 if faults else 0
-
-
-if __name__ == "__main__":
-    sys.exit(main())

@@ -8,13 +8,10 @@ status 5, or as it does otherwise. Prints how often each command ended in which 
 The runtime's own requests are among those that are counted. It needs a C compiler.
 """
 
-from __future__ import annotations
-
 import argparse
 import os
 import re
 import subprocess
-import sys
 import tempfile
 from collections import Counter
 from pathlib import Path
@@ -72,11 +69,11 @@ def ends_of(room: Path, kind: str, command: Command, most: int) -> Counter[str]:
     return ends
 
 
-def main() -> int:
+def main(words: list[str]) -> int:
     """Tries all commands; returns an exit status. A command that makes no request, such as a static program's, fails."""
     parser = argparse.ArgumentParser(description="Refuses each request for memory and threads.")
     parser.add_argument("--most", type=int, default=100_000, metavar="N", help="the first N requests of each command")
-    most, passed, failed = parser.parse_args().most, 0, 0
+    most, passed, failed = parser.parse_args(words).most, 0, 0
     with tempfile.TemporaryDirectory() as name:
         room = Path(name)
         subprocess.run(["cc", "-O2", "-shared", "-fPIC", "-o", str(room / "refuse.so"), str(Path(__file__).with_name("refuse.c")), "-ldl"], check=True)
@@ -90,7 +87,3 @@ def main() -> int:
             failed += not ends
     print(f"{passed} passed, {failed} failed")
     return 1 if failed or not passed else 0
-
-
-if __name__ == "__main__":
-    sys.exit(main())

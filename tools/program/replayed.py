@@ -9,8 +9,6 @@ replayed alike, and ends with `N replayed alike, M not`.
 The inputs are those of examples/sessions.txt, or the ones that `check` names.
 """
 
-from __future__ import annotations
-
 import hashlib
 import json
 import re
@@ -104,7 +102,3 @@ def main(words: list[str]) -> int:
         return 2
     times = int(numbers[0]) if numbers else 100 if is_load else 200
     return load(times) if is_load else replay_all(times)
-
-
-if __name__ == "__main__":
-    sys.exit(main(sys.argv[1:]))

@@ -1,14 +1,12 @@
-#!/usr/bin/env python3
 # SPDX-License-Identifier: Apache-2.0
-"""Checks that `tw run --seconds N` stops runs: ./dev seconds
+"""Checks that `tw run --seconds N` and Ctrl-C stop runs: ./dev seconds
 
 Runs that take minutes are stopped after a second and not before: in turn, by a seed, in threads, on a terminal; and a line of --each, while the
 others have their own ends. The same again beside busy processes, two for each processor. On a busy machine a run waits while time passes, so
-the limit of each run is in processor time, and only the quickest of some runs has to end soon by the clock. A signal ends such a run at once.
+the limit of each run is in processor time, and only the quickest of some runs has to end soon by the clock. A signal ends such a run at once. Ctrl-C
+at a terminal stops a run of ./tw, which prints its report.
 A session of the library has no clock: it rejects the option.
 """
-
-from __future__ import annotations
 
 import contextlib
 import json
@@ -24,6 +22,7 @@ from collections.abc import Callable, Iterator, Sequence
 from dataclasses import dataclass
 from pathlib import Path
 
+from tools import ROOT
 from tools.common.program import package, program
 from tools.cases.json_cases import TIMED, UNCHECKED, faults, validators
 from tools.program.stream import Wrong, expect, heed_signals
@@ -199,6 +198,39 @@ def by_signal(number: signal.Signals, *words: str) -> Callable[[Given], None]:
     return check
 
 
+def of_decimals(given: Given) -> None:
+    """A run is stopped after a fifth of a second."""
+    ran = in_time(Window(0.2, 2.0, 1.2), lambda: run(command(given, "--in-turn", "--seconds", "0.2")))
+    expect("status and report", (ran.status, ran.output), (4, STOPPED))
+
+
+def typed(given: Given, *words: str) -> tuple[int, str]:
+    """Runs ./tw at a terminal, at which Ctrl-C is typed. Returns the status and what the terminal shows."""
+    _, *others = command(given, *words)
+    process, ours = pty.fork()
+    if process == 0:
+        os.execv(ROOT / "tw", ["tw", *others])
+    shown = b""
+    time.sleep(2.5)
+    os.write(ours, b"\x03")
+    with contextlib.suppress(OSError):
+        while more := os.read(ours, 65536):
+            shown += more
+    os.close(ours)
+    _, status = os.waitpid(process, 0)
+    return os.waitstatus_to_exitcode(status), shown.decode().replace("\r\n", "\n")
+
+
+def by_keyboard(*words: str) -> Callable[[Given], None]:
+    """Ctrl-C at a terminal stops a run, which prints its report."""
+    def check(given: Given) -> None:
+        status, shown = typed(given, "--quiet", *words)
+        expect("status", status, 130)
+        if "out 0 unset\n" not in shown or "stopped" not in shown:
+            raise Wrong(f"the terminal shows {shown!r}")
+    return check
+
+
 def unreached(given: Given) -> None:
     """A run that ends in time is as without the option."""
     runs: tuple[list[str], ...] = ([], ["--in-turn"], ["--json", "--in-turn"], ["--trace", "--in-turn"])
@@ -228,7 +260,7 @@ def clockless(_: Given) -> None:
 
 def rejected(given: Given) -> None:
     """A session and the command reject the same numbers."""
-    for words in (["--seconds"], ["--seconds", "0"], ["--seconds", "4294967296"], ["--seconds", "1.5"], ["--seconds", "1", "--seconds", "1"]):
+    for words in (["--seconds"], ["--seconds", "0"], ["--seconds", "4294967296"], ["--seconds", "1.5000"], ["--seconds", "1", "--seconds", "1"]):
         ran = run([given.tw, "run", *words, given.turns, "int:0"])
         expect(f"command {words}", (ran.status, ran.output), (2, "command line refused\n"))
         expect(f"session {words}", session(["run", "--text", *words, "int:0"], TURNS), (2, "command line refused\n"))
@@ -244,7 +276,8 @@ CHECKS: dict[str, Check] = {
     "each line": each(1, 2.0), "each line, 4 jobs": each(4, 1.0),
 }
 QUIET_CHECKS: dict[str, Check] = {
-    "JSON": in_json, "on a terminal": on_terminal, "unreached": unreached, "a session": clockless, "rejected": rejected,
+    "JSON": in_json, "on a terminal": on_terminal, "unreached": unreached, "decimals": of_decimals,
+    "Ctrl-C": by_keyboard(), "Ctrl-C in turn": by_keyboard("--in-turn"), "a session": clockless, "rejected": rejected,
     "SIGTERM": by_signal(signal.SIGTERM), "SIGINT": by_signal(signal.SIGINT), "SIGHUP in turn": by_signal(signal.SIGHUP, "--in-turn"),
 }
 
@@ -273,7 +306,7 @@ def wrong(checks: dict[str, Check], where: str, given: Given) -> int:
     return count
 
 
-def main() -> int:
+def main(words: list[str]) -> int:
     with tempfile.TemporaryDirectory() as name:
         folder = Path(name)
         turns = folder / "turns.tw"
@@ -286,7 +319,3 @@ def main() -> int:
         print(UNCHECKED)
     print(f"{2 * len(CHECKS) + len(QUIET_CHECKS) - count} passed, {count} failed")
     return int(count > 0)
-
-
-if __name__ == "__main__":
-    sys.exit(main())

@@ -1,12 +1,9 @@
-#!/usr/bin/env python3
 # SPDX-License-Identifier: Apache-2.0
 """Checks that `tw run --each` answers each line as soon as it is read: ./dev stream [--short]
 
 Writes a line, waits for its answer, and writes the next, with one job and with four, also lines with ids. Sends bytes that aren't UTF-8, and ends the process by signals.
 Without --short also sends lines of 16 MiB, and has 100 MB of lines read in bounded memory.
 """
-
-from __future__ import annotations
 
 import json
 import os
@@ -251,7 +248,3 @@ def main(words: list[str]) -> int:
         passed, failed = made(checks, echo)
     print(f"{passed} passed, {failed} failed")
     return int(failed > 0)
-
-
-if __name__ == "__main__":
-    sys.exit(main(sys.argv[1:]))

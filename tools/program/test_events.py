@@ -18,7 +18,3 @@ class Risen(unittest.TestCase):
 
     def test_fewer(self) -> None:
         self.assertEqual(events.risen({"row": 1.0}, {"row": 1000.0}), [])
-
-
-if __name__ == "__main__":
-    unittest.main()

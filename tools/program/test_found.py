@@ -1,42 +1,22 @@
 """Tests of script/find.sh: each cause for which no program answers has its own message, and a failed unpack never begins a build."""
 
-from __future__ import annotations
-
 import gzip
-import hashlib
 import os
-import shutil
 import subprocess
-import tempfile
 import unittest
 from pathlib import Path
 
-from tools import ROOT
+from tools.common.testing import fake_clone, folder_of
 
 FAKE = b"#!/bin/sh\necho answered \"$@\"\n"
 
 
 class Found(unittest.TestCase):
-    """A clone with one small crate, whose release is a script."""
-
     def setUp(self) -> None:
-        folder = tempfile.TemporaryDirectory()
-        self.addCleanup(folder.cleanup)
-        self.top = Path(folder.name) / "clone"
-        self.tools = Path(folder.name) / "bin"
-        shutil.copytree(ROOT / "script", self.top / "script")
-        shutil.copy(ROOT / "tw", self.top / "tw")
-        for name, text in (("crates.txt", "tw_main:\n"), ("VERSION", "0.0\n"), ("crates/tw_main/src/main.rt", "fn main() {}\n")):
-            (self.top / name).parent.mkdir(parents=True, exist_ok=True)
-            (self.top / name).write_text(text, encoding="utf-8")
-        (self.top / "release").mkdir()
-        (self.top / "release/tw.gz").write_bytes(gzip.compress(FAKE))
-        sums = subprocess.run([self.top / "script/sources.sh", "tw_main"], stdout=subprocess.PIPE, text=True, check=True).stdout.split()
-        manifest = f"sources tw_main {sums[0]}\ncode tw_main {sums[1]}\nfile tw {len(FAKE)} {hashlib.sha256(FAKE).hexdigest()}\n"
-        (self.top / "release/MANIFEST").write_text(manifest, encoding="utf-8")
+        self.top = fake_clone(self, FAKE)
         # The folders of PATH without the command rt, and a folder for one that notes its calls.
         self.path = ":".join(place for place in os.environ["PATH"].split(":") if not (Path(place) / "rt").exists())
-        self.tools.mkdir()
+        self.tools = folder_of(self)
 
     def answer(self, *words: str, **variables: str) -> tuple[int, str, str]:
         """Returns the status of ./tw, what it printed, and its complaint."""
@@ -89,7 +69,3 @@ class Found(unittest.TestCase):
         self.assertEqual((status, printed), (2, "command line refused\n"))
         for command in ("run", "test", "install", "package", "build"):
             self.assertRegex(complaint, rf"(?m)^  {command} ")
-
-
-if __name__ == "__main__":
-    unittest.main()

@@ -1,16 +1,11 @@
 """Tests of ./dev orders."""
 
-from __future__ import annotations
-
-import contextlib
-import io
-import sys
-import tempfile
 import unittest
 from pathlib import Path
 from unittest import mock
 
 from tools import ROOT
+from tools.common.testing import folder_of, said
 from tools.common import sessions
 from tools.common.program import program
 from tools.program import orders
@@ -63,16 +58,12 @@ ONCE = ("--runs", "0", "--seeds", "0")
 
 class OrdersTest(unittest.TestCase):
     def setUp(self) -> None:
-        folder = tempfile.TemporaryDirectory()
-        self.addCleanup(folder.cleanup)
-        self.path = Path(folder.name, "race.twn")
+        self.path = folder_of(self) / "race.twn"
         self.path.write_text(RACE, encoding="utf-8")
         self.orders = orders.Orders(Path(program()), 0, 0, 1000)
 
     def call(self, *words: str) -> tuple[int, str]:
-        out = io.StringIO()
-        with mock.patch.object(sys, "argv", ["orders.py", *words]), contextlib.redirect_stdout(out), contextlib.redirect_stderr(out):
-            return orders.main(), out.getvalue()
+        return said(orders.main, list(words))
 
     def test_options(self) -> None:
         actors = ["--engines", "1", "--servers", "1", "--workers", "1"]
@@ -116,7 +107,3 @@ class OrdersTest(unittest.TestCase):
         shown = {path.name: (inputs, is_refused) for path, inputs, is_refused in sessions.runs()}
         self.assertEqual(shown["two_inputs.tw"], (("ints:1=7,5=-3", "int:-4"), False))
         self.assertEqual(shown["cut.hex"], ((), True))
-
-
-if __name__ == "__main__":
-    unittest.main()

@@ -1,11 +1,8 @@
-#!/usr/bin/env python3
 # SPDX-License-Identifier: Apache-2.0
 """Checks the crate in whose folder it is called, with the crates below taken from their sources, as they are and unproved.
 
 This is for the first minutes in a fresh clone, where `rt check` would prove all of those first. It takes the arguments of `rt check`. With
 --only FUNCTION it checks that function and what it calls, in the crates below too. Without it all functions of those are checked as well."""
-
-from __future__ import annotations
 
 import importlib
 import os
@@ -36,7 +33,3 @@ def main(given: list[str]) -> int:
     below = ", ".join(dep.name for dep in crate.below()) or "nothing"
     print(f"alone: taken from sources, unproved: {below}", file=sys.stderr)
     return status
-
-
-if __name__ == "__main__":
-    sys.exit(main(sys.argv[1:]))

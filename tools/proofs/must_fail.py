@@ -1,4 +1,3 @@
-#!/usr/bin/env python3
 # SPDX-License-Identifier: Apache-2.0
 """Tries the mutants of tools/proofs/must-fail, which CI leaves out: the prover has to reject each.
 
@@ -13,14 +12,11 @@ depends on: the toolchain, the sources of the crate and of those below it, and t
   ./dev must_fail --check           checks that each text to replace occurs once in its file; needs no toolchain
 """
 
-from __future__ import annotations
-
 import argparse
 import hashlib
 import re
 import shutil
 import subprocess
-import sys
 import tempfile
 from pathlib import Path
 from typing import Iterable
@@ -171,27 +167,23 @@ def chosen(root: Path, kit: str, words: list[str], is_anew: bool) -> list[str]:
     return [name for name in every if name in left and (not words or name in words)]
 
 
-def main() -> int:
+def main(words: list[str]) -> int:
     """Reads the command line."""
     parser = argparse.ArgumentParser(description="Tries the mutants that CI leaves out.")
     parser.add_argument("--anew", action="store_true")
     parser.add_argument("--list", action="store_true")
     parser.add_argument("--check", action="store_true")
     parser.add_argument("names", nargs="*", metavar="NAME")
-    words = parser.parse_args()
-    if words.list:
+    given = parser.parse_args(words)
+    if given.list:
         print("\n".join(f"{name}/{file.stem}" for name, files in mutants_in(ROOT).items() for file in files))
         return 0
-    if words.check:
+    if given.check:
         return check(ROOT)
     stop_on_changes(ROOT)
     kit = kit_id()
-    names = chosen(ROOT, kit, words.names, words.anew)
+    names = chosen(ROOT, kit, given.names, given.anew)
     left = attempt(ROOT, kit, names) if names else []
     count = sum(len(mutants_in(ROOT)[name]) for name in names)
     print(f"{count - len(left)} rejected, {len(left)} not{': ' + ', '.join(left) if left else ''}")
     return 1 if left else 0
-
-
-if __name__ == "__main__":
-    sys.exit(main())

@@ -1,4 +1,3 @@
-#!/usr/bin/env python3
 """Makes edits of what no contract holds, one after another, in a copy of the repository: the script tw, its tools, the page's JavaScript, the
 packages for Python, C++ and Rust, and what tw says on standard error. The tests of the edited part have to fail. Prints a line for each mutant and
 ends with `N killed, M survive`. It fails if a mutant survives that isn't said to be harmless, if one is killed that is, or if the tests of a part
@@ -12,8 +11,6 @@ fail without an edit, whose mutants aren't tried.
 The page's tests need node. The parts `main` and `host` are built once, unproved, with all their edits (tools/proofs/breaks.py), which takes some
 minutes and needs the toolchain. Cases have to notice those of the host (./dev wakes) as `late wakes N`, or since a run takes too long.
 """
-
-from __future__ import annotations
 
 import gzip
 import os
@@ -143,8 +140,8 @@ MUTANTS = (
     Mutant("comments_hide_no_names", "main", MAIN + "symbolic.rt", "line.split(';').next().unwrap_or(\"\").trim()", "(if @comments_hide_no_names@ { line } else { line.split(';').next().unwrap_or(\"\") }).trim()"),
     Mutant("any_twn_has_names", "main", MAIN + "symbolic.rt", "Ok(text) if !begins_with_names(text) =>", "Ok(text) if !@any_twn_has_names@ && !begins_with_names(text) =>"),
     Mutant("rejected_words_say_nothing", "main", MAIN + "tool.rt", "                self.complain(&complaint);\n", "                if !@rejected_words_say_nothing@ {\n                    self.complain(&complaint);\n                }\n"),
-    Mutant("quiet_runs_print", "main", MAIN + "progress_printer.rt", "if !self.is_quiet && self.stderr", "if (!self.is_quiet || @quiet_runs_print@) && self.stderr"),
-    Mutant("pipes_get_progress", "main", MAIN + "progress_printer.rt", "&& self.stderr.is_terminal() {", "&& (self.stderr.is_terminal() || @pipes_get_progress@) {"),
+    Mutant("quiet_runs_print", "main", MAIN + "progress_printer.rt", "!self.is_quiet && self", "(!self.is_quiet || @quiet_runs_print@) && self"),
+    Mutant("pipes_get_progress", "main", MAIN + "progress_printer.rt", "&& self.stderr.is_terminal()\n", "&& (self.stderr.is_terminal() || @pipes_get_progress@)\n"),
     Mutant("progress_at_each_look", "main", MAIN + "progress_printer.rt", "if second <= self.printed {", "if second <= self.printed && !@progress_at_each_look@ {"),
     *(Mutant(name, "host", place.file, place.old, place.new) for place in WAKES for name in names_of((place,))[1:]),
     # The script: what it answers itself, and the program that it calls.
@@ -446,7 +443,3 @@ def main(words: list[str]) -> int:
         print(f"not harmless, since tests notice it: {', '.join(wrong)}")
     is_alive = any(not is_killed and not mutant.harmless for mutant, is_killed in results)
     return 1 if wrong or is_alive or len(most) < len(parts) else 0
-
-
-if __name__ == "__main__":
-    sys.exit(main(sys.argv[1:]))

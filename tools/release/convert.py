@@ -1,7 +1,5 @@
 """Makes HTML of this repository's Markdown: headings, paragraphs, lists, tables, code, images and links. The page and the site of all documents use it."""
 
-from __future__ import annotations
-
 import html
 import re
 from collections.abc import Callable

@@ -93,6 +93,13 @@ uninstalled_by_force() {
         [ "$(files "$prefix")" = ./bin/other ]
 }
 
+# The last line says how to remove what is installed, also where a name has blanks and a quote.
+closing_hint() {
+    ends_with 0 ./tw install "$room/it's here" || return
+    hint=$(sed -n 's/.*; \(.*\) removes it$/\1/p' "$room/said")
+    clean sh -c "$hint" && [ -z "$(files "$room/it's here")" ]
+}
+
 # Each link of each installed document leads to an installed file.
 no_dead_links() {
     ends_with 0 ./tw install "$room/documents" || return
@@ -204,6 +211,7 @@ check "what was changed stays" changed_files
 check "a list of an earlier version" earlier_list
 check "uninstalling leaves what isn't ours" uninstalled
 check "--force --uninstall" uninstalled_by_force
+check "the closing hint removes what is installed" closing_hint
 check "installed documents have no dead links" no_dead_links
 check "help pages" help_pages
 check "an output that can't be written is status 7" full_output

@@ -9,8 +9,6 @@ Yuglemit that has it. Each further line has a later version and the calls that i
 that makes one isn't started with an older library. `link_library.py --exports FILE` prints the version script of such a file.
 """
 
-from __future__ import annotations
-
 import shutil
 import subprocess
 import sys

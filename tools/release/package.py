@@ -5,8 +5,6 @@ Each holds what `./tw install` installs, or the library alone (wheel, sdist and 
 called, and a file's bytes depend on what is installed and on SOURCE_DATE_EPOCH alone, so the same release gives the same packages.
 """
 
-from __future__ import annotations
-
 import base64
 import gzip
 import hashlib
@@ -295,14 +293,14 @@ def print_usage() -> int:
     return 0
 
 
-def main() -> int:
+def main(words: list[str]) -> int:
     """Writes the packages that are named, and returns the exit status."""
-    names = sys.argv[1:] or list(PACKAGES)
+    names = words or list(PACKAGES)
     if set(names) & {"--help", "-h"}:
         return print_usage()
     unknown = [name for name in names if name not in PACKAGES]
     if unknown:
-        print(f"tw: ./tw package takes {', '.join(PACKAGES)}, and no {unknown[0]}; ./tw help package says more", file=sys.stderr)
+        print(f"tw: ./tw package takes {', '.join(PACKAGES)}, and no {unknown[0]!r}; ./tw help package says more", file=sys.stderr)
         return 2
     os.umask(0o022)
     DIST.mkdir(exist_ok=True)
@@ -312,7 +310,3 @@ def main() -> int:
             size = sum(path.stat().st_size for path in [package, *package.rglob("*")] if path.is_file())
             print(f"{package.relative_to(ROOT)}, {size} bytes")
     return 0
-
-
-if __name__ == "__main__":
-    sys.exit(main())

@@ -1,4 +1,3 @@
-#!/usr/bin/env python3
 # SPDX-License-Identifier: Apache-2.0
 """Makes release/ from what `rt ci` has proved: the program, the libraries, the runners of the cases, the page, the manual, and MANIFEST.
 
@@ -14,8 +13,6 @@ row of release/HARNESSES for each harness, which ./dev record writes from a nigh
 What `rt ci` proved is kept beside the toolchain. The first build takes the programs that it kept; the second, in another folder, proves
 the topmost crates again over the kept libraries and compiles them anew.
 """
-
-from __future__ import annotations
 
 import argparse
 import gzip
@@ -399,7 +396,7 @@ def fresh() -> int:
     return 1 if faults else 0
 
 
-def main() -> int:
+def main(words: list[str]) -> int:
     """Reads the command line."""
     parser = argparse.ArgumentParser(description="Makes release/, or compares it.")
     parser.add_argument("--gate", metavar="LOG")
@@ -408,22 +405,18 @@ def main() -> int:
     parser.add_argument("--fresh", action="store_true")
     parser.add_argument("--unproved", metavar="FOLDER")
     parser.add_argument("--rebuild", nargs=2, metavar=("TREE", "CRATE"), help=argparse.SUPPRESS)
-    words = parser.parse_args()
+    given = parser.parse_args(words)
     # A signal ends it as an error does, so that its folder is removed and what it started is stopped.
     for number in (signal.SIGTERM, signal.SIGHUP):
         signal.signal(number, lambda caught, _: sys.exit(128 + caught))
-    if words.rebuild:
-        rebuild_program(kit_folder(), Path(words.rebuild[0]), words.rebuild[1])
-    elif words.unproved:
-        make_unproved(Path(words.unproved))
-    elif words.fresh:
+    if given.rebuild:
+        rebuild_program(kit_folder(), Path(given.rebuild[0]), given.rebuild[1])
+    elif given.unproved:
+        make_unproved(Path(given.unproved))
+    elif given.fresh:
         return fresh()
-    elif words.check:
+    elif given.check:
         check()
     else:
-        make(words.gate, words.once)
+        make(given.gate, given.once)
     return 0
-
-
-if __name__ == "__main__":
-    sys.exit(main())

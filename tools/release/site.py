@@ -1,4 +1,3 @@
-#!/usr/bin/env python3
 # SPDX-License-Identifier: Apache-2.0
 """Makes the manual as a site: all documents as HTML, contents by reader, and a search that needs no server.
 
@@ -10,14 +9,11 @@
 since a page that is opened as a file may not fetch one.
 """
 
-from __future__ import annotations
-
 import html
 import io
 import json
 import posixpath
 import re
-import sys
 import tarfile
 from pathlib import Path
 from typing import NamedTuple, Optional
@@ -198,7 +194,3 @@ def main(words: list[str]) -> int:
     for name, text in site(ROOT).items():
         Path(words[0], name).write_bytes(text)
     return 0
-
-
-if __name__ == "__main__":
-    sys.exit(main(sys.argv[1:]))

@@ -1,8 +1,6 @@
 # SPDX-License-Identifier: Apache-2.0
 """Tests of ./dev release, ./dev must_fail, tools/release/package.py and script/sources.sh."""
 
-from __future__ import annotations
-
 import contextlib
 import dataclasses
 import gzip
@@ -16,10 +14,10 @@ from pathlib import Path
 from unittest import mock
 
 from tools import ROOT
+from tools.common.testing import folder_of, put, replace
 from tools.night import record
 from tools.proofs import must_fail
-from tools.release import package
-from tools.release import release
+from tools.release import package, release
 
 MUTANT = "file: src/lib.rt\nold:     1\nnew:     2\n"
 
@@ -40,9 +38,7 @@ def make_repository(root: Path) -> None:
         "crates/other/src/lib.rt": "fn other() {}\n",
         "tools/proofs/must-fail/low/two.edit": MUTANT,
     }
-    for name, text in files.items():
-        (root / name).parent.mkdir(parents=True, exist_ok=True)
-        (root / name).write_text(text, encoding="utf-8")
+    put(root, files)
     (root / "script").mkdir()
     shutil.copy(ROOT / "script" / "sources.sh", root / "script")
 
@@ -56,16 +52,11 @@ def manifest_of(root: Path) -> release.Manifest:
 
 
 class WithRepository(unittest.TestCase):
-    """Has a small repository in a folder of its own, with a release."""
-
     def setUp(self) -> None:
-        room = tempfile.TemporaryDirectory()
-        self.addCleanup(room.cleanup)
-        self.root = Path(room.name)
+        self.root = folder_of(self)
         make_repository(self.root)
         self.manifest = manifest_of(self.root)
-        (self.root / "release").mkdir()
-        (self.root / "release/MANIFEST").write_text(self.manifest.text(), encoding="utf-8")
+        put(self.root, {"release/MANIFEST": self.manifest.text()})
 
     def edit(self, name: str, text: str) -> None:
         """Replaces the text of a file."""
@@ -73,8 +64,6 @@ class WithRepository(unittest.TestCase):
 
 
 class OfARepository(WithRepository):
-    """Tests of whether a release is fresh."""
-
     def test_the_release_of_the_same_sources_is_fresh(self) -> None:
         self.assertEqual(release.staleness(self.root), [])
 
@@ -132,8 +121,6 @@ class OfARepository(WithRepository):
 
 
 class OfProver(unittest.TestCase):
-    """Tests of which command of the toolchain tries mutants."""
-
     def printed(self, of_ci: str) -> list[str]:
         """Returns the commands that are run if `rt ci NAME` prints this."""
         ran: list[str] = []
@@ -155,16 +142,11 @@ class OfProver(unittest.TestCase):
 
 
 class OfMutants(WithRepository):
-    """Tests of which mutants are noted as rejected, with a prover that prints a line for each."""
-
     def setUp(self) -> None:
         super().setUp()
         self.edit("tools/proofs/must-fail/low/three.edit", MUTANT.replace("2", "3"))
         self.printed = "must-fail low/two.edit: refused, as it must be: src/lib.rt:2\nmust-fail low/three.edit: refused, as it must be\n"
-        for name, fake in {"copy_mutants": lambda *words: None, "run_prover": lambda *words: self.printed}.items():
-            patch = mock.patch.object(must_fail, name, fake)
-            patch.start()
-            self.addCleanup(patch.stop)
+        replace(self, must_fail, copy_mutants=lambda *words: None, run_prover=lambda *words: self.printed)
 
     def attempt(self) -> list[str]:
         """Tries the mutants, without what they print."""
@@ -214,8 +196,6 @@ class OfMutants(WithRepository):
 
 
 class OfABuild(WithRepository):
-    """Tests of how a release is made, with builds that write a line for a file."""
-
     def setUp(self) -> None:
         super().setUp()
         self.second = "built\n"
@@ -223,21 +203,15 @@ class OfABuild(WithRepository):
         fakes = {"ROOT": self.root, "kit_folder": lambda: self.root, "stop_on_changes": lambda root: None, "strip": lambda *words: None}
         fakes |= {"copy_committed": self.copy, "run_ci": lambda tree, log: "9 passed, 0 failed", "build_library": self.build_library}
         fakes |= {"build_page": self.build_page, "build_manual": lambda tree, to: to.write_text("manual\n"), "rebuild_programs": self.rebuild}
-        for name, fake in fakes.items():
-            patch = mock.patch.object(release, name, fake)
-            patch.start()
-            self.addCleanup(patch.stop)
-        patch = mock.patch.object(record, "faults", lambda rows, before: self.faults)
-        patch.start()
-        self.addCleanup(patch.stop)
+        replace(self, release, **fakes)
+        replace(self, record, faults=lambda rows, before: self.faults)
         self.edit("KIT-ID", "kit\n")
         must_fail.note(self.root, "kit", ["low"])
 
     def copy(self, root: Path, tree: Path, with_checks: bool) -> None:
         """Acts as the copy and what `rt ci` leaves in it."""
         for crate in release.PROGRAMS:
-            (tree / f"crates/{crate}/out").mkdir(parents=True)
-            (tree / f"crates/{crate}/out/{crate}").write_text("built\n")
+            put(tree, {f"crates/{crate}/out/{crate}": "built\n"})
 
     def rebuild(self, tree: Path) -> None:
         """Acts as the second build of the programs."""
@@ -245,15 +219,11 @@ class OfABuild(WithRepository):
 
     def build_library(self, kit: Path, tree: Path) -> None:
         """Acts as the build of the libraries."""
-        out = tree / f"crates/{release.LIBRARY}/out"
-        out.mkdir(parents=True)
-        for name in release.LIBRARIES:
-            (out / name).write_text("library\n")
+        put(tree / f"crates/{release.LIBRARY}/out", dict.fromkeys(release.LIBRARIES, "library\n"))
 
     def build_page(self, tree: Path) -> None:
         """Acts as the build of the page."""
-        (tree / "page/out").mkdir(parents=True)
-        (tree / "page/out" / release.PAGE).write_text("page\n")
+        put(tree / "page/out", {release.PAGE: "page\n"})
 
     def test_two_builds_that_are_the_same_make_a_release(self) -> None:
         release.make(None, once=False)
@@ -294,8 +264,6 @@ class OfABuild(WithRepository):
 
 
 class OfRelease(unittest.TestCase):
-    """Tests of what needs no repository."""
-
     def test_files_that_differ_are_named(self) -> None:
         first = {"same": (1, "a"), "size": (1, "a"), "sum": (1, "a"), "gone": (1, "a")}
         second = {"same": (1, "a"), "size": (2, "a"), "sum": (1, "b"), "new": (1, "a")}
@@ -316,8 +284,6 @@ class OfRelease(unittest.TestCase):
 
 
 class OfPackages(unittest.TestCase):
-    """Tests of the forms of packages."""
-
     def test_an_archive_of_ar_is_padded(self) -> None:
         data = package.ar_of([("odd", b"abc"), ("even", b"ab")])
         self.assertTrue(data.startswith(b"!<arch>\nodd "))
@@ -342,7 +308,3 @@ class OfPackages(unittest.TestCase):
         lines = package.record_of({"a.py": b"", "b.py": b"1"}).decode().splitlines()
         self.assertEqual(lines[0], "a.py,sha256=47DEQpj8HBSa-_TImW-5JCeuQeRkm5NMpJWZG3hSuFU,0")
         self.assertEqual(len(lines), 3)
-
-
-if __name__ == "__main__":
-    unittest.main()

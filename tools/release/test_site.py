@@ -1,8 +1,5 @@
-#!/usr/bin/env python3
 # SPDX-License-Identifier: Apache-2.0
 """Tests of ./dev site: Markdown to HTML, pages, links and the search."""
-
-from __future__ import annotations
 
 import json
 import re
@@ -21,8 +18,6 @@ def html_of(text: str) -> str:
 
 
 class Markdown(unittest.TestCase):
-    """Has what documents of this repository have."""
-
     def test_paragraphs_and_emphasis(self) -> None:
         self.assertEqual(html_of("One `a < b`\n**two `c`** & three.\n\nFour.\n"), "<p>One <code>a &lt; b</code> <b>two <code>c</code></b> &amp; three.</p><p>Four.</p>")
 
@@ -46,8 +41,6 @@ class Markdown(unittest.TestCase):
 
 
 class Site(unittest.TestCase):
-    """The site of this repository."""
-
     def test_each_document_has_a_page_and_links_lead_somewhere(self) -> None:
         self.assertEqual(site.faults(ROOT), [])
 
@@ -65,8 +58,6 @@ class Site(unittest.TestCase):
 
 @unittest.skipUnless(shutil.which("node"), "node isn't installed")
 class Search(unittest.TestCase):
-    """The search of the site, in node."""
-
     def found(self, query: str) -> list[str]:
         """Returns the pages that a query finds."""
         index = site.site(ROOT)["index.js"].decode().removeprefix("const INDEX = ").rstrip(";\n")
@@ -87,7 +78,3 @@ class Search(unittest.TestCase):
     def test_its_words_are_there(self) -> None:
         pages = {re.sub("#.*", "", page) for page in self.found("order of events")}
         self.assertIn("FORMAT.html", pages)
-
-
-if __name__ == "__main__":
-    unittest.main()

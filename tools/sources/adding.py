@@ -1,4 +1,3 @@
-#!/usr/bin/env python3
 # SPDX-License-Identifier: Apache-2.0
 """Makes the example of docs/ADDING.md, the instruction MIN, in a copy of the sources, and checks it without a proof.
 
@@ -9,11 +8,8 @@
 By hand are the rows that the document says; `./dev instruction_rows --make` writes the others. Without one of those by hand, `./dev instructions` has
 to miss a row. Prints each check that fails, and ends with `N passed, M failed`."""
 
-from __future__ import annotations
-
 import shutil
 import subprocess
-import sys
 import tempfile
 from collections.abc import Iterator
 from pathlib import Path
@@ -150,7 +146,3 @@ def main(words: list[str]) -> int:
     failed = [what for holds, what in found if not holds]
     print("".join(f"FAILED {what}\n" for what in failed) + f"{len(found) - len(failed)} passed, {len(failed)} failed")
     return 1 if failed else 0
-
-
-if __name__ == "__main__":
-    sys.exit(main(sys.argv[1:]))

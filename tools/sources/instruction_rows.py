@@ -1,4 +1,3 @@
-#!/usr/bin/env python3
 # SPDX-License-Identifier: Apache-2.0
 """Writes the rows of instructions that follow from a row of the table, crates/tw_code/specs/format/Table.antt, and a variant of instr.rt.
 
@@ -8,10 +7,7 @@
 By hand are the table's row_of, since and word_of, and the variants and their fields.
 """
 
-from __future__ import annotations
-
 import re
-import sys
 import textwrap
 from collections.abc import Callable, Iterator
 from pathlib import Path
@@ -316,7 +312,3 @@ def main(words: list[str]) -> int:
             (ROOT / "crates" / path).write_text(text, encoding="utf-8")
     print(f"instruction rows: {len({region.path for region in REGIONS})} files, {len(stale)} stale")
     return 1 if stale and words == ["--check"] else 0
-
-
-if __name__ == "__main__":
-    sys.exit(main(sys.argv[1:]))

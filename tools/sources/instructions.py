@@ -1,4 +1,3 @@
-#!/usr/bin/env python3
 # SPDX-License-Identifier: Apache-2.0
 """Checks that docs/ADDING.md names each file of code and definitions that a new instruction touches, and that each instruction has its row in each.
 
@@ -9,10 +8,7 @@ The instructions are the opcodes of crates/tw_code/src/opcode.rt and the variant
 PUT and RET aren't variants of these. Checks (crates of cases, tw_fuzz) may name any instruction.
 """
 
-from __future__ import annotations
-
 import re
-import sys
 from collections.abc import Iterator
 from pathlib import Path
 from typing import NamedTuple
@@ -86,10 +82,10 @@ PARTS: tuple[str, ...] = (
     *(f"tw_pool_state/proofs/{name}.antt" for name in ("Copies", "Drops", "Gets", "Inserts", "Looks", "Maps", "News", "Sizes", "Stores")),
 )
 
-# Files that treat some by themselves and then all others at once: a new one needs nothing there.
+# Files that treat some by themselves and then all others at once, and carriers of names: a new one needs nothing there.
 SHOWN_ONE: tuple[str, ...] = (
     "tw_code/proofs/Computing.antt", "tw_asm/proofs/Skips.antt", "tw_asm/proofs/Written.antt", "tw_asm/proofs/Firsts.antt", "tw_frame/src/arithmetic.rt",
-    "tw_symbols/proofs/RenamedTexts.antt", "tw_symbols/proofs/UnchangedLines.antt",
+    "tw_symbols/proofs/RenamedTexts.antt", "tw_symbols/proofs/UnchangedLines.antt", "tw_asm/proofs/AsmNames.antt", "tw_frame/specs/Ready.antt",
 )
 
 
@@ -207,7 +203,3 @@ def main(words: list[str]) -> int:
         return print_rows(ROOT, words[1])
     print(__doc__)
     return 2
-
-
-if __name__ == "__main__":
-    sys.exit(main(sys.argv[1:]))

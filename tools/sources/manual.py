@@ -1,4 +1,3 @@
-#!/usr/bin/env python3
 # SPDX-License-Identifier: Apache-2.0
 """Compares the manual page docs/tw.1 with the help texts of tw.
 
@@ -9,10 +8,7 @@ sentence "For .." with the commands that take it. If a file follows an option, i
 script/install/tw.bash, which ./dev editor makes of the help texts.
 """
 
-from __future__ import annotations
-
 import re
-import sys
 from collections.abc import Iterable, Iterator
 from typing import NamedTuple
 
@@ -54,13 +50,13 @@ def unquoted(text: str) -> str:
 
 
 def rows_of(source: str) -> list[tuple[str, str, str]]:
-    """Returns the form, the option and the name of the help's constant of each row."""
-    rows = re.findall(r'form: ArgumentForm::(\w+), name: "([a-z-]+)", help: (\w+_HELP)', source)
+    """Returns the form, the option, and the help or the name of its constant of each row."""
+    rows = re.findall(r'form: ArgumentForm::(\w+), name: "([a-z-]+)", help: (\w+_HELP|"(?:[^"\\]|\\.)*")', source)
     return [(form, f"--{name}", text) for form, name, text in rows if not form.startswith("Position")]
 
 
 def options_of(source: str) -> dict[str, str]:
-    """Returns the name of each option, and that of its help's constant."""
+    """Returns the name of each option, and its help or the name of that constant."""
     return {option: text for _, option, text in rows_of(source)}
 
 
@@ -88,7 +84,7 @@ def helps_of(sources: Iterable[str], completions: str) -> Helps:
     """Returns the help texts of the sources of the command line."""
     source = "\n".join(sources)
     constants = constants_of(source)
-    options = {option: constants.get(name, f"({name} is no constant)") for option, name in options_of(source).items()}
+    options = {option: unquoted(text[1:-1]) if text.startswith('"') else constants.get(text, f"({text} is no constant)") for option, text in options_of(source).items()}
     commands = commands_of(source)
     return Helps(commands, options, takers_of(completions, commands), files_of(source))
 
@@ -194,7 +190,3 @@ def main(arguments: list[str]) -> int:
         return check()
     print(__doc__)
     return 2
-
-
-if __name__ == "__main__":
-    sys.exit(main(sys.argv[1:]))

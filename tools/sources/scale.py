@@ -1,4 +1,3 @@
-#!/usr/bin/env python3
 # SPDX-License-Identifier: Apache-2.0
 """Prints how many lines of code, definitions and proofs the crates have, and compares each group of crates.txt with its ceiling.
 
@@ -8,8 +7,6 @@
 
 A ceiling is raised only in a commit that says why.
 """
-
-from __future__ import annotations
 
 import re
 import sys
@@ -94,7 +91,3 @@ def main(words: list[str], root: Path = ROOT) -> int:
     wrong = excesses(now, ceilings(root))
     print("\n".join([*wrong, f"{len(now) - len(wrong)} as wanted, {len(wrong)} above their ceilings"]))
     return 1 if wrong or not now else 0
-
-
-if __name__ == "__main__":
-    sys.exit(main(sys.argv[1:]))

@@ -1,7 +1,5 @@
 """Checks of ./dev words for documents, beside their words: one meaning for a word, one home for a subject, short cells, and ceilings of words."""
 
-from __future__ import annotations
-
 import posixpath
 import re
 from collections.abc import Iterable, Iterator

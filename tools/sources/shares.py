@@ -1,12 +1,9 @@
-#!/usr/bin/env python3
 # SPDX-License-Identifier: Apache-2.0
 """Prints what share of the repository is proved again after an edit of a crate: that crate and all that depend on it, by lines of code and proof.
 
     ./dev shares            a line for each crate of crates.txt: its lines, the crates above it, and the share in percent
     ./dev shares --changed  prints which crates have changed since the release was made, and how much CI proves again, unless it has kept it
 """
-
-from __future__ import annotations
 
 import re
 import subprocess
@@ -15,6 +12,7 @@ from pathlib import Path
 from typing import NamedTuple
 
 from tools import ROOT
+from tools.sources.scale import lines_of
 
 
 
@@ -37,13 +35,6 @@ def dependencies(text: str) -> dict[str, list[str]]:
     return {crate: [name for name in names if name in named] for crate, names in named.items()}
 
 
-def lines_of(folder: Path) -> int:
-    """Returns how many lines of code, definitions and proofs a crate has."""
-    kinds = (("src", ".rt"), ("specs", ".antt"), ("proofs", ".antt"))
-    files = (path for kind, ending in kinds for path in (folder / kind).rglob("*" + ending))
-    return sum(path.read_bytes().count(b"\n") for path in files)
-
-
 def above(crate: str, below: dict[str, list[str]]) -> set[str]:
     """Returns the crates that depend on a crate, directly or through others."""
     found = {crate}
@@ -57,7 +48,7 @@ def above(crate: str, below: dict[str, list[str]]) -> set[str]:
 def shares(root: Path) -> list[Share]:
     """Returns the share of each crate, in the order of crates.txt."""
     below = dependencies((root / "crates.txt").read_text(encoding="utf-8"))
-    lines = {crate: lines_of(root / "crates" / crate) for crate in below}
+    lines = {crate: lines_of(root / "crates" / crate).all for crate in below}
     whole = max(sum(lines.values()), 1)
     found = []
     for crate in below:
@@ -90,7 +81,7 @@ def since_release(root: Path) -> str:
     below = dependencies((root / "crates.txt").read_text(encoding="utf-8"))
     own = changed(root, commit)
     again = own.union(*(above(crate, below) for crate in own))
-    lines = {crate: lines_of(root / "crates" / crate) for crate in below}
+    lines = {crate: lines_of(root / "crates" / crate).all for crate in below}
     percent = round(100 * sum(lines[crate] for crate in again) / max(sum(lines.values()), 1))
     names = f" ({', '.join(sorted(own))})" if own else ""
     return f"{len(own)} crates have changed since the release{names}; with those above them CI proves {len(again)} of {len(below)}, {percent} % of the lines, unless it has kept them"
@@ -106,7 +97,3 @@ def main(words: list[str], root: Path = ROOT) -> int:
     for share in shares(root):
         print(f"{share.crate:20} {share.lines:6} lines  {share.above:2} above  {share.percent:3} %")
     return 0
-
-
-if __name__ == "__main__":
-    sys.exit(main(sys.argv[1:]))

@@ -1,4 +1,3 @@
-#!/usr/bin/env python3
 # SPDX-License-Identifier: Apache-2.0
 """Draws which crate depends on which: the diagram of docs/ARCHITECTURE.md, and its table of crates.
 
@@ -9,8 +8,6 @@
 A row of the diagram holds crates of one height, the number of crates in the longest chain below. A column is a group of the table. A row of
 the table has the first sentence of the crate's README.
 """
-
-from __future__ import annotations
 
 import re
 import sys
@@ -109,7 +106,3 @@ def main(words: list[str], root: Path = ROOT) -> int:
     elif not words:
         print(diagram(below, groups_of(document)), end="")
     return 0
-
-
-if __name__ == "__main__":
-    sys.exit(main(sys.argv[1:]))

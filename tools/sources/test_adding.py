@@ -1,8 +1,5 @@
-#!/usr/bin/env python3
 # SPDX-License-Identifier: Apache-2.0
 """Tests of ./dev adding."""
-
-from __future__ import annotations
 
 import tempfile
 import unittest
@@ -34,7 +31,3 @@ class AddingTest(unittest.TestCase):
                 with mock.patch.multiple(instructions, missing=lambda root: missing, faults=lambda root: []), mock.patch.object(instruction_rows, "made", without_rows):
                     self.assertEqual([holds for holds, _ in adding.checks_of_rows(Path(name))], wanted)
                 self.assertEqual(path.read_text(encoding="utf-8"), "one\ntwo\n")
-
-
-if __name__ == "__main__":
-    unittest.main()

@@ -1,15 +1,11 @@
-#!/usr/bin/env python3
 # SPDX-License-Identifier: Apache-2.0
 """Tests of ./dev instruction_rows on copies of the sources."""
 
-from __future__ import annotations
-
-import pathlib
 import shutil
-import tempfile
 import unittest
 
 from tools import ROOT
+from tools.common.testing import folder_of
 from tools.sources import instruction_rows
 
 PATHS = (*dict.fromkeys(region.path for region in instruction_rows.REGIONS), instruction_rows.VARIANTS)
@@ -19,12 +15,8 @@ LENGTH = "row_of opcode.Length = a_row 0x19 (Value ∷ Value ∷ []) (λ x. inst
 
 
 class Rows(unittest.TestCase):
-    """Rows that follow from the table."""
-
     def setUp(self) -> None:
-        folder = tempfile.TemporaryDirectory()
-        self.addCleanup(folder.cleanup)
-        self.root = pathlib.Path(folder.name)
+        self.root = folder_of(self)
         for path in PATHS:
             (self.root / "crates" / path).parent.mkdir(parents=True, exist_ok=True)
             shutil.copy(ROOT / "crates" / path, self.root / "crates" / path)
@@ -73,7 +65,3 @@ class Rows(unittest.TestCase):
         self.edit(instruction_rows.TABLE, 'word_of opcode.Length = codes "LEN"\n', "")
         with self.assertRaisesRegex(SystemExit, "other opcodes: Length"):
             instruction_rows.made(self.root)
-
-
-if __name__ == "__main__":
-    unittest.main()

@@ -1,16 +1,9 @@
-#!/usr/bin/env python3
 # SPDX-License-Identifier: Apache-2.0
 """Tests of ./dev instructions in a small repository."""
 
-from __future__ import annotations
-
-import contextlib
-import io
-import pathlib
-import tempfile
 import unittest
-from unittest import mock
 
+from tools.common.testing import folder_of, put, replace, said
 from tools.sources import instructions
 
 OPCODES = """pub enum Opcode {
@@ -63,25 +56,17 @@ PARTS = ("tw_asm/src/skip.rt",)
 
 
 class Rows(unittest.TestCase):
-    """Missing rows, and files that no list has."""
-
     def setUp(self) -> None:
-        folder = tempfile.TemporaryDirectory()
-        self.addCleanup(folder.cleanup)
-        self.root = pathlib.Path(folder.name)
+        self.root = folder_of(self)
         self.write("docs/ADDING.md", " ".join(f"`{path}`" for path in ("tw_code/src/instr.rt", *PARTS, *(whole.path for whole in WHOLES))))
         for path, text in (("tw_code/src/opcode.rt", OPCODES), ("tw_code/src/instr.rt", VARIANTS), ("tw_code/specs/Local.antt", EFFECTS),
                            ("tw_stats/specs/Waits.antt", WAITS), ("tw_code/specs/Results.antt", RESULTS), ("tw_asm/src/skip.rt", "LocalInstr::Fly => 0,\n"),
                            ("tw_cases/src/a.rt", "LocalInstr::Fly => 0,\n"), ("tw_code/out/a.rt", "LocalInstr::Fly => 0,\n")):
             self.write(f"crates/{path}", text)
-        for name, value in (("WHOLES", WHOLES), ("PARTS", PARTS), ("SHOWN_ONE", ())):
-            patch = mock.patch.object(instructions, name, value)
-            patch.start()
-            self.addCleanup(patch.stop)
+        replace(self, instructions, WHOLES=WHOLES, PARTS=PARTS, SHOWN_ONE=())
 
     def write(self, path: str, text: str) -> None:
-        (self.root / path).parent.mkdir(parents=True, exist_ok=True)
-        (self.root / path).write_text(text, encoding="utf-8")
+        put(self.root, {path: text})
 
     def found(self) -> list[str]:
         """Returns the faults, each up to its first comma."""
@@ -130,12 +115,6 @@ class Rows(unittest.TestCase):
         self.assertEqual(self.found(), [f"docs/ADDING.md: doesn't name {path}" for path in ("tw_code/specs/Local.antt", "tw_code/specs/Results.antt", "tw_stats/specs/Waits.antt")])
 
     def test_rows_are_listed(self) -> None:
-        printed = io.StringIO()
-        with contextlib.redirect_stdout(printed):
-            statuses = (instructions.print_rows(self.root, "Store"), instructions.print_rows(self.root, "Other"))
-        self.assertEqual(statuses, (0, 1))
-        self.assertIn("crates/tw_stats/specs/Waits.antt:2: written (Store datum from) = None\nStore is in 3 files\n", printed.getvalue())
-
-
-if __name__ == "__main__":
-    unittest.main()
+        status, text = said(instructions.print_rows, self.root, "Store")
+        self.assertEqual((status, said(instructions.print_rows, self.root, "Other")[0]), (0, 1))
+        self.assertIn("crates/tw_stats/specs/Waits.antt:2: written (Store datum from) = None\nStore is in 3 files\n", text)

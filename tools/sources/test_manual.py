@@ -1,8 +1,5 @@
-#!/usr/bin/env python3
 # SPDX-License-Identifier: Apache-2.0
 """Tests of ./dev manual on small texts."""
-
-from __future__ import annotations
 
 import unittest
 
@@ -64,8 +61,6 @@ def found(page: str, source: str = HELP + COMMAND, completions: str = COMPLETION
 
 
 class Same(unittest.TestCase):
-    """Pages that say the same."""
-
     def test_nothing_differs(self) -> None:
         self.assertEqual(found(PAGE), [])
 
@@ -74,8 +69,6 @@ class Same(unittest.TestCase):
 
 
 class Otherwise(unittest.TestCase):
-    """Pages that say something else."""
-
     def test_a_sentence_that_differs(self) -> None:
         self.assertEqual([it.split(":")[0] for it in found(PAGE.replace("1 to 9", "1 to 8"))], ["--limit begins with"])
 
@@ -114,7 +107,3 @@ class Otherwise(unittest.TestCase):
     def test_a_help_text_without_the_file(self) -> None:
         source = (HELP + COMMAND).replace("Read a file DATA", "Read a file")
         self.assertEqual(found(PAGE, source), ["--inputs takes a file DATA, and its help says: Read a file"])
-
-
-if __name__ == "__main__":
-    unittest.main()

@@ -1,13 +1,8 @@
 """Tests of ./dev scale in a small repository."""
 
-from __future__ import annotations
-
-import contextlib
-import io
-import tempfile
 import unittest
-from pathlib import Path
 
+from tools.common.testing import folder_of, put, said
 from tools.sources import scale
 
 CRATES = "# Low ones: of all.\n# They are first.\nlow:\nmid may_wait=3: low slab\n\n# High.\ntop: mid\n"
@@ -15,23 +10,14 @@ CRATES = "# Low ones: of all.\n# They are first.\nlow:\nmid may_wait=3: low slab
 
 class ScaleTest(unittest.TestCase):
     def setUp(self) -> None:
-        folder = tempfile.TemporaryDirectory()
-        self.addCleanup(folder.cleanup)
-        self.root = Path(folder.name)
-        self.write("crates.txt", CRATES)
-        self.write("tools/sources/ceilings.txt", "")
+        self.root = folder_of(self)
+        put(self.root, {"crates.txt": CRATES, "tools/sources/ceilings.txt": ""})
         for name, lines in (("low/src/lib.rt", 3), ("low/specs/Low.antt", 2), ("low/proofs/lib/one/Proof.antt", 4), ("mid/src/lib.rt", 1), ("top/src/lib.rt", 7), ("top/README.md", 9)):
-            self.write(f"crates/{name}", "x\n" * lines)
-
-    def write(self, name: str, text: str) -> None:
-        path = self.root / name
-        path.parent.mkdir(parents=True, exist_ok=True)
-        path.write_text(text, encoding="utf-8")
+            put(self.root, {f"crates/{name}": "x\n" * lines})
 
     def call(self, *words: str) -> tuple[int, list[str]]:
-        with contextlib.redirect_stdout(io.StringIO()) as out:
-            status = scale.main(list(words), self.root)
-        return status, out.getvalue().splitlines()
+        status, text = said(scale.main, list(words), self.root)
+        return status, text.splitlines()
 
     def test_groups(self) -> None:
         self.assertEqual(scale.groups_of(CRATES), {"Low ones": ["low", "mid"], "High": ["top"]})
@@ -43,12 +29,8 @@ class ScaleTest(unittest.TestCase):
         self.assertEqual(self.call("--make")[0], 0)
         self.assertEqual((self.root / scale.CEILINGS).read_text(encoding="utf-8").splitlines()[1:], ["10 Low ones", "7 High"])
         self.assertEqual(self.call("--check"), (0, ["2 as wanted, 0 above their ceilings"]))
-        self.write("crates/top/specs/Top.antt", "x\n")
+        put(self.root, {"crates/top/specs/Top.antt": "x\n"})
         self.assertEqual(self.call("--check"), (1, ["High: 8 lines, at most 7", "1 as wanted, 1 above their ceilings"]))
 
     def test_a_group_without_a_ceiling_fails(self) -> None:
         self.assertEqual(self.call("--check"), (1, ["Low ones has no ceiling", "High has no ceiling", "0 as wanted, 2 above their ceilings"]))
-
-
-if __name__ == "__main__":
-    unittest.main()

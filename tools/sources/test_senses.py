@@ -1,8 +1,5 @@
-#!/usr/bin/env python3
 # SPDX-License-Identifier: Apache-2.0
 """Tests of what ./dev words asks of documents: senses, homes, cells and ceilings."""
-
-from __future__ import annotations
 
 import unittest
 
@@ -15,8 +12,6 @@ def kinds(text: str, path: str = "docs/A.md") -> list[str]:
 
 
 class Senses(unittest.TestCase):
-    """Words in another sense, and nouns that are left out."""
-
     def test_a_wrong_sense_is_found(self) -> None:
         for text in ("The program is refused.", "It takes the number of events.", "Use it in place of one.", "A circle of calls.", "An input word.", "64-bit words."):
             self.assertEqual(kinds(f"{text}\n"), ["word"], text)
@@ -33,8 +28,6 @@ class Senses(unittest.TestCase):
 
 
 class Homes(unittest.TestCase):
-    """Subjects that have a home."""
-
     def test_a_section_without_a_link_is_found(self) -> None:
         self.assertEqual(kinds("# A\n\nNothing after the 65th head is read.\n"), ["home"])
 
@@ -59,8 +52,6 @@ class Homes(unittest.TestCase):
 
 
 class Cells(unittest.TestCase):
-    """Cells of tables."""
-
     def test_forty_words_pass_and_forty_one_do_not(self) -> None:
         self.assertEqual(kinds("| a | " + "word " * 40 + "|\n"), [])
         self.assertEqual(kinds("| a | " + "word " * 41 + "|\n"), ["cell"])
@@ -73,8 +64,6 @@ class Cells(unittest.TestCase):
 
 
 class Ceilings(unittest.TestCase):
-    """How many words documents may have."""
-
     COUNTS = senses.words_by_group({"README.md": "a b", "SECURITY.md": "a", "docs/A.md": "a b c", "docs/B.md": "d", "crates/a/README.md": "a"})
 
     def test_groups(self) -> None:
@@ -86,7 +75,3 @@ class Ceilings(unittest.TestCase):
     def test_a_rise_is_found(self) -> None:
         self.assertEqual(list(words.risen({"docs: words": 5}, {"docs: words": 5})), [])
         self.assertEqual(list(words.risen({"docs: words": 6}, {"docs: words": 5})), ["docs: words: 6, at most 5 (./dev words --words lists them)"])
-
-
-if __name__ == "__main__":
-    unittest.main()

@@ -1,16 +1,10 @@
-#!/usr/bin/env python3
 # SPDX-License-Identifier: Apache-2.0
 """Tests of ./dev shares in a small repository."""
 
-from __future__ import annotations
-
-import contextlib
-import io
-import pathlib
 import subprocess
-import tempfile
 import unittest
 
+from tools.common.testing import folder_of, put, said
 from tools.sources import shares
 
 CRATES = """# The language.
@@ -24,30 +18,21 @@ LINES = {"tw_low": 10, "tw_left": 20, "tw_right": 30, "tw_top": 40}
 
 
 class Shares(unittest.TestCase):
-    """A repository of four crates with 100 lines."""
-
     def setUp(self) -> None:
-        room = tempfile.TemporaryDirectory()
-        self.addCleanup(room.cleanup)
-        self.root = pathlib.Path(room.name)
+        self.root = folder_of(self)
         (self.root / "crates.txt").write_text(CRATES, encoding="utf-8")
         for crate, count in LINES.items():
-            self.put(crate, "src/lib.rt", count - 5)
-            self.put(crate, "specs/Lib.antt", 2)
-            self.put(crate, "proofs/deep/Answers.antt", 3)
-            self.put(crate, "out/src/made.rt", 1000)
-            self.put(crate, "src/notes.txt", 1000)
+            self.fill(crate, "src/lib.rt", count - 5)
+            self.fill(crate, "specs/Lib.antt", 2)
+            self.fill(crate, "proofs/deep/Answers.antt", 3)
+            self.fill(crate, "out/src/made.rt", 1000)
+            self.fill(crate, "src/notes.txt", 1000)
 
-    def put(self, crate: str, name: str, count: int) -> None:
-        path = self.root / "crates" / crate / name
-        path.parent.mkdir(parents=True, exist_ok=True)
-        path.write_text("x\n" * count, encoding="utf-8")
+    def fill(self, crate: str, name: str, count: int) -> None:
+        put(self.root, {f"crates/{crate}/{name}": "x\n" * count})
 
     def run_with(self, *words: str) -> tuple[int, str]:
-        out = io.StringIO()
-        with contextlib.redirect_stdout(out), contextlib.redirect_stderr(out):
-            status = shares.main(list(words), self.root)
-        return status, out.getvalue()
+        return said(shares.main, list(words), self.root)
 
     def test_shares(self) -> None:
         found = {share.crate: share[1:] for share in shares.shares(self.root)}
@@ -64,8 +49,7 @@ class Shares(unittest.TestCase):
 
     def commit(self) -> None:
         """Commits all files as a release."""
-        (self.root / "release").mkdir(exist_ok=True)
-        (self.root / "release" / "MANIFEST").write_text("version 1\n", encoding="utf-8")
+        put(self.root, {"release/MANIFEST": "version 1\n"})
         who = ("-c", "user.name=A", "-c", "user.email=a@b")
         for words in (("init", "-q"), ("add", "-A"), (*who, "commit", "-qm", "Release")):
             subprocess.run(["git", "-C", str(self.root), *words], check=True)
@@ -76,8 +60,8 @@ class Shares(unittest.TestCase):
 
     def test_changed(self) -> None:
         self.commit()
-        self.put("tw_left", "proofs/New.antt", 0)
-        self.put("tw_right", "README.md", 3)
+        self.fill("tw_left", "proofs/New.antt", 0)
+        self.fill("tw_right", "README.md", 3)
         self.assertIn("1 crates have changed since the release (tw_left); with those above them CI proves 2 of 4, 60 % of", self.run_with("--changed")[1])
 
     def test_other_dependencies(self) -> None:
@@ -87,7 +71,3 @@ class Shares(unittest.TestCase):
 
     def test_no_release(self) -> None:
         self.assertIn("no release in the history", self.run_with("--changed")[1])
-
-
-if __name__ == "__main__":
-    unittest.main()

@@ -1,15 +1,11 @@
-#!/usr/bin/env python3
 # SPDX-License-Identifier: Apache-2.0
 """Tests of ./dev stacks on small repositories."""
 
-from __future__ import annotations
-
-import contextlib
-import io
 import pathlib
 import tempfile
 import unittest
 
+from tools.common.testing import put, said
 from tools.sources import stacks
 
 CRATES = "# All.\nlow:\nmid: low\nside: low clap\ntop may_wait=2: low mid side\n"
@@ -39,20 +35,12 @@ def ran(document: str, *words: str, crates: str = CRATES) -> tuple[int, str, str
     """Returns the status, the output and the document after the script has run on a repository with these."""
     with tempfile.TemporaryDirectory() as folder:
         root = pathlib.Path(folder)
-        (root / "docs").mkdir()
-        (root / "crates.txt").write_text(crates, encoding="utf-8")
-        for crate, text in READMES.items():
-            (root / "crates" / crate).mkdir(parents=True)
-            (root / "crates" / crate / "README.md").write_text(f"# {crate}\n\n{text}\n\n## Contract\n\nNone.\n", encoding="utf-8")
-        (root / stacks.DOCUMENT).write_text(document, encoding="utf-8")
-        with contextlib.redirect_stdout(io.StringIO()) as out:
-            status = stacks.main(list(words), root)
-        return status, out.getvalue(), (root / stacks.DOCUMENT).read_text(encoding="utf-8")
+        put(root, {f"crates/{crate}/README.md": f"# {crate}\n\n{text}\n\n## Contract\n\nNone.\n" for crate, text in READMES.items()})
+        put(root, {"crates.txt": crates, str(stacks.DOCUMENT): document})
+        return *said(stacks.main, list(words), root), (root / stacks.DOCUMENT).read_text(encoding="utf-8")
 
 
 class Shapes(unittest.TestCase):
-    """The diagram and the column."""
-
     def test_heights(self) -> None:
         self.assertEqual(stacks.heights(BELOW), {"low": 0, "mid": 1, "side": 1, "top": 2})
 
@@ -68,8 +56,6 @@ class Shapes(unittest.TestCase):
 
 
 class Documents(unittest.TestCase):
-    """Documents that are written and checked."""
-
     def test_it_is_written_once(self) -> None:
         status, _, once = ran(DOCUMENT, "--make")
         rows = ["| `low` | Lowest. |", "| `mid` | In between. |", "| `side` | Beside low. |", "| `top` | Above: all. |"]
@@ -87,7 +73,3 @@ class Documents(unittest.TestCase):
 
     def test_a_row_without_a_crate(self) -> None:
         self.assertEqual(ran(DOCUMENT, "--check", crates=CRATES.replace("mid", "mod"))[0], 1)
-
-
-if __name__ == "__main__":
-    unittest.main()

@@ -1,16 +1,9 @@
-#!/usr/bin/env python3
 # SPDX-License-Identifier: Apache-2.0
 """Tests of ./dev twins in a small repository."""
 
-from __future__ import annotations
-
-import contextlib
-import io
-import pathlib
-import tempfile
 import unittest
-from unittest import mock
 
+from tools.common.testing import folder_of, put, replace, said
 from tools.sources import twins
 
 # Expands by leaving out the first line, and rejects a text with the word `bad`.
@@ -29,23 +22,13 @@ mkdir "$data" && cp -R examples "$data/examples"
 
 
 class Twins(unittest.TestCase):
-    """Stale twins are found, named and written."""
-
     def setUp(self) -> None:
-        folder = tempfile.TemporaryDirectory()
-        self.addCleanup(folder.cleanup)
-        self.root = pathlib.Path(folder.name)
-        for name in ("examples", "crates/tw_cases"):
-            (self.root / name).mkdir(parents=True)
-        (self.root / "tw").write_text(PROGRAM, encoding="utf-8")
-        (self.root / "tw").chmod(0o755)
-        (self.root / twins.MAKER).write_text(MAKER, encoding="utf-8")
-        (self.root / twins.MAKER).chmod(0o755)
-        for name, text in (("one.twn", "names\nRET\n"), ("one.tw", "RET\n"), ("two.tw", "RET\n"), ("three.twn", "names\nbad\n")):
-            self.write(name, text)
-        patch = mock.patch.object(twins, "program", return_value=str(self.root / "tw"))
-        patch.start()
-        self.addCleanup(patch.stop)
+        self.root = folder_of(self)
+        put(self.root, {"tw": PROGRAM, str(twins.MAKER): MAKER})
+        for name in ("tw", str(twins.MAKER)):
+            (self.root / name).chmod(0o755)
+        put(self.root / "examples", {"one.twn": "names\nRET\n", "one.tw": "RET\n", "two.tw": "RET\n", "three.twn": "names\nbad\n"})
+        replace(self, twins, program=lambda: str(self.root / "tw"))
         self.answer(twins.make)
 
     def write(self, name: str, text: str) -> None:
@@ -53,10 +36,8 @@ class Twins(unittest.TestCase):
 
     def answer(self, call: twins.Call) -> tuple[int, list[str]]:
         """Returns the status and the lines of a call, without the last, which counts."""
-        printed = io.StringIO()
-        with contextlib.redirect_stdout(printed):
-            status = call(self.root)
-        return status, [line.split(" is stale")[0] for line in printed.getvalue().splitlines()[:-1]]
+        status, text = said(call, self.root)
+        return status, [line.split(" is stale")[0] for line in text.splitlines()[:-1]]
 
     def test_what_was_made_is_fresh(self) -> None:
         self.assertEqual(self.answer(twins.check), (0, []))
@@ -83,7 +64,3 @@ class Twins(unittest.TestCase):
         self.write("three.tw", "RET\n")
         with self.assertRaisesRegex(SystemExit, "three.twn has no expansion: refused N04 at line 2"):
             self.answer(twins.check)
-
-
-if __name__ == "__main__":
-    unittest.main()

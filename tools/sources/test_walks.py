@@ -1,13 +1,11 @@
-#!/usr/bin/env python3
 # SPDX-License-Identifier: Apache-2.0
 """Tests of ./dev walks on a small repository."""
-
-from __future__ import annotations
 
 import pathlib
 import tempfile
 import unittest
 
+from tools.common.testing import put
 from tools.sources import walks
 
 MAIN = """/// Begins.
@@ -63,15 +61,10 @@ DOCUMENT = """# A document
 
 
 class Walks(unittest.TestCase):
-    """Walks of a document over two files."""
-
     def faults(self, document: str) -> list[str]:
         """Returns what is wrong with a document's walks."""
         with tempfile.TemporaryDirectory() as room:
-            source = pathlib.Path(room) / "top/src"
-            source.mkdir(parents=True)
-            (source / "main.rt").write_text(MAIN, encoding="utf-8")
-            (source / "parts.rt").write_text(PARTS, encoding="utf-8")
+            put(pathlib.Path(room), {"top/src/main.rt": MAIN, "top/src/parts.rt": PARTS})
             return list(walks.faults_of(walks.walks_of(document), pathlib.Path(room)))
 
     def test_walks_are_paragraphs_in_bold(self) -> None:
@@ -110,7 +103,3 @@ class Walks(unittest.TestCase):
     def test_calls_with_types(self) -> None:
         """A call may name its types."""
         self.assertEqual(self.faults(DOCUMENT.replace("`pieces`.\n\n**", "`pieces`. `top/src/main.rt`: `made`.\n\n**")), [])
-
-
-if __name__ == "__main__":
-    unittest.main()

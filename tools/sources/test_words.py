@@ -1,14 +1,12 @@
-#!/usr/bin/env python3
 # SPDX-License-Identifier: Apache-2.0
 """Tests of ./dev words on small texts."""
-
-from __future__ import annotations
 
 import pathlib
 import tempfile
 import unittest
 from unittest import mock
 
+from tools.common.testing import put
 from tools.sources import words
 
 
@@ -23,8 +21,6 @@ def comments(text: str, suffix: str) -> list[words.Line]:
 
 
 class Words(unittest.TestCase):
-    """Words that aren't used."""
-
     def test_a_word_of_the_left_column_is_found(self) -> None:
         self.assertEqual(kinds("The line is told at the end.\n"), ["word"])
 
@@ -62,8 +58,6 @@ class Words(unittest.TestCase):
 
 
 class Exceptions(unittest.TestCase):
-    """Exceptions for phrases of some files."""
-
     def setUp(self) -> None:
         self.before = words.ALLOWED
         words.ALLOWED = (words.Allowed("docs/A.md", "the law of large numbers", "its name"),)
@@ -85,8 +79,6 @@ class Exceptions(unittest.TestCase):
 
 
 class Sentences(unittest.TestCase):
-    """Lengths of sentences."""
-
     def test_forty_words_pass_and_forty_one_do_not(self) -> None:
         short = "Ten words. " * 40
         self.assertEqual(kinds(short + " ".join(["Word"] + ["word"] * 39) + ".\n"), [])
@@ -108,8 +100,6 @@ class Sentences(unittest.TestCase):
 
 
 class Repeats(unittest.TestCase):
-    """Runs of words in two documents."""
-
     def found(self, first: str, second: str, path: str = "b.md") -> list[words.Finding]:
         return list(words.repeated({"a.md": words.markdown_lines(first), path: words.markdown_lines(second)}))
 
@@ -133,8 +123,6 @@ class Repeats(unittest.TestCase):
 
 
 class Links(unittest.TestCase):
-    """Links between documents."""
-
     def found(self, target: str) -> int:
         documents = {"docs/A.md": words.markdown_lines(f"# A\n\n[it]({target})\n"), "docs/B.md": words.markdown_lines("# The `b` of B's\n")}
         return len(list(words.dead_links("docs/A.md", documents)))
@@ -147,17 +135,10 @@ class Links(unittest.TestCase):
 
 
 class Code(unittest.TestCase):
-    """Sources, functions and types that documents name."""
-
     def found(self, text: str) -> list[tuple[int, str]]:
         with tempfile.TemporaryDirectory() as folder:
-            source = pathlib.Path(folder, "crates/tw_a/src")
-            source.mkdir(parents=True)
-            (source / "b.rt").write_text("/// Calls gone.\npub fn one(x: u8) {}\nenum Two { Three }\n", encoding="utf-8")
-            (source / "c.antt").write_text("abbrev pub four : T\nfour = five\n", encoding="utf-8")
-            specs = pathlib.Path(folder, "crates/tw_a/specs/machine")
-            specs.mkdir(parents=True)
-            (specs / "D.antt").write_text("six : T\n", encoding="utf-8")
+            source = {"b.rt": "/// Calls gone.\npub fn one(x: u8) {}\nenum Two { Three }\n", "c.antt": "abbrev pub four : T\nfour = five\n"}
+            put(pathlib.Path(folder, "crates/tw_a"), {**{f"src/{name}": text for name, text in source.items()}, "specs/machine/D.antt": "six : T\n"})
             words.code_of.cache_clear()
             lines = words.markdown_lines(text)
             with mock.patch.object(words, "ROOT", pathlib.Path(folder)):
@@ -187,14 +168,10 @@ class Code(unittest.TestCase):
 
 
 class Files(unittest.TestCase):
-    """Other files and folders that documents name, in a repository that is no clone."""
-
     def found(self, text: str) -> list[tuple[int, str]]:
         """Returns what a document of docs/ names that isn't there."""
         with tempfile.TemporaryDirectory() as folder:
-            for name in ("docs/more/A.md", "tools/a.py", "crates/tw_a/proofs/B.antt", "crates/tw_code/specs/machine/C.antt"):
-                pathlib.Path(folder, name).parent.mkdir(parents=True)
-                pathlib.Path(folder, name).write_text("", encoding="utf-8")
+            put(pathlib.Path(folder), dict.fromkeys(("docs/more/A.md", "tools/a.py", "crates/tw_a/proofs/B.antt", "crates/tw_code/specs/machine/C.antt"), ""))
             words.first_parts.cache_clear()
             self.addCleanup(words.first_parts.cache_clear)
             with mock.patch.object(words, "ROOT", pathlib.Path(folder)):
@@ -219,8 +196,6 @@ class Files(unittest.TestCase):
 
 
 class Comments(unittest.TestCase):
-    """Comments of sources."""
-
     def test_only_comments_are_read(self) -> None:
         self.assertEqual([it.text for it in comments("/// Returns it.\nfn law() {}\n// `law`\n", ".rt")], ["Returns it.", "CODE"])
 
@@ -246,8 +221,6 @@ class Comments(unittest.TestCase):
 
 
 class Undocumented(unittest.TestCase):
-    """Functions without a doc line, public or not."""
-
     def found(self, text: str) -> list[str]:
         return [it.text.split()[0] for it in words.undocumented("crates/a/src/a.rt", text)]
 
@@ -275,8 +248,6 @@ class Undocumented(unittest.TestCase):
 
 
 class Counts(unittest.TestCase):
-    """Counts that may only fall."""
-
     def test_groups(self) -> None:
         findings = [words.Finding("crates/a/src/b.rt", 1, "word", ""), words.Finding("tools/a.py", 1, "word", ""), words.Finding("tools/b.sh", 2, "word", "")]
         self.assertEqual(words.counts_of(findings), {"crates rt: word": 1, "tools: word": 2})
@@ -284,7 +255,3 @@ class Counts(unittest.TestCase):
     def test_a_count_may_fall_and_not_rise(self) -> None:
         self.assertEqual(list(words.risen({"a": 1}, {"a": 2, "b": 1})), [])
         self.assertEqual(len(list(words.risen({"a": 3, "c": 1}, {"a": 2}))), 2)
-
-
-if __name__ == "__main__":
-    unittest.main()

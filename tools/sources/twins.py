@@ -1,4 +1,3 @@
-#!/usr/bin/env python3
 # SPDX-License-Identifier: Apache-2.0
 """Keeps what is made from examples/ and the documents like its source.
 
@@ -9,10 +8,7 @@ An example that is there as `.twn` and as `.tw` is written once: the `.tw` is th
 examples/ and of what documents show, which copy.sh writes. The program that expands is that of ./tw, or of TW_OUT.
 """
 
-from __future__ import annotations
-
 import subprocess
-import sys
 import tempfile
 from collections.abc import Callable
 from pathlib import Path
@@ -86,7 +82,3 @@ def main(words: list[str]) -> int:
         print(__doc__)
         return 2
     return check(ROOT) if words == ["--check"] else make(ROOT)
-
-
-if __name__ == "__main__":
-    sys.exit(main(sys.argv[1:]))

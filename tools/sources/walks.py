@@ -1,4 +1,3 @@
-#!/usr/bin/env python3
 # SPDX-License-Identifier: Apache-2.0
 """Checks the walks of docs/ARCHITECTURE.md: each function that they name is called by one that they name before it. So a reader finds each step from
 one before.
@@ -10,10 +9,7 @@ The first function of a walk needs none before it. Names aren't resolved: a call
 it are there is also what ./dev words checks.
 """
 
-from __future__ import annotations
-
 import re
-import sys
 from pathlib import Path
 from typing import Iterator, NamedTuple
 
@@ -81,10 +77,10 @@ def faults_of(walks: list[Walk], crates: Path) -> Iterator[str]:
             before.append(body or "")
 
 
-def main() -> int:
+def main(words: list[str]) -> int:
     """Prints the walks or what is wrong with them; returns an exit status."""
     walks = walks_of(DOCUMENT.read_text(encoding="utf-8"))
-    if sys.argv[1:] != ["--check"]:
+    if words != ["--check"]:
         for walk in walks:
             files = {step.file for step in walk.steps}
             crates = {file.partition("/")[0] for file in files}
@@ -96,7 +92,3 @@ def main() -> int:
     for fault in faults:
         print(fault)
     return 1 if faults else 0
-
-
-if __name__ == "__main__":
-    sys.exit(main())

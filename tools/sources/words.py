@@ -1,4 +1,3 @@
-#!/usr/bin/env python3
 # SPDX-License-Identifier: Apache-2.0
 """Checks the words of this repository against docs/STYLE.md. Docstrings of Python count as comments.
 
@@ -12,8 +11,6 @@ the homes of subjects and the ceilings. Findings in comments, functions without 
 rise. Code blocks, code spans, the exceptions below, and what tools write between `<!-- ./dev NAME -->` and `<!-- end` are left out.
 """
 
-from __future__ import annotations
-
 import ast
 import functools
 import json
@@ -21,7 +18,6 @@ import pathlib
 import posixpath
 import re
 import subprocess
-import sys
 from collections import Counter
 from collections.abc import Iterable, Iterator
 from typing import NamedTuple
@@ -522,7 +518,3 @@ def main(arguments: list[str]) -> int:
         print(__doc__)
         return 2
     return check()
-
-
-if __name__ == "__main__":
-    sys.exit(main(sys.argv[1:]))

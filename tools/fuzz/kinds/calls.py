@@ -1,7 +1,5 @@
 """Kinds of fuzz tests of calls: `args` and `library`."""
 
-from __future__ import annotations
-
 import random
 import re
 from concurrent.futures import ThreadPoolExecutor
@@ -18,7 +16,7 @@ from tools.fuzz.common import Corpus, RunTest, FuzzTest, case_word, difference, 
 COMMANDS = ["asm", "disasm", "check", "run", "replay", "picture", "explain", "help", "--help", "-h", "--version", "-V", ""]
 FLAGS = ["--text", "--names", "--plain", "--places", "--bounds", "--trace", "--stats", "--picture", "--quiet", "--in-turn", "--inputs", "--inputs-json", "--help", "-h", "--", "-",
          "--inputs=x", "--each=-", "[1,2]", '["a", "b]"]',
-         "--json", "--each", "--bounds=all", "--order", "--seed=7", "--seed=0", "--seconds=0", "--seconds=1000", "--seconds=4294967295", "--seconds=4294967296"]
+         "--json", "--each", "--bounds=all", "--order", "--seed=7", "--seed=0", "--seconds=0", "--seconds=0.0001", "--seconds=1000.125", "--seconds=1000", "--seconds=4294967295", "--seconds=4294967296"]
 NUMBERED = ["--engines", "--servers", "--workers", "--limit", "--from", "--to", "--jobs", "--most-tasks", "--most-instructions", "--most-data", "--most-bytes", "--most-budget", "--most-members"]
 VALUED = (*NUMBERED, "--seed", "--seconds")
 NAMING = ("--inputs", "--inputs-json", "--each", "--events")

@@ -1,7 +1,5 @@
 """The kind `each` of fuzz tests: the answer to each line of inputs is that of a run of its own."""
 
-from __future__ import annotations
-
 import json
 import random
 import tempfile

@@ -1,7 +1,5 @@
 """Fuzz tests of inputs and of the lines of a trace: whether they have their form is decided by docs/FORMAT.md, in Python."""
 
-from __future__ import annotations
-
 import json
 import random
 import re

@@ -3,8 +3,6 @@
 The oracle has the rule of docs/FORMAT.md, `check --order`, and the machine of oracle/machine.py, which makes events in random orders.
 """
 
-from __future__ import annotations
-
 import json
 import random
 from dataclasses import dataclass
@@ -21,7 +19,7 @@ from tools.fuzz.kinds.runs import has_targets, run_test
 
 # How many orders of a program are compared, and how many programs of a hundred are also run in threads.
 ORDERS = 5
-IN_THREADS = 3
+IN_THREADS = 25
 
 # --- The rule
 

@@ -1,7 +1,5 @@
 """The kind `bounds` of fuzz tests: programs whose calls end, run to their end with their bounds as limit and caps."""
 
-from __future__ import annotations
-
 import random
 from dataclasses import dataclass, field
 from typing import Sequence

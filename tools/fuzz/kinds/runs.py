@@ -1,7 +1,5 @@
 """Kinds of fuzz tests of runs: `check`, `run`, `history` and `stats`. The oracle is the machine of oracle/machine.py."""
 
-from __future__ import annotations
-
 import random
 from dataclasses import dataclass, replace
 from typing import Iterator

@@ -1,15 +1,12 @@
 """Kinds of fuzz tests of texts and bytes: `names`, `asm` and `decode`. The oracle is the encoding of oracle/code.py."""
 
-from __future__ import annotations
-
 import json
 import random
 import re
 from dataclasses import dataclass, replace
 from typing import Callable, Iterator
 
-from tools.fuzz import make
-from tools.fuzz import positions
+from tools.fuzz import make, positions
 from tools.fuzz.oracle.assembler import Error, assembled
 from tools.fuzz.oracle.code import (
     FORMS, Fault, Program, decode, disassembled, encode, head_text, instr_text, labelled_lines, registers_text, smaller, version_lines,

@@ -1,7 +1,5 @@
 """The verifier's rules (docs/MACHINE.md, "Which programs are accepted"), decided by a search of all paths; and the kind `verify`."""
 
-from __future__ import annotations
-
 import random
 from dataclasses import dataclass, field
 from typing import Iterator

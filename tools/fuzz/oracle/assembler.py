@@ -1,7 +1,5 @@
 """The rules of assembly text (docs/FORMAT.md), a second time: a text's program, or the code and line of its first error."""
 
-from __future__ import annotations
-
 import re
 from dataclasses import dataclass, field
 from typing import Union

@@ -1,7 +1,5 @@
 """Budgets and bounds of programs, computed from their definitions: greatest walks through the code."""
 
-from __future__ import annotations
-
 from dataclasses import dataclass
 from typing import Callable, Sequence
 

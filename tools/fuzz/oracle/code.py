@@ -3,8 +3,6 @@
 Nothing here calls the library, so that its answers can be compared with these.
 """
 
-from __future__ import annotations
-
 from dataclasses import dataclass, replace
 from functools import cached_property
 from typing import Iterator, Union
@@ -117,7 +115,7 @@ class Instr:
         """Returns how many instructions it skips, if it can skip."""
         return self.number(len(self.operands) - 1) if self.form.endswith("s") else None
 
-    def with_operand(self, place: int, operand: Operand) -> Instr:
+    def with_operand(self, place: int, operand: Operand) -> "Instr":
         return replace(self, operands=(*self.operands[:place], operand, *self.operands[place + 1:]))
 
 

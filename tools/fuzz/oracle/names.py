@@ -1,7 +1,5 @@
 """Writes symbolic assembly of a program (docs/NAMES.md), with random names, spacing and choices of what has a name."""
 
-from __future__ import annotations
-
 import random
 from dataclasses import dataclass, field
 

@@ -1,7 +1,5 @@
 """Reports, traces and statistics of the machine, as docs/FORMAT.md says that they are written."""
 
-from __future__ import annotations
-
 from tools.fuzz.oracle.code import TEXT, WRITE, entry_of, is_map, quoted, subscript_of, type_text
 from tools.fuzz.oracle.machine import Event, Machine, Made, Scalar, Value, key_of
 

@@ -5,8 +5,6 @@ A name is found as the prover finds it: what is bound beside it, what the file d
 binds somewhere counts as bound in all of it. A name that is found nowhere is an error, so nothing is left out in silence.
 """
 
-from __future__ import annotations
-
 import os
 import re
 import sys
@@ -58,7 +56,7 @@ class Item:
     name: str
     start: int
     lines: list[str]
-    uses: Optional[list[Use]] = field(default=None, init=False)
+    uses: Optional[list["Use"]] = field(default=None, init=False)
 
     def __repr__(self) -> str:
         return f"{self.file}:{self.start} {self.name}"
@@ -78,7 +76,7 @@ class Definition(Item):
 
     kind: str
     texts: list[str]
-    module: Definitions
+    module: "Definitions"
 
 
 def without_comment(line: str) -> str:

@@ -1,8 +1,6 @@
 # SPDX-License-Identifier: Apache-2.0
 """Promises: the clauses of a call or a theorem, and the invariant of a type."""
 
-from __future__ import annotations
-
 import re
 import sys
 from collections.abc import Iterator

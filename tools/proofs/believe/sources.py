@@ -1,8 +1,6 @@
 # SPDX-License-Identifier: Apache-2.0
 """Code: the types, constants and functions of src/, what Rust sees there, and what the terms of a contract name."""
 
-from __future__ import annotations
-
 import os
 import re
 from collections.abc import Iterator, Sequence
@@ -64,7 +62,7 @@ class Impl(NamedTuple):
 class Function:
     """A function: its type, its generics, where its parameters and its head are, its result, and its clauses."""
 
-    code: Code
+    code: "Code"
     name: str
     start: int
     owner: Optional[str]
@@ -84,7 +82,7 @@ class ModelOf:
     terms: list[str]
     names: Names
     modules: Modules
-    bounds: Bounds
+    bounds: "Bounds"
     fields: set[str]
 
 
@@ -98,7 +96,7 @@ Bounds = dict[str, list[str]]
 class TypeItem(Item):
     """A type, a trait or a constant of the code, and the model of a type."""
 
-    code: Code
+    code: "Code"
     range: tuple[int, int]
     kind: str
     model: Optional[ModelOf] = None

@@ -15,10 +15,7 @@ lines of these definitions.
 A name that several crates have means the highest one's. Needs Python 3.8.
 """
 
-from __future__ import annotations
-
 import re
-import sys
 from collections.abc import Iterable
 
 from tools import ROOT
@@ -237,7 +234,7 @@ def keep_table(is_made: bool) -> None:
         fail(f"docs/PROOFS.md: {', '.join(found)}: stale; ./dev believe --make writes the table")
 
 
-def main(words: list[str]) -> None:
+def main(words: list[str]) -> int:
     if words[:1] == ["--count"] and words[1:]:
         for name in words[1:]:
             root = promise_named(name)
@@ -253,7 +250,4 @@ def main(words: list[str]) -> None:
         print(size(items))
     else:
         fail((__doc__ or "").rstrip())
-
-
-if __name__ == "__main__":
-    main(sys.argv[1:])
+    return 0
