@@ -107,14 +107,24 @@ def version_of(root: Path) -> str:
     return (root / "VERSION").read_text(encoding="utf-8").strip()
 
 
+# Where the library's version is a number, as 29000 for 0.29.
+NUMBERS = {"crates/tw_embed/src/lib.rt": r"const VERSION: u32 = ([0-9_]+);", "embed/yuglemit.h": r"YUGLEMIT_VERSION_NUMBER (\d+)"}
+
+
 def version_faults(root: Path) -> list[str]:
-    """Returns what names another version than VERSION: the program's constant, and the newest section of CHANGELOG.md."""
+    """Returns what names another version than VERSION: the constants of program, library and header, and the newest section of CHANGELOG.md."""
     version, faults = version_of(root), []
     places = {"crates/tw_cli/src/help.rt": r'const VERSION: &str = "(.*)";', "CHANGELOG.md": r"(?m)^## ([0-9.]+)"}
     for name, pattern in places.items():
         found = re.search(pattern, (root / name).read_text(encoding="utf-8"))
         if not found or found[1] != version:
             faults.append(f"{name} has version {found[1] if found else 'none'}, and VERSION {version}")
+    major, minor, patch = [*map(int, version.split(".")), 0, 0][:3]
+    number = major * 1_000_000 + minor * 1_000 + patch
+    for name, pattern in NUMBERS.items():
+        counted = re.search(pattern, (root / name).read_text(encoding="utf-8"))
+        if not counted or int(counted[1]) != number:
+            faults.append(f"{name} has number {counted[1] if counted else 'none'}, and VERSION {version}")
     return faults
 
 

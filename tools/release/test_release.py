@@ -29,10 +29,11 @@ def make_repository(root: Path) -> None:
         "CHANGELOG.md": "# Changelog\n\n## 0.5 - unreleased\n",
         "crates.txt": "# comment\nlow: slab\ntw_main: low\ntw_embed staticlib: low\ntw_cases: low\ntw_host_cases: low\nother:\n",
         "crates/tw_cli/src/help.rt": 'pub(crate) const VERSION: &str = "0.5";\n',
+        "embed/yuglemit.h": "#define YUGLEMIT_VERSION_NUMBER 5000\n",
         "crates/low/src/lib.rt": "pub fn one() -> u8 {\n    1\n}\n",
         "crates/low/proofs/Lib.antt": "mod one\n",
         "crates/tw_main/src/main.rt": "fn main() {}\n",
-        "crates/tw_embed/src/lib.rt": "fn embed() {}\n",
+        "crates/tw_embed/src/lib.rt": "const VERSION: u32 = 5_000;\n",
         "crates/tw_cases/src/main.rt": "fn rows() {}\n",
         "crates/tw_host_cases/src/main.rt": "fn host_rows() {}\n",
         "crates/other/src/lib.rt": "fn other() {}\n",
@@ -111,7 +112,7 @@ class OfARepository(WithRepository):
 
     def test_each_place_of_the_version_is_compared(self) -> None:
         self.edit("VERSION", "0.6\n")
-        self.assertEqual(len(release.staleness(self.root)), 3)
+        self.assertEqual(len(release.staleness(self.root)), 5)
 
     def test_the_sum_is_that_of_sha256sum_lines(self) -> None:
         lines = [("low: slab\ntw_main: low\n", "crates.txt")]
