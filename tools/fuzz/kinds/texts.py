@@ -248,7 +248,7 @@ class DamagedText(FuzzTest):
         found = ERROR.match(got)
         if status != 1 or not found or found[2] is None or not 1 <= int(found[2]) <= lines:
             return f"asm: expected a program or an error with a line up to {lines}, got status {status} {got[:200]!r}"
-        if self.has_names and got.startswith("refused N") and "\nexpands to: " in got:
+        if self.has_names and got.startswith("refused N") and any(line.startswith("expands to: ") for line in positions.errors_in(got.split("\n"))[0]):
             return "an error of names has an expanded line"
         return (None if self.has_names else self.check_fault(library, got)) or self.column_fault(library)
 
