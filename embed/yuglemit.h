@@ -59,7 +59,7 @@ typedef enum yuglemit_code {
     YUGLEMIT_REJECTED = 229,       /* the program isn't accepted; the verdict says why */
     YUGLEMIT_NO_ORDER = 230,       /* the run's options didn't ask for its order */
     YUGLEMIT_NO_LIST = 231,        /* lists of members don't fit each other, or one is NULL */
-    YUGLEMIT_UNFINISHED = 232      /* the run didn't end by itself, and its options don't ask for partial outputs */
+    YUGLEMIT_UNFINISHED = 232      /* the run didn't end quiet, and its options don't ask for partial outputs */
 } yuglemit_code;
 
 /* The rows of yuglemit_code: code, name, words. */

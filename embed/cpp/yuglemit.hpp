@@ -5,7 +5,7 @@
 //     auto report = program.run({yuglemit::Ints{{1, 7}, {5, -3}}, -4});
 //     report.end(); report.outputs();
 //
-// All of these calls throw: Error for a program or inputs that are rejected, and for outputs of a run that didn't end by itself; std::bad_alloc if memory runs out, std::invalid_argument and
+// All of these calls throw: Error for a program or inputs that are rejected, and for outputs of a run that didn't end quiet; std::bad_alloc if memory runs out, std::invalid_argument and
 // std::out_of_range for arguments, std::logic_error for a call on an object that was moved from. For each there is one that doesn't throw, whose name
 // begins with try_. It returns a Result: the value, or an Error whose kind says what failed. With -fno-exceptions there are only these:
 //

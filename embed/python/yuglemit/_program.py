@@ -166,7 +166,7 @@ class Program(metaclass=Shown):
 
         `stop` ends the run when another thread sets it, and so does `timeout` after so many seconds; then `end` is "stopped". Ctrl-C stops a
         run too. A task that works at that time is cut off within 65,536 of its instructions, and its event isn't made. `outputs` of a run
-        that didn't end by itself raises `Unfinished`.
+        that didn't end quiet raises `Unfinished`.
 
         >>> import yuglemit
         >>> program = yuglemit.load('''

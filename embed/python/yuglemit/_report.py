@@ -159,7 +159,7 @@ class Report(metaclass=Shown):
 
     @property
     def outputs(self) -> List[Output]:
-        """The outputs of main, of a run that ended by itself; of any other it raises `Unfinished`."""
+        """The outputs of main, of a run that ended quiet; of any other it raises `Unfinished`."""
         if self.end != "quiet":
             raise Unfinished(self, f'the run ended with "{self.end}"{self._advice()}') from self.error
         return self.partial

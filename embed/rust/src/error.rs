@@ -50,7 +50,7 @@ pub enum Error {
     NoEnd,
     /// The run's options didn't ask for its order.
     NoOrder,
-    /// The run ended so, and not by itself: its outputs aren't the program's answer. [`Report::partial`](crate::Report::partial) has what is there.
+    /// The run ended so, and not quiet: its outputs aren't the program's answer. [`Report::partial`](crate::Report::partial) has what is there.
     Unfinished(End),
     /// An input or a member of one is unset, or a member is of another type than its container.
     NoInput,

@@ -118,13 +118,13 @@ impl Report {
         Ok(String::from_utf8(kept_text(&made)?).expect("texts are UTF-8"))
     }
 
-    /// Returns all outputs of main, if the run ended by itself: otherwise they aren't the program's answer, and this is [`Error::Unfinished`].
+    /// Returns all outputs of main, if the run ended quiet: otherwise they aren't the program's answer, and this is [`Error::Unfinished`].
     pub fn outputs(&self) -> Result<Vec<Value>, Error> {
         self.finished()?;
         self.partial()
     }
 
-    /// Returns an output of main, if the run ended by itself.
+    /// Returns an output of main, if the run ended quiet.
     pub fn output(&self, output: usize) -> Result<Value, Error> {
         self.finished()?;
         self.read(output)
@@ -154,7 +154,7 @@ impl Report {
     }
 
     /// Returns the member of an output with this subscript, without reading the others: `Value::Unset` if it is unset, none if there is no such
-    /// member. [`Error::Unfinished`] if the run didn't end by itself.
+    /// member. [`Error::Unfinished`] if the run didn't end quiet.
     pub fn member(&self, output: usize, subscript: impl Into<Scalar>) -> Result<Option<Value>, Error> {
         self.finished()?;
         let (subscript, mut place) = (subscript.into(), 0);
