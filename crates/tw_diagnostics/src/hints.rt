@@ -74,10 +74,11 @@ fn near_hint(names: &[&'static str], word: &[u8]) -> Hint {
 
 // ---- the first word of a line
 
-/// Returns the first instruction of the version that is near a word in upper case.
+/// Returns the instruction of the version that is a word in upper case, or else the first one near it.
 fn opcode_near(version: Version, word: &[u8]) -> Option<Opcode> {
-    OPCODES.iter().copied().find(|opcode| opcode.is_in(version)
-        && is_near(word_of(*opcode).as_bytes(), word))
+    let near = OPCODES.iter().copied().find(|opcode| opcode.is_in(version)
+        && is_near(word_of(*opcode).as_bytes(), word));
+    opcode_in(version, word).or(near)
 }
 
 /// Returns the hint with the instruction that was meant by a word.
