@@ -114,8 +114,8 @@ fn fault_follows(
     }
 }
 
-/// Returns whether a name error may only follow from another line: an unknown name is in one, a line that names it otherwise was replaced, a head
-/// of a procedure is lost, or the head of the called one was replaced.
+/// Returns whether a name error may only follow from another line. An unknown name may be in one, or a replaced line may have named it otherwise.
+/// Or a procedure's head is lost, or that of the called one was replaced.
 fn name_follows(
     alloc: Global,
     mended: &Mended<'_>,
