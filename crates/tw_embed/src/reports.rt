@@ -115,7 +115,7 @@ pub extern "C" fn yuglemit_raw_report_subscript_text(
     reading!(alloc, report, outputs_of, outcome => tw_handles::subscript_text(outcome, index, place, room))
 }
 
-/// Exports `tw_handles::find_int`.
+/// Exports `tw_handles::find` for an integer.
 #[unsafe(no_mangle)]
 pub extern "C" fn yuglemit_raw_report_find_int(
     alloc: Global,
@@ -131,7 +131,7 @@ pub extern "C" fn yuglemit_raw_report_find_int(
     reading!(alloc, report, outputs_of, outcome => tw_handles::find(outcome, index, named, place))
 }
 
-/// Exports `tw_handles::find_text`.
+/// Exports `tw_handles::find` for a text.
 #[unsafe(no_mangle)]
 pub extern "C" fn yuglemit_raw_report_find_text(
     alloc: Global,
@@ -243,7 +243,7 @@ pub extern "C" fn yuglemit_raw_text_length(
     reading!(alloc, text, text_of, bytes => tw_handles::text_length(bytes, length))
 }
 
-/// Exports `tw_handles::text_copy`.
+/// Exports `tw_handles::fill`.
 #[unsafe(no_mangle)]
 pub extern "C" fn yuglemit_raw_text_copy(alloc: Global, text: &mut Handle, room: &mut [u8]) -> u8
     ensures kept { text.new.held ≡ text.old.held }
