@@ -5,6 +5,7 @@ use Rattle.tw_in_turn.specs.declared.run.StoppableResult.{StoppableResult}
 use Rattle.tw_run_output.specs.Ends.{IsEndReport}
 use Rattle.tw_run_output.specs.Json.{IsEndLine}
 use Rattle.tw_run_output.specs.Run.{trace_text}
+use Rattle.tw_visible.specs.Visible.{HidesNothing}
 use Rattle.tw_handles.specs.Asking.{Fails}
 use Rattle.tw_handles.specs.Codes.{done, no_end, no_memory, no_report, no_string}
 use Rattle.tw_handles.specs.Loading.{finished_in}
@@ -30,9 +31,9 @@ IsTextKept text old new code = ((text_in new ≡ Some text) × (code ≡ done)) 
 abbrev pub IsTextMade : (List ℕ → Type 0) → Option Held → Option Held → ℕ → Type 0
 IsTextMade Is old new code = ((text : List ℕ) × Is text × (text_in new ≡ Some text) × (code ≡ done)) ⊎ Fails no_memory old new code
 
--- the handle holds a text, or is as it was
+-- the handle holds a text without hidden characters, or is as it was
 abbrev pub MayBeTold : Option Held → Option Held → Type 0
-MayBeTold old new = (new ≡ old) ⊎ ((text : List ℕ) × (text_in new ≡ Some text))
+MayBeTold old new = (new ≡ old) ⊎ ((text : List ℕ) × (text_in new ≡ Some text) × HidesNothing text)
 
 -- ---- texts of a report
 

@@ -1,11 +1,12 @@
 //! Loads programs, and verifies them.
 
-ghost use Rattle.std.specs.Prelude.{◌≡◌, IfOk, Some};
+ghost use Rattle.std.specs.Prelude.{◌≡◌, IfOk, IfSome, Some};
 ghost use Rattle.tw_handles.specs.Codes.{loading_code};
 ghost use Rattle.tw_handles.specs.Loading.{IsKept, IsLoading, IsSourceLoaded, IsVerified, IsWithinLength, program_in, verdict_numbers};
 ghost use Rattle.tw_handles.specs.Numbers.{filled};
 ghost use Rattle.tw_handles.specs.Texts.{MayBeTold};
 ghost use Rattle.tw_verdict.specs.Format.{format_of as format_is};
+ghost use Rattle.tw_visible.specs.Visible.{HidesNothing};
 
 use crate::codes;
 use crate::handle::Handle;
@@ -61,7 +62,8 @@ fn load(
     told: bool,
     program: &mut Handle,
 ) -> (SourceVerdict, Option<Vec<u8>>)
-    ensures { IsSourceLoaded format newest source.now program.old.held program.new.held result.0 }
+    ensures is { IsSourceLoaded format newest source.now program.old.held program.new.held result.0 }
+    ensures words { IfSome result.1 (λ words. HidesNothing words.items) }
 {
     let (found, reading, words) = read_source(alloc, format, source, told);
     match found {
@@ -82,7 +84,8 @@ fn load_within(
     told: bool,
     program: &mut Handle,
 ) -> (SourceVerdict, Option<Vec<u8>>)
-    ensures { IsWithinLength format options.now source.now program.old.held program.new.held result.0 }
+    ensures is { IsWithinLength format options.now source.now program.old.held program.new.held result.0 }
+    ensures words { IfSome result.1 (λ words. HidesNothing words.items) }
 {
     if source.len() as u64 > option_at(options, 0, USUAL_MOST) {
         (without_line(refused_at(b'H', 2, 0, 0)), None)
@@ -137,6 +140,7 @@ pub fn load_source(
 
 /// Puts words about an error in a line into a handle, if there are some.
 fn keep_words(alloc: Global, line: usize, made: Option<Vec<u8>>, words: &mut Handle)
+    requires { IfSome made (λ words. HidesNothing words.items) }
     ensures { MayBeTold words.old.held words.new.held }
 {
     match made {

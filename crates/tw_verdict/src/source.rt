@@ -1,10 +1,11 @@
 //! Reading and verifying a program's source.
 
-ghost use Rattle.std.specs.Prelude.{◌≡◌, ◌≢◌, ◌⊎◌, List, Some};
+ghost use Rattle.std.specs.Prelude.{◌≡◌, ◌≢◌, ◌⊎◌, IfSome, List, Some};
 ghost use Rattle.tw_code.specs.declared.procedure.Procedure.{Procedure};
 ghost use Rattle.tw_source.specs.Source.{MayBeSource};
 ghost use Rattle.tw_verdict.specs.Source.{IsErrorIn, IsLineIn, IsSourceAcceptance, IsSourceReading, fault_in_numbers, format_of_source, without_line as without_line_is};
 ghost use Rattle.tw_verdict.specs.Verdict.{no_memory};
+ghost use Rattle.tw_visible.specs.Visible.{HidesNothing};
 
 use crate::format::Format;
 use crate::text::{SourceVerdict, no_program_verdict, without_line};
@@ -16,6 +17,7 @@ use tw_order::{Caps, Places, Source};
 use tw_program_output::{Admitted, admit};
 use tw_source::{NoProgram, ReadProgram, Reply, SourceText, parse_error_reply, read_program};
 use tw_verify::{Refused, Verified, VerifyError, verify};
+use tw_visible::visible_bytes;
 
 /// Returns the line of the instruction at a place; 0 if there is no such instruction.
 fn line_in(source: &SourceText<'_>, procedure: usize, place: usize) -> usize
@@ -56,10 +58,14 @@ fn rejection_verdict(source: &Option<SourceText<'_>>, refused: &Refused) -> Sour
     }
 }
 
-/// Takes the text of a reply.
-fn text_in(reply: Reply) -> Vec<u8> {
-    let Reply { text, .. } = reply;
-    text
+/// Returns the text of a reply without hidden characters, if memory lasts.
+fn words_in(alloc: Global, reply: &Reply) -> Option<Vec<u8>>
+    ensures { IfSome result (λ words. HidesNothing words.items) }
+{
+    match visible_bytes(alloc, &reply.text) {
+        Ok(words) => Some(words),
+        Err(_) => None,
+    }
 }
 
 /// Returns what `check` prints of a program that the verifier rejects, if it is asked for.
@@ -70,23 +76,26 @@ fn words_of(
     program: Program,
 ) -> Option<Vec<u8>>
     requires { MayBeSource source.now program.procedures }
+    ensures { IfSome result (λ words. HidesNothing words.items) }
 {
     if !told {
         return None;
     }
     match admit(alloc, source, Places::Hidden, None, Caps::NONE, program) {
-        Ok(Admitted::Rejected(reply)) => Some(text_in(reply)),
+        Ok(Admitted::Rejected(reply)) => words_in(alloc, &reply),
         Ok(Admitted::Run(_)) | Err(_) => None,
     }
 }
 
 /// Returns what it prints of a source that encodes no program, if it is asked for.
-fn parse_words(alloc: Global, told: bool, why: &NoProgram<'_>) -> Option<Vec<u8>> {
+fn parse_words(alloc: Global, told: bool, why: &NoProgram<'_>) -> Option<Vec<u8>>
+    ensures { IfSome result (λ words. HidesNothing words.items) }
+{
     if !told {
         return None;
     }
     match parse_error_reply(alloc, why) {
-        Ok(reply) => Some(text_in(reply)),
+        Ok(reply) => words_in(alloc, &reply),
         Err(_) => None,
     }
 }
@@ -99,7 +108,8 @@ fn verify_read(
     told: bool,
 ) -> (Option<Verified>, SourceVerdict, Option<Vec<u8>>)
     requires { MayBeSource source.now program.procedures }
-    ensures { IsSourceAcceptance (record { program = program; source = source.now }) result.0 result.1 }
+    ensures is { IsSourceAcceptance (record { program = program; source = source.now }) result.0 result.1 }
+    ensures words { IfSome result.2 (λ words. HidesNothing words.items) }
 {
     match verify(alloc, program) {
         Ok(verified) => {
@@ -121,7 +131,8 @@ fn accept(
     told: bool,
 ) -> (Option<Verified>, SourceVerdict, Option<Vec<u8>>)
     requires { MayBeSource read.source read.program.procedures }
-    ensures { IsSourceAcceptance read.entry result.0 result.1 }
+    ensures is { IsSourceAcceptance read.entry result.0 result.1 }
+    ensures words { IfSome result.2 (λ words. HidesNothing words.items) }
 {
     let ReadProgram { program, source } = read;
     verify_read(alloc, program, &source, told)
@@ -134,7 +145,8 @@ fn read_text(
     input: &[u8],
     told: bool,
 ) -> (Option<Verified>, SourceVerdict, Option<Vec<u8>>)
-    ensures { IsSourceReading (format_of_source source) input.now result.0 result.1 }
+    ensures is { IsSourceReading (format_of_source source) input.now result.0 result.1 }
+    ensures words { IfSome result.2 (λ words. HidesNothing words.items) }
 {
     match read_program(alloc, source, input) {
         Ok(read) => accept(alloc, read, told),
@@ -157,7 +169,8 @@ fn fault_verdict(fault: &Fault) -> SourceVerdict
 
 /// Decodes and verifies the bytes of a program.
 fn read_bytes(alloc: Global, bytes: &[u8]) -> (Option<Verified>, SourceVerdict, Option<Vec<u8>>)
-    ensures { IsSourceReading Format.Bytes bytes.now result.0 result.1 }
+    ensures is { IsSourceReading Format.Bytes bytes.now result.0 result.1 }
+    ensures words { IfSome result.2 (λ words. HidesNothing words.items) }
 {
     match decode(alloc, bytes) {
         Ok(program) => verify_read(alloc, program, &None, false),
@@ -173,7 +186,8 @@ pub fn read_source(
     source: &[u8],
     told: bool,
 ) -> (Option<Verified>, SourceVerdict, Option<Vec<u8>>)
-    ensures { IsSourceReading format source.now result.0 result.1 }
+    ensures is { IsSourceReading format source.now result.0 result.1 }
+    ensures words { IfSome result.2 (λ words. HidesNothing words.items) }
 {
     match format {
         Format::Bytes => read_bytes(alloc, source),
