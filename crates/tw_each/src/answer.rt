@@ -163,7 +163,7 @@ fn fault_answer(
 {
     let error = line_fault_text(alloc, params_of(run), text, place, number, scratch)?;
     Ok(AnswerLine {
-        line: error_line(alloc, &unreadable_reply(error, place))?,
+        line: error_line(alloc, &unreadable_reply(alloc, &error, place)?)?,
         end: WorstEnd::Refused,
     })
 }

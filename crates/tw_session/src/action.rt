@@ -47,7 +47,7 @@ fn fault_reply(
     ensures { IfOk result (λ r. PrintsFault place (reply r.text.items r.close)) }
 {
     let text = fault_text(alloc, params, json, place, 1, scratch)?;
-    Ok(unreadable_reply(text, place))
+    unreadable_reply(alloc, &text, place)
 }
 
 /// Returns the inputs that a JSON text has for these parameters.

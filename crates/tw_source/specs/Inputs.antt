@@ -60,7 +60,7 @@ fault_position (place.Item n) = position.Input n
 
 -- returns the reply with these lines of such a fault
 abbrev pub unreadable : Place → List ℕ → Reply
-unreadable at text = reply text (Unreadable (uncoded (fault_position at)))
+unreadable at text = reply (visible_bytes text) (Unreadable (uncoded (fault_position at)))
 
 -- holds if each word encodes its input, and this is the reply to these; or if one encodes none
 abbrev pub RepliesByWords : List Text → (List Input → Reply → Type 0) → Reply → Type 0

@@ -16,7 +16,7 @@ use crate::reply::Reply;
 use std::alloc::{AllocError, Global};
 use tw_inputs::{Place, WordError};
 use tw_lexer::{put, put_numbered};
-use tw_visible::put_visible;
+use tw_visible::{put_visible, visible_bytes};
 
 /// Returns the first line, and what follows its line feed, if it has one.
 fn first_line(text: &[u8]) -> (&[u8], Option<&[u8]>)
@@ -103,15 +103,15 @@ fn fault_position(place: Place) -> Position
 }
 
 /// Returns the reply with these lines of a fault in JSON inputs.
-pub fn unreadable_reply(text: Vec<u8>, place: Place) -> Reply
-    ensures { reply result.text.items result.close ≡ unreadable place text.items }
+pub fn unreadable_reply(alloc: Global, lines: &[u8], place: Place) -> Result<Reply, AllocError>
+    ensures { IfOk result (λ r. reply r.text.items r.close ≡ unreadable place lines.now) }
 {
     let failure = Failure::uncoded(fault_position(place));
-    Reply {
-        text,
+    Ok(Reply {
+        text: visible_bytes(alloc, lines)?,
         close: Close::Unreadable(failure),
         more: None,
-    }
+    })
 }
 
 /// Returns the reply to input words of which one can't be parsed.
