@@ -88,7 +88,7 @@ typedef enum yuglemit_code {
     ROW(REJECTED, "the program isn't accepted") \
     ROW(NO_ORDER, "the run's options didn't ask for its order") \
     ROW(NO_LIST, "lists of members don't fit each other") \
-    ROW(UNFINISHED, "the run didn't end by itself, so its outputs aren't the program's answer")
+    ROW(UNFINISHED, "the run didn't end quiet, so its outputs aren't the program's answer")
 
 /* Return what a code says, and its name, as "NO_MEMORY". A code that this header doesn't know is "unknown code" and "UNKNOWN". */
 static inline const char *yuglemit_code_text(uint8_t code) {

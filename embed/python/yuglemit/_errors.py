@@ -96,7 +96,7 @@ class Trap(Refused):
 
 
 class Unfinished(Exception, metaclass=Shown):
-    """Says that there is no answer: a run didn't end by itself, or what reads it was stopped. `report` is its report, and the message says what to
+    """Says that there is no answer: a run didn't end quiet, or what reads it was stopped. `report` is its report, and the message says what to
     pass. `report.partial` has what there is of its outputs.
 
     >>> import yuglemit
