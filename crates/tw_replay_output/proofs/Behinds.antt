@@ -63,7 +63,7 @@ pub same_first_line : (text : Option (List ℕ)) (program : List Procedure) (inp
     → failure_line (coded 79 number position.Nowhere) ≡ failure_line (coded 79 number at)
 same_first_line None program inputs number at more (is, empty) = ap (λ (p : Position). failure_line (coded 79 number p)) (sym is)
 same_first_line (Some text) program inputs number at more h =
-    ap (λ (t : List ℕ). codes "refused " ++ (code_text (record { letter = 79; number = number }) ++ (t ++ codes "\n"))) (sym (said_nowhere program inputs at h))
+    ap (λ (t : List ℕ). codes "refused " ++ (code_text (record { letter = 79; number = number }) ++ (t ++ codes "\n"))) (sym (said_nowhere program inputs at h.0))
 
 -- ---- details of a replay
 

@@ -5,6 +5,7 @@ use Rattle.tw_code.specs.declared.procedure.Procedure.{Procedure}
 use Rattle.tw_code.specs.machine.Inputs.{has_fitting_inputs, has_input_count}
 use Rattle.tw_source.specs.declared.failure.Position.{Position}
 use Rattle.tw_source.specs.declared.failure.Position.TheVariants as position
+use Rattle.tw_visible.specs.Visible.{HidesNothing}
 
 -- holds for an input that doesn't fit its parameter, after so many others that fit theirs
 abbrev pub IsFirstUnfit : List Procedure → List Input → ℕ → Type 0
@@ -24,4 +25,4 @@ IsWrongInput program inputs at =
 -- holds for the position and the text of the details; without a text of the program there are none
 abbrev pub AreOpeningDetails : Option (List ℕ) → List Procedure → List Input → Position → List ℕ → Type 0
 AreOpeningDetails None program inputs at more = (at ≡ position.Nowhere) × (more ≡ [])
-AreOpeningDetails (Some text) program inputs at more = IsWrongInput program inputs at
+AreOpeningDetails (Some text) program inputs at more = IsWrongInput program inputs at × HidesNothing more

@@ -6,8 +6,8 @@ ghost use Rattle.tw_replay_output.specs.Opening.{AreOpeningDetails, IsFirstUnfit
 ghost use Rattle.tw_source.specs.Failure.{coded, failed_with};
 ghost use Rattle.tw_source.specs.Reply.{reply};
 ghost use Rattle.tw_source.specs.Source.{text_of};
+ghost use Rattle.tw_visible.specs.Visible.{HidesNothing};
 
-use crate::numbers::put_bytes;
 use std::alloc::{AllocError, Global};
 use tw_asm::put_type;
 use tw_code::{
@@ -19,6 +19,7 @@ use tw_source::{
     Failure, Position, Reply, SourceText, example_word, put_examples, put_failure_line, refused_by,
 };
 use tw_types::{AsValue, DataType, Input, Param, Scalar};
+use tw_visible::put_visible;
 
 /// Adds words that encode the inputs of these parameters, if some take one.
 fn put_such(out: &mut Vec<u8>, params: &[Param]) -> Result<(), AllocError> {
@@ -205,12 +206,12 @@ fn put_inputs_diagnostic(
     program: &[Procedure],
     inputs: &[Input],
 ) -> Result<Position, AllocError>
-    ensures { IfOk result (λ at. (more : List ℕ) × IsWrongInput program.now inputs.now at × (out.new.items ≡ out.old.items ++ more)) }
+    ensures { IfOk result (λ at. (more : List ℕ) × (IsWrongInput program.now inputs.now at × HidesNothing more) × (out.new.items ≡ out.old.items ++ more)) }
 {
     let at = wrong_input(program, inputs);
     let mut reason = Vec::new(alloc);
     put_reason(alloc, &mut reason, program, inputs, at)?;
-    put_bytes(out, &reason)?;
+    put_visible(alloc, out, &reason)?;
     Ok(at)
 }
 
