@@ -10,6 +10,7 @@ import tempfile
 import unittest
 from collections.abc import Callable
 from pathlib import Path
+from typing import Any
 from unittest import mock
 
 from tools import ROOT
@@ -55,3 +56,13 @@ def said(call: Callable[..., int], *given: object) -> tuple[int, str]:
     printed = io.StringIO()
     with contextlib.redirect_stdout(printed), contextlib.redirect_stderr(printed):
         return call(*given), printed.getvalue()
+
+
+class Table(unittest.TestCase):
+    """Has tests whose checks are rows: what a row shows, what is given, and what is expected."""
+
+    def compare(self, call: Callable[..., object], *rows: tuple[Any, ...]) -> None:
+        """Compares what a call returns for each row."""
+        for what, *given, expected in rows:
+            with self.subTest(what):
+                self.assertEqual(call(*given), expected)
