@@ -2,7 +2,6 @@
 
     cases.py --check                    says whether the crates that run cases have what cases/ gives
     cases.py --make                     writes stdin and stdout of these crates
-    cases.py --compare FILE..           says which cases these files, older ones of stdin, have otherwise or in addition
     cases.py --list [PATTERN..]         lists cases with their places
     cases.py --crates [PATTERN..]       lists the crates that run these cases
     cases.py --run CRATE=KIND:PROGRAM.. [--update] [PATTERN..]    runs cases by programs of these crates; `./tw test` calls it
@@ -99,29 +98,6 @@ def make(book: Book) -> int:
     for name, text in made_files(book).items():
         (ROWS / name).write_text(text, encoding="utf-8")
     return check(book)
-
-
-def rows_in(text: str) -> dict[str, str]:
-    """Returns the lines of a stdin by the names of their cases, or of their bytes."""
-    rows: dict[str, str] = {}
-    for line in text.split("\n"):
-        line = re.sub(r"\| +(?=\|)", "| ", line.strip())
-        if line and not line.startswith("#"):
-            rows[re.split(r" \||=", line)[0].strip()] = line
-    return rows
-
-
-def compare(book: Book, paths: list[Path]) -> int:
-    """Says which lines of other files of stdin cases/ has otherwise, or doesn't have, and which it has in addition."""
-    old = rows_in("".join(path.read_text(encoding="utf-8") for path in paths))
-    new = rows_in("".join(stdin_of(book, crate) for crate in CRATES))
-    lost = [name for name in old if name not in new]
-    changed = [name for name in old if name in new and old[name] != new[name]]
-    added = [name for name in new if name not in old]
-    for word, names in (("lost", lost), ("changed", changed), ("added", added)):
-        print("\n".join(f"{word}: {name}" for name in names), end="\n" if names else "")
-    print(f"{len(old)} lines before, {len(new)} now: {len(lost)} lost, {len(changed)} changed, {len(added)} added")
-    return 1 if lost or changed else 0
 
 
 # --- Which cases
@@ -252,8 +228,6 @@ def command(words: list[str]) -> int:
             return check(book)
         case ["--make"]:
             return make(book)
-        case ["--compare", _, *_]:
-            return compare(book, [Path(path) for path in words[1:]])
         case ["--list", *patterns]:
             return list_cases(chosen(book, patterns))
         case ["--crates", *patterns]:

@@ -227,18 +227,6 @@ class Lists(unittest.TestCase):
         with self.assertRaises(SystemExit):
             cases.chosen(book, ["ab", "nothing"])
 
-    def test_two_sets_are_compared(self) -> None:
-        book = read("# W.\nlet a = 01\nx | decode | @a | program\ny | errors run | nothing\n")
-        with tempfile.TemporaryDirectory() as name, contextlib.redirect_stdout(io.StringIO()) as said:
-            old = Path(name) / "old"
-            old.write_text("# Words\nlet a = 01\nx | decode |  @a | program\n", encoding="utf-8")
-            self.assertEqual(cases.compare(book, [old]), 1)
-            old.write_text("# Words\nlet a = 01\nx | decode | @a | program\n", encoding="utf-8")
-            self.assertEqual(cases.compare(book, [old]), 0)
-            old.write_text("let a = 02\nx | decode | @a | program\nz | layout | 1 | x\n", encoding="utf-8")
-            self.assertEqual(cases.compare(book, [old]), 1)
-        self.assertIn("lost: z\nchanged: let a\nadded: y\n3 lines before, 3 now: 1 lost, 1 changed, 1 added", said.getvalue())
-
 
 class Running(unittest.TestCase):
     def setUp(self) -> None:

@@ -2,9 +2,9 @@
 """Tries the mutants of tools/proofs/must-fail, which CI leaves out: the prover has to reject each.
 
 A mutant costs a proof of its crate, so CI tries those of crates/NAME/must-fail alone. This copies the others into a clone of what is committed, and
-runs `rt ci NAME..` there, which takes what CI has proved of the crates below and tries a crate's mutants. A toolchain whose `rt ci` takes no names
-proves those crates anew, by `rt must-fail NAME..`. It notes each crate whose mutants were all rejected in release/REJECTED, with a sum of what that
-depends on: the toolchain, the sources of the crate and of those below it, and the mutants. A crate that is noted so isn't tried again.
+runs `rt ci NAME..` there, which takes what CI has proved of the crates below and tries a crate's mutants. It notes each crate whose mutants were all
+rejected in release/REJECTED, with a sum of what that depends on: the toolchain, the sources of the crate and of those below it, and the mutants. A
+crate that is noted so isn't tried again.
 
   ./dev must_fail [NAME..]          tries the mutants of these crates, or of all; some 45 minutes of processor time for all
   ./dev must_fail --anew [NAME..]   tries those of noted crates, too
@@ -111,19 +111,6 @@ def output_of(tree: Path, *words: str) -> str:
     return ran.stdout
 
 
-def run_prover(tree: Path, names: list[str]) -> str:
-    """Tries the mutants of these crates in a folder, and returns what the toolchain prints."""
-    output = output_of(tree, "ci", *names)
-    if takes_names(output):
-        return output
-    return output + output_of(tree, "must-fail", *names)
-
-
-def takes_names(output: str) -> bool:
-    """Returns whether `rt ci` ran for the crates that it was given, by its last line."""
-    return re.search(r"(?m)^\d+ passed, \d+ failed(?: \(.*)?$", output) is not None
-
-
 def copy_mutants(root: Path, tree: Path, names: Iterable[str]) -> None:
     """Copies what is committed to a folder, with these crates' mutants in place of those that CI tries."""
     subprocess.run(["git", "-C", str(root), "clone", "-q", "--no-hardlinks", "--depth", "1", f"file://{root}", str(tree)], check=True)
@@ -145,7 +132,7 @@ def attempt(root: Path, kit: str, names: list[str]) -> list[str]:
     with tempfile.TemporaryDirectory() as room:
         tree = Path(room) / "tree"
         copy_mutants(root, tree, names)
-        output = run_prover(tree, names)
+        output = output_of(tree, "ci", *names)
     print(output, end="", flush=True)
     rejected, mutants = rejected_in(output), mutants_in(root)
     left = {name: [it for it in (f"{name}/{file.name}" for file in mutants[name]) if it not in rejected] for name in names}

@@ -161,7 +161,7 @@ MUTANTS = (
     Mutant("uncounted_cases_pass", "cases", RUNS, 'if said.decode(errors="replace") != f"{self.silent} cases as wanted\\n":', "if False:"),
     Mutant("a_batch_goes_on_after_a_stop", "cases", RUNS, "batch = batch[len(results):]", "batch = []"),
     Mutant("ci_may_update", "cases", CASES, 'if is_update and (os.environ.get("CI") or not patterns):', "if is_update and not patterns:"),
-    Mutant("changed_cases_are_kept", "cases", CASES, "return 1 if lost or changed else 0", "return 1 if lost else 0"),
+    Mutant("cases_may_be_double", "cases", CASES, "in found if other is not case]", "in found if other is None]"),
     Mutant("unused_bytes_stay", "cases", CASES, "for made in unused_lets(book)]", "for made in []]"),
     # The Python package: inputs, reports, errors, bounds and many runs.
     Mutant("bools_are_ints", "python", PYTHON + "_inputs.py", 'return hasattr(value, "__index__") and not _is_bool(value)', 'return hasattr(value, "__index__")'),

@@ -11,7 +11,6 @@ import tarfile
 import tempfile
 import unittest
 from pathlib import Path
-from unittest import mock
 
 from tools import ROOT
 from tools.common.testing import folder_of, put, replace
@@ -121,33 +120,12 @@ class OfARepository(WithRepository):
         self.assertEqual(release.sums_of_sources(self.root, "tw_main")[0], hashlib.sha256(listed.encode()).hexdigest())
 
 
-class OfProver(unittest.TestCase):
-    def printed(self, of_ci: str) -> list[str]:
-        """Returns the commands that are run if `rt ci NAME` prints this."""
-        ran: list[str] = []
-
-        def fake(_tree: Path, *words: str) -> str:
-            ran.append(" ".join(words))
-            return of_ci
-
-        with mock.patch.object(must_fail, "output_of", fake):
-            must_fail.run_prover(Path(), ["low"])
-        return ran
-
-    def test_ci_of_a_crate_is_enough(self) -> None:
-        self.assertEqual(self.printed("rt: low proved\n3 passed, 0 failed\n"), ["ci low"])
-        self.assertEqual(self.printed("0 passed, 1 failed\n"), ["ci low"])
-
-    def test_an_older_toolchain_takes_no_names(self) -> None:
-        self.assertEqual(self.printed("usage: rt new FOLDER\n"), ["ci low", "must-fail low"])
-
-
 class OfMutants(WithRepository):
     def setUp(self) -> None:
         super().setUp()
         self.edit("tools/proofs/must-fail/low/three.edit", MUTANT.replace("2", "3"))
         self.printed = "must-fail low/two.edit: refused, as it must be: src/lib.rt:2\nmust-fail low/three.edit: refused, as it must be\n"
-        replace(self, must_fail, copy_mutants=lambda *words: None, run_prover=lambda *words: self.printed)
+        replace(self, must_fail, copy_mutants=lambda *words: None, output_of=lambda *words: self.printed)
 
     def attempt(self) -> list[str]:
         """Tries the mutants, without what they print."""
