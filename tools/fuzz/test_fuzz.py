@@ -24,8 +24,8 @@ from tools.fuzz.oracle.code import Fault, Instr, Param, Procedure, Program, deco
 from tools.fuzz.library import Answer, Library, Verdict
 from tools.fuzz.oracle.machine import Machine, NotEnabled, Scalar, Trap, computed, read_int, run_in_turn, scaled, wrapped
 from tools.fuzz.oracle.names import is_name, symbolic
-from tools.fuzz.oracle.report import circle_fault, event_of, report_lines, split_circle, stats_lines, trace_text
-from tools.fuzz.kinds.texts import renamed, styled
+from tools.fuzz.oracle.report import circle_fault, event_of, event_text, report_lines, split_circle, stats_lines, trace_text
+from tools.fuzz.kinds.texts import BytesTest, renamed, styled
 from tools.fuzz.common import Corpus, Failure, Kind, RunTest, FuzzTest, case_word, difference
 from tools.fuzz.kinds.verify import refusal
 
@@ -390,6 +390,48 @@ class KindsTest(unittest.TestCase):
         events = runs.random_trace(random.Random(3), test, 400)
         self.assertIn("quiet", runs.HistoryTest(PIPELINE, (39,), (2, 1, 2), 400, tuple(events)).expected()[1])
         self.assertTrue(trace_text(events).startswith("events\ntake e"))
+
+
+class EachChangeTest(unittest.TestCase):
+    """Each change of some small texts, where the kinds make some at random: a status that documents list, and its text."""
+
+    def setUp(self) -> None:
+        self.library = Library()
+
+    def assert_answered(self, words: list[str], data: bytes) -> None:
+        self.assertIsNone(calls.answer_fault(self.library.session(words, data)), data)
+
+    def changed(self, text: bytes) -> Iterator[bytes]:
+        """Yields the beginnings of a text, and those with one byte as each other."""
+        yield from (text[:length] for length in range(len(text)))
+        yield from (text[:at] + bytes([byte]) + text[at + 1:] for at in range(len(text)) for byte in range(256))
+
+    def test_bytes(self) -> None:
+        for data in self.changed(STORE_SEVEN):
+            self.assertIsNone(BytesTest(data).fault(self.library))
+            self.assert_answered(["run", "--in-turn"], data.hex().encode())
+
+    def test_lines_of_inputs(self) -> None:
+        _, two = self.library.session(["asm", "--names"], (ROOT / "examples/two_inputs.twn").read_bytes())
+        for line in self.changed(b'[{"1": 7, "5": -3}, -4]'):
+            self.assert_answered(["run", "--each"], two.encode() + b"inputs\n" + line)
+
+    def test_beginnings_of_a_text(self) -> None:
+        text = (ROOT / "examples/members.twn").read_bytes()
+        for length in range(len(text)):
+            self.assert_answered(["asm", "--names"], text[:length])
+
+    def test_lines_of_traces(self) -> None:
+        """Each line is left out, doubled, or another one."""
+        others = ["take e0", "take w0", "take s0", "local e0 1", "local e0 0", "call e0", "end e0", "ask e0 1 0", "deliver s0 1 1 0", "release e0 1", "take e4", "take", "x", ""]
+        for name, given, workers in (("store_seven.tw", (), 1), ("members.twn", (), 1), ("stuck_on_itself.twn", (), 1), ("pipeline.tw", (39,), 1), ("fan_out.twn", (), 4)):
+            _, digits = self.library.session(["asm", "--names"], (ROOT / "examples" / name).read_bytes())
+            test = RunTest(decode(bytes.fromhex(digits)), given, (1, 1, workers))
+            lines = [event_text(made.event) for made in run_in_turn(test.program, [*given], test.layout, 1000).made]
+            for at, line in enumerate(lines):
+                for middle in ([], [line, line], *([other] for other in others if other != line)):
+                    changed = inputs.TraceLinesTest(**test.fields, lines=(*lines[:at], *middle, *lines[at + 1:], "end"))
+                    self.assertIsNone(changed.fault(self.library), changed.lines)
 
 
 @dataclass(frozen=True)

@@ -1,5 +1,6 @@
 """Tests of ./dev orders."""
 
+import subprocess
 import unittest
 from pathlib import Path
 from unittest import mock
@@ -66,10 +67,11 @@ class OrdersTest(unittest.TestCase):
         return said(orders.main, list(words))
 
     def test_options(self) -> None:
-        actors = ["--engines", "1", "--servers", "1", "--workers", "1"]
-        found = list(orders.Orders(self.path, 1, 2, 1000).options())
-        self.assertEqual(found[:4], [["--in-turn", *actors], ["--in-turn", "--seed", "1", *actors], ["--in-turn", "--seed", "2", *actors], actors])
-        self.assertEqual(len(found), 4 * len(orders.LAYOUTS))
+        actors = ["--engines=1", "--servers=1", "--workers=1"]
+        found = list(orders.Orders(self.path, 5, 2, 1000).options())
+        self.assertEqual(found[:3], [["--in-turn", *actors], ["--in-turn", "--seed=1", *actors], ["--in-turn", "--seed=2", *actors]])
+        self.assertEqual((found[-5], found[-1]), (actors, ["--engines=1", "--servers=2", "--workers=5"]))
+        self.assertEqual(len(found), 3 * len(orders.LAYOUTS) + 5)
 
     def test_layouts_that_differ(self) -> None:
         found = self.orders.compare(str(self.path), [])
@@ -83,6 +85,18 @@ class OrdersTest(unittest.TestCase):
         status, text = self.call(*ONCE, "examples/pipeline.twn")
         self.assertEqual((status, text.splitlines()[0]), (2, "status 1: refused O01"))
         self.assertEqual(self.call(*ONCE, "examples/stuck_on_itself.twn")[1].splitlines()[1:], ["    stuck 1", "the same in all orders"])
+
+    def test_a_run_whose_replay_differs_fails(self) -> None:
+        fake = self.path.with_name("tw")
+        fake.write_text('#!/bin/sh\n[ "$1" = run ] && { echo events; echo end; }; echo $1; echo quiet\n', encoding="utf-8")
+        fake.chmod(0o755)
+        with self.assertRaisesRegex(orders.Rejected, "run 0, replay 0; run"):
+            orders.Orders(fake, 1, 0, 1000).compare("one.tw", [])
+
+    def test_load(self) -> None:
+        for answer, status in (("out 0 int 7; quiet", 0), ("quiet", 1), ("out 0 int $$; quiet", 1)):
+            with mock.patch.object(orders.Orders, "call", lambda *_, answer=answer: subprocess.run(["sh", "-c", f"echo {answer.replace('; ', '; echo ')}"], capture_output=True, text=True)):
+                self.assertEqual(self.call("--load", "2")[0], status)
 
     def test_a_circle_does_not_count(self) -> None:
         self.assertEqual(orders.without_circle("out 0 unset\nstuck 2\nwaits 1 1 2\nwaits 2 2 1\nrule 1 runs procedure 1\n"), "out 0 unset\nstuck 2")
