@@ -47,9 +47,15 @@ def words_in(*files: str) -> set[str]:
     return {word for file in files for path in CRATES.glob(file) for word in re.findall(r'b"([a-z]+)"', path.read_text(encoding="utf-8"))}
 
 
+def file_options() -> list[str]:
+    """Returns the options that take a file."""
+    rows = (CRATES / "tw_cli/src/command_rows.rt").read_text(encoding="utf-8")
+    return sorted({f"--{name}" for name in re.findall(r'form: ArgumentForm::(?:Inputs|Trace), name: "([a-z-]*)"', rows)})
+
+
 def all_words() -> dict[str, list[str]]:
     """Returns the words by their names; those of a command's name are its options."""
-    tw, rows = program(), (CRATES / "tw_cli/src/command_rows.rt").read_text(encoding="utf-8")
+    tw = program()
     statements = words_in("tw_asm/src/first.rt", "tw_symbols/src/line_expansion.rt")
     names = commands(printed(tw, "--help"))
     helps = {name: printed(tw, name, "--help") for name in names}
@@ -59,8 +65,7 @@ def all_words() -> dict[str, list[str]]:
         "statements": sorted(statements), "words": sorted(words_in("tw_asm/src/*.rt") - statements), "commands": names,
         "own": [name for name in commands(printed(ROOT / "tw", "--help")) if name in ("test", "install", "package", "build")],
         "numbers": sorted({option for text in helps.values() for option in re.findall(r"(?m)^ {6}(--[a-z-]*) <N>", text)}),
-        "files": sorted({f"--{name}" for name in re.findall(r'form: ArgumentForm::(?:Inputs|Trace), name: "([a-z-]*)"', rows)}),
-        "packages": list(PACKAGES), "codes": re.findall("(?m)^([A-Z][0-9]*):", printed(tw, "explain")), "inputs": sorted({*re.findall("[a-z]*:", forms)} - {"input:"}),
+        "files": file_options(), "packages": list(PACKAGES), "codes": re.findall("(?m)^([A-Z][0-9]*):", printed(tw, "explain")), "inputs": sorted({*re.findall("[a-z]*:", forms)} - {"input:"}),
         **{name: re.findall(r"(?m)^ {2,6}(?:-[a-z], )?(--[a-z-]*)", text) for name, text in helps.items()},
     }
 

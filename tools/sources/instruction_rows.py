@@ -61,11 +61,6 @@ class Row(NamedTuple):
         """Returns whether reading its operands allocates."""
         return bool({"Literal", "Args"} & set(self.forms))
 
-    @property
-    def action(self) -> bool:
-        """Returns whether it makes a rule or a task."""
-        return self.kind in ("Rule", "Put")
-
 
 def fields_of(text: str, enum: str) -> dict[str, tuple[str, ...]]:
     """Returns the variants of an enum, and the fields of each."""
@@ -105,10 +100,9 @@ def row_of(opcode: str, text: str, version: str, word: str, variants: dict[str, 
 # ---- rows of code
 
 
-def enum_rows(rows: list[Row]) -> Iterator[str]:
-    """Yields the opcodes with their codes."""
-    for row in rows:
-        yield f"    {row.opcode} = {row.code},"
+def each(form: str, of: str = "opcode") -> Callable[[list[Row]], Iterator[str]]:
+    """Returns a function that yields a row of this form for each opcode, or of those with an operation or a search."""
+    return lambda rows: (form.format(it=row) for row in rows if getattr(row, of))
 
 
 def list_rows(rows: list[Row]) -> Iterator[str]:
@@ -131,26 +125,6 @@ def form_rows(rows: list[Row]) -> Iterator[str]:
     for forms in dict.fromkeys(row.forms for row in rows):
         opcodes = " | ".join(f"Opcode::{row.opcode}" for row in rows if row.forms == forms)
         yield f"            {opcodes} => &[{', '.join(forms)}],"
-
-
-def word_rows(rows: list[Row]) -> Iterator[str]:
-    """Yields the names in assembly."""
-    for row in rows:
-        yield f'        Opcode::{row.opcode} => "{row.word}",'
-
-
-def operation_rows(rows: list[Row]) -> Iterator[str]:
-    """Yields the opcodes of operations on two integers."""
-    for row in rows:
-        if row.operation:
-            yield f"        Arithmetic::{row.operation} => Opcode::{row.opcode},"
-
-
-def search_rows(rows: list[Row]) -> Iterator[str]:
-    """Yields the opcodes of searches in texts."""
-    for row in rows:
-        if row.sought:
-            yield f"        Sought::{row.sought} => Opcode::{row.opcode},"
 
 
 def variants_in(rows: list[Row], kind: str) -> list[list[Row]]:
@@ -202,30 +176,15 @@ def making_rows(rows: list[Row]) -> Iterator[str]:
             yield f"        Opcode::{row.opcode} => {'Instr::Ret' if row.kind == 'Ret' else literal(row)},"
 
 
-def skip_rows(kind: str) -> Callable[[list[Row]], Iterator[str]]:
-    """Returns a function that yields the rows by which instructions of a kind get another skip."""
-    def replaced(rows: list[Row]) -> Iterator[str]:
+def skipping(kind: str, form: str, joint: str) -> Callable[[list[Row]], Iterator[str]]:
+    """Returns a function that yields a row of this form for each variant of a kind with a skip; `others` are its other fields."""
+    def made(rows: list[Row]) -> Iterator[str]:
         for row in (parts[0] for parts in variants_in(rows, kind) if parts[0].skips):
-            others = "".join(f"{name}, " for name in (*row.given, *row.fields[:-1]))
-            yield f"        {ENUMS[kind]}::{row.variant} {{ {others}.. }} => {ENUMS[kind]}::{row.variant} {{ {others}skip }},"
-    return replaced
+            yield form.format(of=f"{ENUMS[kind]}::{row.variant}", instr=f"{ALIASES[kind]}.{row.variant}", others="".join(f"{name}{joint}" for name in (*row.given, *row.fields[:-1])))
+    return made
 
 
 # ---- rows of definitions and proofs
-
-
-def operation_lines(rows: list[Row]) -> Iterator[str]:
-    """Yields the opcodes of operations, as definitions."""
-    for row in rows:
-        if row.operation:
-            yield f"opcode_of_operation operation.{row.operation} = opcode.{row.opcode}"
-
-
-def search_lines(rows: list[Row]) -> Iterator[str]:
-    """Yields the opcodes of searches, as definitions."""
-    for row in rows:
-        if row.sought:
-            yield f"opcode_of_search sought.{row.sought} = opcode.{row.opcode}"
 
 
 def back_rows(kind: str, function: str) -> Callable[[list[Row]], Iterator[str]]:
@@ -240,13 +199,9 @@ def back_rows(kind: str, function: str) -> Callable[[list[Row]], Iterator[str]]:
     return back
 
 
-def skip_lines(kind: str, function: str) -> Callable[[list[Row]], Iterator[str]]:
-    """Returns a function that yields the rows of `skip_rows`, as definitions."""
-    def replaced(rows: list[Row]) -> Iterator[str]:
-        for row in (parts[0] for parts in variants_in(rows, kind) if parts[0].skips):
-            others = " ".join((f"{ALIASES[kind]}.{row.variant}", *row.given, *row.fields[:-1]))
-            yield f"{function} skip ({others} old) = {others} skip"
-    return replaced
+SKIP_ROW = "        {of} {{ {others}.. }} => {of} {{ {others}skip }},"
+SKIP_LINE = "_with_skip skip ({instr} {others}old) = {instr} {others}skip"
+HEAD, SKIPPING = "-- ---- one line for each instruction", "-- ---- an instruction with another skip"
 
 
 class Region(NamedTuple):
@@ -260,24 +215,24 @@ class Region(NamedTuple):
 
 
 REGIONS: tuple[Region, ...] = (
-    Region("tw_code/src/opcode.rt", "pub enum Opcode {", "pub enum Opcode {", "}", enum_rows),
+    Region("tw_code/src/opcode.rt", "pub enum Opcode {", "pub enum Opcode {", "}", each("    {it.opcode} = {it.code},")),
     Region("tw_code/src/opcode.rt", "/// All opcodes.", "#[rattlefmt::skip]", "];", list_rows),
     Region("tw_code/src/opcode.rt", "    fn since(", "        match self {", "        }", version_rows),
     Region("tw_code/src/opcode.rt", "    pub fn forms(", "        match self {", "        }", form_rows),
-    Region("tw_code/src/opcode.rt", "pub fn word_of(", "    match opcode {", "    }", word_rows),
-    Region("tw_code/src/sink.rt", "fn opcode_of_operation(", "    match operation {", "    }", operation_rows),
-    Region("tw_code/src/sink.rt", "fn opcode_of_search(", "    match sought {", "    }", search_rows),
+    Region("tw_code/src/opcode.rt", "pub fn word_of(", "    match opcode {", "    }", each('        Opcode::{it.opcode} => "{it.word}",')),
+    Region("tw_code/src/sink.rt", "fn opcode_of_operation(", "    match operation {", "    }", each("        Arithmetic::{it.operation} => Opcode::{it.opcode},", "operation")),
+    Region("tw_code/src/sink.rt", "fn opcode_of_search(", "    match sought {", "    }", each("        Sought::{it.sought} => Opcode::{it.opcode},", "sought")),
     Region("tw_code/src/sink.rt", "fn put_local<", "    match instr {", "    }", sink_rows("Local", "*")),
     Region("tw_code/src/sink.rt", "fn put_data<", "    match instr {", "    }", sink_rows("Data", "")),
-    Region(TABLE, "-- ---- one line for each instruction", "abbrev pub opcode_of_operation : Arithmetic → Opcode", "", operation_lines),
-    Region(TABLE, "-- ---- one line for each instruction", "abbrev pub opcode_of_search : Sought → Opcode", "", search_lines),
-    Region(TABLE, "-- ---- one line for each instruction", "abbrev pub local_row : LocalInstr → Opcode × List Operand", "", back_rows("Local", "local_row")),
-    Region(TABLE, "-- ---- one line for each instruction", "abbrev pub data_row : DataInstr → Opcode × List Operand", "", back_rows("Data", "data_row")),
+    Region(TABLE, HEAD, "abbrev pub opcode_of_operation : Arithmetic → Opcode", "", each("opcode_of_operation operation.{it.operation} = opcode.{it.opcode}", "operation")),
+    Region(TABLE, HEAD, "abbrev pub opcode_of_search : Sought → Opcode", "", each("opcode_of_search sought.{it.sought} = opcode.{it.opcode}", "sought")),
+    Region(TABLE, HEAD, "abbrev pub local_row : LocalInstr → Opcode × List Operand", "", back_rows("Local", "local_row")),
+    Region(TABLE, HEAD, "abbrev pub data_row : DataInstr → Opcode × List Operand", "", back_rows("Data", "data_row")),
     Region("tw_code/src/operands.rt", "pub fn make(", "    match opcode {", "        _ =>", making_rows),
-    Region("tw_asm/src/skip.rt", "fn local_with_skip(", "    match instr {", "        without =>", skip_rows("Local")),
-    Region("tw_asm/src/skip.rt", "fn data_with_skip(", "    match instr {", "        without =>", skip_rows("Data")),
-    Region(SEEN, "-- ---- an instruction with another skip", "abbrev pub local_with_skip : ℕ → LocalInstr → LocalInstr", "local_with_skip skip i", skip_lines("Local", "local_with_skip")),
-    Region(SEEN, "-- ---- an instruction with another skip", "abbrev pub data_with_skip : ℕ → DataInstr → DataInstr", "data_with_skip skip i", skip_lines("Data", "data_with_skip")),
+    Region("tw_asm/src/skip.rt", "fn local_with_skip(", "    match instr {", "        without =>", skipping("Local", SKIP_ROW, ", ")),
+    Region("tw_asm/src/skip.rt", "fn data_with_skip(", "    match instr {", "        without =>", skipping("Data", SKIP_ROW, ", ")),
+    Region(SEEN, SKIPPING, "abbrev pub local_with_skip : ℕ → LocalInstr → LocalInstr", "local_with_skip skip i", skipping("Local", f"local{SKIP_LINE}", " ")),
+    Region(SEEN, SKIPPING, "abbrev pub data_with_skip : ℕ → DataInstr → DataInstr", "data_with_skip skip i", skipping("Data", f"data{SKIP_LINE}", " ")),
 )
 
 

@@ -1,92 +1,48 @@
 # SPDX-License-Identifier: Apache-2.0
-"""Compares the manual page docs/tw.1 with the help texts of tw.
+"""Compares the manual page docs/tw.1 with the help texts that tw prints.
 
     ./dev manual --check    prints what differs, and fails if anything does
 
 A command's entry begins with its line of `tw --help`. An option's entry begins with its sentence of `tw COMMAND --help`, and has a
-sentence "For .." with the commands that take it. If a file follows an option, its name is in both. The sentences are read from crates/tw_cli/src, and the options of each command from
-script/install/tw.bash, which ./dev editor makes of the help texts.
+sentence "For .." with the commands that take it. If a file follows an option, its name is in both.
 """
 
 import re
-from collections.abc import Iterable, Iterator
+from collections.abc import Iterable, Iterator, Mapping
 from typing import NamedTuple
 
 from tools import ROOT
+from tools.common.program import program
+from tools.sources.editor import commands, file_options, printed
 
 PAGE = ROOT / "docs" / "tw.1"
-SOURCES = ROOT / "crates" / "tw_cli" / "src"
-COMPLETIONS = ROOT / "script" / "install" / "tw.bash"
-
 # Options that every command takes, which the library of the command line describes.
 COMMON = frozenset({"--help", "--version"})
 
 
-# The name that the page gives the file after an option, by the form of the option's row.
-FILES = {"Inputs": "DATA", "Trace": "TRACE"}
-
-
 class Helps(NamedTuple):
-    """The sentences of the help texts, by command and by option, the commands of each option, and the names of the files that some take."""
+    """The sentences of the help texts, by command and by option, and the commands of each option."""
 
     commands: dict[str, str]
     options: dict[str, str]
     takers: dict[str, set[str]]
-    files: dict[str, str]
 
 
-# --- The help texts
+def helps_of(top: str, texts: Mapping[str, str]) -> Helps:
+    """Returns what `tw --help` says, and the help text of each command."""
+    helps = Helps({name: re.findall(rf"(?m)^  {name} +(.*)$", top)[0] for name in texts}, {}, {})
+    for command, text in texts.items():
+        for option, sentence in re.findall(r"(?m)^ {2,6}(?:-\w, )?(--[a-z-]+).*\n {10}(.*)$", text):
+            if option not in COMMON:
+                helps.options[option] = sentence.replace("`", "")
+                helps.takers.setdefault(option, set()).add(command)
+    return helps
 
 
-def constants_of(source: str) -> dict[str, str]:
-    """Returns the texts that a source declares as constants, by name, without the signs of code."""
-    found = re.findall(r'const (\w+): &str =\s*"((?:[^"\\]|\\.)*)";', source)
-    return {name: unquoted(text) for name, text in found}
-
-
-def unquoted(text: str) -> str:
-    """Returns a text without escapes and the signs of code."""
-    return re.sub(r"\\(.)", r"\1", text).replace("`", "")
-
-
-def rows_of(source: str) -> list[tuple[str, str, str]]:
-    """Returns the form, the option, and the help or the name of its constant of each row."""
-    rows = re.findall(r'form: ArgumentForm::(\w+), name: "([a-z-]+)", help: (\w+_HELP|"(?:[^"\\]|\\.)*")', source)
-    return [(form, f"--{name}", text) for form, name, text in rows if not form.startswith("Position")]
-
-
-def options_of(source: str) -> dict[str, str]:
-    """Returns the name of each option, and its help or the name of that constant."""
-    return {option: text for _, option, text in rows_of(source)}
-
-
-def files_of(source: str) -> dict[str, str]:
-    """Returns the name of the file that an option takes, for each that takes one."""
-    return {option: FILES[form] for form, option, _ in rows_of(source) if form in FILES}
-
-
-def commands_of(source: str) -> dict[str, str]:
-    """Returns the line of each command in `tw --help`."""
-    found = re.findall(r'const (\w+): CommandHelp<[^>]*> = CommandHelp \{\s*about: "((?:[^"\\]|\\.)*)"', source)
-    return {name.lower(): unquoted(text) for name, text in found}
-
-
-def takers_of(completions: str, commands: Iterable[str]) -> dict[str, set[str]]:
-    """Returns for each option those of the commands that take it."""
-    takers: dict[str, set[str]] = {}
-    for command, options in re.findall(r'^\s*(\w+):-\*\).*-W "([^"]*)"', completions, re.MULTILINE):
-        for option in options.split() if command in commands else []:
-            takers.setdefault(option, set()).add(command)
-    return takers
-
-
-def helps_of(sources: Iterable[str], completions: str) -> Helps:
-    """Returns the help texts of the sources of the command line."""
-    source = "\n".join(sources)
-    constants = constants_of(source)
-    options = {option: unquoted(text[1:-1]) if text.startswith('"') else constants.get(text, f"({text} is no constant)") for option, text in options_of(source).items()}
-    commands = commands_of(source)
-    return Helps(commands, options, takers_of(completions, commands), files_of(source))
+def file_in(sentence: str) -> str | None:
+    """Returns the name that a help text gives a file."""
+    found = re.search(r"\b(DATA|TRACE)\b", sentence)
+    return found[1] if found else None
 
 
 # --- The manual page
@@ -151,33 +107,29 @@ def wrong_takers(option: str, helps: Helps, entries: dict[str, str]) -> Iterator
         yield f"{option} is for: {', '.join(sorted(named))}; and taken by: {', '.join(sorted(taking))}"
 
 
-def wrong_file(option: str, helps: Helps, files: dict[str, str], entries: dict[str, str]) -> Iterator[str]:
-    """Finds an entry whose line has another name of a file than the row's, or whose help doesn't name the file."""
-    name = helps.files.get(option)
-    if option in entries and files.get(option) != name:
-        yield f"{option} names the file {files.get(option)}, and its row {name}"
-    if name and name not in helps.options[option]:
-        yield f"{option} takes a file {name}, and its help says: {helps.options[option]}"
+def wrong_file(option: str, sentence: str, files: dict[str, str], entries: dict[str, str]) -> Iterator[str]:
+    """Finds an entry whose line has another name of a file than its help."""
+    if option in entries and files.get(option) != file_in(sentence):
+        yield f"{option} names the file {files.get(option)}, and its help {file_in(sentence)}"
 
 
-def differences(helps: Helps, page: str) -> Iterator[str]:
-    """Finds all that the page says otherwise than the help texts."""
+def differences(helps: Helps, page: str, with_files: Iterable[str]) -> Iterator[str]:
+    """Finds all that the page says otherwise than the help texts; some options take a file."""
     entries, files = entries_of(page), named_files(page)
     for name, sentence in [*helps.commands.items(), *helps.options.items()]:
         yield from wrong_entry(name, sentence, entries)
-    for option in helps.options:
+    for option, sentence in helps.options.items():
         yield from wrong_takers(option, helps, entries)
-        yield from wrong_file(option, helps, files, entries)
-    described = {name for name in entries if name.startswith("--")} | helps.takers.keys()
-    for option in sorted(described - helps.options.keys() - COMMON):
-        yield f"{option} is no option of the sources"
+        yield from wrong_file(option, sentence, files, entries)
+    yield from (f"{option} takes a file, and its help names none" for option in with_files if not file_in(helps.options.get(option, "")))
+    yield from (f"{name} is no option of tw" for name in sorted(entries.keys() - helps.options.keys() - COMMON) if name.startswith("--"))
 
 
 def check() -> int:
     """Compares the page of this repository, and returns the exit status."""
-    sources = [path.read_text(encoding="utf-8") for path in sorted(SOURCES.glob("*.rt"))]
-    helps = helps_of(sources, COMPLETIONS.read_text(encoding="utf-8"))
-    wrong = list(differences(helps, PAGE.read_text(encoding="utf-8")))
+    top = printed(program(), "--help")
+    helps = helps_of(top, {name: printed(program(), name, "--help") for name in commands(top)})
+    wrong = list(differences(helps, PAGE.read_text(encoding="utf-8"), file_options()))
     for line in wrong:
         print(f"docs/tw.1: {line}")
     print(f"manual: {len(helps.commands)} commands and {len(helps.options)} options, {len(wrong)} differences")

@@ -14,7 +14,7 @@ import sys
 from pathlib import Path
 
 from tools import ROOT
-from tools.sources.shares import dependencies
+from tools.sources.scale import dependencies
 
 DOCUMENT = Path("docs/ARCHITECTURE.md")
 BEGIN, END = "<!-- ./dev stacks -->\n", "<!-- end of stacks -->\n"

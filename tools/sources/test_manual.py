@@ -1,30 +1,21 @@
 # SPDX-License-Identifier: Apache-2.0
 """Tests of ./dev manual on small texts."""
 
-import unittest
-
+from tools.common.testing import Table
 from tools.sources import manual
 
-HELP = """
-pub(crate) const RUN: CommandHelp<'static> = CommandHelp {
-    about: "Runs a program",
-    whole: "More.",
-};
-pub(crate) const LIMIT_HELP: &str = "The most events: 1 to 9 (default: 3)";
-pub(crate) const TRACE_HELP: &str =
-    "Write a line `events` of \\"e\\"";
-pub(crate) const INPUTS_HELP: &str = "Read a file DATA";
-"""
-COMMAND = """
-        ArgumentRow { form: ArgumentForm::Value, name: "limit", help: LIMIT_HELP },
-        ArgumentRow { form: ArgumentForm::Flag, name: "trace", help: TRACE_HELP },
-        ArgumentRow { form: ArgumentForm::Inputs, name: "inputs", help: INPUTS_HELP },
-        ArgumentRow { form: ArgumentForm::Positions, name: "input", help: INPUT_HELP },
-"""
-COMPLETIONS = """
-        build:*) COMPREPLY=($(compgen -W "--library" -- "$word")) ;;
-        install:-*) COMPREPLY=($(compgen -W "--uninstall" -- "$word")) ;;
-        run:-*) COMPREPLY=($(compgen -W "--limit --trace --inputs --help" -- "$word")) ;;
+TOP = "Usage: tw\n\nCommands:\n  run   Runs a program\n  help  Helps\n\nOptions:\n  -h, --help  Print help\n"
+RUN = """Runs a program
+
+Options:
+      --limit <limit>
+          The most events: 1 to 9 (default: 3)
+      --trace
+          Write a line `events` of "e"
+      --inputs
+          Read a file DATA
+  -h, --help
+          Print help
 """
 PAGE = """.SH COMMANDS
 .TP
@@ -55,55 +46,34 @@ The help.
 """
 
 
-def found(page: str, source: str = HELP + COMMAND, completions: str = COMPLETIONS) -> list[str]:
-    """Returns what a page says otherwise than the help texts."""
-    return list(manual.differences(manual.helps_of([source], completions), page))
+CHECK = ".TP\n.B check\nChecks.\n.SH OPTIONS"
 
 
-class Same(unittest.TestCase):
+def found(old: str, new: str, run: str = RUN, top: str = TOP, check: str | None = None) -> list[str]:
+    """Returns what the page says otherwise than the help texts, if this text is in place of that one."""
+    assert old in PAGE, old
+    texts = {"run": run} | ({"check": check} if check else {})
+    return list(manual.differences(manual.helps_of(top, texts), PAGE.replace(old, new), ["--inputs"]))
+
+
+class Differences(Table):
     def test_nothing_differs(self) -> None:
-        self.assertEqual(found(PAGE), [])
+        self.compare(found, ("the page", "", "", []), ("an entry says more", "3). For", "3). It stops then. For", []))
 
-    def test_an_entry_may_say_more(self) -> None:
-        self.assertEqual(found(PAGE.replace("3). For", "3). It stops then. For")), [])
+    def test_entries(self) -> None:
+        self.compare(
+            lambda old, new: [it.split(":")[0] for it in found(old, new)],
+            ("a sentence that differs", "1 to 9", "1 to 8", ["--limit begins with"]), ("the beginning of a word", "a program and", "a programme and", ["run begins with"]),
+            ("an option without an entry", '\\-\\-limit " N"', '\\-\\-max " N"', ["--limit has no entry", "--max is no option of tw"]),
+            ("a command without an entry", ".B run\nRuns", ".B go\nRuns", ["run has no entry"]),
+            ("no command after For", "3). For\n.BR run .", "3).", ["--limit is for"]),
+            ("a file of another name", "[\\fIDATA\\fR]", "[\\fITRACE\\fR]", ["--inputs names the file TRACE, and its help DATA"]),
+        )
 
-
-class Otherwise(unittest.TestCase):
-    def test_a_sentence_that_differs(self) -> None:
-        self.assertEqual([it.split(":")[0] for it in found(PAGE.replace("1 to 9", "1 to 8"))], ["--limit begins with"])
-
-    def test_a_sentence_that_is_only_the_beginning_of_a_word(self) -> None:
-        self.assertEqual([it.split(":")[0] for it in found(PAGE.replace("a program and", "a programme and"))], ["run begins with"])
-
-    def test_an_option_without_an_entry(self) -> None:
-        self.assertEqual(found(PAGE.replace("\\-\\-limit \" N\"", "\\-\\-max \" N\"")), ["--limit has no entry", "--max is no option of the sources"])
-
-    def test_a_command_without_an_entry(self) -> None:
-        self.assertEqual(found(PAGE.replace(".B run\nRuns", ".B go\nRuns")), ["run has no entry"])
-
-    def test_a_help_text_of_a_new_option(self) -> None:
-        row = 'ArgumentRow { form: ArgumentForm::Flag, name: "new", help: NEW_HELP },'
-        source = HELP + COMMAND + row + '\npub(crate) const NEW_HELP: &str = "New";'
-        self.assertEqual(found(PAGE, source), ["--new has no entry"])
-
-    def test_a_constant_that_is_missing(self) -> None:
-        self.assertIn("(LIMIT_HELP is no constant)", " ".join(found(PAGE, HELP.replace("LIMIT_HELP", "MOST_HELP") + COMMAND)))
-
-    def test_an_option_that_another_command_takes_too(self) -> None:
-        source = HELP + COMMAND + "const CHECK: CommandHelp<'a> = CommandHelp {\n about: \"Checks\",\n};"
-        page = PAGE.replace(".SH OPTIONS", ".TP\n.B check\nChecks.\n.SH OPTIONS")
-        completions = COMPLETIONS + '        check:-*) COMPREPLY=($(compgen -W "--limit" -- "$word")) ;;\n'
-        self.assertEqual(found(page, source, completions), ["--limit is for: run; and taken by: check, run"])
-
-    def test_an_option_that_only_the_completions_have(self) -> None:
-        self.assertEqual(found(PAGE, completions=COMPLETIONS.replace("--help", "--all")), ["--all is no option of the sources"])
-
-    def test_a_command_after_for_that_is_none_of_them(self) -> None:
-        self.assertEqual(found(PAGE.replace("3). For\n.BR run .", "3).")), ["--limit is for: ; and taken by: run"])
-
-    def test_a_file_of_another_name(self) -> None:
-        self.assertEqual(found(PAGE.replace("[\\fIDATA\\fR]", "[\\fITRACE\\fR]")), ["--inputs names the file TRACE, and its row DATA"])
-
-    def test_a_help_text_without_the_file(self) -> None:
-        source = (HELP + COMMAND).replace("Read a file DATA", "Read a file")
-        self.assertEqual(found(PAGE, source), ["--inputs takes a file DATA, and its help says: Read a file"])
+    def test_helps(self) -> None:
+        new, other = RUN + "      --new\n          New\n", TOP.replace("  help ", "  check  Checks\n  help ")
+        self.assertEqual(found("", "", new), ["--new has no entry"])
+        self.assertEqual(found("", "", RUN.replace(" DATA", "")), [
+            "--inputs names the file DATA, and its help None", "--inputs takes a file, and its help names none"])
+        taken = found(".SH OPTIONS", CHECK, RUN, other, "      --limit <limit>\n          The most events: 1 to 9 (default: 3)\n")
+        self.assertEqual(taken, ["--limit is for: run; and taken by: check, run"])
