@@ -8,6 +8,7 @@ import subprocess
 import unittest
 
 from tools import ROOT
+from tools.common.testing import Table
 from tools.release import site
 from tools.release.convert import Style, anchor, rendered
 
@@ -17,27 +18,20 @@ def html_of(text: str) -> str:
     return rendered(text, Style(lambda target: None if target == "none" else target, lambda target: target))
 
 
-class Markdown(unittest.TestCase):
-    def test_paragraphs_and_emphasis(self) -> None:
-        self.assertEqual(html_of("One `a < b`\n**two `c`** & three.\n\nFour.\n"), "<p>One <code>a &lt; b</code> <b>two <code>c</code></b> &amp; three.</p><p>Four.</p>")
-
-    def test_links_and_images(self) -> None:
-        self.assertEqual(html_of("[`a` b](c.md#d) [out](none) ![it](e.svg)\n"), '<p><a href="c.md#d"><code>a</code> b</a> out <img src="e.svg" alt="it"></p>')
-
-    def test_headings(self) -> None:
-        self.assertEqual(html_of("# A `b` of C's\n## D\n"), '<h1 id="a-b-of-cs">A <code>b</code> of C\'s</h1><h2 id="d">D</h2>')
+class Markdown(Table):
+    def test_html(self) -> None:
+        self.compare(
+            html_of,
+            ("paragraphs", "One `a < b`\n**two `c`** & three.\n\nFour.\n", "<p>One <code>a &lt; b</code> <b>two <code>c</code></b> &amp; three.</p><p>Four.</p>"),
+            ("links and images", "[`a` b](c.md#d) [out](none) ![it](e.svg)\n", '<p><a href="c.md#d"><code>a</code> b</a> out <img src="e.svg" alt="it"></p>'),
+            ("headings", "# A `b` of C's\n## D\n", '<h1 id="a-b-of-cs">A <code>b</code> of C\'s</h1><h2 id="d">D</h2>'),
+            ("lists", "- one\n  more\n- two\n\nAfter.\n", "<ul><li>one more</li><li>two</li></ul><p>After.</p>"),
+            ("blocks in lists", "1. one\n\n   ```\n   a < b\n   ```\n\n2. two\n", "<ol><li>one<pre>a &lt; b\n</pre></li><li>two</li></ol>"),
+            ("code and comments", "```sh\n# a | b\n```\n<!-- made -->\n\n    c d\n", "<pre># a | b\n</pre><pre>c d\n</pre>"),
+        )
+        table = html_of("| A | B |\n|---|---|\n| `x \\| y` | |\n")
+        self.assertIn("<th>A</th><th>B</th></tr></thead><tbody><tr><td><code>x | y</code></td><td></td></tr>", table)
         self.assertEqual(anchor("What isn't proved, and by whom"), "what-isnt-proved-and-by-whom")
-
-    def test_tables(self) -> None:
-        text = "| A | B |\n|---|---|\n| `x \\| y` | |\n"
-        self.assertIn("<th>A</th><th>B</th></tr></thead><tbody><tr><td><code>x | y</code></td><td></td></tr>", html_of(text))
-
-    def test_lists(self) -> None:
-        self.assertEqual(html_of("- one\n  more\n- two\n\nAfter.\n"), "<ul><li>one more</li><li>two</li></ul><p>After.</p>")
-        self.assertEqual(html_of("1. one\n\n   ```\n   a < b\n   ```\n\n2. two\n"), "<ol><li>one<pre>a &lt; b\n</pre></li><li>two</li></ol>")
-
-    def test_code_and_comments(self) -> None:
-        self.assertEqual(html_of("```sh\n# a | b\n```\n<!-- made -->\n\n    c d\n"), "<pre># a | b\n</pre><pre>c d\n</pre>")
 
 
 class Site(unittest.TestCase):
@@ -65,16 +59,9 @@ class Search(unittest.TestCase):
         ran = subprocess.run(["node", "-e", script], input=index, capture_output=True, text=True, check=True)
         return [str(row[0]) for row in json.loads(ran.stdout)]
 
-    def test_a_heading_comes_first(self) -> None:
+    def test_what_is_found(self) -> None:
+        """A heading comes first, and all words have to fit; no query finds nothing."""
         self.assertEqual(self.found("Bounds")[0], "FORMAT.html#bounds")
-
-    def test_all_words_have_to_fit(self) -> None:
         self.assertIn("BYTES.html#faults", self.found("F03 incomplete"))
-        self.assertEqual(self.found("F03 wolpertinger"), [])
-
-    def test_no_query_finds_nothing(self) -> None:
-        self.assertEqual(self.found("  "), [])
-
-    def test_its_words_are_there(self) -> None:
-        pages = {re.sub("#.*", "", page) for page in self.found("order of events")}
-        self.assertIn("FORMAT.html", pages)
+        self.assertEqual((self.found("F03 wolpertinger"), self.found("  ")), ([], []))
+        self.assertIn("FORMAT.html", {re.sub("#.*", "", page) for page in self.found("order of events")})

@@ -1,9 +1,7 @@
 # SPDX-License-Identifier: Apache-2.0
 """Tests of ./dev instructions in a small repository."""
 
-import unittest
-
-from tools.common.testing import folder_of, put, replace, said
+from tools.common.testing import Table, folder_of, put, replace, said
 from tools.sources import instructions
 
 OPCODES = """pub enum Opcode {
@@ -55,66 +53,51 @@ WHOLES = (
 PARTS = ("tw_asm/src/skip.rt",)
 
 
-class Rows(unittest.TestCase):
+class Rows(Table):
     def setUp(self) -> None:
         self.root = folder_of(self)
-        self.write("docs/ADDING.md", " ".join(f"`{path}`" for path in ("tw_code/src/instr.rt", *PARTS, *(whole.path for whole in WHOLES))))
+        files = {"docs/ADDING.md": " ".join(f"`{path}`" for path in ("tw_code/src/instr.rt", *PARTS, *(whole.path for whole in WHOLES)))}
         for path, text in (("tw_code/src/opcode.rt", OPCODES), ("tw_code/src/instr.rt", VARIANTS), ("tw_code/specs/Local.antt", EFFECTS),
                            ("tw_stats/specs/Waits.antt", WAITS), ("tw_code/specs/Results.antt", RESULTS), ("tw_asm/src/skip.rt", "LocalInstr::Fly => 0,\n"),
                            ("tw_cases/src/a.rt", "LocalInstr::Fly => 0,\n"), ("tw_code/out/a.rt", "LocalInstr::Fly => 0,\n")):
-            self.write(f"crates/{path}", text)
+            files[f"crates/{path}"] = text
+        self.files = files
         replace(self, instructions, WHOLES=WHOLES, PARTS=PARTS, SHOWN_ONE=())
 
-    def write(self, path: str, text: str) -> None:
-        put(self.root, {path: text})
-
-    def found(self) -> list[str]:
-        """Returns the faults, each up to its first comma."""
+    def found(self, **others: str) -> list[str]:
+        """Returns the faults with other texts of files, each up to its first comma."""
+        put(self.root, {**self.files, **others})
         return [fault.split(",")[0] for fault in instructions.faults(self.root)]
 
-    def test_all_is_well(self) -> None:
-        self.assertEqual(self.found(), [])
-
-    def test_a_missing_row_is_found_by_its_name(self) -> None:
-        self.write("crates/tw_code/specs/Local.antt", EFFECTS.replace("effect local.Fly = tt\n", ""))
-        self.assertEqual(self.found(), ["tw_code/specs/Local.antt: no row of Fly"])
-
-    def test_a_missing_row_is_found_by_its_expression(self) -> None:
-        for row in ("    Opcode::Add, Opcode::Store,", '        Opcode::Store => "STORE",'):
-            self.write("crates/tw_code/src/opcode.rt", OPCODES.replace(row, row.replace("Opcode::Store", "Opcode::Other")))
-            self.assertEqual(self.found(), ["tw_code/src/opcode.rt: no row of Store"])
-
-    def test_a_new_variant_lacks_its_rows(self) -> None:
-        self.write("crates/tw_code/src/instr.rt", VARIANTS.replace("    Fly,\n", "    Fly,\n    Min { to: u8 },\n"))
-        self.assertEqual(self.found(), ["tw_code/specs/Local.antt: no row of Min"])
-
-    def test_a_row_without_an_import_is_none(self) -> None:
-        self.write("crates/tw_code/src/instr.rt", VARIANTS.replace("    Minus,\n", "    Minus,\n    Minimum,\n"))
-        for text, is_well in ((RESULTS, False), (RESULTS + "result_of Minimum a b = b\n", False), (RESULTS.replace("{Minus}", "{Minus, Minimum}") + "result_of Minimum a b = b\n", True)):
-            self.write("crates/tw_code/specs/Results.antt", text)
-            self.assertEqual(self.found(), [] if is_well else ["tw_code/specs/Results.antt: no row of Minimum"])
-
-    def test_an_import_is_no_row(self) -> None:
-        self.write("crates/tw_stats/specs/Waits.antt", WAITS.replace("written (Store datum from)", "written x"))
-        self.assertEqual(self.found(), ["tw_stats/specs/Waits.antt: no row of Store", "tw_stats/specs/Waits.antt: is in a list of ./dev instructions"])
+    def test_rows(self) -> None:
+        opcodes, variants, results = ("crates/tw_code/src/opcode.rt", "crates/tw_code/src/instr.rt", "crates/tw_code/specs/Results.antt")
+        minimum = VARIANTS.replace("    Minus,\n", "    Minus,\n    Minimum,\n")
+        imported = RESULTS.replace("{Minus}", "{Minus, Minimum}")
+        rows: tuple[tuple[str, dict[str, str], list[str]], ...] = (
+            ("all is well", {}, []),
+            ("by its name", {"crates/tw_code/specs/Local.antt": EFFECTS.replace("effect local.Fly = tt\n", "")}, ["tw_code/specs/Local.antt: no row of Fly"]),
+            *((row, {opcodes: OPCODES.replace(row, row.replace("Opcode::Store", "Opcode::Other"))}, ["tw_code/src/opcode.rt: no row of Store"])
+              for row in ("    Opcode::Add, Opcode::Store,", '        Opcode::Store => "STORE",')),
+            ("a new variant", {variants: VARIANTS.replace("    Fly,\n", "    Fly,\n    Min { to: u8 },\n")}, ["tw_code/specs/Local.antt: no row of Min"]),
+            ("no row", {variants: minimum}, ["tw_code/specs/Results.antt: no row of Minimum"]),
+            ("a row without an import", {variants: minimum, results: RESULTS + "result_of Minimum a b = b\n"}, ["tw_code/specs/Results.antt: no row of Minimum"]),
+            ("a row and an import", {variants: minimum, results: imported + "result_of Minimum a b = b\n"}, []),
+            ("an import alone", {"crates/tw_stats/specs/Waits.antt": WAITS.replace("written (Store datum from)", "written x")},
+             ["tw_stats/specs/Waits.antt: no row of Store", "tw_stats/specs/Waits.antt: is in a list of ./dev instructions"]),
+            ("a listed file that names none", {"crates/tw_asm/src/skip.rt": "Local::Fly => 0,\n"}, ["tw_asm/src/skip.rt: is in a list of ./dev instructions"]),
+            ("files that the document lacks", {"docs/ADDING.md": "`tw_code/src/instr.rt` `tw_code/src/opcode.rt` `tw_asm/src/skip.rt` tw_stats/specs/Waits.antt"},
+             [f"docs/ADDING.md: doesn't name {path}" for path in ("tw_code/specs/Local.antt", "tw_code/specs/Results.antt", "tw_stats/specs/Waits.antt")]),
+            ("a file in no list", {"crates/tw_frame/proofs/deep/New.antt": "use Rattle.tw_code.specs.declared.instr.LocalInstr.TheVariants as op\nf op.Fly = 0\n"},
+             ["tw_frame/proofs/deep/New.antt: names Fly"]),
+        )
+        self.compare(lambda files: self.found(**files), *rows)
 
     def test_a_file_without_all_its_rows_is_missing(self) -> None:
-        (self.root / "crates/tw_stats/specs/Waits.antt").unlink()
+        del self.files["crates/tw_stats/specs/Waits.antt"]
         self.assertEqual(self.found()[0], "tw_stats/specs/Waits.antt: no row of Store")
 
-    def test_a_file_in_no_list_is_found(self) -> None:
-        self.write("crates/tw_frame/proofs/deep/New.antt", "use Rattle.tw_code.specs.declared.instr.LocalInstr.TheVariants as op\nf op.Fly = 0\n")
-        self.assertEqual(self.found(), ["tw_frame/proofs/deep/New.antt: names Fly"])
-
-    def test_a_listed_file_that_names_none_is_found(self) -> None:
-        self.write("crates/tw_asm/src/skip.rt", "Local::Fly => 0,\n")
-        self.assertEqual(self.found(), ["tw_asm/src/skip.rt: is in a list of ./dev instructions"])
-
-    def test_a_file_that_the_document_lacks_is_found(self) -> None:
-        self.write("docs/ADDING.md", "`tw_code/src/instr.rt` `tw_code/src/opcode.rt` `tw_asm/src/skip.rt` tw_stats/specs/Waits.antt")
-        self.assertEqual(self.found(), [f"docs/ADDING.md: doesn't name {path}" for path in ("tw_code/specs/Local.antt", "tw_code/specs/Results.antt", "tw_stats/specs/Waits.antt")])
-
     def test_rows_are_listed(self) -> None:
+        self.found()
         status, text = said(instructions.print_rows, self.root, "Store")
         self.assertEqual((status, said(instructions.print_rows, self.root, "Other")[0]), (0, 1))
         self.assertIn("crates/tw_stats/specs/Waits.antt:2: written (Store datum from) = None\nStore is in 3 files\n", text)

@@ -3,9 +3,8 @@
 
 import pathlib
 import tempfile
-import unittest
 
-from tools.common.testing import put
+from tools.common.testing import Table, put
 from tools.sources import walks
 
 MAIN = """/// Begins.
@@ -60,12 +59,12 @@ DOCUMENT = """# A document
 """
 
 
-class Walks(unittest.TestCase):
-    def faults(self, document: str) -> list[str]:
-        """Returns what is wrong with a document's walks."""
+class Walks(Table):
+    def faults(self, old: str, new: str) -> list[str]:
+        """Returns what is wrong with the document's walks after an edit."""
         with tempfile.TemporaryDirectory() as room:
             put(pathlib.Path(room), {"top/src/main.rt": MAIN, "top/src/parts.rt": PARTS})
-            return list(walks.faults_of(walks.walks_of(document), pathlib.Path(room)))
+            return list(walks.faults_of(walks.walks_of(DOCUMENT.replace(old, new)), pathlib.Path(room)))
 
     def test_walks_are_paragraphs_in_bold(self) -> None:
         """Text before the first walk and after the section has no steps; options and types are none."""
@@ -74,32 +73,13 @@ class Walks(unittest.TestCase):
         self.assertEqual([step.function for step in found[0].steps], ["main", "read", "pieces"])
         self.assertEqual(found[0].steps[2].file, "top/src/parts.rt")
 
-    def test_true_walks_have_no_faults(self) -> None:
-        """A later walk may follow the steps of an earlier one."""
-        self.assertEqual(self.faults(DOCUMENT), [])
-
-    def fault_of(self, old: str, new: str) -> str:
-        """Returns the one thing that is wrong after an edit of the document."""
-        found = self.faults(DOCUMENT.replace(old, new))
-        self.assertEqual(len(found), 1, found)
-        return found[0]
-
-    def test_moved_function(self) -> None:
-        """A function has to be in the file that is named before it."""
-        fault = self.fault_of("2. `top/src/parts.rt`", "2. `top/src/main.rt`")
-        self.assertEqual(fault, "`run` of text: top/src/main.rt has no pieces that a step before calls")
-
-    def test_missing_file(self) -> None:
-        """A file has to be there, also that of the first step."""
-        fault = self.fault_of("Step 1 is as above.\n\n1. `top/src/parts.rt`", "It begins late.\n\n1. `top/src/gone.rt`")
-        self.assertEqual(fault, "Second walk: top/src/gone.rt has no pieces that a step before calls")
-
-    def test_unreached_step(self) -> None:
+    def test_faults(self) -> None:
         """A body before has to call the step; its own body doesn't count, nor do comments and names that aren't called."""
-        for name in ("unused", "noted", "named"):
-            fault = self.fault_of("`pieces`.\n\n**", f"`pieces`. `top/src/main.rt`: `{name}`.\n\n**")
-            self.assertEqual(fault, f"`run` of text: top/src/main.rt has no {name} that a step before calls")
-
-    def test_calls_with_types(self) -> None:
-        """A call may name its types."""
-        self.assertEqual(self.faults(DOCUMENT.replace("`pieces`.\n\n**", "`pieces`. `top/src/main.rt`: `made`.\n\n**")), [])
+        fault = "{0}: top/src/{1}.rt has no {2} that a step before calls".format
+        self.compare(
+            self.faults, ("a later walk may follow the steps of an earlier one", "", "", []),
+            ("a call may name its types", "`pieces`.\n\n**", "`pieces`. `top/src/main.rt`: `made`.\n\n**", []),
+            ("a function has to be in the file before it", "2. `top/src/parts.rt`", "2. `top/src/main.rt`", [fault("`run` of text", "main", "pieces")]),
+            ("a file has to be there, also the first", "Step 1 is as above.\n\n1. `top/src/parts.rt`", "It begins late.\n\n1. `top/src/gone.rt`", [fault("Second walk", "gone", "pieces")]),
+            *((name, "`pieces`.\n\n**", f"`pieces`. `top/src/main.rt`: `{name}`.\n\n**", [fault("`run` of text", "main", name)]) for name in ("unused", "noted", "named")),
+        )
