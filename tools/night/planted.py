@@ -1,8 +1,8 @@
 """Plants faults, and sees that harnesses fail on them: a program that always rejects, one that is always quiet, a static one that asks for no memory,
-and a library without calls. Prints a line for each harness, and ends with `N noticed, M not`.
+and a library without calls. Those that test a clone get one with an edit. Prints a line for each harness, and ends with `N noticed, M not`.
 
-    ./dev planted          all
-    ./dev planted NAME..   these harnesses"""
+    ./dev planted          all but those of clones
+    ./dev planted NAME..   these harnesses, those of clones among them"""
 
 import os
 import shutil
@@ -16,8 +16,16 @@ from tools.common.program import ARCHIVE, LIBRARY, PROGRAM, found
 from tools.harnesses import TOOLS, Run, Tool
 from tools.night.runner import FAILED, Runner, heed_signals
 
-# Harnesses that answer by ./tw itself, or build programs that take long.
-LEFT = {"planted", "installed", "released", "packaged", "page", "mutants", "wheel", "must_fail"}
+# Harnesses that test a clone of what is committed: the file of an edit, its text and another one. They take minutes, and need a release.
+CLONES = {
+    "installed": ("script/install.sh", 'rm -f "$base/$name"', ":"),
+    "released": ("docs/HOSTING.md", "\n```sh\n", "\n```sh\nexit 3\n"),
+    "packaged": ("tools/release/package.py", "Depends: libc6", "Depends: no-such-libc6"),
+    "wheel": ("tools/release/package.py", 'files["yuglemit/lib/libyuglemit.so"] = library.read_bytes()', "pass"),
+    "page": ("page/machine.js", "ADD: (a, b) => checked(a + b)", "ADD: (a, b) => a + b"),
+}
+# Those that plant faults themselves, and those.
+LEFT = {"planted", "mutants", "must_fail", *CLONES}
 # Kinds of fuzz tests that call the program, and the others that do.
 BY_PROGRAM = {tool.name for tool in TOOLS if not tool.name.startswith("fuzz_")} | {"fuzz_args", "fuzz_each", "fuzz_orders", "fuzz_run"}
 # Those that don't call the library, or only in a part that isn't tried.
@@ -92,19 +100,35 @@ def rows(crate: str, names: set[str], words: list[str]) -> Iterator[Tool]:
             yield tool._replace(short=short, is_beside=True, limit=SECONDS)
 
 
+def clone_with(room: Path, name: str) -> Path:
+    """Makes a clone of what is committed, and commits the edit of a harness there."""
+    clone, (file, old, new) = room / name, CLONES[name]
+    subprocess.run(["git", "clone", "-q", str(ROOT), str(clone)], check=True)
+    (clone / file).write_text((clone / file).read_text(encoding="utf-8").replace(old, new), encoding="utf-8")
+    subprocess.run(["git", "-C", str(clone), "-c", "user.name=A", "-c", "user.email=a@b", "commit", "-qam", "A fault"], check=True)
+    return clone
+
+
+def noticed(what: str, folder: Path, room: Path, environment: dict[str, str], tools: list[Tool]) -> list[bool]:
+    """Runs harnesses in a folder, prints a line for each, and returns whether they failed."""
+    runner = Runner(folder, room, {"seed": "1", "count": "1000", "seconds": "6"}, float(os.environ.get("PATIENCE", "1")), environment=environment)
+    print(f"{what}:", flush=True)
+    runner.say = lambda ended: print(f"  {'noticed' if ended.outcome == FAILED else 'MISSED '} {ended.line()}", flush=True)
+    heed_signals(runner)
+    return [ended.outcome == FAILED for ended in runner.run_all(tools, 2)]
+
+
 def main(words: list[str]) -> int:
     """Plants all faults; returns an exit status."""
-    noticed = missed = 0
+    found: list[bool] = []
     with tempfile.TemporaryDirectory() as name:
         room = Path(name)
         for what, crate, write, names in FAULTS:
             folder = folder_with(room, crate, write)
             environment = {"TW_OUT": str(folder), "YUGLEMIT_LIBRARY": str(folder / "libyuglemit.so")}
-            runner = Runner(ROOT, room, {"seed": "1", "count": "1000", "seconds": "6"}, float(os.environ.get("PATIENCE", "1")), environment=environment)
-            print(f"{what}:", flush=True)
-            runner.say = lambda ended: print(f"  {'noticed' if ended.outcome == FAILED else 'MISSED '} {ended.line()}", flush=True)
-            heed_signals(runner)
-            outcomes = [ended.outcome == FAILED for ended in runner.run_all(rows(crate, names, words), 2)]
-            noticed, missed = noticed + sum(outcomes), missed + outcomes.count(False)
-    print(f"{noticed} noticed, {missed} not")
-    return 1 if missed or not noticed else 0
+            found += noticed(what, ROOT, room, environment, list(rows(crate, names, words)))
+        for tool in TOOLS:
+            if tool.name in CLONES and tool.name in words:
+                found += noticed(f"an edit of {CLONES[tool.name][0]}", clone_with(room, tool.name), room, {}, [tool])
+    print(f"{sum(found)} noticed, {found.count(False)} not")
+    return 0 if found and all(found) else 1

@@ -17,7 +17,7 @@ from tools import ROOT, entry
 from tools.common.testing import folder_of
 from tools.fuzz import main as fuzz
 from tools.harnesses import KINDS, TOOLS, Run, Tool, path_of
-from tools.night import check, night, record, runner
+from tools.night import check, night, planted, record, runner
 from tools.night.runner import FAILED, LEFT_OUT, OK, Runner, count_in, fault_of, missing, status_of, total
 
 
@@ -62,6 +62,14 @@ class TableTest(unittest.TestCase):
     def test_the_table_of_the_readme(self) -> None:
         text = entry.README.read_text(encoding="utf-8")
         self.assertEqual(entry.with_table(text), text, "./dev list --make writes it")
+
+    def test_each_harness_has_a_fault_that_is_planted(self) -> None:
+        """Those that test no program have one in their tests; others are planted, or plant faults themselves."""
+        tried = {tool.name for crate, names in ((fault[1], fault[3]) for fault in planted.FAULTS) for tool in planted.rows(crate, names, [])}
+        tested = {tool.name for tool in TOOLS if tool.is_harness and tool.tests}
+        self.assertEqual(tested - tried, {*planted.LEFT, "wakes"})
+        for file, old, _ in planted.CLONES.values():
+            self.assertIn(old, (ROOT / file).read_text(encoding="utf-8"), file)
 
     def test_the_list(self) -> None:
         self.assertIn("shown             every command that documents show", entry.listed().splitlines())

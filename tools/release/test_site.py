@@ -6,6 +6,7 @@ import re
 import shutil
 import subprocess
 import unittest
+from unittest import mock
 
 from tools import ROOT
 from tools.common.testing import Table
@@ -37,6 +38,11 @@ class Markdown(Table):
 class Site(unittest.TestCase):
     def test_each_document_has_a_page_and_links_lead_somewhere(self) -> None:
         self.assertEqual(site.faults(ROOT), [])
+
+    def test_faults(self) -> None:
+        documents = [site.Document("README.md", "README", "T", "# T\n\n[it](#gone)\n"), site.Document("more/A.md", "more-A", "A", "No title.\n")]
+        with mock.patch.object(site, "documents_of", return_value=documents):
+            self.assertEqual(site.faults(ROOT), ["more/A.md: no title", "more/A.md: in no group of the contents", "README.html: README.html#gone leads nowhere"])
 
     def test_names(self) -> None:
         names = [site.name_of(path) for path in ("README.md", "docs/FORMAT.md", "embed/c/README.md", "crates/tw_host/README.md")]
