@@ -5,7 +5,7 @@
     ./dev instructions --rows NAME    lists the rows of an instruction, such as Length or Insert
 
 The instructions are the opcodes of crates/tw_code/src/opcode.rt and the variants of LocalInstr, DataInstr and Arithmetic in instr.rt next to it. RULE,
-PUT and RET aren't variants of these. Checks (crates of cases, tw_fuzz) may name any instruction.
+PUT and RET aren't variants of these. Checks (crates of cases, tw_fuzz) may name any instruction. Proofs are in no list: the prover misses their rows.
 """
 
 import re
@@ -38,28 +38,18 @@ WHOLES: tuple[Whole, ...] = (
     Whole("tw_code/src/sink.rt", "Opcode"),
     *(Whole(path, kind) for kind, paths in {
         "Arithmetic": (
-            "tw_code/specs/format/Table.antt", "tw_code/specs/machine/Local.antt", "tw_code/src/compute.rt", "tw_code/src/operands.rt", "tw_code/src/sink.rt",
+            "tw_code/specs/format/Table.antt", "tw_code/specs/machine/Local.antt", "tw_code/src/compute.rt", "tw_code/src/operands.rt",
+            "tw_code/src/sink.rt",
         ),
         "LocalInstr": (
-            "tw_code/src/sink.rt",
-            "tw_code/specs/accepting/Typing.antt", "tw_code/specs/machine/Local.antt", "tw_soundness/proofs/Values.antt",
-            "tw_verify/src/instructions.rt", "tw_bounds/proofs/Moved.antt", "tw_instr/src/local.rt",
-            "tw_frame/src/dispatch.rt", "tw_frame/specs/Requirements.antt", "tw_frame/proofs/Quickly.antt", "tw_frame/proofs/Ahead.antt",
+            "tw_code/src/sink.rt", "tw_code/specs/accepting/Typing.antt", "tw_code/specs/machine/Local.antt", "tw_verify/src/instructions.rt",
+            "tw_instr/src/local.rt", "tw_frame/src/dispatch.rt", "tw_frame/specs/Requirements.antt",
         ),
         "DataInstr": (
-            "tw_code/src/sink.rt", "tw_code/src/operands.rt",
-            "tw_code/specs/accepting/Typing.antt", "tw_code/specs/machine/Data.antt", "tw_code/proofs/Growth.antt",
-            "tw_soundness/proofs/Conditions.antt", "tw_soundness/proofs/DataLeaves.antt", "tw_soundness/proofs/DataNamed.antt",
-            "tw_soundness/proofs/Long.antt", "tw_soundness/proofs/Moving.antt", "tw_soundness/proofs/Whole.antt",
-            "tw_verify/src/on_data.rt", "tw_verify/src/typing.rt", "tw_bounds/proofs/Moved.antt",
-            "tw_instr/src/on_data.rt", "tw_instr/specs/Memory.antt",
-            "tw_pool_state/src/data.rt", "tw_pool_state/specs/Memory.antt", "tw_pool_state/specs/Queued.antt",
-            "tw_stats/src/pre_state.rt",
-            "tw_determinism/proofs/Contesting.antt", "tw_determinism/proofs/CoreEffects.antt", "tw_determinism/proofs/DataShown.antt",
-            "tw_determinism/proofs/Keeping.antt", "tw_copies/proofs/DataSpare.antt", "tw_copies/proofs/Fitting.antt", "tw_copies/proofs/Marked.antt",
-            "tw_copies/proofs/Registers.antt", "tw_copies/proofs/Summing.antt", "tw_copies/proofs/Tracking.antt",
-            "tw_certificate/src/contests.rt", "tw_certificate/proofs/Placing.antt",
-            "tw_isolation/specs/Isolation.antt", "tw_isolation/proofs/Keeping.antt", "tw_isolation/proofs/ByRight.antt",
+            "tw_code/src/sink.rt", "tw_code/src/operands.rt", "tw_code/specs/accepting/Typing.antt", "tw_code/specs/machine/Data.antt",
+            "tw_verify/src/on_data.rt", "tw_verify/src/typing.rt", "tw_instr/src/on_data.rt", "tw_instr/specs/Memory.antt",
+            "tw_pool_state/src/data.rt", "tw_pool_state/specs/Memory.antt", "tw_pool_state/specs/Queued.antt", "tw_stats/src/pre_state.rt",
+            "tw_certificate/src/contests.rt", "tw_isolation/specs/Isolation.antt",
         ),
     }.items() for path in paths),
 )
@@ -67,26 +57,16 @@ WHOLES: tuple[Whole, ...] = (
 # Files with rows for some instructions; the document says for which.
 PARTS: tuple[str, ...] = (
     "tw_code/specs/accepting/Flow.antt", "tw_code/src/flow.rt", "tw_asm/specs/Seen.antt", "tw_asm/src/skip.rt", "tw_binary/src/rows.rt",
-    "tw_asm/src/instructions.rt",
-    "tw_code/proofs/TableRows.antt", "tw_asm/proofs/Table.antt", "tw_asm/proofs/Rows.antt",
-    "tw_frame/src/step.rt", "tw_frame/src/text_step.rt", "tw_verify/src/quick.rt", "tw_verify/specs/Quick.antt",
-    "tw_verify/src/searching.rt", "tw_verify/specs/Searching.antt",
-    "tw_symbols/src/instruction.rt", "tw_symbols/specs/LineExpansion.antt",
-    "tw_bounds/src/weighing.rt", "tw_bounds/specs/Bounds.antt", "tw_bounds/proofs/Paying.antt", "tw_budget/proofs/Sound.antt",
-    "tw_bounds/src/limited.rt", "tw_bounds/specs/Limited.antt", "tw_bounds/proofs/LimitedRuns.antt",
-    *(f"tw_soundness/proofs/{name}.antt" for name in ("DataLeft", "DataMade", "DataMaps", "DataNew", "DataReads")), "tw_bounds/src/texts.rt",
+    "tw_asm/src/instructions.rt", "tw_frame/src/step.rt", "tw_frame/src/text_step.rt", "tw_verify/src/quick.rt", "tw_verify/specs/Quick.antt",
+    "tw_verify/src/searching.rt", "tw_verify/specs/Searching.antt", "tw_symbols/src/instruction.rt", "tw_symbols/specs/LineExpansion.antt",
+    "tw_bounds/src/weighing.rt", "tw_bounds/specs/Bounds.antt", "tw_bounds/src/limited.rt", "tw_bounds/specs/Limited.antt", "tw_bounds/src/texts.rt",
     "tw_pool_state/src/data/scalars.rt", "tw_pool_state/src/data/containers.rt", "tw_pool_state/src/data/maps.rt", "tw_pool_state/src/data/rights.rt",
-    "tw_determinism/specs/Contested.antt", "tw_determinism/specs/OneResult.antt", "tw_determinism/specs/Refused.antt",
-    "tw_copies/specs/Copies.antt", "tw_copies/specs/Marks.antt", "tw_copies/src/insertions.rt", "tw_copies/src/marks.rt",
-    "tw_copies/proofs/Copying.antt", "tw_copies/proofs/Marking.antt",
-    *(f"tw_pool_state/proofs/{name}.antt" for name in ("Copies", "Drops", "Gets", "Inserts", "Looks", "Maps", "News", "Sizes", "Stores")),
+    "tw_determinism/specs/Contested.antt", "tw_determinism/specs/OneResult.antt", "tw_determinism/specs/Refused.antt", "tw_copies/specs/Copies.antt",
+    "tw_copies/specs/Marks.antt", "tw_copies/src/insertions.rt", "tw_copies/src/marks.rt",
 )
 
 # Files that treat some by themselves and then all others at once, and carriers of names: a new one needs nothing there.
-SHOWN_ONE: tuple[str, ...] = (
-    "tw_code/proofs/Computing.antt", "tw_asm/proofs/Skips.antt", "tw_asm/proofs/Written.antt", "tw_asm/proofs/Firsts.antt", "tw_frame/src/arithmetic.rt",
-    "tw_symbols/proofs/RenamedTexts.antt", "tw_symbols/proofs/UnchangedLines.antt", "tw_asm/proofs/AsmNames.antt", "tw_frame/specs/Ready.antt",
-)
+SHOWN_ONE = ("tw_frame/src/arithmetic.rt", "tw_frame/specs/Ready.antt")
 
 
 def variants_of(text: str, name: str) -> list[str]:
@@ -113,11 +93,11 @@ def mentions(text: str, kind: str, names: list[str]) -> set[str]:
     return (found | {name for name in imported if re.search(rf"\b{name}\b", body)}) & set(names)
 
 
-def sources(root: Path) -> Iterator[tuple[str, str]]:
-    """Yields the sources of all crates but checks, by their paths below crates/."""
+def sources(root: Path, kinds: tuple[str, ...] = ("src", "specs")) -> Iterator[tuple[str, str]]:
+    """Yields the code and definitions of all crates but checks, or other kinds of their sources, by their paths below crates/."""
     for path in sorted((root / "crates").glob("tw_*/*/**/*")):
         parts = path.relative_to(root / "crates").parts
-        if path.suffix in (".rt", ".antt") and parts[0] not in CHECKS and parts[1] in ("src", "specs", "proofs"):
+        if path.suffix in (".rt", ".antt") and parts[0] not in CHECKS and parts[1] in kinds:
             yield "/".join(parts), path.read_text(encoding="utf-8")
 
 
@@ -152,10 +132,10 @@ def unused(root: Path, instructions: dict[str, list[str]]) -> Iterator[str]:
 
 
 def undocumented(root: Path) -> Iterator[str]:
-    """Yields the files of code and of definitions that the document should name, and doesn't. `--rows` lists those of proofs."""
+    """Yields the files that the document should name, and doesn't."""
     document = (root / DOCUMENT).read_text(encoding="utf-8")
     for path in sorted({whole.path for whole in WHOLES} | {*PARTS, "tw_code/src/instr.rt"}):
-        if "/proofs/" not in path and f"`{path}`" not in document:
+        if f"`{path}`" not in document:
             yield f"{DOCUMENT}: doesn't name {path}"
 
 
@@ -184,7 +164,7 @@ def check(root: Path) -> int:
 def print_rows(root: Path, name: str) -> int:
     """Prints where the rows of an instruction are."""
     instructions, count = instructions_of(root), 0
-    for path, text in sources(root):
+    for path, text in sources(root, ("src", "specs", "proofs")):
         is_variant = Path("crates", path) == VARIANTS and name in instructions["LocalInstr"] + instructions["DataInstr"]
         if is_variant or any(name in mentions(text, kind, names) for kind, names in instructions.items()):
             count += 1

@@ -87,8 +87,8 @@ class Rows(Table):
             ("a listed file that names none", {"crates/tw_asm/src/skip.rt": "Local::Fly => 0,\n"}, ["tw_asm/src/skip.rt: is in a list of ./dev instructions"]),
             ("files that the document lacks", {"docs/ADDING.md": "`tw_code/src/instr.rt` `tw_code/src/opcode.rt` `tw_asm/src/skip.rt` tw_stats/specs/Waits.antt"},
              [f"docs/ADDING.md: doesn't name {path}" for path in ("tw_code/specs/Local.antt", "tw_code/specs/Results.antt", "tw_stats/specs/Waits.antt")]),
-            ("a file in no list", {"crates/tw_frame/proofs/deep/New.antt": "use Rattle.tw_code.specs.declared.instr.LocalInstr.TheVariants as op\nf op.Fly = 0\n"},
-             ["tw_frame/proofs/deep/New.antt: names Fly"]),
+            ("a file in no list", {"crates/tw_frame/specs/deep/New.antt": "use Rattle.tw_code.specs.declared.instr.LocalInstr.TheVariants as op\nf op.Fly = 0\n"},
+             ["tw_frame/specs/deep/New.antt: names Fly"]),
         )
         self.compare(lambda files: self.found(**files), *rows)
 

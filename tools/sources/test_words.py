@@ -72,9 +72,11 @@ class Code(Table):
             source = {"b.rt": "/// Calls gone.\npub fn one(x: u8) {}\nenum Two { Three }\n", "c.antt": "abbrev pub four : T\nfour = five\n"}
             put(pathlib.Path(folder, "crates/tw_a"), {**{f"src/{name}": text for name, text in source.items()}, "specs/machine/D.antt": "six : T\n"})
             words.code_of.cache_clear()
+            words.first_parts.cache_clear()
+            self.addCleanup(words.first_parts.cache_clear)
             lines = words.markdown_lines(text)
             with mock.patch.object(words, "ROOT", pathlib.Path(folder)):
-                return [(it.line, it.text) for it in [*words.dead_code("docs/A.md", lines), *words.dead_paths("docs/A.md", lines)]]
+                return [(it.line, it.text) for it in words.dead_code("docs/A.md", lines)]
 
     def test_sources(self) -> None:
         self.compare(
@@ -101,7 +103,7 @@ class Files(Table):
             words.first_parts.cache_clear()
             self.addCleanup(words.first_parts.cache_clear)
             with mock.patch.object(words, "ROOT", pathlib.Path(folder)):
-                return [(it.line, it.text) for it in words.dead_files("docs/D.md", words.markdown_lines(text))]
+                return [(it.line, it.text) for it in words.dead_code("docs/D.md", words.markdown_lines(text))]
 
     def test_files(self) -> None:
         self.compare(
@@ -110,7 +112,8 @@ class Files(Table):
             ("in later lines", "A.\n\n- `tools/b.py` and\n  `docs/more/B.md`\n", [(3, "there is no tools/b.py"), (4, "there is no docs/more/B.md")]),
             ("others", "`machine/D`, `tw_b/proofs`, `crates/tw_a/specs`\n", [(1, f"there is no {it}") for it in ("machine/D", "tw_b/proofs", "crates/tw_a/specs")]),
             ("other spans", "`1/2`, `a/b`, `/tools/b`, `tools/b c`, `tools/*.c`, `crates/NAME/tests` and `crates/tw_a/out/b`\n\n```\n`tools/b`\n```\n", []),
-            ("sources and definitions have checks of their own", "`tw_a/src/b.rt`, and\n`tw_a/specs`: `machine/D`,\n`machine/E`. `tools/b`\n", [(3, "there is no tools/b")]),
+            ("sources and definitions are found once", "`tw_a/src/b.rt`, and\n`tw_a/proofs`: `machine/C`,\n`machine/E`. `tools/b`\n",
+             [(1, "there is no crates/tw_a/src/b.rt"), (3, "there is no machine/E"), (3, "there is no tools/b")]),
         )
 
 

@@ -23,6 +23,7 @@ from collections.abc import Iterable, Iterator
 from typing import NamedTuple
 
 from tools import ROOT
+from tools.release.convert import anchor
 from tools.sources import senses
 
 COUNTS = ROOT / "tools" / "sources" / "words.json"
@@ -278,14 +279,9 @@ def repeated(documents: dict[str, list[Line]]) -> Iterator[Finding]:
                 yield Finding(path, number, "repeat", f"also in {other[0]}:{other[1]}: {run}")
 
 
-def anchor_of(heading: str) -> str:
-    """Returns the anchor of a heading, as forges make it."""
-    return re.sub(r"[^\w\- ]", "", heading.lstrip("#").strip().lower()).replace(" ", "-")
-
-
 def anchors_of(lines: Iterable[Line]) -> set[str]:
     """Returns the anchors of a document."""
-    return {anchor_of(line.text) for line in lines if line.text.startswith("#")}
+    return {anchor(line.text.lstrip("#")) for line in lines if line.text.startswith("#")}
 
 
 def leads_nowhere(path: str, target: str, documents: dict[str, list[Line]]) -> bool:
@@ -305,33 +301,19 @@ def dead_links(path: str, documents: dict[str, list[Line]]) -> Iterator[Finding]
                 yield Finding(path, line.number, "link", target)
 
 
-# A source in a document, and after a colon the functions or types that it has: `tw_main/src/main.rt`: `main`, `run`.
+# A source or a folder of definitions in a document, and after a colon what it has: `tw_main/src/main.rt`: `main`, `run`; `tw_host/specs`: `Run`, `Seats`.
 CODE = re.compile(r"`(?:crates/)?(tw_\w+/[\w/]+\.(?:rt|antt))`(?::((?:,?\s+(?:and\s+|→\s+)?`\w+`)+))?")
+SPECS = re.compile(r"`(tw_\w+/specs[\w/]*)`(?::((?:,?\s+(?:and\s+)?`[\w/]+`)+))?")
+# A function, theorem or type by its path: `tw_host::Host::open`. Any other path: `docs/STYLE.md`, `tw_asm/proofs`, `machine/Bounds` of tw_code/specs.
+PATHS = re.compile(r"`(tw_\w+)::(\w+(?:::\w+)*)`")
+FILES = re.compile(r"`(([\w.-]+)(?:/[\w.-]+)+)/?`")
+# Parts of paths that aren't looked up: any name, and a folder of made files.
+UNNAMED = {"NAME", "out"}
 
 
 def defines(source: str, name: str) -> bool:
     """Says if a source defines a function, type or definition of this name."""
     return bool(re.search(rf"\b(?:fn|struct|enum|trait|type|const|data|record|codata) (?:pub )?{name}\b|^ *(?:pub |abbrev )*{name} :", source, re.M))
-
-
-def dead_code(path: str, lines: list[Line]) -> Iterator[Finding]:
-    """Finds the sources, functions and types that a document names and that aren't there."""
-    text = "\n".join(line.text for line in lines)
-    for match in CODE.finditer(text):
-        number, source = lines[text.count("\n", 0, match.start())].number, ROOT / "crates" / match[1]
-        if not source.is_file():
-            yield Finding(path, number, "code", f"there is no crates/{match[1]}")
-            continue
-        code = source.read_text(encoding="utf-8")
-        for name in re.findall(r"`(\w+)`", match[2] or ""):
-            if not defines(code, name):
-                yield Finding(path, number, "code", f"{match[1]} has no {name}")
-
-
-# A folder of definitions in a document, and after a colon files that it has: `tw_host/specs`: `Run`, `Seats`. A file by itself: `tw_host/specs/Run`.
-SPECS = re.compile(r"`(tw_\w+/specs[\w/]*)`(?::((?:,?\s+(?:and\s+)?`[\w/]+`)+))?")
-# A function, theorem or type by its path: `tw_host::Host::open`.
-PATHS = re.compile(r"`(tw_\w+)::(\w+(?:::\w+)*)`")
 
 
 @functools.cache
@@ -340,34 +322,6 @@ def code_of(crate: str) -> str:
     parts = [ROOT / "crates" / crate / part for part in ("src", "specs", "proofs")]
     files = sorted(path for ending in ("rt", "antt") for part in parts for path in part.rglob(f"*.{ending}"))
     return "\n".join(path.read_text(encoding="utf-8") for path in files)
-
-
-def dead_specs(folder: str, names: list[str]) -> Iterator[str]:
-    """Says which files of definitions aren't there: a folder or a file, and the files named after it."""
-    place = ROOT / "crates" / folder
-    if not (place.is_dir() or place.with_suffix(".antt").is_file()):
-        yield f"there is no crates/{folder}"
-    for name in names:
-        if not (place / name).is_dir() and not (place / f"{name}.antt").is_file():
-            yield f"{folder} has no {name}"
-
-
-def dead_paths(path: str, lines: list[Line]) -> Iterator[Finding]:
-    """Finds the files of definitions, functions and types that a document names by path and that aren't there."""
-    text = "\n".join(line.text for line in lines)
-    for match in SPECS.finditer(text):
-        for what in dead_specs(match[1], re.findall(r"`([\w/]+)`", match[2] or "")):
-            yield Finding(path, lines[text.count("\n", 0, match.start())].number, "code", what)
-    for match in PATHS.finditer(text):
-        for name in match[2].split("::"):
-            if not defines(code_of(match[1]), name):
-                yield Finding(path, lines[text.count("\n", 0, match.start())].number, "code", f"{match[1]} has no {name}")
-
-
-# Any other path in a document: `docs/STYLE.md`, `tw_asm/proofs`, `machine/Bounds` of tw_code/specs.
-FILES = re.compile(r"`(([\w.-]+)(?:/[\w.-]+)+)/?`")
-# Parts of paths that aren't looked up: any name, and a folder of made files.
-UNNAMED = {"NAME", "out"}
 
 
 @functools.cache
@@ -382,15 +336,34 @@ def is_there(document: str, path: str) -> bool:
     return any((folder / name).exists() for folder in folders for name in (path, f"{path}.antt"))
 
 
-def dead_files(path: str, lines: list[Line]) -> Iterator[Finding]:
-    """Finds the files and folders that a document names, but neither as sources nor as definitions, and that aren't there."""
-    text = "\n".join(line.text for line in lines)
-    for pattern in (CODE, SPECS):
-        text = pattern.sub(lambda match: "\n" * match[0].count("\n"), text)
-    for match in FILES.finditer(text):
+def missing(document: str, text: str) -> Iterator[tuple[int, str]]:
+    """Yields what a text names that isn't there: places in the text, and what is missing."""
+    for match in CODE.finditer(text):
+        source = ROOT / "crates" / match[1]
+        if not source.is_file():
+            yield match.start(), f"there is no crates/{match[1]}"
+        else:
+            code = source.read_text(encoding="utf-8")
+            yield from ((match.start(), f"{match[1]} has no {name}") for name in re.findall(r"`(\w+)`", match[2] or "") if not defines(code, name))
+    for match in SPECS.finditer(text):
+        place = ROOT / "crates" / match[1]
+        if not (place.is_dir() or place.with_suffix(".antt").is_file()):
+            yield match.start(), f"there is no crates/{match[1]}"
+        names = re.findall(r"`([\w/]+)`", match[2] or "")
+        yield from ((match.start(), f"{match[1]} has no {name}") for name in names if not (place / name).is_dir() and not (place / f"{name}.antt").is_file())
+    for match in PATHS.finditer(text):
+        yield from ((match.start(), f"{match[1]} has no {name}") for name in match[2].split("::") if not defines(code_of(match[1]), name))
+    others = functools.reduce(lambda rest, pattern: pattern.sub(lambda match: " " * len(match[0]), rest), (CODE, SPECS), text)
+    for match in FILES.finditer(others):
         known = match[2] in first_parts() or match[2].startswith("tw_")
-        if known and not UNNAMED & set(match[1].split("/")) and not is_there(path, match[1]):
-            yield Finding(path, lines[text.count("\n", 0, match.start())].number, "code", f"there is no {match[1]}")
+        if known and not UNNAMED & set(match[1].split("/")) and not is_there(document, match[1]):
+            yield match.start(), f"there is no {match[1]}"
+
+
+def dead_code(path: str, lines: list[Line]) -> Iterator[Finding]:
+    """Finds the sources, definitions, functions, types and files that a document names and that aren't there."""
+    text = "\n".join(line.text for line in lines)
+    yield from (Finding(path, lines[text.count("\n", 0, place)].number, "code", what) for place, what in missing(path, text))
 
 
 def markdown_findings(documents: dict[str, list[Line]]) -> Iterator[Finding]:
@@ -404,7 +377,7 @@ def markdown_findings(documents: dict[str, list[Line]]) -> Iterator[Finding]:
         yield from dead_links(path, documents)
         if path not in LOGS:
             yield from (Finding(path, number, "home", text) for number, text in senses.homeless(path, unmade(lines)))
-            yield from [*dead_code(path, lines), *dead_paths(path, lines), *dead_files(path, lines)]
+            yield from dead_code(path, lines)
     yield from repeated(documents)
 
 
