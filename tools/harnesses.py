@@ -111,7 +111,7 @@ TOOLS = (
     Tool("many", "program/many.sh", "the engines of docs/MANY.md", Run("threads", 1), Run("", 20), BOTH, limit=2400, shard=5, in_ci=False),
     Tool("callers", "library/callers.sh", "C, C++ and Rust with hostile calls, under valgrind and with sanitizers", Run("--quick", 35), Run("", 40), "libyuglemit.a", "cc c++ objcopy",
          "library/callers.c library/callers.h library/loaded.c", 3600, 0, False, True),
-    Tool("embedded", "library/embedded.sh", "callers in C, C++, Rust and Python against the program", Run("c cpp python", 5000), Run("", 5000), f"{LINKED} tw_embed", "cc c++ cargo",
+    Tool("embedded", "library/embedded.sh", "callers in C, C++, Rust and Python against the program", Run("c cpp python", 1000), Run("", 2000), f"{LINKED} tw_embed", "cc c++ cargo",
          "library/embedded.c library/embedded.py", 1200, 0, False, True),
     Tool("builder", "./embed/python/test.sh", "Python's builder, with more programs", Run("FILES=100 MUTANTS=500 FUNCTIONS=50 test_build test_build_source", 50),
          Run("FILES=10000 MUTANTS=30000 FUNCTIONS=3000 test_build test_build_source", 50), "tw_embed",

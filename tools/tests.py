@@ -20,6 +20,7 @@ def main(words: list[str]) -> int:
     loader = unittest.TestLoader()
     loader.testNamePatterns = [f"*{word}*" for word in words] or None
     result = unittest.TextTestRunner(resultclass=Result).run(loader.discover(str(ROOT / "tools"), top_level_dir=str(ROOT)))
+    assert isinstance(result, Result)
     passed = result.testsRun + result.rows - len(result.failures) - len(result.errors) - len(result.skipped)
     print(f"{passed} passed, {len(result.failures) + len(result.errors)} failed", flush=True)
     return 0 if result.wasSuccessful() and result.testsRun else 1

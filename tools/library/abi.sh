@@ -9,23 +9,12 @@
 root=$(readlink -f "$0") && root=${root%/tools/*}
 room=$(mktemp -d)
 trap 'rm -rf "$room"' EXIT
-passed=0 failed=0
+# shellcheck source=tools/common/report.sh
+. "$root/tools/common/report.sh"
 read -r abi since <"$root/embed/ABI"
 mkdir "$room/installed" "$room/static"
 library=$("$root/script/pick.sh" tw_embed) && archive=$("$root/script/pick.sh" libyuglemit.a) || exit
 cp "$library" "$room/installed/libyuglemit.so.$abi" && cp "$archive" "$room/static/libyuglemit.a" || exit
-
-# Reports a check: whether it holds (0), and what it is.
-report() {
-    if [ "$1" = 0 ]; then
-        passed=$((passed + 1))
-        echo "ok      $2"
-    else
-        failed=$((failed + 1))
-        echo "FAILED  $2"
-        tail -n 30 "$room/log" | sed 's/^/        /'
-    fi
-}
 
 # The releases that have a number of the ABI: the first commit and the version of each.
 releases() {
@@ -113,5 +102,4 @@ check_library
 releases >"$room/releases"
 [ -s "$room/releases" ] || { echo "the history has no release" >"$room/log"; report 1 "releases"; }
 while read -r commit version; do check_release "$commit" "$version"; done <"$room/releases"
-echo "$passed passed, $failed failed"
-[ "$failed" = 0 ]
+summary

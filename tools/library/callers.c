@@ -64,6 +64,8 @@ typedef struct handles {
     yuglemit_text text;
 } handles;
 
+#define NO_HANDLES {{NULL}, {NULL}, {NULL}, {NULL}, {NULL}, {NULL}, {NULL}}
+
 static void free_all(handles *all) {
     yuglemit_program_free(all->program);
     yuglemit_program_free(all->other);
@@ -105,7 +107,7 @@ static int is_kept(const uint8_t *words, size_t words_length, const uint8_t *inp
 /* Makes every kind of handle, as far as memory allows. Returns whether each call was done or said that memory ran out. */
 static int make_all(handles *all) {
     static const uint8_t digits[] = "41", words[] = "run\0--text", source[] = "names\nproc control main(w: write int)\nregs n: int\nINT n 7\nSTORE w n\nRET\n";
-    handles other = {{NULL}, {NULL}, {NULL}, {NULL}, {NULL}, {NULL}, {NULL}};
+    handles other = NO_HANDLES;
     yuglemit_ending ending = YUGLEMIT_ENDING;
     yuglemit_bounds bounds = YUGLEMIT_BOUNDS;
     yuglemit_order order = YUGLEMIT_ORDER;
@@ -140,7 +142,7 @@ static int make_all(handles *all) {
 }
 
 static void check_refused(void) {
-    handles all = {{NULL}, {NULL}, {NULL}, {NULL}, {NULL}, {NULL}, {NULL}};
+    handles all = NO_HANDLES;
     long before = held;
     for (unsigned long number = 1; number <= MOST_REQUESTS; number++) {
         requests = 0, refused = number;
@@ -160,7 +162,7 @@ static void check_refused(void) {
 static void check_kept_members(void) {
     static const uint8_t source[] = "names\nproc control main(all: closed cont int, out: write int)\nregs n: int\nSIZE n all\nDROPR all\nSTORE out n\nRET\n";
     for (unsigned long number = 1; number <= MOST_REQUESTS; number++) {
-        handles all = {{NULL}, {NULL}, {NULL}, {NULL}, {NULL}, {NULL}, {NULL}};
+        handles all = NO_HANDLES;
         yuglemit_item item;
         check(load(&all, source, sizeof source - 1, YUGLEMIT_TEXT) == 0 && yuglemit_container_new(&all.container, 'i', 'i') == 0, "a container");
         check(yuglemit_member_int(&all.container, 3, 7) == 0 && yuglemit_member_int(&all.container, 4, 7) == 0, "two members");
@@ -181,7 +183,7 @@ static void check_kept_members(void) {
 
 /* Runs a program, which reads one member of its input, and frees the inputs. Returns whether its output is this number or this text. */
 static int reads(const char *source, yuglemit_inputs *inputs, int64_t number, const char *text) {
-    handles all = {{NULL}, {NULL}, {NULL}, {NULL}, {NULL}, {NULL}, {NULL}};
+    handles all = NO_HANDLES;
     yuglemit_item item;
     uint8_t room[ROOM] = {0};
     all.inputs = *inputs;
@@ -261,7 +263,7 @@ static uint8_t read_output(int row, yuglemit_report *report) {
 static void check_unfinished(void) {
     static const char source[] = "version 2\nproc control write int write tcont text\nregs int\nPUT 0 0 any 0 1\nRET\n";
     static const uint8_t partial[] = {0, YUGLEMIT_NO_INDEX, 0, YUGLEMIT_NO_INDEX, YUGLEMIT_NO_INDEX, YUGLEMIT_NO_TEXT, YUGLEMIT_NO_INDEX, YUGLEMIT_NO_INDEX};
-    handles all = {{NULL}, {NULL}, {NULL}, {NULL}, {NULL}, {NULL}, {NULL}};
+    handles all = NO_HANDLES;
     yuglemit_options options = YUGLEMIT_OPTIONS;
     options.limit = 1;
     check(load(&all, (const uint8_t *)source, strlen(source), YUGLEMIT_TEXT) == 0 && yuglemit_run(&all.program, &all.inputs, &options, &all.stop, &all.report) == 0, "a run of one event");
@@ -278,7 +280,7 @@ static void check_unfinished(void) {
 
 /* A read of no member is one of an output that there is, up to its end. */
 static void check_no_members(void) {
-    handles all = {{NULL}, {NULL}, {NULL}, {NULL}, {NULL}, {NULL}, {NULL}};
+    handles all = NO_HANDLES;
     yuglemit_member member;
     make_each(&all);
     check(yuglemit_report_members(&all.report, 0, 0, &member, 0) == 0, "none of a number");
@@ -335,7 +337,7 @@ static void check_empty(void) {
     static uint8_t none[1] = {9};
     uint8_t *pointers[] = {none, NULL};
     for (int k = 0; k < 2; k++) {
-        handles all = {{NULL}, {NULL}, {NULL}, {NULL}, {NULL}, {NULL}, {NULL}};
+        handles all = NO_HANDLES;
         uint8_t *p = pointers[k], status = 9;
         static const uint8_t formats[] = {YUGLEMIT_ANY_FORMAT, YUGLEMIT_BYTES, YUGLEMIT_HEX, YUGLEMIT_TEXT, 'x'};
         for (size_t f = 0; f < sizeof formats; f++) check(load(&all, p, 0, formats[f]) != 0 && !all.program.at, "no source");
@@ -355,7 +357,7 @@ static void check_empty(void) {
 /* ---- Many inputs, many members, long texts */
 
 static void check_many(void) {
-    handles all = {{NULL}, {NULL}, {NULL}, {NULL}, {NULL}, {NULL}, {NULL}};
+    handles all = NO_HANDLES;
     check(load(&all, program_bytes, program_length, YUGLEMIT_BYTES) == 0, "the program");
     int wrong = 0;
     for (int k = 0; k < MANY; k++) wrong += yuglemit_input_int(&all.inputs, k) != 0;
@@ -372,7 +374,7 @@ static void check_many(void) {
 }
 
 static void check_long_text(const uint8_t *text, size_t length) {
-    handles all = {{NULL}, {NULL}, {NULL}, {NULL}, {NULL}, {NULL}, {NULL}};
+    handles all = NO_HANDLES;
     check(load(&all, program_bytes, program_length, YUGLEMIT_BYTES) == 0, "the program");
     check(yuglemit_input_text(&all.inputs, text, length) == 0 && run(&all) == YUGLEMIT_INPUT_TYPE && !all.report.at, "O02: a text that is too long");
     check(yuglemit_container_new(&all.container, 't', 't') == 0 && yuglemit_member_text_by_text(&all.container, text, length, text, length) == 0, "a long member");
@@ -383,7 +385,7 @@ static void check_long_text(const uint8_t *text, size_t length) {
 
 static void check_source(const uint8_t *source, size_t length, const char *shape) {
     static const uint8_t formats[] = {YUGLEMIT_ANY_FORMAT, YUGLEMIT_BYTES, YUGLEMIT_HEX, YUGLEMIT_TEXT};
-    handles all = {{NULL}, {NULL}, {NULL}, {NULL}, {NULL}, {NULL}, {NULL}};
+    handles all = NO_HANDLES;
     yuglemit_verdict verdict = YUGLEMIT_VERDICT;
     for (size_t f = 0; f < sizeof formats; f++) check(load(&all, source, length, formats[f]) != 0 && !all.program.at, shape);
     yuglemit_verify(source, length, &verdict);
@@ -424,124 +426,96 @@ static void check_large(void) {
 
 enum { EMPTY, OF_PROGRAM, OF_INPUTS, OF_CONTAINER, OF_STOP, OF_REPORT, OF_TEXT, KINDS };
 
-static uint8_t run_with(void *program, void *inputs, void *stop) {
-    yuglemit_program of = {program};
-    yuglemit_inputs given = {inputs};
-    yuglemit_stop flag = {stop};
+static uint8_t run_with(yuglemit_program *program, const yuglemit_inputs *inputs, const yuglemit_stop *stop) {
     yuglemit_options options = YUGLEMIT_OPTIONS;
     yuglemit_report report = {NULL};
-    uint8_t code = yuglemit_run(&of, &given, &options, &flag, &report);
+    uint8_t code = yuglemit_run(program, inputs, &options, stop, &report);
     yuglemit_report_free(report);
     return code;
 }
 
-static uint8_t ask_program(int row, void *at) {
-    yuglemit_program program = {at}, other = {NULL};
+/* A call that takes handles of a kind says so of one of another kind. */
+#define TAKES(its, code, call) check(kind == (its) || (call) == (code), #call)
+#define OF_A_PROGRAM(call) TAKES(OF_PROGRAM, YUGLEMIT_NO_PROGRAM, call)
+#define OF_A_REPORT(call) TAKES(OF_REPORT, YUGLEMIT_NO_REPORT, call)
+#define OF_A_CONTAINER(call) TAKES(OF_CONTAINER, YUGLEMIT_NO_CONTAINER, call)
+/* An empty handle has no input. */
+#define OF_SOME_INPUTS(call) TAKES(kind == EMPTY ? EMPTY : OF_INPUTS, YUGLEMIT_NO_INPUTS, call)
+#define OF_A_FLAG(call) TAKES(OF_STOP, YUGLEMIT_NO_STOP, call)
+#define OF_A_TEXT(call) TAKES(OF_TEXT, YUGLEMIT_NO_STRING, call)
+
+static void ask_program_and_report(int kind, yuglemit_program *program, yuglemit_report *report) {
+    yuglemit_program other = {NULL};
+    yuglemit_inputs none = {NULL};
+    yuglemit_stop no_stop = {NULL};
+    yuglemit_text text = {NULL};
     yuglemit_bounds bounds = YUGLEMIT_BOUNDS;
     yuglemit_order order = YUGLEMIT_ORDER;
     yuglemit_procedure procedure = YUGLEMIT_PROCEDURE;
     yuglemit_parameter parameter = YUGLEMIT_PARAMETER;
     yuglemit_needs needs = YUGLEMIT_NEEDS;
-    yuglemit_inputs none = {NULL};
-    size_t count;
-    uint64_t budget;
-    switch (row) {
-    case 0: return yuglemit_program_procedures(&program, &count);
-    case 1: return yuglemit_program_budget(&program, 0, &budget);
-    case 2: return yuglemit_program_bounds(&program, 1, &bounds);
-    case 3: return yuglemit_program_order(&program, &order);
-    case 4: return yuglemit_program_procedure(&program, 0, &procedure);
-    case 5: return yuglemit_program_parameter(&program, 0, 0, &parameter);
-    case 6: return yuglemit_program_needs(&program, &needs);
-    case 7: return yuglemit_program_share(&program, &other);
-    case 8: return yuglemit_unfit_input(&program, &none, &count);
-    case 9: return run_with(at, NULL, NULL);
-    default: return YUGLEMIT_DONE;
-    }
-}
-
-static uint8_t ask_report(int row, void *at) {
-    yuglemit_report report = {at};
     yuglemit_ending ending = YUGLEMIT_ENDING;
     yuglemit_meter meter = YUGLEMIT_METER;
-    yuglemit_order order = YUGLEMIT_ORDER;
     yuglemit_item item;
     yuglemit_member member;
-    yuglemit_text text = {NULL};
     uint8_t room[ROOM] = {0};
     size_t place;
     uint64_t count;
-    switch (row) {
-    case 0: return yuglemit_report_ending(&report, &ending);
-    case 1: return yuglemit_report_meter(&report, &meter);
-    case 2: return yuglemit_report_instructions(&report, &count);
-    case 3: return yuglemit_report_output(&report, 0, &item);
-    case 4: return yuglemit_report_member(&report, 0, 0, &member);
-    case 5: return yuglemit_report_members(&report, 0, 0, &member, 1);
-    case 6: return yuglemit_report_find_int(&report, 0, 0, &place);
-    case 7: return yuglemit_report_find_text(&report, 0, room, 0, &place);
-    case 8: return yuglemit_report_text(&report, 0, room, ROOM);
-    case 9: return yuglemit_report_member_text(&report, 0, 0, room, ROOM);
-    case 10: return yuglemit_report_subscript_text(&report, 0, 0, room, ROOM);
-    case 11: return yuglemit_print_report(&report, &text);
-    case 12: return yuglemit_print_trace(&report, &text);
-    case 13: return yuglemit_print_json(&report, &text);
-    case 14: return yuglemit_report_order(&report, &order);
-    default: return YUGLEMIT_DONE;
-    }
+    OF_A_PROGRAM(yuglemit_program_procedures(program, &place));
+    OF_A_PROGRAM(yuglemit_program_budget(program, 0, &count));
+    OF_A_PROGRAM(yuglemit_program_bounds(program, 1, &bounds));
+    OF_A_PROGRAM(yuglemit_program_order(program, &order));
+    OF_A_PROGRAM(yuglemit_program_procedure(program, 0, &procedure));
+    OF_A_PROGRAM(yuglemit_program_parameter(program, 0, 0, &parameter));
+    OF_A_PROGRAM(yuglemit_program_needs(program, &needs));
+    OF_A_PROGRAM(yuglemit_program_share(program, &other));
+    OF_A_PROGRAM(yuglemit_unfit_input(program, &none, &place));
+    OF_A_PROGRAM(run_with(program, &none, &no_stop));
+    OF_A_REPORT(yuglemit_report_ending(report, &ending));
+    OF_A_REPORT(yuglemit_report_meter(report, &meter));
+    OF_A_REPORT(yuglemit_report_instructions(report, &count));
+    OF_A_REPORT(yuglemit_report_output(report, 0, &item));
+    OF_A_REPORT(yuglemit_report_member(report, 0, 0, &member));
+    OF_A_REPORT(yuglemit_report_members(report, 0, 0, &member, 1));
+    OF_A_REPORT(yuglemit_report_find_int(report, 0, 0, &place));
+    OF_A_REPORT(yuglemit_report_find_text(report, 0, room, 0, &place));
+    OF_A_REPORT(yuglemit_report_text(report, 0, room, ROOM));
+    OF_A_REPORT(yuglemit_report_member_text(report, 0, 0, room, ROOM));
+    OF_A_REPORT(yuglemit_report_subscript_text(report, 0, 0, room, ROOM));
+    OF_A_REPORT(yuglemit_print_report(report, &text));
+    OF_A_REPORT(yuglemit_print_trace(report, &text));
+    OF_A_REPORT(yuglemit_print_json(report, &text));
+    OF_A_REPORT(yuglemit_report_order(report, &order));
 }
 
-static uint8_t ask_container(int row, void *at) {
+static void ask_others(int kind, void *at, handles *all) {
     static const uint8_t one[] = "1";
     yuglemit_container container = {at};
-    yuglemit_inputs inputs = {NULL};
-    switch (row) {
-    case 0: return yuglemit_member_int(&container, 1, 1);
-    case 1: return yuglemit_member_text(&container, 1, one, 1);
-    case 2: return yuglemit_member_int_by_text(&container, one, 1, 1);
-    case 3: return yuglemit_member_text_by_text(&container, one, 1, one, 1);
-    case 4: return yuglemit_input_container(&inputs, &container);
-    default: return YUGLEMIT_DONE;
-    }
-}
-
-static uint8_t ask_inputs(int row, handles *all, void *at) {
-    yuglemit_inputs inputs = {at};
-    size_t index;
-    switch (row) {
-    case 0: return yuglemit_input_int(&inputs, 1);
-    case 1: return yuglemit_input_text(&inputs, (const uint8_t *)"1", 1);
-    case 2: return yuglemit_input_container(&inputs, &all->container);
-    case 3: return yuglemit_unfit_input(&all->program, &inputs, &index);
-    case 4: return run_with(all->program.at, at, NULL);
-    case 5: return yuglemit_input_ints(&inputs, NULL, numbers, 3);
-    case 6: return yuglemit_input_texts(&inputs, NULL, texts, 4, text_ends, 3);
-    case 7: return yuglemit_input_ints_by_text(&inputs, names, 4, name_ends, numbers, 3);
-    case 8: return yuglemit_input_texts_by_text(&inputs, names, 4, name_ends, texts, 4, text_ends, 3);
-    default: return YUGLEMIT_DONE;
-    }
-}
-
-static uint8_t ask_stop(int row, handles *all, void *at) {
-    yuglemit_stop stop = {at}, other = {NULL};
-    switch (row) {
-    case 0: return yuglemit_stop_raise(&stop);
-    case 1: return yuglemit_stop_lower(&stop);
-    case 2: return yuglemit_stop_share(&stop, &other);
-    case 3: return run_with(all->program.at, all->inputs.at, at);
-    default: return YUGLEMIT_DONE;
-    }
-}
-
-static uint8_t ask_text(int row, void *at) {
+    yuglemit_inputs none = {NULL}, inputs = {at};
+    yuglemit_stop no_stop = {NULL}, other = {NULL}, stop = {at};
     yuglemit_text text = {at};
     uint8_t room[ROOM];
     size_t size;
-    switch (row) {
-    case 0: return yuglemit_text_length(&text, &size);
-    case 1: return yuglemit_text_copy(&text, room, ROOM);
-    default: return YUGLEMIT_DONE;
-    }
+    OF_A_CONTAINER(yuglemit_member_int(&container, 1, 1));
+    OF_A_CONTAINER(yuglemit_member_text(&container, 1, one, 1));
+    OF_A_CONTAINER(yuglemit_member_int_by_text(&container, one, 1, 1));
+    OF_A_CONTAINER(yuglemit_member_text_by_text(&container, one, 1, one, 1));
+    OF_A_CONTAINER(yuglemit_input_container(&none, &container));
+    OF_SOME_INPUTS(yuglemit_input_int(&inputs, 1));
+    OF_SOME_INPUTS(yuglemit_input_text(&inputs, one, 1));
+    OF_SOME_INPUTS(yuglemit_input_container(&inputs, &all->container));
+    OF_SOME_INPUTS(yuglemit_unfit_input(&all->program, &inputs, &size));
+    OF_SOME_INPUTS(run_with(&all->program, &inputs, &no_stop));
+    OF_SOME_INPUTS(yuglemit_input_ints(&inputs, NULL, numbers, 3));
+    OF_SOME_INPUTS(yuglemit_input_texts(&inputs, NULL, texts, 4, text_ends, 3));
+    OF_SOME_INPUTS(yuglemit_input_ints_by_text(&inputs, names, 4, name_ends, numbers, 3));
+    OF_SOME_INPUTS(yuglemit_input_texts_by_text(&inputs, names, 4, name_ends, texts, 4, text_ends, 3));
+    OF_A_FLAG(yuglemit_stop_raise(&stop));
+    OF_A_FLAG(yuglemit_stop_lower(&stop));
+    OF_A_FLAG(yuglemit_stop_share(&stop, &other));
+    if (kind != EMPTY) OF_A_FLAG(run_with(&all->program, &all->inputs, &stop)); /* a run without a flag has an empty one */
+    OF_A_TEXT(yuglemit_text_length(&text, &size));
+    OF_A_TEXT(yuglemit_text_copy(&text, room, ROOM));
 }
 
 /* Makes each kind of handle. The one of inputs has what the program takes. */
@@ -551,22 +525,21 @@ static void make_each(handles *all) {
     check(run(all) == 0 && yuglemit_print_report(&all->report, &all->text) == 0, "a report and a text");
 }
 
-/* Each call with each kind of handle that it doesn't take. An empty handle has no input, and a run without a flag has an empty one. */
+/* Each call with each kind of handle that it doesn't take: they are as they were then. */
 static void check_pairs(void) {
-    handles all = {{NULL}, {NULL}, {NULL}, {NULL}, {NULL}, {NULL}, {NULL}};
+    handles all = NO_HANDLES;
+    size_t size;
     make_each(&all);
     void *const each[KINDS] = {NULL, all.program.at, all.inputs.at, all.container.at, all.stop.at, all.report.at, all.text.at};
     for (int kind = 0; kind < KINDS; kind++) {
-        void *at = each[kind];
-        for (int row = 0; row < 10; row++) check(kind == OF_PROGRAM || ask_program(row, at) == YUGLEMIT_NO_PROGRAM, "it holds no program");
-        for (int row = 0; row < 15; row++) check(kind == OF_REPORT || ask_report(row, at) == YUGLEMIT_NO_REPORT, "it holds no report");
-        for (int row = 0; row < 5; row++) check(kind == OF_CONTAINER || ask_container(row, at) == YUGLEMIT_NO_CONTAINER, "it holds no container");
-        for (int row = 0; row < 9; row++) check(kind == EMPTY || kind == OF_INPUTS || ask_inputs(row, &all, at) == YUGLEMIT_NO_INPUTS, "it holds no inputs");
-        for (int row = 0; row < 4; row++) check(kind == OF_STOP || (kind == EMPTY && row == 3) || ask_stop(row, &all, at) == YUGLEMIT_NO_STOP, "it holds no flag");
-        for (int row = 0; row < 2; row++) check(kind == OF_TEXT || ask_text(row, at) == YUGLEMIT_NO_STRING, "it holds no text");
+        yuglemit_program program = {each[kind]};
+        yuglemit_report report = {each[kind]};
+        ask_program_and_report(kind, &program, &report);
+        ask_others(kind, each[kind], &all);
     }
-    check(ask_program(0, all.program.at) == 0 && ask_report(8, all.report.at) == 0 && ask_text(0, all.text.at) == 0, "what they held");
-    check(ask_container(0, all.container.at) == 0 && ask_inputs(4, &all, all.inputs.at) == 0 && ask_stop(2, &all, NULL) == YUGLEMIT_NO_STOP, "is as it was");
+    check(yuglemit_program_procedures(&all.program, &size) == 0 && yuglemit_text_length(&all.text, &size) == 0, "a program and a text");
+    check(yuglemit_member_int(&all.container, 1, 1) == 0 && run_with(&all.program, &all.inputs, &all.stop) == 0, "a container, inputs and a flag");
+    check(yuglemit_print_report(&all.report, &all.text) == 0, "a report");
     free_all(&all);
 }
 
@@ -575,7 +548,7 @@ static void check_layouts(void) {
     static const uint64_t counts[] = {0, 1, 2, 3, 4, 5, 15, 16, 17, 255, 256, 257, 65537, 4294967297, UINT64_MAX};
     static const uint64_t limits[] = {0, 1, 10000, 1000000, 1000001, 4294967297, UINT64_MAX};
     enum { COUNTS = sizeof counts / sizeof *counts, LIMITS = sizeof limits / sizeof *limits };
-    handles all = {{NULL}, {NULL}, {NULL}, {NULL}, {NULL}, {NULL}, {NULL}};
+    handles all = NO_HANDLES;
     yuglemit_options options = YUGLEMIT_OPTIONS;
     int wrong = 0;
     make_each(&all);

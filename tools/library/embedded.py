@@ -1,12 +1,10 @@
 # SPDX-License-Identifier: Apache-2.0
 """Compares the library's examples with the program tw: ./dev embedded says how."""
 
-import doctest
 import os
 import re
 import subprocess
 import sys
-import time
 from collections.abc import Callable
 from functools import cache, partial
 from typing import Any
@@ -66,30 +64,14 @@ def compare(words: list[str], data: bytes = b"") -> None:
             say(got == wanted, language, words, got[0], wanted[0], got[1][:100], wanted[1][:100])
 
 
-def shown_words(name: str) -> list[list[str]]:
-    """Returns the words after `run` and others that examples/sessions.txt shows for a file."""
-    found = (it.words for it in sessions() if it.command in ("run", "replay", "picture") and it.path.name == name)
-    return [list(words) for words in found if words and "--inputs" not in words]
-
-
-def compare_example(name: str) -> None:
-    """Compares what all commands answer to a file of examples/."""
-    with open(f"{folder}/{name}", "rb") as file:
-        data = file.read()
-    text = ["--text"] if name.endswith((".tw", ".twn")) else []
-    for command in ("asm", "asm --names", "asm --names --plain", "check", "check --places", "disasm", "disasm --places"):
-        words = command.split()
-        compare(words[:1] + (text if words[0] != "asm" else []) + words[1:], data)
-    layouts: list[list[str]] = [[], ["--engines", "2", "--servers", "2", "--workers", "4"]]
-    for given in layouts + shown_words(name):
-        for option in ("", "--trace", "--stats", "--picture"):
-            compare(["run", *text, *option.split(), *given], data)
-        for command in ("replay", "replay --stats", "picture"):
-            compare([*command.split(), *text, *given], data)
-    # A byte in the middle is another one.
-    middle = len(data) // 2
-    for words in (["asm"], ["check", *text], ["run", *text, "--limit", "300"]):
-        compare(words, data[:middle] + b"9" + data[middle + 1 :])
+def compare_sessions() -> None:
+    """Compares what is answered to each command of examples/sessions.txt, also if a byte in the middle of the file is another one."""
+    for it in sessions():
+        data, text = it.path.read_bytes(), ["--text"] if it.path.suffix in (".tw", ".twn") and it.command != "asm" else []
+        middle = len(data) // 2
+        for given in (data, data[:middle] + b"9" + data[middle + 1 :]):
+            if "--inputs" not in it.words:
+                compare([it.command, *text, *it.words], given)
 
 
 def compare_unread(words: list[str]) -> None:
@@ -145,7 +127,7 @@ def compare_calls() -> None:
     for name in sorted(it for it in os.listdir(folder) if it.endswith((".tw", ".twn"))):
         with open(f"{folder}/{name}", encoding="utf-8") as file:
             text = file.read()
-        inputs = [word for word in (shown_words(name) or [[]])[0] if ":" in word]
+        inputs: list[str] = next((list(it.inputs) for it in sessions() if it.command == "run" and it.path.name == name), [])
         data, order = text.encode(), ["asm", "--names"] if name.endswith(".twn") else ["asm"]
         compare_call(name, order, data, partial(hex_of, text))
         compare_call(name, ["check", "--text"], data, partial(checked, text))
@@ -157,11 +139,6 @@ def compare_calls() -> None:
             answer = why.text.splitlines()[0]
         lines = started(tw, ["check", "--text"], text.encode())[1].decode().splitlines()
         say(answer in lines, "python", name, "verify", answer, lines[:1])
-    os.chdir(root)
-    failed, tried = doctest.testfile(f"{root}/embed/python/README.md", module_relative=False)
-    if os.path.exists("run.svg"):
-        os.remove("run.svg")  # its example writes it
-    say(failed == 0, "embed/python/README.md", failed, "of", tried)
 
 
 def compare_stack() -> None:
@@ -179,41 +156,9 @@ def compare_stack() -> None:
     print(f"the most stack: {most} bytes, {whose}")
 
 
-def seconds(times: int, what: Callable[[], object]) -> float:
-    """Returns how long one call takes."""
-    begun = time.perf_counter()
-    for _ in range(times):
-        what()
-    return (time.perf_counter() - begun) / times
-
-
-def seconds_of(language: str, words: list[str], data: bytes) -> float:
-    """Returns how long a call of C or Python takes."""
-    if language == "python":
-        return seconds(5000, partial(module().verify, data) if words == ["verify"] else partial(module().session, words, data))
-    answer = subprocess.run([f"{room}/c", *words], input=data, capture_output=True, env={**os.environ, "TIMES": "20000"}, check=False).stderr
-    return float(answer.split()[0]) / 1e6
-
-
-def print_rates() -> None:
-    """Prints how many calls a second are made."""
-    with open(f"{folder}/fan_out.twn", "rb") as file:
-        text = file.read()
-    program = bytes.fromhex(started(tw, ["asm", "--names"], text)[1].decode())
-    for words in (["check", "--text"], ["run", "--text"], ["verify"]):
-        data = program if words == ["verify"] else text
-        rates = []
-        if words != ["verify"]:
-            order = words + (["--in-turn"] if words[0] == "run" else [])
-            rates.append(f"starting tw {1 / seconds(300, partial(started, tw, order, text)):,.0f}")
-        rates += [f"{it} {1 / seconds_of(it, words, data):,.0f}" for it in languages if it in ("c", "python")]
-        print(f"calls a second, {words[0]} of fan_out.twn: {', '.join(rates)}")
-
-
 def compare_all() -> None:
     """Compares all that was asked for."""
-    for name in sorted(it for it in os.listdir(folder) if it.endswith((".tw", ".twn", ".hex", ".history"))):
-        compare_example(name)
+    compare_sessions()
     orders: list[list[str]] = [["--help"], ["--version"], ["run", "--help"], [], ["fly"], ["run", "--workers", "17"], ["run", "int:x"], ["explain"], ["run", "text:a\r"], ["run", "text:a\nb"]]
     orders += [["explain", f"{letter}{number:02}"] for letter in "AFHOVEX" for number in range(20)]
     orders += [["explain", f"C{number}"] for number in range(17)]
@@ -230,6 +175,4 @@ if languages:
 if "stack" in parts:
     compare_stack()
 print(f"{counts[True]} same, {counts[False]} differ")
-if languages:
-    print_rates()
 sys.exit(counts[False] > 0)

@@ -1,7 +1,6 @@
 # SPDX-License-Identifier: Apache-2.0
 """Compares programs that are loaded once with the program tw: ./dev loaded says how."""
 
-import os
 import re
 import subprocess
 import sys
@@ -11,8 +10,6 @@ from tools.common.sessions import sessions
 from tools.fuzz import positions
 
 root, room, tw, *watch = sys.argv[1:]
-is_quick = watch == ["--quick"]
-watch = [] if is_quick else watch
 examples = Path(root, "examples")
 
 Answer = tuple[int, bytes]
@@ -144,22 +141,6 @@ def compare_words() -> tuple[int, int]:
     return sum(alike), len(alike) - sum(alike)
 
 
-def said(words: list[str], data: bytes) -> float:
-    """Returns the number that an example prints of many calls."""
-    done = subprocess.run(words, input=data, capture_output=True, check=False, env={**os.environ, "TIMES": "50000"})
-    return float(done.stderr.split()[0])
-
-
-def print_rates() -> None:
-    """Prints how many runs a second are made of a program that is loaded once, and by sessions, which parse and verify it each time."""
-    path = examples / "fan_out.twn"
-    code, text = assembled(path) or b"", path.read_bytes()
-    loaded = said([f"{room}/loaded"], code)
-    from_hex = 1e6 / said([f"{room}/session", "run"], code.hex().encode())
-    from_text = 1e6 / said([f"{room}/session", "run", "--text"], text)
-    print(f"runs a second of fan_out.twn: loaded once {loaded:,.0f}, sessions from hex {from_hex:,.0f}, from text {from_text:,.0f}")
-
-
 def has_version() -> bool:
     """Returns whether the header has the version of the repository."""
     parts = [*map(int, Path(root, "VERSION").read_text(encoding="utf-8").strip().split(".")), 0, 0][:3]
@@ -180,8 +161,6 @@ def main() -> int:
     print(f"{alike} errors of texts at the same position, {apart} not")
     taken, strange = compare_words()
     print(f"{taken} input words taken alike, {strange} not")
-    if not is_quick:
-        print_rates()
     print(f"{same} same, {differ} differ")
     return int(not has_version() or hostile + cpp != 0 or differ + apart + strange != 0 or same == 0 or alike == 0)
 

@@ -16,21 +16,13 @@ SPREAD = 256
 
 
 def folded(a: int, b: int) -> int:
-    """Returns the two halves of a product of 128 bits, joined by xor.
-
-    >>> folded(1 << 63, 6)
-    3
-    """
+    """Returns the two halves of a product of 128 bits, joined by xor."""
     product = a * b
     return (product & MASK) ^ (product >> 64)
 
 
 def group_count(entries: int) -> int:
-    """Returns how many groups a table of this many entries has.
-
-    >>> [group_count(entries) for entries in (0, 9, 10, 19, 20000)]
-    [1, 1, 2, 4, 4096]
-    """
+    """Returns how many groups a table of this many entries has."""
     count = 1
     while GROUP_LOAD * count < entries:
         count *= 2
@@ -53,12 +45,7 @@ def fronts(length: int) -> Iterator[tuple[bytes, int]]:
 
 
 def colliding(count: int) -> Iterator[str]:
-    """Yields names that start in the first groups of a table of this many names.
-
-    >>> names = list(colliding(40))
-    >>> len(set(names)), all(len(name) == LENGTH for name in names)
-    (40, True)
-    """
+    """Yields names that start in the first groups of a table of this many names."""
     groups = group_count(count)
     first = max(groups // SPREAD, 1)
     left = count

@@ -16,6 +16,7 @@ from typing import Any
 from tools import ROOT
 from tools.common.program import program
 from tools.fuzz import positions
+from tools.cases.files import Let, read_book
 from tools.cases.json_cases import COMMANDS, UNCHECKED, faults, validators
 
 # Options whose output replaces or extends the report, or which make no run.
@@ -243,24 +244,18 @@ def differences(session: Session, status: int, text: bytes, got: dict[str, Any])
             yield f"{key}: {expected.get(key)!r} is printed, {got.get(key)!r} in JSON"
 
 
-def lets_of_cases(lines: list[str]) -> dict[str, str]:
-    """Returns the programs that cases name."""
-    found = (re.fullmatch(r"let (\w+) = (.*)", line) for line in lines)
-    return {let[1]: let[2] for let in found if let}
-
-
 def input_text(given: str) -> bytes:
     """Returns the bytes of an input with escapes."""
     signs = {b"t": b"\t", b"r": b"\r", b"n": b"\n"}
     return re.sub(rb"\\(x[0-9a-f]{2}|[trn])", lambda match: signs.get(match[1]) or bytes([int(match[1][1:], 16)]), given.encode())
 
 
-def program_of(given: str, lets: dict[str, str]) -> tuple[tuple[str, ...], bytes]:
+def program_of(given: str, lets: dict[str, Let]) -> tuple[tuple[str, ...], bytes]:
     """Returns the option by which a case's program is read, and the program and its trace."""
     if not given.startswith("hex "):
         return (), input_text(given)
     program, _, events = given.removeprefix("hex ").partition(" events ")
-    text = re.sub(r"@(\w+)", lambda match: lets.get(match[1], ""), program)
+    text = re.sub(r"@(\w+)", lambda match: lets[match[1]].text if match[1] in lets else "", program)
     trace = "\nevents\n" + events.replace(", ", "\n") if events else ""
     if re.fullmatch(r"[0-9a-f ]*", text):
         return (), (text.replace(" ", "") + trace).encode()
@@ -269,14 +264,12 @@ def program_of(given: str, lets: dict[str, str]) -> tuple[tuple[str, ...], bytes
 
 def sessions_of_cases() -> Iterator[Session]:
     """Yields the sessions of the cases, with the options that a report may have."""
-    lines = (ROOT / "crates" / "tw_cases" / "stdin").read_text().splitlines()
-    lets = lets_of_cases(lines)
-    for line in lines:
-        parts = line.split(" | ")
-        words = parts[1].split(" ") if len(parts) == 4 else []
-        if words[:1] == ["tw"] and len(words) > 1 and words[1] in COMMANDS and not OTHER_OUTPUT & set(words) and '"' not in parts[1]:
-            reading, program = program_of(parts[2], lets)
-            yield Session(parts[0], words[1], (*(() if words[1] in ("asm", "explain") else reading), *words[2:]), program)
+    book = read_book(ROOT / "cases")
+    for case in book.cases:
+        words = case.kind.split(" ")
+        if words[0] == "tw" and len(words) > 1 and words[1] in COMMANDS and not OTHER_OUTPUT & set(words) and '"' not in case.kind and case.given:
+            reading, program = program_of(case.given, book.lets)
+            yield Session(case.name, words[1], (*(() if words[1] in ("asm", "explain") else reading), *words[2:]), program)
 
 
 def sessions_of_examples() -> Iterator[Session]:

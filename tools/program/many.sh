@@ -16,26 +16,16 @@ export YUGLEMIT_LIBRARY
 python=${PYTHON:-/usr/bin/python3}
 count=${COUNT:-10000}
 # The first of the three ports of loopback that our own servers of ssh and Slurm listen at; none of them is taken.
-port=$("$python" - <<'TEXT'
-import random
-import socket
-
-
-def is_free(port: int) -> bool:
-    with socket.socket() as it:
-        return it.connect_ex(("127.0.0.1", port)) != 0
-
-
-ports = random.sample(range(20000, 32000), 1000)
-print(next(port for port in ports if all(is_free(port + place) for place in range(3))))
-TEXT
-) || exit 70
+port=$("$python" -c 'import random, socket
+def is_free(port): return socket.socket().connect_ex(("127.0.0.1", port)) != 0
+print(next(port for port in random.sample(range(20000, 32000), 1000) if all(is_free(port + place) for place in range(3))))') || exit 70
 PYTHONPATH=$root/embed/python${PYTHONPATH:+:$PYTHONPATH}
 export PYTHONPATH PYTHONDONTWRITEBYTECODE=1
 [ $# -gt 0 ] || set -- scripts lines threads processes dask mpi parallel ssh slurm
 room=$(mktemp -d)
 started=''
-passed=0 failed=0
+# shellcheck source=tools/common/report.sh
+. "$root/tools/common/report.sh"
 
 # Ends what this script started, and nothing else.
 leave() {
@@ -47,23 +37,9 @@ trap leave EXIT
 trap 'exit 130' INT TERM HUP
 
 start() {
-    "$@" >>"$room/log" 2>&1 &
+    "$@" >>"$room/servers" 2>&1 &
     last=$!
     started="$started $last"
-}
-
-# check NAME COMMAND..: a case, which the command's status decides.
-check() {
-    name=$1
-    shift
-    if "$@" >"$room/said" 2>&1; then
-        passed=$((passed + 1))
-        echo "ok   $name"
-    else
-        failed=$((failed + 1))
-        echo "FAIL $name"
-        head -n 5 "$room/said" | sed 's/^/     /'
-    fi
 }
 
 installed() {
@@ -379,7 +355,7 @@ dask() {
         start "$python" -m distributed.cli.dask_worker "$address" --host 127.0.0.1 --nthreads 1 --no-nanny --no-dashboard --local-directory "$room"
     done
     victim=$last
-    "$python" "$many/dask_cluster.py" "$program" "$room/inputs" "$address" >"$room/dask.table" 2>>"$room/log" &
+    "$python" "$many/dask_cluster.py" "$program" "$room/inputs" "$address" >"$room/dask.table" 2>>"$room/servers" &
     child=$!
     until_it 60 test -s "$room/dask.table"
     kill -KILL "$victim"
@@ -390,7 +366,7 @@ dask() {
 mpi() {
     installed "$python" -c 'import mpi4py.futures' && installed command -v mpiexec || return
     mpiexec --allow-run-as-root --oversubscribe --mca btl self,vader --mca plm_rsh_agent false -n 4 \
-        "$python" -m mpi4py.futures "$many/mpi.py" "$program" "$room/inputs" >"$room/mpi.table" 2>>"$room/log"
+        "$python" -m mpi4py.futures "$many/mpi.py" "$program" "$room/inputs" >"$room/mpi.table" 2>>"$room/servers"
     check "mpi: $count inputs" same "$room/mpi.table"
 }
 
@@ -571,5 +547,4 @@ for engine; do
         *) echo "many.sh: unknown engine $engine" >&2; exit 2 ;;
     esac
 done
-echo "$passed passed, $failed failed"
-[ "$failed" = 0 ]
+summary

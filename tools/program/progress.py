@@ -15,6 +15,7 @@ import threading
 import time
 from typing import Callable, NamedTuple
 
+from tools.common import terminal
 from tools.common.program import program
 
 SECONDS = 60
@@ -276,16 +277,6 @@ def terminal_faults() -> list[str]:
     ]
 
 
-def shown(words: list[str], text: str, **environment: str) -> str:
-    """Returns what a command writes to a terminal."""
-    ours, theirs = pty.openpty()
-    subprocess.run([program(), *words], input=text, stdout=theirs, stderr=subprocess.DEVNULL, text=True, timeout=SECONDS, check=False, env=COLOURED | environment)
-    os.close(theirs)
-    written = os.read(ours, 65536).decode().replace("\r\n", "\n")
-    os.close(ours)
-    return written
-
-
 def coloured_faults() -> list[str]:
     """Returns what is wrong with colours, likewise: lines of errors are red, ends green or yellow."""
     rows: list[tuple[list[str], str, dict[str, str], str]] = [
@@ -295,7 +286,7 @@ def coloured_faults() -> list[str]:
         (["run", "--text"], SHORT, {"NO_COLOR": "1"}, "out 0 int 7\nquiet\n"),
         (["run", "--text"], SHORT, {"TERM": "dumb"}, "out 0 int 7\nquiet\n"),
     ]
-    found = [(words, environment, wanted, shown(words, text, **environment)) for words, text, environment, wanted in rows]
+    found = [(words, environment, wanted, terminal.shown([program(), *words], text, environment=COLOURED | environment)) for words, text, environment, wanted in rows]
     return ["" if got == wanted else f"{words} {environment}: {got!r}" for words, environment, wanted, got in found]
 
 

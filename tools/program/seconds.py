@@ -24,6 +24,7 @@ from pathlib import Path
 
 from tools import ROOT
 from tools.common.program import package, program
+from tools.common.terminal import read_to_end
 from tools.cases.json_cases import TIMED, UNCHECKED, faults, validators
 from tools.program.stream import Wrong, expect, heed_signals
 
@@ -210,15 +211,11 @@ def typed(given: Given, *words: str) -> tuple[int, str]:
     process, ours = pty.fork()
     if process == 0:
         os.execv(ROOT / "tw", ["tw", *others])
-    shown = b""
     time.sleep(2.5)
     os.write(ours, b"\x03")
-    with contextlib.suppress(OSError):
-        while more := os.read(ours, 65536):
-            shown += more
-    os.close(ours)
+    shown = read_to_end(ours)
     _, status = os.waitpid(process, 0)
-    return os.waitstatus_to_exitcode(status), shown.decode().replace("\r\n", "\n")
+    return os.waitstatus_to_exitcode(status), shown
 
 
 def by_keyboard(*words: str) -> Callable[[Given], None]:

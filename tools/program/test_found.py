@@ -40,6 +40,12 @@ class Found(unittest.TestCase):
         (self.top / "crates/tw_main/src/main.rt").write_text("fn other() {}\n", encoding="utf-8")
         self.assert_fails("the sources aren't the release's, and the command rt")
 
+    def test_changed_definitions(self) -> None:
+        """The release answers, and a line says so; of other documents nothing is said."""
+        put(self.top, {"crates/tw_main/specs/Lib.antt": "-- a comment\n", "docs/IDIOMS.md": "x\n"})
+        status, printed, complaint = self.answer("run")
+        self.assertEqual((status, printed, complaint.count("\n")), (0, "answered run\n", 1))
+
     def test_no_release(self) -> None:
         (self.top / "release/tw.gz").unlink()
         self.assert_fails("release/tw.gz is missing, and the command rt")

@@ -6,23 +6,11 @@
 root=$(readlink -f "$0") && root=${root%/tools/*}
 room=$(mktemp -d)
 trap 'chmod -R u+w "$room"; rm -rf "$room"' EXIT
-clone=$room/clone home=$room/home prefix=$room/prefix passed=0 failed=0
+clone=$room/clone home=$room/home prefix=$room/prefix
+# shellcheck source=tools/common/report.sh
+. "$root/tools/common/report.sh"
 mkdir "$home"
 git clone -q --no-hardlinks --depth 1 "file://$root" "$clone" || exit
-
-# check NAME COMMAND..: a case, which the command's status decides.
-check() {
-    name=$1
-    shift
-    if "$@" >"$room/said" 2>&1; then
-        passed=$((passed + 1))
-        echo "ok      $name"
-    else
-        failed=$((failed + 1))
-        echo "FAILED  $name"
-        sed 's/^/        /' "$room/said" | head -n 8
-    fi
-}
 
 # Runs a command in the clone with a clean environment.
 clean() {
@@ -223,5 +211,4 @@ else
     echo "left out: zsh isn't installed"
 fi
 check "PYTHONPATH=embed/python in a fresh clone" python_of_clone
-echo "$passed passed, $failed failed"
-[ "$failed" = 0 ]
+summary

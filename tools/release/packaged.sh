@@ -2,16 +2,16 @@
 # SPDX-License-Identifier: Apache-2.0
 # Tests the packages that `./tw package` writes, in minimal Debian systems that have no toolchain and no network. In one without a compiler the Debian
 # package and the wheel are installed and used. In one with g++, CMake, pkg-config and cargo programs in C, C++ and Rust are built.
-# Prints each check, and fails if one does. It wants root, mmdebstrap and a mirror of Debian. Without these it says so, and tries
-# the same in a clean prefix with a clean environment.
+# Prints each check, and fails if one does. It needs root, mmdebstrap and a mirror of Debian.
 #
 #   ./dev packaged            makes the packages first
 #   KEEP=FOLDER ./dev packaged    keeps the two systems in a folder, and takes them from there if they are there
 root=$(readlink -f "$0") && root=${root%/tools/*}
 version=$(cat "$root/VERSION")
 read -r abi _ <"$root/embed/ABI"
-passed=0 failed=0
 room=$(mktemp -d)
+# shellcheck source=tools/common/report.sh
+. "$root/tools/common/report.sh"
 
 # Removes the folder of this run, unless something is mounted in it. (What mmdebstrap mounts is in a name space of its own.)
 clean_up() {
@@ -22,18 +22,6 @@ trap clean_up EXIT
 systems=${KEEP:-$room}
 deb=yuglemit_${version}_amd64.deb
 wheel=yuglemit-$version-py3-none-manylinux_2_14_x86_64.whl
-
-# Reports a check: its name, and whether it holds (0).
-report() {
-    if [ "$2" = 0 ]; then
-        echo "ok      $1"
-        passed=$((passed + 1))
-    else
-        echo "FAILED  $1"
-        sed 's/^/        /' "$room/log"
-        failed=$((failed + 1))
-    fi
-}
 
 # ---- Minimal systems
 
@@ -50,16 +38,16 @@ inside() {
         env -i PATH=/usr/sbin:/usr/bin:/sbin:/bin HOME=/root LANG=C.UTF-8 sh -c 'mkdir -p /work && cd /work && eval "$1"' sh "$1" >"$room/log" 2>&1
 }
 
-check() {
+check_inside() {
     inside "$2"
-    report "$1" $?
+    report $? "$1"
 }
 
 # Checks that a command's first line of output is the expected one.
 check_output() {
     inside "$2"
     [ "$(head -n 1 "$room/log")" = "$3" ]
-    report "$1" $?
+    report $? "$1"
 }
 
 # The files of a system, except for what apt, dpkg and ldconfig keep of their own work.
@@ -86,23 +74,23 @@ python_lines() {
 check_plain_system() {
     fill plain
     files >"$room/before"
-    check "no compiler is there" "! command -v cc && ! command -v gcc && ! command -v rt"
-    check "the Debian package installs by apt" "apt-get -o Dpkg::Use-Pty=0 install --yes /work/$deb"
+    check_inside "no compiler is there" "! command -v cc && ! command -v gcc && ! command -v rt"
+    check_inside "the Debian package installs by apt" "apt-get -o Dpkg::Use-Pty=0 install --yes /work/$deb"
     check_output "tw run answers" "tw run examples/store_seven.tw" "out 0 int 7"
     check_output "an option comes before the file" "tw run --workers 2 sum.twn" "out 0 int 55"
     check_output "tw --version" "tw --version" "tw $version"
-    check "man tw" "MANPAGER=cat man tw | grep -q 'dataflow programs'"
-    check "bash completes" "bash -c '. /usr/share/bash-completion/completions/tw; COMP_WORDS=(tw ru); COMP_CWORD=1; _tw; [ \"\${COMPREPLY[0]}\" = run ]'"
-    check "the package says since when each call is there" "grep -q '^ yuglemit_raw_run@YUGLEMIT_$abi ' /var/lib/dpkg/info/yuglemit.symbols"
-    check "the library loads" "python3 -c 'import ctypes; ctypes.CDLL(\"libyuglemit.so.$abi\").yuglemit_session'"
-    check "the Debian package is removed" "dpkg -P yuglemit"
+    check_inside "man tw" "MANPAGER=cat man tw | grep -q 'dataflow programs'"
+    check_inside "bash completes" "bash -c '. /usr/share/bash-completion/completions/tw; COMP_WORDS=(tw ru); COMP_CWORD=1; _tw; [ \"\${COMPREPLY[0]}\" = run ]'"
+    check_inside "the package says since when each call is there" "grep -q '^ yuglemit_raw_run@YUGLEMIT_$abi ' /var/lib/dpkg/info/yuglemit.symbols"
+    check_inside "the library loads" "python3 -c 'import ctypes; ctypes.CDLL(\"libyuglemit.so.$abi\").yuglemit_session'"
+    check_inside "the Debian package is removed" "dpkg -P yuglemit"
     files >"$room/after"
     diff "$room/before" "$room/after" >"$room/log"
-    report "nothing of it is left" $?
+    report $? "nothing of it is left"
     python_lines >"$system/work/lines.txt"
-    check "the wheel installs" "python3 -m venv venv && venv/bin/pip install --no-index --quiet $wheel"
-    check "the wheel runs README's lines" "venv/bin/python -m doctest lines.txt"
-    check "the wheel is removed" "venv/bin/pip uninstall --yes --quiet yuglemit && ! ls venv/lib/python3*/site-packages | grep -i yuglemit"
+    check_inside "the wheel installs" "python3 -m venv venv && venv/bin/pip install --no-index --quiet $wheel"
+    check_inside "the wheel runs README's lines" "venv/bin/python -m doctest lines.txt"
+    check_inside "the wheel is removed" "venv/bin/pip uninstall --yes --quiet yuglemit && ! ls venv/lib/python3*/site-packages | grep -i yuglemit"
 }
 
 # Copies the examples of C and C++ into a folder, where they take the headers that are installed.
@@ -129,63 +117,29 @@ check_system_with_compiler() {
     fill compiler
     echo "$CMAKE" | sed "s/0.1...1.0/$version/" >"$system/work/CMakeLists.txt"
     copy_examples "$system/work"
-    check "the Debian package installs beside a compiler" "dpkg -i $deb"
+    check_inside "the Debian package installs beside a compiler" "dpkg -i $deb"
     run='run --text <examples/store_seven.tw'
-    check "pkg-config knows the library" "[ \$(pkg-config --modversion yuglemit) = $version ]"
+    check_inside "pkg-config knows the library" "[ \$(pkg-config --modversion yuglemit) = $version ]"
     check_output "a C program builds by pkg-config" "cc -O2 -o shared example.c \$(pkg-config --cflags --libs yuglemit) && ./shared $run" "out 0 int 7"
-    check "it takes the library by its soname" "readelf -d shared | grep -q 'NEEDED.*libyuglemit.so.$abi'"
+    check_inside "it takes the library by its soname" "readelf -d shared | grep -q 'NEEDED.*libyuglemit.so.$abi'"
     check_output "a C program builds by CMake" "cmake -S . -B build >/dev/null && cmake --build build --target shared static >/dev/null && build/shared $run" "out 0 int 7"
     check_output "and with the static library" "build/static $run" "out 0 int 7"
     check_output "a C++ program builds by pkg-config" "c++ -std=c++17 -O2 -o cpp example.cpp \$(pkg-config --cflags --libs yuglemit) && ./cpp" 8
     check_output "a C++ program builds by CMake" "cmake --build build >/dev/null && build/cpp" 8
     check_output "and with the static library, in C++" "build/cpp_static" 8
-    check "the static library has its own calls alone" "nm --defined-only --extern-only /usr/lib/x86_64-linux-gnu/libyuglemit.a | awk 'NF == 3 && \$3 !~ /^yuglemit_/ { bad = 1 } END { exit bad }'"
+    check_inside "the static library has its own calls alone" "nm --defined-only --extern-only /usr/lib/x86_64-linux-gnu/libyuglemit.a | awk 'NF == 3 && \$3 !~ /^yuglemit_/ { bad = 1 } END { exit bad }'"
     check_output "the tar archive unpacks and answers" "tar xf yuglemit-$version-x86_64-linux.tar.gz && dpkg -P yuglemit >/dev/null && yuglemit-$version/bin/tw run examples/store_seven.tw" "out 0 int 7"
-    check "the Rust crate builds" "cd yuglemit-$version-crate && cargo build --offline --quiet && cargo run --offline --quiet --example example"
-}
-
-# ---- Without a minimal system
-
-# Does so, as far as possible, in a prefix of its own and with this machine's compiler.
-check_in_prefix() {
-    prefix=$room/prefix
-    mkdir "$prefix"
-    system='' work=$room/work
-    mkdir "$work"
-    cp -R "$root/examples" "$work"
-    copy_examples "$work"
-    here() {
-        (cd "$work" && env -i PATH="$prefix/yuglemit-$version/bin:/usr/bin:/bin" PKG_CONFIG_PATH="$prefix/yuglemit-$version/lib/pkgconfig" sh -c "$1") >"$room/log" 2>&1
-    }
-    tar -C "$prefix" -xf "$root/dist/yuglemit-$version-x86_64-linux.tar.gz"
-    report "the tar archive unpacks" $?
-    here "tw run examples/store_seven.tw | grep -qx 'out 0 int 7'"
-    report "tw run answers" $?
-    here "dpkg-deb --contents '$root/dist/$deb'"
-    report "the Debian package can be read" $?
-    here "cc -o shared example.c \$(pkg-config --cflags --libs yuglemit) -Wl,-rpath,'$prefix/yuglemit-$version/lib' && ./shared run --text <examples/store_seven.tw"
-    report "a C program builds by pkg-config" $?
-    here "c++ -std=c++17 -o cpp example.cpp \$(pkg-config --cflags --libs yuglemit) -Wl,-rpath,'$prefix/yuglemit-$version/lib' && ./cpp | grep -qx 8"
-    report "a C++ program builds by pkg-config" $?
-    here "tar tzf '$root/dist/yuglemit-$version.tar.gz' | grep -qx 'yuglemit-$version/yuglemit/lib/libyuglemit.so'"
-    report "the sdist has the library" $?
-    python_lines >"$work/lines.txt"
-    ln -s "$root/examples" "$room/examples"
-    here "python3 -m zipfile -e '$root/dist/$wheel' wheel && PYTHONPATH=wheel python3 -m doctest lines.txt"
-    report "the wheel runs README's lines" $?
+    check_inside "the Rust crate builds" "cd yuglemit-$version-crate && cargo build --offline --quiet && cargo run --offline --quiet --example example"
 }
 
 "$root/tw" package >"$room/log" 2>&1
-report "./tw package" $?
+report $? "./tw package"
 cat "$room/log"
-if [ "$(id -u)" = 0 ] && command -v mmdebstrap >/dev/null && make_system plain bookworm man-db,python3-venv &&
-    make_system compiler trixie g++,libc6-dev,cmake,make,pkg-config,cargo,python3; then
+if make_system plain bookworm man-db,python3-venv && make_system compiler trixie g++,libc6-dev,cmake,make,pkg-config,cargo,python3; then
     check_plain_system
     check_system_with_compiler
 else
-    echo "left out: a minimal Debian, since that takes root, mmdebstrap and a mirror; a clean prefix instead"
-    [ ! -s "$room/why" ] || tail -n 3 "$room/why"
-    check_in_prefix
+    tail -n 3 "$room/why" >"$room/log"
+    report 1 "minimal systems"
 fi
-echo "$passed passed, $failed failed"
-[ "$failed" = 0 ]
+summary

@@ -1,28 +1,19 @@
 #!/bin/sh
 # SPDX-License-Identifier: Apache-2.0
 # Tries what a user of the release meets: makes a clean clone of the committed files, and there, with nothing in the environment but
-# PATH=/usr/bin:/bin, runs commands, README's "five minutes", `./tw test`, `./tw install` and the blocks of docs/HOSTING.md.
+# PATH=/usr/bin:/bin, runs commands, `./tw test`, `./tw install` and the blocks of docs/HOSTING.md.
 # Prints each check with its processor time, ends with `N passed, M failed`, and fails if one does. It needs no toolchain.
 root=$(readlink -f "$0") && root=${root%/tools/*}
 room=$(mktemp -d)
 trap 'rm -rf "$room"' EXIT
-clone=$room/clone passed=0 failed=0
+clone=$room/clone
+# shellcheck source=tools/common/report.sh
+. "$root/tools/common/report.sh"
 
 # Sets `used` to the processor milliseconds that all commands have used so far. The clock isn't read, since a machine may do other things too.
 count_used() {
     times >"$room/times"
     used=$(awk 'NR == 2 { for (i = 1; i <= 2; i++) { split($i, part, /[ms]/); all += 60000 * part[1] + 1000 * part[2] } printf "%d", all }' "$room/times")
-}
-
-# Reports a check: its name, whether it holds (0), and what else there is to say.
-report() {
-    if [ "$2" = 0 ]; then
-        echo "ok      $1${3:+, $3}"
-        passed=$((passed + 1))
-    else
-        echo "FAILED  $1${3:+, $3}"
-        failed=$((failed + 1))
-    fi
 }
 
 # Runs a command in the clone with a clean environment; its output and messages are left in `room`, its processor milliseconds in `took`.
@@ -42,7 +33,7 @@ check_quick() {
     shift 3
     clean "$@"
     [ "$status" = 0 ] && [ ! -s "$room/err" ] && [ "$took" -lt "$most" ] && [ "$(cat "$room/out")" = "$wanted" ]
-    report "$name" $? "$took ms of $most"
+    report $? "$name" "$took ms of $most"
 }
 
 check_first_commands() {
@@ -52,7 +43,7 @@ quiet'
     check_quick "the second command" 200 "$answer" ./tw run examples/store_seven.tw
     check_quick "an option before the file" 200 "$answer" ./tw run --workers 2 examples/store_seven.tw
     clean ./tw explain V10 && [ "$took" -lt 200 ]
-    report "./tw explain V10" $? "$took ms"
+    report $? "./tw explain V10" "$took ms"
     rm -rf "$clone/out"
     chmod a-w "$clone"
     if [ "$(id -u)" = 0 ]; then
@@ -63,56 +54,26 @@ quiet'
     chmod u+w "$clone"
 }
 
-# Only a change of definitions or proofs is reported on standard error, and the release answers; a change of code needs the toolchain.
-check_changed_sources() {
-    echo "-- a comment" >>"$clone/crates/tw_types/specs/Lib.antt"
-    clean ./tw run examples/store_seven.tw
-    [ "$status" = 0 ] && [ "$(wc -l <"$room/err")" = 1 ] && [ "$took" -lt 500 ]
-    report "changed definitions" $? "$took ms, $(cat "$room/err")"
-    echo "// a comment" >>"$clone/crates/tw_types/src/lib.rt"
-    clean ./tw run examples/store_seven.tw
-    [ "$status" = 70 ]
-    report "changed code without the toolchain" $? "status $status"
-    git -C "$clone" checkout -q crates
-    echo "x" >>"$clone/docs/IDIOMS.md"
-    clean ./tw run examples/store_seven.tw
-    [ "$status" = 0 ] && [ ! -s "$room/err" ]
-    report "changed documents" $? "$took ms"
-    git -C "$clone" checkout -q docs
-}
-
-check_shown() {
-    clean ./dev shown
-    report "./dev shown" "$status" "$(tail -n 1 "$room/out"), $((took / 1000)) s"
-    [ "$status" = 0 ] || cat "$room/out" "$room/err"
-}
-
 check_tests() {
     clean ./tw test
     [ "$status" = 0 ] && tail -n 1 "$room/out" | grep -q '^[1-9][0-9]* passed, 0 failed$' && [ "$took" -lt 60000 ]
-    report "./tw test" $? "$(tail -n 1 "$room/out"), $((took / 1000)) s of 60"
+    report $? "./tw test" "$(tail -n 1 "$room/out"), $((took / 1000)) s of 60"
     [ "$status" = 0 ] || cat "$room/err"
-}
-
-check_script() {
-    clean ./dev installed
-    report "./dev installed" "$status" "$(tail -n 1 "$room/out")"
-    [ "$status" = 0 ] || cat "$room/out" "$room/err"
 }
 
 # Installs below a prefix with a blank in its name, plays HOSTING.md with it, and uninstalls.
 check_install() {
     prefix="$room/a prefix"
     clean ./tw install "$prefix"
-    report "./tw install" "$status" "$took ms, $(du -sk "$prefix" | cut -f 1) KB"
+    report "$status" "./tw install" "$took ms, $(du -sk "$prefix" | cut -f 1) KB"
     (cd "$room" && env -i PATH=/usr/bin:/bin "$prefix/bin/tw" run --workers 2 "$clone/examples/store_seven.tw") >"$room/out" 2>"$room/err"
     [ "$(head -n 1 "$room/out")" = "out 0 int 7" ] && [ ! -s "$room/err" ]
-    report "the installed tw" $?
+    report $? "the installed tw"
     check_hosting
     check_first_block
     clean ./tw install "$prefix" --uninstall
     [ "$status" = 0 ] && [ -z "$(find "$prefix" -mindepth 1)" ]
-    report "./tw install --uninstall" $? "$(find "$prefix" -mindepth 1 | wc -l) files are left"
+    report $? "./tw install --uninstall" "$(find "$prefix" -mindepth 1 | wc -l) files are left"
 }
 
 # Runs each block `sh` of HOSTING.md, one after the other in one folder.
@@ -126,7 +87,7 @@ check_hosting() {
         esac
         chmod -R a+rX "$room"
         (cd "$room/hosting" && env -i PATH="$prefix/bin:/usr/bin:/bin" sh -e "$block") >"$room/out" 2>"$room/err"
-        report "HOSTING.md, ${block##*/}" $? "$(tail -n 1 "$room/out")"
+        report $? "HOSTING.md, ${block##*/}" "$(tail -n 1 "$room/out")"
     done
 }
 
@@ -136,7 +97,7 @@ check_first_block() {
     sed 's|examples/[a-z_]*.twn*|refused.tw|' "$room/hosting/block01" >"$room/first"
     (cd "$room/hosting" && env -i PATH="$prefix/bin:/usr/bin:/bin" sh "$room/first") >"$room/out" 2>"$room/err"
     grep -qx 'at line 4: STORE d0 v0' "$room/out"
-    report "HOSTING.md, a rejected program" $? "$(sed -n 2p "$room/out")"
+    report $? "HOSTING.md, a rejected program" "$(sed -n 2p "$room/out")"
 }
 
 git clone -q --no-hardlinks --depth 1 "file://$root" "$clone" || exit
@@ -145,10 +106,6 @@ if [ ! -r "$clone/release/MANIFEST" ]; then
     exit 1
 fi
 check_first_commands
-check_changed_sources
-check_shown
 check_tests
-check_script
 check_install
-echo "$passed passed, $failed failed"
-[ "$failed" = 0 ]
+summary

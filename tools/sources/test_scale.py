@@ -43,8 +43,11 @@ class ScaleTest(unittest.TestCase):
         put(self.root, {"release/MANIFEST": "version 1\n"})
         for words in (("init", "-q"), ("add", "-A"), ("-c", "user.name=A", "-c", "user.email=a@b", "commit", "-qm", "Release")):
             subprocess.run(["git", "-C", str(self.root), *words], check=True)
-        for files, begin in (({}, "0 crates have changed since the release; with those above them CI proves 0 of 4, 0 % of"),
-                             ({"crates/mid/proofs/New.antt": "", "crates/side/README.md": "x"}, "1 crates have changed since the release (mid); with those above them CI proves 2 of 4, 60 % of"),
-                             ({"crates.txt": CRATES.replace("side: low", "side: mid")}, "2 crates have changed since the release (mid, side); with those above them CI proves 3 of 4, 90 % of")):
+        rows: list[tuple[dict[str, str], str]] = [
+            ({}, "0 crates have changed since the release; with those above them CI proves 0 of 4, 0 % of"),
+            ({"crates/mid/proofs/New.antt": "", "crates/side/README.md": "x"}, "1 crates have changed since the release (mid); with those above them CI proves 2 of 4, 60 % of"),
+            ({"crates.txt": CRATES.replace("side: low", "side: mid")}, "2 crates have changed since the release (mid, side); with those above them CI proves 3 of 4, 90 % of"),
+        ]
+        for files, begin in rows:
             put(self.root, files)
             self.assertTrue(self.call("--changed")[1][0].startswith(begin), begin)
