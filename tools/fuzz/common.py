@@ -49,6 +49,15 @@ class FuzzTest:
         raise NotImplementedError
 
 
+def without_parts(test: Any, name: str) -> Iterator[Any]:
+    """Yields tests without a part of what a test has by a name: first without halves, at last without each item."""
+    value = getattr(test, name)
+    size = max(1, len(value) // 2)
+    while value and size:
+        yield from (replace(test, **{name: value[:first] + value[first + size:]}) for first in range(0, len(value), size))
+        size //= 2
+
+
 @dataclass
 class Corpus:
     """The programs of examples/, which tests mutate."""

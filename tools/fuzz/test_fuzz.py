@@ -22,7 +22,7 @@ from tools.fuzz.oracle.assembler import Error, assembled
 from tools.fuzz.oracle.bounds import COUNTED, bound, bound_lines, budgets, check_lines, has_circle, is_circle
 from tools.fuzz.oracle.code import Fault, Instr, Param, Procedure, Program, decode, disassembled, encode, program_text, quoted, smaller, without
 from tools.fuzz.library import Answer, Library, Verdict
-from tools.fuzz.oracle.machine import Machine, NotEnabled, Scalar, Trap, computed, read_int, run_in_turn, scaled, wrapped
+from tools.fuzz.oracle.machine import Machine, NotEnabled, Scalar, Trap, Value, computed, read_int, run_in_turn, scaled, wrapped
 from tools.fuzz.oracle.names import is_name, symbolic
 from tools.fuzz.oracle.report import circle_fault, event_of, event_text, report_lines, split_circle, stats_lines, trace_text
 from tools.fuzz.kinds.texts import BytesTest, renamed, styled
@@ -424,12 +424,14 @@ class EachChangeTest(unittest.TestCase):
     def test_lines_of_traces(self) -> None:
         """Each line is left out, doubled, or another one."""
         others = ["take e0", "take w0", "take s0", "local e0 1", "local e0 0", "call e0", "end e0", "ask e0 1 0", "deliver s0 1 1 0", "release e0 1", "take e4", "take", "x", ""]
-        for name, given, workers in (("store_seven.tw", (), 1), ("members.twn", (), 1), ("stuck_on_itself.twn", (), 1), ("pipeline.tw", (39,), 1), ("fan_out.twn", (), 4)):
+        rows: list[tuple[str, list[Value], int]] = [("store_seven.tw", [], 1), ("members.twn", [], 1), ("stuck_on_itself.twn", [], 1), ("pipeline.tw", [39], 1), ("fan_out.twn", [], 4)]
+        for name, given, workers in rows:
             _, digits = self.library.session(["asm", "--names"], (ROOT / "examples" / name).read_bytes())
-            test = RunTest(decode(bytes.fromhex(digits)), given, (1, 1, workers))
-            lines = [event_text(made.event) for made in run_in_turn(test.program, [*given], test.layout, 1000).made]
+            test = RunTest(decode(bytes.fromhex(digits)), tuple(given), (1, 1, workers))
+            lines = [event_text(made.event) for made in run_in_turn(test.program, given, test.layout, 1000).made]
             for at, line in enumerate(lines):
-                for middle in ([], [line, line], *([other] for other in others if other != line)):
+                middles: list[list[str]] = [[], [line, line], *([other] for other in others if other != line)]
+                for middle in middles:
                     changed = inputs.TraceLinesTest(**test.fields, lines=(*lines[:at], *middle, *lines[at + 1:], "end"))
                     self.assertIsNone(changed.fault(self.library), changed.lines)
 

@@ -11,7 +11,7 @@ from tools.fuzz.oracle.bounds import needs
 from tools.fuzz.oracle.code import encode, program_text
 from tools.fuzz.library import Answer, Library
 from tools.fuzz.kinds.texts import damaged_text
-from tools.fuzz.common import Corpus, RunTest, FuzzTest, case_word, difference, input_lines
+from tools.fuzz.common import Corpus, RunTest, FuzzTest, case_word, difference, input_lines, without_parts
 
 COMMANDS = ["asm", "disasm", "check", "run", "replay", "picture", "explain", "help", "--help", "-h", "--version", "-V", ""]
 FLAGS = ["--text", "--names", "--plain", "--places", "--bounds", "--trace", "--stats", "--picture", "--quiet", "--in-turn", "--inputs", "--inputs-json", "--help", "-h", "--", "-",
@@ -151,8 +151,7 @@ class ArgsTest(FuzzTest):
         return difference("program", answer[1], text)
 
     def smaller(self) -> Iterator[FuzzTest]:
-        for place in range(len(self.words)):
-            yield replace(self, words=self.words[:place] + self.words[place + 1:])
+        yield from without_parts(self, "words")
         for place, word in enumerate(self.words):
             for other in {word[:len(word) // 2], word[:-1]} - {word}:
                 yield replace(self, words=(*self.words[:place], other, *self.words[place + 1:]))
@@ -278,13 +277,8 @@ class RoomTest(FuzzTest):
         return why
 
     def smaller(self) -> Iterator[FuzzTest]:
-        for place in range(len(self.words)):
-            yield replace(self, words=self.words[:place] + self.words[place + 1:])
-        size = len(self.data) // 2
-        while size:
-            for first in range(0, len(self.data), size):
-                yield replace(self, data=self.data[:first] + self.data[first + size:])
-            size //= 2
+        yield from without_parts(self, "words")
+        yield from without_parts(self, "data")
 
     def case(self) -> list[str]:
         return [f"kind called {' '.join(map(case_word, self.words))}", *input_lines(self.data.decode("utf-8", "backslashreplace"))]
@@ -305,8 +299,7 @@ class VerdictTest(FuzzTest):
         return why or (None if answers == {(text, verdict)} else f"threads: {len(answers)} different answers")
 
     def smaller(self) -> Iterator[FuzzTest]:
-        for first in range(len(self.data)):
-            yield VerdictTest(self.data[:first] + self.data[first + 1:])
+        return without_parts(self, "data")
 
     def case(self) -> list[str]:
         return ["kind verify", "bytes", "    " + " ".join(f"{byte:02x}" for byte in self.data)]

@@ -13,7 +13,7 @@ from tools.fuzz.library import Answer, Library
 from tools.fuzz.oracle.machine import Value
 from tools.fuzz.oracle.report import input_words
 from tools.fuzz.kinds.runs import run_test
-from tools.fuzz.common import Corpus, FuzzTest, RunTest, case_word, difference, visible_json
+from tools.fuzz.common import Corpus, FuzzTest, RunTest, case_word, difference, visible_json, without_parts
 
 # Lines that no array of inputs is, with the first words of their errors.
 WRONG = {
@@ -113,8 +113,7 @@ class EachTest(RunTest):
         )
 
     def smaller(self) -> Iterator[FuzzTest]:
-        for place in range(len(self.lines)):
-            yield replace(self, lines=self.lines[:place] + self.lines[place + 1:])
+        yield from without_parts(self, "lines")
         if self.jobs:
             yield replace(self, jobs=0)
 

@@ -12,7 +12,7 @@ from tools.fuzz.library import Library
 from tools.fuzz.oracle.machine import Event, Scalar, Value
 from tools.fuzz.oracle.report import event_text, report_lines, split_circle, status_of
 from tools.fuzz.kinds.runs import HistoryTest, InTurnTest, random_trace, run_test
-from tools.fuzz.common import Corpus, FuzzTest, RunTest, answer_part, case_word, difference
+from tools.fuzz.common import Corpus, FuzzTest, RunTest, answer_part, case_word, difference, without_parts
 
 # --- Inputs
 
@@ -260,8 +260,7 @@ class TraceLinesTest(HistoryTest):
         return difference("trace", f"{status} {text}", f"{got_status} " + "\n".join(split_circle(got)[0]) + "\n")
 
     def smaller(self) -> Iterator[FuzzTest]:
-        for place in range(len(self.lines)):
-            yield replace(self, lines=self.lines[:place] + self.lines[place + 1:])
+        return without_parts(self, "lines")
 
     def case(self) -> list[str]:
         return [f"# standard input: {self.data!r:.3000}", f"kind tw {' '.join(map(case_word, ['replay', *self.options, *self.words]))}"]

@@ -12,7 +12,7 @@ from tools.fuzz.oracle.machine import Event, Layout, Machine, NotEnabled, Trap, 
 from tools.fuzz.oracle.report import (
     circle_fault, event_text, report_lines, split_circle, split_trace, stats_lines, status_of, trace_text,
 )
-from tools.fuzz.common import Corpus, RunTest, FuzzTest, answer_part, case_word, difference
+from tools.fuzz.common import Corpus, RunTest, FuzzTest, answer_part, case_word, difference, without_parts
 
 
 def run_test(chance: random.Random, corpus: Corpus) -> RunTest:
@@ -239,12 +239,7 @@ class HistoryTest(RunTest):
         return why or (f"replay: status {got_status}, expected {status}" if status != got_status else None)
 
     def smaller(self) -> Iterator[FuzzTest]:
-        length = len(self.events)
-        for keep in {length // 2, length * 3 // 4, length - 1}:
-            if 0 < keep < length:
-                yield replace(self, events=self.events[:keep])
-        for place in range(length - 1, -1, -1):
-            yield replace(self, events=self.events[:place] + self.events[place + 1:])
+        yield from without_parts(self, "events")
         yield from super().smaller()
 
     def case(self) -> list[str]:

@@ -13,7 +13,7 @@ from tools.fuzz.oracle.code import (
 )
 from tools.fuzz.library import Library
 from tools.fuzz.oracle.names import is_name, new_name, symbolic, wrong
-from tools.fuzz.common import Corpus, FuzzTest, answer_part, difference, indented, input_lines, visible
+from tools.fuzz.common import Corpus, FuzzTest, answer_part, difference, indented, input_lines, visible, without_parts
 
 ERROR = re.compile(r"refused ([AN]\d\d)(?: at line (\d+))?(?:\n|$)")
 
@@ -416,11 +416,7 @@ class BytesTest(FuzzTest):
         return why
 
     def smaller(self) -> Iterator[FuzzTest]:
-        size = len(self.data) // 2
-        while size:
-            for first in range(0, len(self.data), size):
-                yield BytesTest(self.data[:first] + self.data[first + size:])
-            size //= 2
+        return without_parts(self, "data")
 
     def case(self) -> list[str]:
         text = self.expected().removeprefix("refused ") or "program"

@@ -13,6 +13,7 @@ from dataclasses import dataclass, field
 from typing import NoReturn, Optional, Protocol, Union
 
 import tools
+from tools.sources.scale import groups_of
 
 ROOT = str(tools.ROOT)
 # Names of the language that need no import.
@@ -32,17 +33,8 @@ def read(path: str) -> str:
 
 def crates() -> tuple[list[str], set[str]]:
     """The crates of the repository, lowest first, and which of them are checks."""
-    names: list[str] = []
-    checks: set[str] = set()
-    is_check = False
-    for line in read("crates.txt").splitlines():
-        if line.startswith("#"):
-            is_check = line.startswith("# Checks")
-        elif ":" in line:
-            names.append(re.split(r"\W", line)[0])
-            if is_check:
-                checks.add(names[-1])
-    return names, checks
+    groups = groups_of(read("crates.txt"))
+    return [name for names in groups.values() for name in names], {name for group, names in groups.items() if group.startswith("Checks") for name in names}
 
 
 CRATES, CHECKS = crates()
