@@ -6,7 +6,7 @@ import subprocess
 import unittest
 from pathlib import Path
 
-from tools.common.testing import fake_clone, folder_of
+from tools.common.testing import fake_clone, folder_of, put
 
 FAKE = b"#!/bin/sh\necho answered \"$@\"\n"
 
