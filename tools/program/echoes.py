@@ -112,7 +112,7 @@ def of_each(texts: list[str], line: Callable[[str], str]) -> Answer:
     return answer(["run", "--text", "--each"], f"{copying(1)}inputs\n" + "".join(f"{line(text)}\n" for text in texts))
 
 
-# What has to hold of an answer: there is one, it has the texts as messages have them, or its JSON lines have these members.
+# Of an answer has to hold that there is one, that it has the texts as messages have them, or that its JSON lines have these members.
 def anything(got: Answer, texts: list[str]) -> bool:
     return bool(got.printed)
 
