@@ -91,7 +91,7 @@ TOOLS = (
     Tool("echoes", "program/echoes.py", "that no hidden character is printed wherever tw echoes a text", Run("--texts 100 --seed @seed", 2400),
          Run("--texts 10000 --seed @seed", 240_000), PROGRAM, limit=3600, shard=6, is_beside=True),
     Tool("loaded", "library/loaded.sh", "loaded programs against the program", Run("--quick", 190), Run("", 190), LINKED, "cc", "library/callers.c library/callers.h library/loaded.c library/loaded.py", 900),
-    Tool("abi", "library/abi.sh", "the tests of earlier releases, with the library", Run("", 5), tests="tw_embed libyuglemit.a", needs="cc c++ readelf"),
+    Tool("abi", "library/abi.sh", "the tests of earlier releases, with the library", Run("--quick", 5), Run("", 20), tests="tw_embed libyuglemit.a", needs="cc c++ readelf"),
     Tool("orders", "program/orders.py", "runs in several layouts and orders; those in threads replayed", Run("--examples --runs 1 --seeds 1", 50), Run("--examples --runs 200 --seeds 100", 50),
          PROGRAM, limit=7200, shard=3),
     Tool("scarce", "program/scarce.sh", "sessions that are short of memory, with one arena of malloc", Run("1", 1), Run("5", 5), "tw_cases", "cc taskset", limit=1200),

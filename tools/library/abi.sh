@@ -5,6 +5,9 @@
 # linked with the newer library they have to pass except for the numbers whose meaning changed with the number of the ABI (`changed`, below). Also checks
 # the soname, and that the name of each call has the version of its release. Ends with `N passed, 0 failed`.
 #
+#   ./dev abi            all releases
+#   ./dev abi --quick    the first and the last
+#
 # Needs git with all commits, Python 3.9, C and C++ compilers (cc, c++) and ld. Rust's tests are left out if cargo isn't installed.
 root=$(readlink -f "$0") && root=${root%/tools/*}
 room=$(mktemp -d)
@@ -100,6 +103,7 @@ check_library() {
 
 check_library
 releases >"$room/releases"
+[ "$1" != --quick ] || sed -i -n '1p;$p' "$room/releases"
 [ -s "$room/releases" ] || { echo "the history has no release" >"$room/log"; report 1 "releases"; }
 while read -r commit version; do check_release "$commit" "$version"; done <"$room/releases"
 summary
