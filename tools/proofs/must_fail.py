@@ -120,11 +120,11 @@ def copy_mutants(root: Path, tree: Path, names: Iterable[str]) -> None:
         shutil.copytree(tree / "tools/proofs/must-fail" / name, tree / "crates" / name / "must-fail")
 
 
-def stop_on_changes(root: Path) -> None:
-    """Ends if a source or a mutant differs from what is committed."""
-    words = ["git", "-C", str(root), "status", "--porcelain", "--", "crates", "crates.txt", "HANDLES", "tools/proofs/must-fail"]
+def stop_on_changes(root: Path, what: str, *paths: str) -> None:
+    """Ends if a source, or a file of these paths, differs from what is committed."""
+    words = ["git", "-C", str(root), "status", "--porcelain", "--", "crates", "crates.txt", "HANDLES", *paths]
     if changed := subprocess.run(words, check=True, stdout=subprocess.PIPE, text=True).stdout:
-        raise SystemExit(f"commit first; mutants are tried on committed files:\n{changed}")
+        raise SystemExit(f"commit first; {what} committed files:\n{changed}")
 
 
 def attempt(root: Path, kit: str, names: list[str]) -> list[str]:
@@ -167,7 +167,7 @@ def main(words: list[str]) -> int:
         return 0
     if given.check:
         return check(ROOT)
-    stop_on_changes(ROOT)
+    stop_on_changes(ROOT, "mutants are tried on", "tools/proofs/must-fail")
     kit = kit_id()
     names = chosen(ROOT, kit, given.names, given.anew)
     left = attempt(ROOT, kit, names) if names else []

@@ -337,10 +337,7 @@ def manifest_of(root: Path, kit: Path, gate: str, compared: str, files: Path) ->
 
 def stop_on_changes(root: Path) -> None:
     """Ends if a source differs from what is committed."""
-    words = ["git", "-C", str(root), "status", "--porcelain", "--", "crates", "crates.txt", "HANDLES", "page", "script", "tools", "embed", "examples"]
-    changed = subprocess.run(words, check=True, stdout=subprocess.PIPE, text=True).stdout
-    if changed:
-        raise SystemExit(f"commit first; a release is made of committed files:\n{changed}")
+    must_fail.stop_on_changes(root, "a release is made of", "page", "script", "tools", "embed", "examples")
 
 
 def stop_on_untried_mutants(root: Path, kit: Path) -> None:
