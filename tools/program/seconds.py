@@ -210,6 +210,7 @@ def typed(given: Given, *words: str) -> tuple[int, str]:
     _, *others = command(given, *words)
     process, ours = pty.fork()
     if process == 0:
+        heed_signals()
         os.execv(ROOT / "tw", ["tw", *others])
     time.sleep(2.5)
     os.write(ours, b"\x03")

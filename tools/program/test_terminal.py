@@ -12,6 +12,7 @@ import termios
 import unittest
 
 from tools.common.testing import fake_clone, folder_of
+from tools.program.stream import heed_signals
 
 # After so many seconds without a text a command is ended.
 SECONDS = 60
@@ -33,6 +34,7 @@ class Terminal(unittest.TestCase):
         """Returns the status of ./tw and what a terminal shows. Keys are typed one after the other, once it shows the text before them."""
         process, ours = pty.fork()
         if process == 0:
+            heed_signals()
             fcntl.ioctl(0, termios.TIOCSWINSZ, struct.pack("HHHH", 24, columns, 0, 0))
             os.execve(self.top / "tw", ["tw", *words], {**os.environ, "TMPDIR": temporary or str(self.temporary)})
         shown, keys = "", list(typed)
