@@ -7,7 +7,6 @@ import {Completion} from "./complete.js";
 import {Contents} from "./contents.js";
 import {$, h} from "./dom.js";
 import {Editor, LARGE} from "./editor.js";
-import {errorsAfter} from "./errors.js";
 import {Fields} from "./fields.js";
 import {Files} from "./files.js";
 import {Following} from "./follow.js";
@@ -158,7 +157,6 @@ async function check() {
     checked = {text, source, verdict, places: readPlaces(listed, source), names: program ? namings(source, plain) : [], program};
     if (program) fields.ask(program, parameterNames(checked));
     await showVerdict(checked);
-    if (verdict.rejection) await showMore(checked, verdict.rejection, () => mine === checks && editor.text === text);
 }
 
 /** Returns the names of main's parameters.
@@ -174,15 +172,16 @@ const outputNames = it => parameterNames(it).filter((_, k) => it.program?.[0].pa
 /** Shows the verdict: beside the heads, at the fault, and below the text.
  * @param {Checked} it */
 async function showVerdict({verdict, source, program}) {
-    const {rejection, budgets} = verdict, heads = new Map(budgets.map(({procedure, budget, more}) => [source.heads[procedure], `budget ${grouped(budget)}${more ? `, ${more}` : ""}`]));
+    const {rejection, further, budgets} = verdict, heads = new Map(budgets.map(({procedure, budget, more}) => [source.heads[procedure], `budget ${grouped(budget)}${more ? `, ${more}` : ""}`]));
     const most = verdict.accepted && program ? mostEvents(program) : null, hint = rejection ? hintFor(rejection, source) : "";
     if (most !== null) heads.set(source.heads[0], `${heads.get(source.heads[0])}, run ${grouped(most)}`);
-    editor.mark({faults: faultsOf(rejection ? [rejection] : []), heads});
+    editor.mark({faults: faultsOf(rejection ? [rejection, ...further] : []), heads});
     $("text").setAttribute("aria-invalid", String(!!rejection));
     $("verdict").className = verdict.accepted ? "good" : "bad";
     $("verdict").replaceChildren(...verdict.accepted ? [accepted(verdict, source, most, {limit: fields.layout[3], rules: (program ?? []).some(({code}) => code.some(({name}) => name.startsWith("RULE")))})] : rejection ? [stopped(refusedAt(rejection)), ...coded(hint && ` ${hint}`)] : [verdict.text]);
     $("stale").textContent = `This run is of the program or the inputs before your change. ${verdict.accepted ? "Press Run." : "Repair the program, then press Run."}`;
-    $("perhaps").hidden = true;
+    $("perhaps").hidden = !further.length;
+    $("perhaps-list").replaceChildren(...further.map(({line, number, reason}) => h("li", {}, h("button.link", {onclick: () => lead(line)}, `line ${line + 1}`), `: ${number}${reason && `: ${reason}`}`)));
     await explain(library, $("why"), rejection);
     learning.showPython();
     showHeld();
@@ -191,16 +190,6 @@ async function showVerdict({verdict, source, program}) {
 /** Returns what is wrong in lines. All errors but the first are so only perhaps.
  * @param {import("./replies.js").Rejection[]} all */
 const faultsOf = all => new Map(all.filter(it => it.line >= 0).map(({line, from, to, number, reason}, k) => [line, {from, to, perhaps: k > 0, message: `${k ? "perhaps " : ""}${number}: ${reason || "see below"}`}]));
-
-/** Looks for errors after the first, and shows them at their lines and in a list.
- * @param {Checked} it @param {import("./replies.js").Rejection} first @param {() => boolean} still whether the text is the same */
-async function showMore({text}, first, still) {
-    const more = await errorsAfter(library, text, first, still);
-    if (!still() || !more.length) return;
-    editor.mark({faults: faultsOf([first, ...more])});
-    $("perhaps").hidden = false;
-    $("perhaps-list").replaceChildren(...more.map(({line, number, reason}) => h("li", {}, h("button.link", {onclick: () => lead(line)}, `line ${line + 1}`), `: ${number}${reason && `: ${reason}`}`)));
-}
 
 /** Reports that the library doesn't answer.
  * @param {string} words */

@@ -9,15 +9,16 @@ import {wordsOf} from "./source.js";
 /** @typedef {{procedure: number, kind: string, budget: string, more: string}} Budget */
 /** Whether outputs are the same in every order of events; else the line (from 0) that may make them differ.
  * @typedef {{same: boolean, line: number}} EventOrder */
-/** The result of `check`; with `--order` it has the order.
- * @typedef {{accepted: boolean, budgets: Budget[], engines: number, workers: number, order: EventOrder | null, rejection: Rejection | null, text: string}} Verdict */
+/** The result of `check`, with the first rejection and further ones; with `--order` it has the order.
+ * @typedef {{accepted: boolean, budgets: Budget[], engines: number, workers: number, order: EventOrder | null, rejection: Rejection | null, further: Rejection[], text: string}} Verdict */
 
 /** Parses the reply to `check`.
  * @param {string} text @param {Source} source @returns {Verdict} */
 export function readVerdict(text, source) {
     const lines = text.split("\n"), needs = /^needs engines (\d+) workers (\d+)/m.exec(text), accepted = lines[0] === "accepted";
     const budgets = [...text.matchAll(/^proc (\d+) (?:.* )?(control|leaf) (?:.* )?budget (\d+)(.*)$/gm)].map(it => ({procedure: +it[1], kind: it[2], budget: it[3], more: it[4].replace(/\(\w+\)/, "").trim()}));
-    return {accepted, budgets, engines: +(needs?.[1] ?? 0), workers: +(needs?.[2] ?? 0), order: readOrder(text, source), rejection: accepted ? null : readRejection(text, source), text};
+    const [rejection = null, ...further] = accepted ? [] : readRejections(text, source);
+    return {accepted, budgets, engines: +(needs?.[1] ?? 0), workers: +(needs?.[2] ?? 0), order: readOrder(text, source), rejection, further, text};
 }
 
 /** Reads the line of `check --order` or `run --order`; null if there is none.
@@ -28,13 +29,29 @@ export function readOrder(text, source) {
 }
 
 /** The first line of an error after a text's first. */
-const FURTHER = /^(?:also [ANV]\d+ (?:at line|in procedure) |more than \d+ errors$)/;
+const FURTHER = /^(?:also (?=[ANV]\d+ (?:at line|in procedure) )|more than \d+ errors$)/;
 
-/** Reads a text's first rejection; null if the text has none. Only the first line decides, since the others quote the program.
- * @param {string} text @param {Source} source @returns {Rejection | null} */
-export function readRejection(text, source) {
-    const [first, ...rest] = text.split("\n"), number = /^refused ([A-Z]\d+)/.exec(first)?.[1], end = rest.findIndex((line, k) => k > 0 && FURTHER.test(line));
-    const details = (end < 0 ? rest : rest.slice(0, end)).filter(line => line);
+/** Reads all rejections of a text. The line after the first one of each quotes the program, so it begins no further one.
+ * @param {string} text @param {Source} source */
+function readRejections(text, source) {
+    /** @type {string[][]} */
+    const parts = [];
+    for (const line of text.split("\n")) {
+        const part = parts[parts.length - 1];
+        if (!part || part.length > 1 && FURTHER.test(line)) parts.push([line.replace(FURTHER, "refused ")]);
+        else part.push(line);
+    }
+    return parts.flatMap(part => rejectionOf(part, source) ?? []);
+}
+
+/** Reads a text's first rejection; null if the text has none.
+ * @param {string} text @param {Source} source */
+export const readRejection = (text, source) => readRejections(text, source)[0] ?? null;
+
+/** Reads a rejection from its lines. Only the first line decides, since the others quote the program.
+ * @param {string[]} lines @param {Source} source @returns {Rejection | null} */
+function rejectionOf([first, ...rest], source) {
+    const number = /^refused ([A-Z]\d+)/.exec(first)?.[1], details = rest.filter(line => line);
     if (!number) return null;
     const found = /^refused [AHN]\d+ at line (\d+)/.exec(first) ?? /^at line (\d+)/.exec(details[0] ?? "");
     const line = found ? +found[1] - 1 : placed(first, source);

@@ -210,32 +210,26 @@ async function typing(reader) {
     say(String(reached) === "more,input-0", "Tab stays in the text", reached);
 }
 
-// All errors of a text are shown at once: those after the first as perhaps ones, each as tw finds it without the lines before it; and none that only follows.
+// All errors of a text are shown at once, as tw reports them: those after the first as perhaps ones; and none that only follows.
 async function errors(reader) {
     await reader.forget(); await reader.key("Shift");
     const text = await reader.value("text"), shown = () => reader.js('[...document.querySelectorAll("#perhaps-list li")].map(it => it.textContent)'), hidden = () => reader.js('document.getElementById("perhaps").hidden');
-    const wrong = ["proc control write int write int", "regs int", "INT v0 seven", "INT v0 7", "STOR d0 v0", "STORE d0 v0", "PUT 1 0 any 1", "RET", "proc leaf write int", "regs int", "GET v0 d0", "ADD v0 v0", "STORE d0 v0", "RET", "proc leaf write int", "regs int", "STORE d0 v1", "STORE d0 v0", "RET"];
-    await reader.write("text", wrong.join("\n"));
-    const lines = [...wrong], wanted = [];
-    for (let again = 0; again < 10; again++) {
-        const [, code, line] = /^refused (\w+) .*?(?:at line (\d+)|$)/m.exec(native(["check", "--text"], lines.join("\n")).text) ?? [], at = +(line ?? /^at line (\d+)/m.exec(native(["check", "--text"], lines.join("\n")).text)?.[1] ?? 0);
-        if (!code) break;
-        wanted.push([at, code]);
-        lines[at - 1] = "";
-    }
-    say(wanted.length === 5, "another number of errors", wanted);
-    say((await reader.seen("#verdict")).startsWith(`Refused by ${wanted[0][1]} in line ${wanted[0][0]}`), "another first error", await reader.seen("#verdict"), wanted);
+    const wrong = ["proc control write int write int", "regs int", "INT v0 seven", "INT v0 7", "STOR d0 v0", "STORE d0 v0", "also A01 at line 4", "RET", "proc leaf write int", "regs int", "GET v0 d0", "ADD v0 v0", "STORE d0 v0", "RET", "proc leaf write int", "regs int", "STORE d0 v1", "STORE d0 v0", "RET"].join("\n");
+    const wanted = [["3", "A02"], ["5", "A01"], ["7", "A01"], ["12", "A02"], ["17", "V01"]], judged = native(["check", "--text"], wrong).text;
+    say(String([...judged.matchAll(/^(?:refused|also) (\w+) (?:at line (\d+)$|in procedure .*\nat line (\d+))/gm)].map(it => [it[2] ?? it[3], it[1]]).filter(it => it[0] !== "4")) === String(wanted), "tw reports others", judged);
+    await reader.write("text", wrong);
+    say((await reader.seen("#verdict")).startsWith("Refused by A02 in line 3"), "another first error", await reader.seen("#verdict"));
     const found = await shown();
-    say(String(found.map(it => /^line (\d+): (\w+)/.exec(it)?.slice(1)).sort()) === String(wanted.slice(1).sort()), "other errors", found, wanted);
+    say(String(found.map(it => /^line (\d+): (\w+): ./.exec(it)?.slice(1))) === String(wanted.slice(1)), "other errors", found, wanted);
     say((await reader.js('document.querySelectorAll("#paint .fault").length')) >= wanted.length && (await reader.js('[...document.querySelectorAll("#paint .note.bad")].filter(it => it.textContent.startsWith("perhaps ")).length')) === wanted.length - 1, "not marked", await reader.seen("#paint"));
     await reader.click("#perhaps-list li:nth-child(2) button");
-    say(found[1].startsWith(`line ${await reader.js('document.getElementById("text").value.slice(0, document.getElementById("text").selectionStart).split("\\n").length')}:`), "it leads elsewhere", found);
+    say((await reader.js('document.getElementById("text").value.slice(0, document.getElementById("text").selectionStart).split("\\n").length')) === 7, "it leads elsewhere", found);
     await reader.write("text", text.replace("STORE to value", "STORE to valu"));
     say(await hidden(), "what only follows is shown", await shown());
     await reader.write("text", text);
     say(await hidden() && (await reader.seen("#verdict")).startsWith("Accepted"), "old errors stay", await shown());
     await reader.write("text", `proc control\nregs int\n${"ADD v0\n".repeat(30)}RET\n`);
-    say((await shown()).length === 9, "more than ten errors", await shown());
+    say((await shown()).length === 19, "not twenty errors", await shown());
 }
 
 // A large text is asked about, and doesn't freeze the page: its beginning is shown, and it is checked when it is run.
