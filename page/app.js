@@ -246,7 +246,7 @@ async function run(event, playing, seed = 0) {
     if (mine !== runs) return null;
     if (!reply || reply.failed) { results.show("", "bad", reply?.failed ?? "stopped"); return null; }
     const {trace, report} = readTrace(reply.text), rejection = readRejection(report, it.checked.source);
-    results.take({report, trace, words: it.words, text: it.text, limit: it.limit, seed});
+    results.take({report, trace, words: it.words, text: it.text, limit: it.limit, seed, read: false});
     results.show(report, reply.status ? "bad" : "good", `${endOf(reply.status, rejection)} ${counted(linesIn(trace), "event")}, ${reply.ms.toFixed(1)} ms.`, outputsOf(report, it.outputs));
     await explain(library, $("answer-why"), rejection);
     if (rejection) stepper.leave();
@@ -313,14 +313,18 @@ async function open(page, remembered = false) {
     await during(shown(page, page.event === 0));
 }
 
-/** Puts a file's program on the page, as an own one, and follows its trace if it has one.
+/** Puts a file's program on the page, as an own one, and follows its trace if it has one. A trace alone is taken for one of the program that is there.
  * @param {string} program @param {string} trace @param {number[]} layout @param {string} name */
 async function opened(program, trace, layout, name) {
-    await open({...contents.fresh(program), layout});
-    contents.keepAs(name);
+    const alone = trace !== "" && !program.trim();
+    if (alone) fields.layout = layout;
+    else {
+        await open({...contents.fresh(program), layout});
+        contents.keepAs(name);
+    }
     read = trace;
     $("trace-read").hidden = !trace;
-    if (trace && !fields.words().length) await during(followRead());
+    if (alone || trace && !fields.words().length) await during(followRead());
 }
 
 /** Follows the trace that was read from a file, once the library has replayed it. */
@@ -332,7 +336,7 @@ async function followRead() {
     results.show(report, wrong ? "bad" : "good", wrong ? "The trace isn't one of this program, with these inputs and actors." : `The trace of the file: ${counted(linesIn(read), "event")}.`, outputsOf(report, it.outputs));
     if (wrong) { stepper.leave(); return; }
     $("trace-read").hidden = true;
-    results.take({report, trace: read, words: it.words, text: it.text, limit: it.limit, seed: 0});
+    results.take({report, trace: read, words: it.words, text: it.text, limit: it.limit, seed: 0, read: true});
     await show(it.setting, read, 0, false);
 }
 

@@ -43,11 +43,18 @@ export class Files {
     /** Hands a file to the reader.
      * @param {string} what */
     async give(what) {
+        if (!/^(text|bytes|python)$/.test(what) && this.lacksRun()) return;
         const [ending, text, type] = await this.file(what);
-        const name = `${this.fileName}.${ending}`, command = this.command(what, name);
+        const name = `${this.fileName}.${ending}`, command = this.command(what, name), elsewhere = this.results.last.read && what !== "trace";
         if (text) download(name, text, type);
         $("command").hidden = !command;
-        $("command").replaceChildren("On a command line: ", h("code", {}, command));
+        $("command").replaceChildren(...elsewhere ? ["The run on the page is a file's trace, which Trace has."] : ["On a command line: ", h("code", {}, command)]);
+    }
+
+    /** Says so if the page has no run, such as that of a program that is refused. */
+    lacksRun() {
+        if (!this.run()) say("There is no run on the page.");
+        return !this.run();
     }
 
     /** The name of files: the example's or the program's, without its extension. */
@@ -59,7 +66,7 @@ export class Files {
     /** Returns the line of command that makes the run on the page from a file; empty if there is none.
      * @param {string} what @param {string} name */
     command(what, name) {
-        const {words, limit, seed} = this.results.last, verb = /** @type {Record<string, string[]>} */ ({text: ["run", "--in-turn", ...ordered(seed).slice(1), "--limit", String(limit)], bytes: ["run", "--in-turn", ...ordered(seed).slice(1), "--limit", String(limit)], trace: ["replay"]})[what];
+        const {words, limit, seed} = this.results.last, run = ["run", "--in-turn", ...ordered(seed).slice(1), "--limit", String(limit)], verb = /** @type {Record<string, string[]>} */ ({text: run, bytes: run, trace: ["replay"]})[what];
         if (what === "python") return `python3 ${name}`;
         return verb ? ["tw", ...verb, name, ...words].map(quoted).join(" ") : "";
     }
@@ -74,13 +81,16 @@ export class Files {
         field.focus();
         field.select();
         const copied = await navigator.clipboard?.writeText(field.value).then(() => true, () => false) ?? document.execCommand("copy");
-        if (disk) say(`This page is a file on your computer, so nobody else can open its address. Send the text${copied ? "; or append what is copied" : "; or append this"} to the address of a page that others can open.`);
-        else say(copied ? "The link is copied. It has the program, its inputs, the order and the event." : "Copy the link: it has the program, its inputs, the order and the event.");
+        const has = this.results.last.read ? "It has the program and its inputs, but not the file's trace." : "It has the program, its inputs, the order and the event.";
+        if (disk) say(`This page is a file on your computer, so nobody else can open its address. Send the text${copied ? "; or append what is copied" : "; or append this"} to the address of a page that others can open. ${has}`);
+        else say(`${copied ? "The link is copied." : "Copy the link."} ${has}`);
     }
 
     /** Shows the statistics of a run. */
     async numbers() {
-        const {text, words, limit, seed} = this.results.last, reply = await this.library.session(["run", "--text", "--stats", "--limit", String(limit), ...ordered(seed), ...words], text);
+        if (this.lacksRun()) return;
+        const {text, words, limit, seed, read} = this.results.last, verb = read ? ["replay"] : ["run", "--limit", String(limit), ...ordered(seed)];
+        const reply = await this.library.session([...verb, "--text", "--stats", ...words], read ? this.history : text);
         $("numbers").hidden = false;
         $("numbers").textContent = reply?.text.slice(0, SHOWN) ?? "stopped";
     }

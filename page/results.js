@@ -3,8 +3,8 @@
 // Shows what a run answered.
 import {$, h} from "./dom.js";
 
-/** What a run answered: its report and its trace; with its words, its program, its limit and the seed of its order.
- * @typedef {{report: string, trace: string, words: string[], text: string, limit: number, seed: number}} Answer */
+/** What a run answered: its report and its trace; with its words, its program, its limit, the seed of its order, and whether the trace is a file's.
+ * @typedef {{report: string, trace: string, words: string[], text: string, limit: number, seed: number, read: boolean}} Answer */
 
 /** The most characters of a report that are shown. */
 export const SHOWN = 200000;
@@ -12,7 +12,7 @@ export const SHOWN = 200000;
 export class Results {
     constructor() {
         /** @type {Answer} */
-        this.last = {report: "", trace: "", words: [], text: "", limit: 10000, seed: 0};
+        this.last = {report: "", trace: "", words: [], text: "", limit: 10000, seed: 0, read: false};
     }
 
     /** @param {Answer} last */

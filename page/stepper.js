@@ -175,7 +175,7 @@ export class Stepper {
         const sum = computed(run, event, values, state.frames.get(event.actor)?.values ?? []) || tallied(counts), words = `${sentence(run, event, toldOf(run, event, values, state))}${sum && `: ${sum}`}`;
         /** @type {(string | HTMLElement)[]} */
         let parts = [words];
-        for (const id of new Set(event.data)) {
+        for (const id of [...new Set(event.data)].sort((one, other) => other - one)) { // "datum 2" is in "datum 21", too.
             const name = dataName(run, id);
             parts = parts.flatMap(part => typeof part === "string" ? part.split(name).flatMap((it, k) => k ? [h("button.link", {title: `step through the events of datum ${id}`, onclick: () => this.pick(`d${id}`)}, name), it] : [it]) : [part]);
         }

@@ -568,7 +568,9 @@ async function programs(reader) {
 
 // Files are opened: a text, hex text, bytes, and the trace of a run in 24 threads, which is followed.
 async function opening(reader) {
-    const room = fs.mkdtempSync(path.join(os.tmpdir(), "opening-")), race = "proc control write cont int\nregs int int\nINT v1 1\nDUPW d1 d0\nPUT 1 0 any 1 0\nPUT 1 0 any 0 1\nRET\nproc leaf write cont int val int\nregs int int\nNEW d1 d2 int\nSTORE d1 v0\nINS d0 v1 d2 a\nJMP b\na:\nDROPR d2\nb:\nDROPW d0\nRET\n";
+    const room = fs.mkdtempSync(path.join(os.tmpdir(), "opening-"));
+    await reader.page.ask("Browser.setDownloadBehavior", {behavior: "allow", downloadPath: room});
+    const race = "proc control write cont int\nregs int int\nINT v1 1\nDUPW d1 d0\nPUT 1 0 any 1 0\nPUT 1 0 any 0 1\nRET\nproc leaf write cont int val int\nregs int int\nNEW d1 d2 int\nSTORE d1 v0\nINS d0 v1 d2 a\nJMP b\na:\nDROPR d2\nb:\nDROPW d0\nRET\n";
     const hex = native(["asm"], race).text, actors = ["--engines", "4", "--servers", "4", "--workers", "16"], ran = native(["run", "--text", "--trace", ...actors], race).text, trace = ran.match(/^events\n[^]*?^end\n/m)[0], wanted = native(["disasm"], hex).text;
     const take = async (name, content) => {
         fs.writeFileSync(`${room}/${name}`, content);
@@ -583,6 +585,12 @@ async function opening(reader) {
     say((await take("c.bin", Buffer.from(hex.replace(/\s/g, ""), "hex"))) === wanted, "bytes aren't opened", await reader.value("text"));
     say((await take("d.history", hex + trace)) === wanted && (await reader.seen("#ended")) === `The trace of the file: ${trace.split("\n").length - 3} events.`, "a trace isn't followed", await reader.seen("#ended"));
     say((await reader.seen("#at")).endsWith(`of ${trace.split("\n").length - 3}`) && ran.endsWith(`${await reader.seen("#out")}\n`), "another run", await reader.seen("#at"), await reader.seen("#out"));
+    await reader.click("#stats");
+    say((await reader.seen("#numbers")) === native(["replay", "--text", "--stats", ...await fieldWords(reader)], `${wanted}\n${trace}`).text.trim(), "another run's numbers", await reader.seen("#numbers"));
+    await reader.click("[data-give=python]");
+    say((await reader.seen("#command")) === "The run on the page is a file's trace, which Trace has.", "a command for another run", await reader.seen("#command"));
+    await reader.click("#share");
+    say((await reader.seen("#said")).endsWith("It has the program and its inputs, but not the file's trace."), "a link with a trace", await reader.seen("#said"));
     const mapped = fs.readFileSync(`${examples}/mapreduce.twn`, "utf8"), long = native(["run", "--text", "--in-turn", "--seed", "6", "--trace", ...actors, "ints:-1=2,4=3,5=-4"], mapped), events = long.text.match(/^events\n[^]*?^end\n/m)[0];
     say(!/ s3 /.test(events) && /^deliver s0 8 /m.test(events), "this trace needs no fourth server", events);
     await take("f.history", native(["asm", "--names"], mapped).text + events);
@@ -591,6 +599,9 @@ async function opening(reader) {
     say((await reader.seen("#ended")) === "The trace isn't one of this program, with these inputs and actors.", "another trace is followed", await reader.seen("#ended"));
     await reader.write("input-0", "-1=2,4=3,5=-4"); await reader.click("#follow-trace");
     say((await reader.seen("#ended")) === `The trace of the file: ${events.split("\n").length - 3} events.` && (await reader.seen("#trace-read")) === "" && long.text.endsWith(`end\n${await reader.seen("#out")}\n`), "a trace with inputs isn't followed", await reader.seen("#ended"), await reader.seen("#out"));
+    await reader.click("#run"); await reader.key("Shift");
+    const there = await reader.value("text");
+    say((await take("g.txt", long.text)) === there && (await reader.seen("#ended")) === `The trace of the file: ${events.split("\n").length - 3} events.` && (await reader.seen("#trace-read")) === "", "a trace alone isn't followed", await reader.value("text"), await reader.seen("#ended"));
     await reader.js(`(() => { const moved = new DataTransfer(); moved.items.add(new File([${JSON.stringify(race)}], "dropped.tw")); for (const kind of ["dragover", "drop"]) document.body.dispatchEvent(new DragEvent(kind, {dataTransfer: moved, bubbles: true, cancelable: true})); })()`);
     await reader.page.until(`document.getElementById("text").value === ${JSON.stringify(race)}`, 5000 * PATIENCE); await reader.ready();
     say((await reader.value("text")) === race && (await reader.js('document.getElementById("pick").selectedOptions[0].textContent')).startsWith("dropped ("), "a drop isn't opened", await reader.seen("#said"));
@@ -639,6 +650,10 @@ async function small(reader, page) {
     await reader.event(said.findIndex(it => /stores .* in /.test(it)) + 1);
     await reader.click("#what button.link");
     say(/^d\d/.test(await reader.value("by")), "a datum of the sentence can't be picked", await reader.value("by"));
+    await reader.write("text", "proc control write int\nregs int int\nSTORE d0 v0\nINT v1 1\nNEW d3 d4 cont int\nREPEAT 19\nNEW d1 d2 int\nSTORE d1 v0\nADD v0 v0 v1 z\nz:\nINS d3 v0 d2 a\nJMP b\na:\nDROPR d2\nb:\nEND\nDROPW d3\nDROPR d4\nRET\n");
+    await reader.click("#run"); await reader.key("Shift");
+    const put = await reader.js('(() => { const it = document.getElementById("step"), all = []; for (let k = 1; k <= +it.max; k++) { it.value = k; it.dispatchEvent(new Event("input")); all.push([document.getElementById("what").textContent, ...[...document.querySelectorAll("#what button")].map(it => it.textContent)]); } return all.filter(([words]) => /puts/.test(words)).pop(); })()');
+    say(String(put) === "Engine 0 puts datum 21 into datum 2 at 19,datum 21,datum 2", "a datum's name is taken for another's", put);
     await reader.go(`${address}?example=word_count`); await reader.key("Shift");
     const sums = await reader.js('(() => { const it = document.getElementById("step"), all = []; for (let k = 1; k <= +it.max; k++) { it.value = k; it.dispatchEvent(new Event("input")); all.push(document.getElementById("what").textContent); } return all.filter(it => /adds /.test(it)); })()');
     say(String(sums.map(it => /adds 1 to counts .*(?="(of|the)", now (\d)$)/.exec(it)?.slice(1))) === "of,1,the,1,of,2", "no sums in the sentences", sums);
@@ -678,6 +693,7 @@ async function old_results(reader) {
     say((await reader.seen("#verdict")).startsWith("Accepted: no task of it can fail. Budgets"), "store_seven can't get stuck", await reader.seen("#verdict"));
     await reader.choose("pick", "store_twice");
     say((await reader.seen("#state")) === "" && (await reader.seen("#controls")) === "" && !(await reader.seen("#ended")).includes("events"), "another program's run stays", await reader.seen("#ended"));
+    for (const what of ["#stats", "[data-give=trace]"]) { await reader.click(what); say((await reader.seen("#said")) === "There is no run on the page." && (await reader.seen("#numbers")) === "" && (await reader.seen("#command")) === "", "another program's", what, await reader.seen("#said")); await reader.js('document.getElementById("said").textContent = ""'); }
     await reader.choose("pick", "first"); await reader.key("Shift");
     say((await reader.seen("#verdict")).endsWith("All its runs that end have the same outputs, in every order of events."), "nothing about the order", await reader.seen("#verdict"));
     say((await reader.seen("#results")) === "answer = 12" && (await reader.seen("#ended")).startsWith("Done: nothing is left to do."), "no outputs in words", await reader.seen("#results"));
