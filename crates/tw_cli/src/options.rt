@@ -233,5 +233,6 @@ pub(crate) fn run_given(
         in_turn: matches.get_flag("in-turn"),
         seed: numbers.seed,
         seconds: numbers.seconds,
+        is_watched: false,
     })
 }

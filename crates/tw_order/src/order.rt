@@ -35,13 +35,14 @@ pub enum Order {
 }
 
 impl Order {
-    /// Returns the same order, with its run single-threaded.
+    /// Returns the same order, with its run single-threaded, and without an observer.
     pub fn in_turn(self) -> Order
         ensures { result ≡ order_in_turn self }
     {
         match self {
             Order::Run(source, mut options, inputs) => {
                 options.in_turn = true;
+                options.is_watched = false;
                 Order::Run(source, options, inputs)
             }
             Order::Assemble(order) => Order::Assemble(order),

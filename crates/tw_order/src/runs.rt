@@ -1,5 +1,8 @@
 //! Orders to run a program, and to replay a trace.
 
+ghost use Rattle.std.specs.Prelude.{◌≡◌};
+ghost use Rattle.tw_order.specs.Orders.{may_be_stopped};
+
 use crate::caps::Caps;
 use crate::limit::EventLimit;
 use crate::range::EventRange;
@@ -42,6 +45,17 @@ pub struct RunOptions {
     pub seed: Option<u64>,
     /// After how many seconds the run is stopped, if its time is limited.
     pub seconds: Option<Duration>,
+    /// Whether an observer watches the run, and may stop it.
+    pub is_watched: bool,
+}
+
+impl RunOptions {
+    /// Returns whether something may stop the run before its end.
+    pub fn may_be_stopped(&self) -> bool
+        ensures { result ≡ may_be_stopped self.now }
+    {
+        self.is_watched || self.seconds.is_some()
+    }
 }
 
 /// Where main's inputs are: one for each word or item, in their order.
