@@ -153,7 +153,7 @@ typedef struct yuglemit_verdict {
     uint64_t workers;
     uint64_t procedure;    /* V: the procedure, and the place in it; F: the byte, in `place` */
     uint64_t place;
-    uint64_t line;         /* A, N, V of a text: the line, from 1; 0: none */
+    uint64_t line;         /* A, N, V of a text: the line, from 1, of V16 that of main's first instruction; 0: none */
     uint64_t word;         /* A: the word of the line at which the error is, from 1; 0: at no word, or the written line isn't the expanded one.
                             * N: the word in which the error's name is, from 1; 0: unknown, as if the line has this name twice */
     uint64_t column;       /* A, N: the character of the line at which this word or name begins, from 1; 0: there is no word */
