@@ -5,6 +5,7 @@ ghost use Rattle.std.specs.Prelude.{◌≡◌, false};
 use std::io::IsTerminal;
 use std::rt::Stderr;
 use std::sync::Wait;
+use std::sync::atomic::{AtomicU64, Ordering};
 use std::time::{Clock, Duration, Instant};
 use std::{fs, io, thread};
 use tw_session::{Gate, Progress, SoFar};
@@ -77,6 +78,7 @@ pub struct ProgressPrinter<'a> {
     stderr: Stderr,
     is_quiet: bool,
     stop: Option<&'a str>,
+    cut: AtomicU64,
 }
 
 impl<'a> ProgressPrinter<'a> {
@@ -94,6 +96,7 @@ impl<'a> ProgressPrinter<'a> {
             stderr,
             is_quiet,
             stop,
+            cut: AtomicU64::new(0),
         }
     }
 
@@ -149,9 +152,16 @@ fn print_so_far(terminal: &Stderr, so_far: SoFar, seconds: u64) -> io::Result<()
 impl Gate for ProgressPrinter<'_> {
     ghost unwatched = { Unit {0} };
 
+    ghost stoppable = { Unit {0} };
+
     /// Returns that the printer of progress needn't see each job.
     fn watches(&self) -> bool {
         false
+    }
+
+    /// Returns whether the printer of progress may stop the run.
+    fn may_stop(&self) -> bool {
+        self.stop.is_some()
     }
 
     /// Prints nothing before a job.
@@ -159,6 +169,16 @@ impl Gate for ProgressPrinter<'_> {
 
     /// Prints nothing after a job.
     fn after_job<R: Wait>(&self, _rt: &R, _actor: Actor, _task: u64) {}
+
+    /// Adds the local instructions of a job that was cut off when the printer stopped the run.
+    fn cut_off(&self, steps: u64) {
+        self.cut.fetch_add(steps, Ordering::SeqCst);
+    }
+
+    /// Returns the local instructions of the jobs that were cut off when the printer stopped the run.
+    fn cut(&self) -> u64 {
+        self.cut.load(Ordering::SeqCst)
+    }
 
     /// Prints progress and looks for the file until the work is over. If the clock or the terminal fails, it ends.
     fn monitor<R: Wait + Clock, P: Progress>(&self, rt: &R, work: &P) {

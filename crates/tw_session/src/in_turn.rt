@@ -1,12 +1,13 @@
 //! The replies of a single-threaded `run`.
 
-ghost use Rattle.std.specs.Prelude.{◌≡◌, IfOk, is_some, map, string_bytes};
+ghost use Rattle.std.specs.Prelude.{◌≡◌, IfOk, map, string_bytes, true};
 ghost use Rattle.tw_code.specs.machine.Inputs.{AreInputsOf};
 ghost use Rattle.tw_in_turn.specs.InTurn.{IsLeft};
 ghost use Rattle.tw_in_turn.specs.Stopping.{IsLeftIf};
+ghost use Rattle.tw_order.specs.Orders.{may_be_stopped};
 ghost use Rattle.tw_pool.specs.Openings.{opened};
 ghost use Rattle.tw_source.specs.Reply.{reply};
-ghost use Rattle.tw_session.specs.Run.{IsRunInTime, RepliesByOpening, RepliesByRun};
+ghost use Rattle.tw_session.specs.Run.{IsRunWatched, RepliesByOpening, RepliesByRun};
 ghost use Rattle.tw_session.specs.Clockless.{AnswersWords, MayReplyClockless, clockless_reply, limits_time};
 ghost use Rattle.tw_session.specs.Parts.{seen_given};
 ghost use Rattle.tw_source.specs.Source.{MayBeSource, text_of};
@@ -16,13 +17,13 @@ use crate::parts::Given;
 use crate::run::{stop_reason, unopened_reply};
 use crate::shell::unordered_reply;
 use std::alloc::{AllocError, Global};
-use std::time::Clock;
 use tw_cli::read_order;
-use tw_in_turn::{InTurnResult, StoppableResult, run_in_turn, run_timed};
+use tw_in_turn::{InTurnResult, StoppableResult, run_in_turn, run_until};
 use tw_order::{Order, RunOrder};
 use tw_pool::{Closing, OpenError};
 use tw_run_output::ended_reply;
 use tw_source::{Close, Reply, SourceText, fixed_reply};
+use tw_stop::StopSignal;
 use tw_verify::Verified;
 
 /// Returns the reply of a run that ended.
@@ -40,7 +41,7 @@ fn ended_in_turn(
 {
     match left {
         InTurnResult::Over { outcome, history } => {
-            match stop_reason(outcome.closing(), order.options.seconds) {
+            match stop_reason(outcome.closing(), order.options.may_be_stopped()) {
                 Some(closing) => {
                     ended_reply(
                         alloc, source, order, verified, &outcome, &history, 0, closing,
@@ -53,7 +54,7 @@ fn ended_in_turn(
     }
 }
 
-/// Returns the reply of a finished run. One that was stopped may have reached its end before.
+/// Returns the reply of a finished run that could be stopped. One that was may have reached its end before.
 fn left_reply(
     alloc: Global,
     source: &Option<SourceText<'_>>,
@@ -61,7 +62,8 @@ fn left_reply(
     verified: Verified,
     left: StoppableResult,
 ) -> Result<Reply, AllocError>
-    requires left { IsLeftIf (is_some order.now.options.seconds) order.now.options.seed (opened verified order.now.inputs order.now.options.layout order.now.options.limit) left }
+    requires stopping { may_be_stopped order.now.options ≡ true }
+    requires left { IsLeftIf true order.now.options.seed (opened verified order.now.inputs order.now.options.layout order.now.options.limit) left }
     requires inputs { AreInputsOf verified.program order.now.inputs }
     requires source { MayBeSource source.now verified.program }
     ensures { IfOk result (λ r. RepliesByRun (text_of source.now) verified.program order.now (reply r.text.items r.close)) }
@@ -106,24 +108,23 @@ pub fn reply_single_threaded(
     }
 }
 
-/// Opens an accepted program and runs it in this thread, to its end or until the order's time has passed, if that is limited.
-pub fn run_in_time<C: Clock>(
-    clock: &C,
+/// Opens an accepted program and runs it in this thread, to its end or until the signal is raised.
+pub fn run_until_raised<S: StopSignal>(
     alloc: Global,
     order: &RunOrder,
     verified: &Verified,
+    stop: &mut S,
 ) -> Result<StoppableResult, OpenError>
-    ensures { IsRunInTime verified.now order.now result }
+    ensures { IsRunWatched verified.now order.now result }
 {
-    run_timed(
-        clock,
+    run_until(
         alloc,
         verified,
         order.inputs.as_slice(),
         order.options.layout,
         order.options.limit.events(),
         order.options.seed,
-        order.options.seconds,
+        stop,
     )
 }
 
@@ -135,7 +136,8 @@ pub fn reply_after(
     verified: Verified,
     made: Result<StoppableResult, OpenError>,
 ) -> Result<Reply, AllocError>
-    requires made { IsRunInTime verified order.now made }
+    requires stopping { may_be_stopped order.now.options ≡ true }
+    requires made { IsRunWatched verified order.now made }
     requires source { MayBeSource source.now verified.program }
     ensures { IfOk result (λ r. RepliesByOpening (text_of source.now) verified.program order.now (reply r.text.items r.close)) }
 {

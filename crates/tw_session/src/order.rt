@@ -1,21 +1,22 @@
 //! Replies of a session to an order and what it reads.
 
-ghost use Rattle.std.specs.Prelude.{◌≡◌, ◌≤◌, IfOk, false, length};
+ghost use Rattle.std.specs.Prelude.{◌≡◌, ◌≤◌, IfOk, false, length, true};
 ghost use Rattle.std.specs.Thread.{IsSync};
+ghost use Rattle.tw_order.specs.Orders.{may_be_stopped};
 ghost use Rattle.tw_source.specs.Reply.{reply};
-ghost use Rattle.tw_session.specs.Run.{IsRunInTime, RepliesByOpening};
+ghost use Rattle.tw_session.specs.Run.{IsRunWatched, RepliesByOpening};
 ghost use Rattle.tw_source.specs.Source.{MayBeSource, text_of};
 ghost use Rattle.tw_session.specs.Parts.{seen, seen_given};
 ghost use Rattle.tw_session.specs.Session.{MayReplyOn, MayReplyTo};
 
-use crate::in_turn::{reply_after, reply_single_threaded, run_in_time};
+use crate::in_turn::{reply_after, reply_single_threaded, run_until_raised};
 use crate::json::{in_form, rendering_of};
 use crate::line_threads::lines_reply;
 use crate::parts::{Given, Parts};
 use crate::prepare::prepare;
 use crate::programs::{Prepared, RunRequest};
 use crate::run::reply_threaded;
-use crate::turns::{TurnClock, Turns};
+use crate::turns::{TurnSignal, Turns};
 use std::alloc::{AllocError, Global};
 use std::sync::Wait;
 use std::thread::{Threads, join};
@@ -36,7 +37,7 @@ fn run_watched<H: Threads + Wait + Clock + Sync, G: Gate + Sync>(
     order: &RunOrder,
     verified: &Verified,
 ) -> Result<StoppableResult, OpenError>
-    ensures { IsRunInTime verified.now order.now result }
+    ensures { IsRunWatched verified.now order.now result }
 {
     let turns = Turns::new();
     let turns = &turns;
@@ -45,10 +46,10 @@ fn run_watched<H: Threads + Wait + Clock + Sync, G: Gate + Sync>(
     { gate.monitor(rt, turns) };
     let work = move || -> Result<StoppableResult, OpenError>
         requires { IsSync H.row }
-        ensures { IsRunInTime verified.entry.now order.entry.now result }
+        ensures { IsRunWatched verified.entry.now order.entry.now result }
     {
-        let clock = TurnClock { clock: rt, turns };
-        let made = run_in_time(&clock, alloc, order, verified);
+        let mut signal = TurnSignal::new(rt, turns, order.options.seconds);
+        let made = run_until_raised(alloc, order, verified, &mut signal);
         turns.end();
         made
     };
@@ -65,14 +66,15 @@ fn reply_watched<H: Threads + Wait + Clock + Sync, G: Gate + Sync>(
     order: &RunOrder,
     verified: Verified,
 ) -> Result<Reply, AllocError>
-    requires { MayBeSource source.now verified.program }
+    requires stopping { may_be_stopped order.now.options ≡ true }
+    requires source { MayBeSource source.now verified.program }
     ensures { IfOk result (λ r. RepliesByOpening (text_of source.now) verified.program order.now (reply r.text.items r.close)) }
 {
     let made = run_watched(rt, alloc, gate, order, &verified);
     reply_after(alloc, source, order, verified, made)
 }
 
-/// Runs an accepted program with threads, or single-threaded if that is ordered. A run in one thread is observed if its time is limited.
+/// Runs an accepted program with threads, or single-threaded if that is ordered. A run in one thread is observed if it may be stopped.
 fn run_as_ordered<H: Threads + Wait + Clock + Sync, G: Gate + Sync>(
     rt: &H,
     alloc: Global,
@@ -86,7 +88,7 @@ fn run_as_ordered<H: Threads + Wait + Clock + Sync, G: Gate + Sync>(
     let RunRequest { order, verified } = ordered;
     if !order.options.in_turn {
         reply_threaded(rt, alloc, gate, source, &order, verified)
-    } else if order.options.seconds.is_some() {
+    } else if order.options.may_be_stopped() {
         reply_watched(rt, alloc, gate, source, &order, verified)
     } else {
         reply_single_threaded(alloc, source, &order, verified)

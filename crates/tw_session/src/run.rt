@@ -1,6 +1,6 @@
 //! The replies of `run`.
 
-ghost use Rattle.std.specs.Prelude.{◌≡◌, ◌⊎◌, IfOk, IfSome, List, None, Some, false, is_some, true};
+ghost use Rattle.std.specs.Prelude.{◌≡◌, ◌⊎◌, IfOk, IfSome, List, None, Some, false, true};
 ghost use Rattle.tw_host.specs.Ends.{Closes};
 ghost use Rattle.tw_host.specs.Seats.{SeatEvents};
 ghost use Rattle.tw_in_turn.specs.InTurn.{HasEnded};
@@ -13,7 +13,7 @@ ghost use Rattle.tw_source.specs.Source.{MayBeSource, text_of};
 use std::alloc::{AllocError, Global};
 use std::sync::Wait;
 use std::thread::Threads;
-use std::time::{Clock, Duration};
+use std::time::Clock;
 use tw_host::Closed;
 use tw_order::RunOrder;
 use tw_pool::{Closing, OpenError};
@@ -24,18 +24,18 @@ use tw_stop::Deadline;
 use tw_verify::Verified;
 use tw_workers::{Gate, Timed, run};
 
-/// Returns why a run has ended, unless it was stopped although its time isn't limited.
-pub fn stop_reason(closing: Option<Closing>, seconds: Option<Duration>) -> Option<Closing>
+/// Returns why a run has ended, unless it was stopped although it may not be.
+pub fn stop_reason(closing: Option<Closing>, may_be_stopped: bool) -> Option<Closing>
     ensures same { IfSome result (λ c. closing ≡ Some c) }
-    ensures unstopped { IfSome result (λ c. c ≡ Closing.Stopped → is_some seconds ≡ true) }
+    ensures unstopped { IfSome result (λ c. c ≡ Closing.Stopped → may_be_stopped ≡ true) }
     ensures none { result ≡ None → HasEnded closing → ⊥ }
-    ensures unfinished { result ≡ None → (closing ≡ None) ⊎ ((closing ≡ Some Closing.Stopped) × (is_some seconds ≡ false)) }
+    ensures unfinished { result ≡ None → (closing ≡ None) ⊎ ((closing ≡ Some Closing.Stopped) × (may_be_stopped ≡ false)) }
 {
     match closing {
         Some(Closing::Quiet) => Some(Closing::Quiet),
         Some(Closing::Stuck(rules)) => Some(Closing::Stuck(rules)),
         Some(Closing::Limit) => Some(Closing::Limit),
-        Some(Closing::Stopped) if seconds.is_some() => Some(Closing::Stopped),
+        Some(Closing::Stopped) if may_be_stopped => Some(Closing::Stopped),
         Some(Closing::Stopped) | None => None,
     }
 }
@@ -67,7 +67,7 @@ fn closed_reply(
             history,
             outcome,
             by_seat: _,
-        } => match stop_reason(outcome.closing(), order.options.seconds) {
+        } => match stop_reason(outcome.closing(), order.options.may_be_stopped()) {
             None => threads_reply(alloc),
             Some(closing) => {
                 ended_reply(
@@ -135,7 +135,7 @@ fn reply_observed<H: Threads + Wait + Clock + Sync, G: Gate + Sync>(
     }
 }
 
-/// Like `reply_observed`, but stops the run after the order's time, if that is limited.
+/// Like `reply_observed`, but stops the run after the order's time, too, if that is limited.
 pub fn reply_threaded<H: Threads + Wait + Clock + Sync, G: Gate + Sync>(
     rt: &H,
     alloc: Global,

@@ -1,10 +1,9 @@
 //! The turns of a run in one thread, which another thread observes.
 
-use std::io;
-use std::io::ErrorKind;
 use std::sync::Wait;
 use std::sync::atomic::{AtomicBool, AtomicU64, Ordering};
 use std::time::{Clock, Duration};
+use tw_stop::{Deadline, StopSignal};
 use tw_workers::{Progress, SoFar};
 
 /// Counts the turns of a run, for whoever observes it. It is also how an observer stops the run.
@@ -46,25 +45,38 @@ impl Progress for Turns {
     }
 }
 
-/// The clock of a run in one thread, which looks at it before each turn. So it counts them, and fails once the run is to stop.
-#[derive(Clone, Copy)]
-pub struct TurnClock<'a, C> {
-    pub clock: &'a C,
-    pub turns: &'a Turns,
+/// The stop signal of a run in one thread, which looks at it before each turn. So it counts them.
+#[derive(Drop)]
+pub struct TurnSignal<'a, C: Clock> {
+    turns: &'a Turns,
+    deadline: Option<Deadline<'a, C>>,
 }
 
-impl<'a, C: Clock> Clock for TurnClock<'a, C> {
-    /// Counts a turn, and fails if the run is to stop.
-    fn monotonic(&self) -> io::Result<Duration> {
-        if self.turns.is_stopped.load(Ordering::SeqCst) {
-            return Err(io::Error::from(ErrorKind::Interrupted));
-        }
-        self.turns.taken.fetch_add(1, Ordering::SeqCst);
-        self.clock.monotonic()
+impl<'a, C: Clock> TurnSignal<'a, C> {
+    /// Makes the signal of a run that begins, whose time may be limited. Without a limit the clock isn't read.
+    pub fn new(clock: &'a C, turns: &'a Turns, seconds: Option<Duration>) -> TurnSignal<'a, C> {
+        let deadline = match seconds {
+            Some(seconds) => Some(Deadline::after(clock, seconds)),
+            None => None,
+        };
+        TurnSignal { turns, deadline }
     }
+}
 
-    /// Returns the clock's time.
-    fn since_1970(&self) -> io::Result<Duration> {
-        self.clock.since_1970()
+impl<'a, C: Clock> StopSignal for TurnSignal<'a, C> {
+    ghost use Rattle.std.specs.Prelude.{Bool};
+
+    ghost says = { λ _ _ _. Unit {0} };
+
+    /// Counts a turn, and returns whether an observer stops the run or its time is over.
+    fn is_raised(&mut self) -> bool {
+        self.turns.taken.fetch_add(1, Ordering::SeqCst);
+        if self.turns.is_stopped.load(Ordering::SeqCst) {
+            return true;
+        }
+        match &self.deadline {
+            Some(deadline) => deadline.is_over(),
+            None => false,
+        }
     }
 }

@@ -17,7 +17,7 @@ ended_reply-requires c =
     record {
       inputs = c.requires.inputs;
       source = c.requires.source;
-      over = (over verified order p c.in-Over.outcome c.in-Over.history 0 c.in-Some.closing (ap run_of left.of_first) left.within left.shut (in_turn verified order p 0 (inl (is_over.1, refl))) (inl (sym c.closing.ensures ∙ c.in-Some.ensures.same, c.in-Some.ensures.unstopped))).0;
+      over = (over verified order p c.in-Over.outcome c.in-Over.history 0 c.in-Some.closing (ap run_of left.of_first) left.within left.shut (in_turn verified order p 0 (inl (is_over.1, refl))) (inl (sym c.closing.ensures ∙ c.in-Some.ensures.same, λ stopped. sym c.may_be_stopped.ensures ∙ c.in-Some.ensures.unstopped stopped))).0;
     }
 
 pub returns-in-Some : goal.returns-in-Some
@@ -29,7 +29,7 @@ returns-in-Some c =
     let left = is_over.2 in
     replied_run c.ended_reply.result (text_of c.args.source.now) verified.program order
     (replied c.ended_reply.result (text_of c.args.source.now) verified.program order c.in-Over.outcome c.in-Over.history.events 0 c.in-Some.closing
-    (over verified order p c.in-Over.outcome c.in-Over.history 0 c.in-Some.closing (ap run_of left.of_first) left.within left.shut (in_turn verified order p 0 (inl (is_over.1, refl))) (inl (sym c.closing.ensures ∙ c.in-Some.ensures.same, c.in-Some.ensures.unstopped)))
+    (over verified order p c.in-Over.outcome c.in-Over.history 0 c.in-Some.closing (ap run_of left.of_first) left.within left.shut (in_turn verified order p 0 (inl (is_over.1, refl))) (inl (sym c.closing.ensures ∙ c.in-Some.ensures.same, λ stopped. sym c.may_be_stopped.ensures ∙ c.in-Some.ensures.unstopped stopped)))
     c.ended_reply.ensures)
 
 pub unreachable-requires : goal.unreachable-requires
