@@ -3,6 +3,7 @@
 // The manual in a dialog: its parts with their contents, a search in all of them, and a way back.
 import {$, h} from "./dom.js";
 import {LITTLE} from "./learning.js";
+import {counted} from "./verdict.js";
 
 /** The most places that a search lists. */
 const FOUND = 60;
@@ -71,7 +72,7 @@ export class Manual {
         if (!words.length) { this.show(this.trail[this.trail.length - 1] ?? ""); return; }
         const found = this.parts.flatMap(unitsIn).filter(({text}) => words.every(it => text.toLowerCase().includes(it)));
         $("manual-title").textContent = "Search";
-        $("manual-text").replaceChildren(h("p", {role: "status"}, `${found.length} places`), h("ul", {id: "manual-found"}, ...found.slice(0, FOUND).map(({address, unit, title, text}) => h("li", {}, h("a", {href: address, "data-unit": unit}, title), ` ${around(text, words[0])}`))));
+        $("manual-text").replaceChildren(h("p", {role: "status"}, counted(found.length, "place")), h("ul", {id: "manual-found"}, ...found.slice(0, FOUND).map(({address, unit, title, text}) => h("li", {}, h("a", {href: address, "data-unit": unit}, title), ` ${around(text, words[0])}`))));
     }
 }
 

@@ -10,6 +10,7 @@ import {counted, grouped} from "./verdict.js";
 
 /** The orders among which another result is looked for. */
 const TRIED = 1000;
+const LIMITED = "The limit ended the run, so its result isn't known. Raise the limit.";
 
 /** Returns the words that ask for an order.
  * @param {number} seed 0 for the order in turn */
@@ -27,9 +28,9 @@ export class Orders {
         this.bar = bar;
         /** The seed of the run that is shown. */
         this.shown = 0;
-        /** The seed that was tried last. */
-        this.tried = 0;
-        this.same = 0;
+        /** The program with its words whose orders are counted; the seed that was tried last; how many were compared, and how many had the same outputs. */
+        this.about = "";
+        this.tried = this.all = this.same = 0;
         $("another").addEventListener("click", () => this.busy(this.another()));
         $("other-result").addEventListener("click", () => this.busy(this.search()));
         $("only-result").addEventListener("click", () => this.busy(this.only()));
@@ -43,7 +44,7 @@ export class Orders {
      * @param {number} seed */
     began(seed) {
         this.shown = seed;
-        if (!seed) this.tried = this.same = 0;
+        if (!seed) this.tried = this.all = this.same = 0;
         $("order").textContent = seed ? `Order ${grouped(seed)}.` : "";
     }
 
@@ -58,33 +59,40 @@ export class Orders {
     async another() {
         const it = await this.runnable();
         if (!it) return;
+        const about = [it.text, it.limit, ...it.words].join("\0");
+        if (about !== this.about) Object.assign(this, {about, tried: 0, all: 0, same: 0});
         const seed = this.tried = Math.max(this.tried, this.shown) + 1, inTurn = await this.outputs(it, 0), report = inTurn === null ? null : await this.run(seed);
         if (report === null) { $("order").textContent = "stopped"; return; }
-        const same = inTurn === outputsIn(report);
+        const outputs = outputsIn(report), same = inTurn === outputs;
+        if (isCut(inTurn) || isCut(outputs)) { $("order").textContent = `Order ${grouped(seed)}. ${LIMITED}`; return; }
+        this.all++;
         if (same) this.same++;
-        this.say(seed, same);
+        this.say(seed, same, this.all > 1 ? ` Of ${grouped(this.all)} orders ${grouped(this.same)} had the outputs of the run in turn.` : "");
     }
 
     /** Says what came of an order.
-     * @param {number} seed @param {boolean} same */
-    say(seed, same) {
+     * @param {number} seed @param {boolean} same @param {string} [more] */
+    say(seed, same, more = "") {
         const what = same ? "the outputs are the same" : "the outputs differ: two tasks wanted one subscript, and the first got it. See the insertions that were refused";
-        $("order").textContent = `Order ${grouped(seed)}: ${what}.${this.tried > 1 && seed === this.tried ? ` Of ${grouped(seed)} orders ${grouped(this.same)} had the outputs of the run in turn.` : ""}`;
+        $("order").textContent = `Order ${grouped(seed)}: ${what}.${more}`;
     }
 
     /** Shows the first order whose outputs aren't those in turn, of some. */
     async search() {
         const it = await this.runnable(), inTurn = it && await this.outputs(it, 0);
         if (!it) return;
+        if (isCut(inTurn)) { $("order").textContent = LIMITED; return; }
+        let cut = 0;
         for (let seed = 1; seed <= TRIED; seed++) {
             this.bar(seed, TRIED);
             $("order").textContent = `Order ${grouped(seed)} of ${grouped(TRIED)} is tried ..`;
             const outputs = inTurn === null ? null : await this.outputs(it, seed);
             if (outputs === null) { this.bar(0, 0); $("order").textContent = "stopped"; return; }
-            if (outputs !== inTurn) { await this.run(seed); this.say(seed, false); return; }
+            if (isCut(outputs)) cut++;
+            else if (outputs !== inTurn) { await this.run(seed); this.say(seed, false); return; }
         }
         this.bar(0, 0);
-        $("order").textContent = `${counted(TRIED, "order")} had the outputs of the run in turn.`;
+        $("order").textContent = `${counted(TRIED - cut, "order")} had the outputs of the run in turn.${cut ? ` The limit ended ${grouped(cut)} others.` : ""}`;
     }
 
     /** Says whether outputs can depend on the order of events, and leads to the line that may make them. */
@@ -92,7 +100,7 @@ export class Orders {
         const it = await this.runnable(), reply = it && await this.library.session(["run", "--text", "--order", "--limit", String(it.limit), ...it.words], it.text);
         if (!it) return;
         const order = reply && readOrder(reply.text, it.checked.source);
-        $("order").replaceChildren(...order ? this.answer(order, it.checked.source) : ["stopped"]);
+        $("order").replaceChildren(...order ? this.answer(order, it.checked.source) : [isCut(reply?.text ?? "") ? LIMITED : "stopped"]);
     }
 
     /** @param {import("./replies.js").EventOrder} order @param {import("./source.js").Source} source */
@@ -106,3 +114,7 @@ export class Orders {
 /** Returns the lines of a report that are its outputs and its end.
  * @param {string} report */
 const outputsIn = report => report.replace(/^(waits|rule) .*\n/gm, "");
+
+/** Returns whether the limit ended a run, so that its outputs say nothing of another order.
+ * @param {string | null} report */
+const isCut = report => /^limit$/m.test(report ?? "");

@@ -778,6 +778,8 @@ async function another(reader) {
     const link = await reader.saved(it => it.seed === 3 && it.event === 7), there = await reader.seen("#what");
     await reader.go(link); await reader.key("Shift");
     say((await reader.seen("#order")) === "Order 3." && (await reader.seen("#what")) === there, "a link loses the order", await reader.seen("#order"), there);
+    await reader.click("#another");
+    say((await reader.seen("#order")) === "Order 4: the outputs are the same.", "orders that weren't tried are counted", await reader.seen("#order"));
     await reader.event(+(await reader.js('document.getElementById("step").max')));
     say((await reader.seen("#data")).includes("all is done") && (await reader.seen("#out")) === before, "the order doesn't end", await reader.seen("#data"));
     const race = "proc control write cont int\nregs int int\nINT v1 1\nDUPW d1 d0\nPUT 1 0 any 1 0\nPUT 1 0 any 0 1\nRET\nproc leaf write cont int val int\nregs int int\nNEW d1 d2 int\nSTORE d1 v0\nINS d0 v1 d2 a\nJMP b\na:\nDROPR d2\nb:\nDROPW d0\nRET\n";
@@ -793,6 +795,12 @@ async function another(reader) {
     say((await reader.seen("#order")).includes("There may be other results"), "no answer", await reader.seen("#order"));
     await reader.click("#contested");
     say((await reader.js('(() => { const it = document.getElementById("text"); return it.value.slice(it.selectionStart, it.selectionEnd); })()')) === "INS d0 v1 d2 a", "it leads elsewhere");
+    await reader.write("text", "proc control write int write int\nregs\nPUT 1 0 any 0\nPUT 1 0 any 1\nRET\nproc leaf write int\nregs int\nSTORE d0 v0\nRET\n");
+    await reader.write("limit", "5");
+    await reader.click("#run");
+    const limited = "The limit ended the run, so its result isn't known. Raise the limit.", answers = [];
+    for (const button of ["another", "other-result", "only-result"]) { await reader.click(`#${button}`); answers.push(await reader.seen("#order")); }
+    say(String(answers) === String([`Order 1. ${limited}`, limited, limited]), "what the limit ended is compared", answers);
     await reader.go(`${address}?example=barrier`); await reader.key("Shift");
     await reader.click("#only-result");
     say((await reader.seen("#order")).startsWith("This is the only result"), "no only result", await reader.seen("#order"));
