@@ -43,9 +43,18 @@ export class Browser {
         for (const id of [...this.waiting.keys()]) this.answer({id, error: {}, message: why});
     }
 
-    // Waits until an expression of the page is true. Returns whether it became so in some ms.
+    // Returns how long each thread of the browser's processes has computed, in ms, by its process and number.
+    computed() {
+        const numbers = folder => { try { return fs.readdirSync(folder).map(Number).filter(it => it); } catch { return []; } }, parents = new Map();
+        const read = file => { try { return fs.readFileSync(file, "utf8"); } catch { return ""; } }; // It may have ended.
+        for (const id of numbers("/proc")) parents.set(id, +(/\) \w (\d+)/.exec(read(`/proc/${id}/stat`))?.[1] ?? 0));
+        const isMine = id => id === this.child.pid || parents.has(id) && isMine(parents.get(id));
+        return [...parents.keys()].filter(isMine).flatMap(id => numbers(`/proc/${id}/task`).map(thread => ({id, thread, ms: +read(`/proc/${id}/task/${thread}/schedstat`).split(" ")[0] / 1e6})));
+    }
+
+    // Waits until an expression of the page is true. Returns whether it became so in some ms of a quiet machine.
     async until(evaluate, text, most) {
-        for (const from = Date.now(); !this.ended && Date.now() - from < most; await pause(20)) if (await evaluate(text).catch(() => false)) return true;
+        for (const from = Date.now(); !this.ended && Date.now() - from < most * PATIENCE; await pause(20)) if (await evaluate(text).catch(() => false)) return true;
         if (this.ended) throw new Error(this.ended);
         return false;
     }
@@ -97,5 +106,5 @@ export const open = (address, width = 1300, height = 1000) => driven(begin(width
         if (it.exceptionDetails) throw new Error(it.exceptionDetails.exception?.description || it.exceptionDetails.text);
         return it.result.value;
     };
-    return {ask, evaluate, messages, on: (method, act) => heard.set(method, act), until: (text, most = 30000) => browser.until(evaluate, text, most), close: () => browser.close()};
+    return {ask, evaluate, messages, on: (method, act) => heard.set(method, act), until: (text, most = 30000) => browser.until(evaluate, text, most), computed: () => browser.computed(), close: () => browser.close()};
 });

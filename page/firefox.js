@@ -56,7 +56,7 @@ export const open = (address, width = 1300, height = 1000) => driven(begin(), as
         // Firefox takes a change of address by the old document for the end of a navigation, and then never answers the next one: so the place is looked at.
         "Page.navigate": async ({url}) => {
             await send("browsingContext.navigate", {context, url, wait: "none"});
-            if (!await browser.until(evaluate, `document.readyState === "complete" && location.href.replace(/#.*/, "") === ${JSON.stringify(url.replace(/#.*/, ""))}`, 30000 * PATIENCE)) throw new Error(`${url} isn't reached`);
+            if (!await browser.until(evaluate, `document.readyState === "complete" && location.href.replace(/#.*/, "") === ${JSON.stringify(url.replace(/#.*/, ""))}`, 30000)) throw new Error(`${url} isn't reached`);
         },
         "Page.addScriptToEvaluateOnNewDocument": async ({source}) => ({identifier: (await send("script.addPreloadScript", {functionDeclaration: `() => { ${source} }`, contexts: [context]})).script}),
         "Page.removeScriptToEvaluateOnNewDocument": ({identifier}) => send("script.removePreloadScript", {script: identifier}),
@@ -77,6 +77,7 @@ export const open = (address, width = 1300, height = 1000) => driven(begin(), as
     return {
         ask, evaluate, messages, on: (method, act) => heard.set(method, act),
         until: (text, most = 30000) => browser.until(evaluate, text, most),
+        computed: () => browser.computed(),
         close: () => browser.close(),
     };
 });

@@ -27,7 +27,7 @@ const native = (words, input) => command(tw, words, {input});
 class Reader {
     constructor(page) { this.page = page; }
     js(text) { return this.page.evaluate(text); }
-    ready() { return this.page.until('document.body.dataset.state === "ready"', 60000 * PATIENCE); }
+    ready() { return this.page.until('document.body.dataset.state === "ready"', 60000); }
     // The text of an element as it is shown; empty where it is hidden.
     seen(what) { return this.js(`(() => { const it = document.querySelector(${JSON.stringify(what)}); return it?.checkVisibility() ? it.innerText.trim() : ""; })()`); }
     value(id) { return this.js(`document.getElementById("${id}").value`); }
@@ -58,7 +58,7 @@ class Reader {
     }
     async size(width, height = 900) { await this.page.ask("Emulation.setDeviceMetricsOverride", {width, height, deviceScaleFactor: 1, mobile: width < 600}); return this.pause(); }
     async scheme(value) { await this.page.ask("Emulation.setEmulatedMedia", {features: [{name: "prefers-color-scheme", value}]}); return this.pause(); }
-    async go(to) { await this.page.ask("Page.navigate", {url: "about:blank"}); await this.page.ask("Page.navigate", {url: to}); await this.page.until('document.body?.dataset.state === "ready"', 60000 * PATIENCE); }
+    async go(to) { await this.page.ask("Page.navigate", {url: "about:blank"}); await this.page.ask("Page.navigate", {url: to}); await this.page.until('document.body?.dataset.state === "ready"', 60000); }
     // Opens the page without saved contents. They are cleared in the new document, since the old one may save them until it is gone.
     async forget() {
         const {identifier} = await this.page.ask("Page.addScriptToEvaluateOnNewDocument", {source: "try { localStorage.clear(); indexedDB.deleteDatabase('yuglemit own'); } catch {}"});
@@ -78,6 +78,14 @@ class Reader {
     async shot(name, whole = false) { if (pictures) fs.writeFileSync(`${pictures}/${name}.png`, Buffer.from((await this.page.ask("Page.captureScreenshot", {format: "png", captureBeyondViewport: whole})).data, "base64")); }
 }
 
+// Does what returns its time by the page's clock in ms. Returns that, or what the page has computed if that is less: on a busy machine the clock says little.
+// Computed is what the main thread does alone, or else all threads of the process that did most.
+async function took(page, act, alone = true) {
+    const before = new Map(page.computed().map(it => [it.thread, it.ms])), clock = await act(), spent = new Map();
+    for (const {id, thread, ms} of page.computed()) if (!alone || id === thread) spent.set(id, (spent.get(id) ?? 0) + ms - (before.get(thread) ?? 0));
+    return Math.round(Math.min(clock / PATIENCE, Math.max(...spent.values())));
+}
+
 // The options and inputs of the fields.
 async function fieldWords(reader) {
     const inputs = await reader.js('[...document.querySelectorAll("#inputs input")].map(it => it.dataset.prefix + it.value)'), options = [];
@@ -87,16 +95,12 @@ async function fieldWords(reader) {
 
 // At first a program with names is shown, which plays from its start until it is touched.
 async function firstSight(reader, page) {
-    // The least of three starts counts, since other work on the machine only makes them longer; PATIENCE allows for more of it.
-    const most = 3000 * PATIENCE;
-    let after = await reader.js("+document.body.dataset.readyAfter");
-    for (let again = 0; after >= most && again < 2; again++) {
-        await reader.forget();
-        after = Math.min(after, await reader.js("+document.body.dataset.readyAfter"));
-    }
-    say(after < most, "ready late", after);
+    const {identifier} = await page.ask("Page.addScriptToEvaluateOnNewDocument", {source: `addEventListener("DOMContentLoaded", () => new MutationObserver((_, watch) => { if (document.body.dataset.state !== "ready") return; window.first = document.getElementById("at").textContent; watch.disconnect(); }).observe(document.body, {attributes: true}))`});
+    const after = await took(page, async () => { await reader.forget(); return reader.js("+document.body.dataset.readyAfter"); }, false);
+    await page.ask("Page.removeScriptToEvaluateOnNewDocument", {identifier});
+    say(after < 3000, "ready late", after);
     say((await reader.value("text")).startsWith("names\n"), "no names at first");
-    say(/^event [01] of \d+/.test(await reader.seen("#at")), "not at the first event", await reader.seen("#at"));
+    say((await reader.js("window.first")) === "event 0 of 22", "not at the first event", await reader.js("window.first"));
     say((await reader.seen("#play")) === "Pause", "it doesn't play");
     say(await page.until('!document.getElementById("at").textContent.startsWith("event 0 ")', 10000), "nothing plays");
     say((await reader.js("scrollY")) === 0 && await reader.js('document.getElementById("controls").getBoundingClientRect().bottom < innerHeight'), "the run is out of sight");
@@ -105,7 +109,7 @@ async function firstSight(reader, page) {
     say((await reader.js('document.activeElement === document.body')), "something has the focus");
     const {length} = zlib.gzipSync(fs.readFileSync(index), {level: 9});
     console.log(`ready after ${after} ms, ${length} bytes compressed`);
-    say(length < 750000, "the page is too large", length);
+    say(length < 800000, "the page is too large", length);
 }
 
 // Each example runs at the first click, with what the page has for it, and as tw runs it.
@@ -243,15 +247,12 @@ async function large(reader) {
     await paste(); await reader.pause();
     say(asked.length === 1 && asked[0].includes("16 MB") && (await reader.value("text")) === small && !await reader.js("window.allowed"), "not asked", asked);
     answering(true);
-    await watch(); await paste(); await reader.pause();
-    const pasted = await longest();
+    const pasted = await took(page, async () => { await watch(); await paste(); await reader.pause(); return longest(); });
     say((await reader.seen("#verdict")) === "The text has 16 MB. Run checks it, and then runs it." && (await reader.value("text")).length < 30000 && await reader.js('document.getElementById("text").readOnly'), "shown as a whole", await reader.seen("#verdict"));
-    await watch();
-    await reader.js('document.getElementById("run").click()'); await reader.pause();
-    const ran = await longest();
+    const ran = await took(page, async () => { await watch(); await reader.js('document.getElementById("run").click()'); await reader.pause(); return longest(); });
     say((await reader.seen("#out")) === "out 0 int 7\nquiet" && (await reader.seen("#verdict")).startsWith("Accepted"), "not run", await reader.seen("#out"), await reader.seen("#verdict"));
     console.log(`16 MB: the page waits for ${pasted} ms when it is pasted, ${ran} ms in a run`);
-    say(pasted < 1000 * PATIENCE && ran < 2000 * PATIENCE, "the page freezes", pasted, ran);
+    say(pasted < 1000 && ran < 2000, "the page freezes", pasted, ran);
     await reader.click("#undo");
     say((await reader.value("text")) === small && !await reader.js('document.getElementById("text").readOnly'), "no way back", (await reader.value("text")).slice(0, 60));
 }
@@ -442,7 +443,7 @@ const longText = remarks => "proc control write int\nregs int\nPUT 1 0 any 0\nRE
 
 // Editing never freezes: the page changes a long text within 0.2 s, by a planted mistake, by Undo and by a picked example. The least of three times counts.
 async function quick(reader) {
-    const took = what => reader.js(`new Promise(done => { const text = document.getElementById("text"), old = text.value, from = performance.now(); ${what}; const look = () => text.value === old ? setTimeout(look) : done(performance.now() - from); look(); })`);
+    const changed = what => reader.js(`new Promise(done => { const text = document.getElementById("text"), old = text.value, from = performance.now(); ${what}; const look = () => text.value === old ? setTimeout(look) : done(performance.now() - from); look(); })`);
     const undo = 'document.getElementById("undo").click()', plant = 'document.querySelector("#mistakes button:nth-child(3)").click()', choose = 'document.getElementById("pick").value = "fan_out"; document.getElementById("pick").dispatchEvent(new Event("change"))';
     for (const [name, remarks] of Object.entries(LONG_TEXTS)) {
         await reader.forget(); await reader.key("Shift");
@@ -450,17 +451,17 @@ async function quick(reader) {
         await reader.ready();
         const keys = [];
         for (let k = 0; k < 9; k++) {
-            keys.push(await reader.js('(() => { const it = document.getElementById("text"); it.focus(); it.setSelectionRange(30, 30); const from = performance.now(); document.execCommand("insertText", false, ";"); document.getElementById("paint").offsetHeight; return performance.now() - from; })()'));
+            keys.push(await took(reader.page, () => reader.js('(() => { const it = document.getElementById("text"); it.focus(); it.setSelectionRange(30, 30); const from = performance.now(); document.execCommand("insertText", false, ";"); document.getElementById("paint").offsetHeight; return performance.now() - from; })()')));
             await reader.ready();
         }
-        console.log(`${name}, a key: ${keys.map(it => Math.round(it)).join(", ")} ms`);
-        say(Math.min(...keys) < 200 * PATIENCE, name, "a key takes", keys);
+        console.log(`${name}, a key: ${keys.join(", ")} ms`);
+        say(Math.min(...keys) < 200, name, "a key takes", keys);
         await reader.js(`(() => { const it = document.getElementById("text"); it.value = ${JSON.stringify(longText(remarks))}; document.body.dataset.state = "busy"; it.dispatchEvent(new Event("input")); })()`);
         await reader.ready();
         const times = {plant: [], "undo of it": [], pick: [], "undo of the pick": []};
         for (let again = 0; again < 3; again++)
-            for (const [what, act] of [["plant", plant], ["undo of it", undo], ["pick", choose], ["undo of the pick", undo]]) { times[what].push(await took(act)); await reader.ready(); }
-        for (const [what, all] of Object.entries(times)) { console.log(`${name}, ${what}: ${all.map(it => Math.round(it)).join(", ")} ms`); say(Math.min(...all) < 200 * PATIENCE, name, what, "takes", all); }
+            for (const [what, act] of [["plant", plant], ["undo of it", undo], ["pick", choose], ["undo of the pick", undo]]) { times[what].push(await took(reader.page, () => changed(act), false)); await reader.ready(); }
+        for (const [what, all] of Object.entries(times)) { console.log(`${name}, ${what}: ${all.join(", ")} ms`); say(Math.min(...all) < 200, name, what, "takes", all); }
         say((await reader.value("text")) === longText(remarks), name, "another text");
     }
 }
@@ -484,9 +485,9 @@ async function millions(reader) {
     say((await reader.seen("#at")).endsWith("of 900,000"), "not all events", await reader.seen("#at"));
     await reader.event(900000);
     say((await reader.seen("#data")).includes("running"), "another end", await reader.seen("#data"));
-    const step = button => reader.js(`(() => { const from = performance.now(); document.getElementById("${button}").click(); document.body.offsetHeight; return performance.now() - from; })()`);
+    const step = button => took(reader.page, () => reader.js(`(() => { const from = performance.now(); document.getElementById("${button}").click(); document.body.offsetHeight; return performance.now() - from; })()`));
     await reader.event(800000);
-    for (const button of ["on", "back"]) { const times = []; for (let k = 0; k < 9; k++) times.push(await step(button)); console.log(`a step ${button} at event 800,000: ${times.map(it => Math.round(it)).join(", ")} ms`); say(Math.min(...times) < 100 * PATIENCE, "at 800,000", button, "takes", times); }
+    for (const button of ["on", "back"]) { const times = []; for (let k = 0; k < 9; k++) times.push(await step(button)); console.log(`a step ${button} at event 800,000: ${times.join(", ")} ms`); say(Math.min(...times) < 100, "at 800,000", button, "takes", times); }
     await reader.write("limit", "100000");
     await reader.click("#run"); await reader.key("Shift");
     await reader.event(50000);
@@ -495,7 +496,7 @@ async function millions(reader) {
     say(await width() <= await reader.js('document.getElementById("lanes").clientWidth'), "not the whole run", await width());
     for (let k = 0; k < 14; k++) await reader.js('document.getElementById("lanes").focus(); document.getElementById("lanes").dispatchEvent(new KeyboardEvent("keydown", {key: "+"}))');
     say(await width() >= 20 * 100000 && await reader.js('(() => { const box = document.getElementById("lanes").getBoundingClientRect(), now = document.querySelector("#lanes .now").getBoundingClientRect(); return now.left >= box.left && now.right <= box.right; })()'), "no zoom", await width());
-    for (const button of ["on", "back"]) { const times = []; for (let k = 0; k < 5; k++) times.push(await step(button)); say(Math.min(...times) < 100 * PATIENCE, button, "takes", times); }
+    for (const button of ["on", "back"]) { const times = []; for (let k = 0; k < 5; k++) times.push(await step(button)); say(Math.min(...times) < 100, button, "takes", times); }
     await reader.write("limit", "10000");
 }
 
@@ -603,7 +604,7 @@ async function opening(reader) {
     const there = await reader.value("text");
     say((await take("g.txt", long.text)) === there && (await reader.seen("#ended")) === `The trace of the file: ${events.split("\n").length - 3} events.` && (await reader.seen("#trace-read")) === "", "a trace alone isn't followed", await reader.value("text"), await reader.seen("#ended"));
     await reader.js(`(() => { const moved = new DataTransfer(); moved.items.add(new File([${JSON.stringify(race)}], "dropped.tw")); for (const kind of ["dragover", "drop"]) document.body.dispatchEvent(new DragEvent(kind, {dataTransfer: moved, bubbles: true, cancelable: true})); })()`);
-    await reader.page.until(`document.getElementById("text").value === ${JSON.stringify(race)}`, 5000 * PATIENCE); await reader.ready();
+    await reader.page.until(`document.getElementById("text").value === ${JSON.stringify(race)}`, 5000); await reader.ready();
     say((await reader.value("text")) === race && (await reader.js('document.getElementById("pick").selectedOptions[0].textContent')).startsWith("dropped ("), "a drop isn't opened", await reader.seen("#said"));
     const before = await reader.value("text");
     say((await take("e.hex", "00 01")) === before && (await reader.seen("#said")).startsWith("e.hex isn't a program: refused"), "another file is opened", await reader.seen("#said"));
@@ -805,12 +806,12 @@ async function another(reader) {
     await reader.click("#only-result");
     say((await reader.seen("#order")).startsWith("This is the only result"), "no only result", await reader.seen("#order"));
     await reader.js('document.getElementById("other-result").click()');
-    say(await reader.page.until('/^Order \\d+ of 1,000 is tried/.test(document.getElementById("order").textContent) && !document.getElementById("stop").disabled', 60000 * PATIENCE), "no progress", await reader.seen("#order"));
+    say(await reader.page.until('/^Order \\d+ of 1,000 is tried/.test(document.getElementById("order").textContent) && !document.getElementById("stop").disabled', 60000), "no progress", await reader.seen("#order"));
     say((await reader.seen("#followed")) === "" && await reader.js('!document.getElementById("following").hidden'), "orders are tried like events", await reader.seen("#followed"));
     await reader.js('document.getElementById("stop").click()'); await reader.ready();
     say((await reader.seen("#order")) === "stopped" && await reader.js('document.getElementById("following").hidden'), "not stopped", await reader.seen("#order"));
     await reader.click("#other-result");
-    await reader.page.until('/^1,000 orders/.test(document.getElementById("order").textContent)', 60000 * PATIENCE);
+    await reader.page.until('/^1,000 orders/.test(document.getElementById("order").textContent)', 60000);
     say((await reader.seen("#order")).startsWith("1,000 orders had the outputs"), "not all orders", await reader.seen("#order"));
 }
 
@@ -1023,7 +1024,7 @@ async function begin(tries = 3) {
         throw error;
     }
     reader = new Reader(page);
-    say(await page.until('document.body?.dataset.state === "ready"', 60000 * PATIENCE), "the page isn't ready");
+    say(await page.until('document.body?.dataset.state === "ready"', 60000), "the page isn't ready");
 }
 
 // Ends the browser. What it said is an error.
