@@ -242,7 +242,7 @@ async function large(reader) {
     const {page} = reader, small = await reader.value("text"), asked = [], seven = fs.readFileSync(`${examples}/store_seven.tw`, "utf8"), line = "; a remark of a large text, with some words in it\n";
     const answering = accept => page.on("Page.javascriptDialogOpening", ({message}) => { asked.push(message); page.ask("Page.handleJavaScriptDialog", {accept}); });
     const paste = () => reader.js(`void (() => { const it = document.getElementById("text"); it.focus(); it.select(); window.allowed = it.dispatchEvent(new InputEvent("beforeinput", {inputType: "insertFromPaste", data: ${JSON.stringify(line)}.repeat(${Math.floor(15.9 * 1048576 / line.length)}) + ${JSON.stringify(seven)}, cancelable: true, bubbles: true})); })()`);
-    const watch = () => reader.js('void (() => { let last = performance.now(); clearInterval(window.watching); window.longest = 0; window.watching = setInterval(() => { const now = performance.now(); window.longest = Math.max(window.longest, now - last); last = now; }, 5); })()'), longest = async () => Math.round(await reader.js("window.longest"));
+    const watch = () => reader.js('void (() => { let last = performance.now(); clearInterval(window.watching); window.longest = 0; window.watching = setInterval(() => { const now = performance.now(); window.longest = Math.max(window.longest, now - last); last = now; }, 50); })()'), longest = async () => Math.round(await reader.js("window.longest"));
     answering(false);
     await paste(); await reader.pause();
     say(asked.length === 1 && asked[0].includes("16 MB") && (await reader.value("text")) === small && !await reader.js("window.allowed"), "not asked", asked);
