@@ -33,7 +33,10 @@ export class Files {
             case "text": return [/^\s*names\b/m.test(editor.text) ? "twn" : "tw", editor.text, "text/plain"];
             case "bytes": return ["hex", await ask(["asm", "--names"], editor.text), "text/plain"];
             case "trace": return ["history", `${await ask(["asm", "--names"], results.last.text)}${this.history.slice(results.last.text.length + 1)}`, "text/plain"];
-            case "timeline": return ["svg", await ask(["picture", "--text", ...results.last.words], this.history), "image/svg+xml"];
+            case "timeline": {
+                const {text, words, limit, seed, read} = results.last; // A run's own picture says that its limit ended it, which a trace can't.
+                return ["svg", await (read ? ask(["picture", "--text", ...words], this.history) : ask(["run", "--text", "--picture", "--limit", String(limit), ...ordered(seed), ...words], text)), "image/svg+xml"];
+            }
             case "python": return ["py", pythonOf(this.contents.current, this.fileName), "text/x-python"];
             case "chrome": { const run = this.run(); return ["json", run ? chromeTrace(run, this.fileName) : "", "application/json"]; }
             default: return ["txt", results.last.report, "text/plain"];

@@ -345,7 +345,7 @@ async function downloads(reader) {
     const trace = native([...run, "--trace", ...words], text).text.match(/^events\n[^]*?^end\n/m)[0];
     const wanted = {twn: text, hex: native(["asm", "--names"], text).text, txt: native([...run, ...words], text).text, history: `${native(["asm", "--names"], text).text}${trace}`};
     for (const what of ["text", "bytes", "report", "trace", "timeline"]) await reader.click(`[data-give=${what}]`);
-    wanted.svg = native(["picture", "--text", ...words], `${text}\n${trace}`).text;
+    wanted.svg = native([...run, "--picture", ...words], text).text;
     for (let k = 0; k < 100 && fs.readdirSync(room).filter(it => /^pipeline\.(twn|hex|txt|history|svg)$/.test(it)).length < 5; k++) await pause(50);
     for (const [ending, is] of Object.entries(wanted)) say(fs.existsSync(`${room}/pipeline.${ending}`) && fs.readFileSync(`${room}/pipeline.${ending}`, "utf8") === is, "another file", ending, fs.readdirSync(room));
     say(native(["replay", `${room}/pipeline.history`, ...words.filter(it => !it.startsWith("--limit"))], "").text === wanted.txt, "the trace isn't replayed from its file");
@@ -360,6 +360,12 @@ async function downloads(reader) {
     else say(schema.status === 0, "the Chrome trace has another form", schema.trouble.slice(-600));
     await reader.click("#stats");
     say((await reader.seen("#numbers")) === native([...run, "--stats", ...words], text).text.trim(), "other numbers");
+    await reader.write("limit", "9"); await reader.click("#run"); await reader.key("Shift");
+    fs.rmSync(`${room}/pipeline.svg`);
+    await reader.click("[data-give=timeline]");
+    for (let k = 0; k < 100 && !fs.existsSync(`${room}/pipeline.svg`); k++) await pause(50);
+    say(fs.readFileSync(`${room}/pipeline.svg`, "utf8").includes(">ended by limit</text>"), "a timeline's head");
+    await reader.write("limit", "10000");
     await reader.click("#another");
     fs.rmSync(`${room}/pipeline.history`); fs.rmSync(`${room}/pipeline.txt`); fs.rmSync(`${room}/pipeline.hex`);
     for (const what of ["report", "trace", "bytes", "python"]) { await reader.click(`[data-give=${what}]`); lines.push(await reader.seen("#command code")); }
@@ -397,6 +403,15 @@ async function long(reader) {
     await reader.click("#run"); await reader.key("Shift"); await reader.event(10000);
     say((await reader.seen("#at")) === "event 10,000 of 10,000" && (await reader.seen("#ended")).startsWith("Ended by the limit"), "many events", await reader.seen("#at"), await reader.seen("#ended"));
     say((await reader.js('document.querySelectorAll("#lanes svg *").length')) < 3000, "all marks are drawn");
+    await reader.write("text", "names\nversion 4\nproc control main(numbers: closed map int, answer: write int)\nregs subscript: int, index: int, one: int\nINT one 1\nREPEAT 20\nREPEAT 1000\nSUBAT subscript numbers index none\nnone:\nADD index index one over\nover:\nEND\nEND\nDROPR numbers\nSTORE answer subscript\nRET\n");
+    await reader.js('(() => { const it = document.getElementById("input-0"); it.value = Array.from({length: 20000}, (_, k) => `${k}=1`).join(","); it.dispatchEvent(new Event("input")); })()');
+    await reader.ready();
+    await reader.write("limit", "100000");
+    const read = await took(reader.page, async () => { const from = Date.now(); await reader.click("#run"); await reader.page.until('document.getElementById("step").max === "40005" && document.body.dataset.state === "ready"', 60000); return Date.now() - from; }, false);
+    console.log(`20,000 subscripts of a map are read in ${read} ms`);
+    say((await reader.seen("#out")) === "out 0 int 19999\nquiet" && read < 10000, "a large map takes", read, await reader.seen("#out"));
+    await reader.key("Shift");
+    await reader.write("limit", "10000");
     await reader.write("text", "proc control\nregs\nRET\n");
 }
 
