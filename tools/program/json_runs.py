@@ -214,8 +214,6 @@ def error_object(session: Session, status: int, text: bytes) -> dict[str, Any]:
         first = next(number for number, line in enumerate(lines) if line.startswith("refused "))
         found["listing"], lines = lines[:first], lines[first:]
     error, *more = positions.errors_in(lines)
-    if error[0].startswith("not enabled"):
-        error = error[:1]  # why isn't said in JSON
     found["error"] = error_members(error, given)
     return found | ({"more": [error_members(one, given) for one in more]} if more else {})
 

@@ -1,5 +1,10 @@
 -- Details after replies about programs that were read from a text.
-use Rattle.std.proofs.Common.{◌≡◌, ◌≢◌, ◌++◌, ◌∙◌, ℕ, List, [], Option, Some, None, refl, sym, ap, subst}
+use Rattle.std.proofs.Common.{◌≡◌, ◌≢◌, ◌==◌, ◌||◌, ◌++◌, ◌∙◌, ◌∷◌, ℕ, List, [], Option, Some, None, refl, sym, ap, inl, inr, subst}
+use Rattle.std.proofs.lemmas.List.Elements.{All-nil, All-cons}
+use Rattle.std.proofs.lemmas.List.Folds.{list_all-append}
+use Rattle.std.proofs.lemmas.Str.{encodes-append}
+use Rattle.std.proofs.Math.Utf8.{encode}
+use Rattle.std.specs.List.{All, list_any}
 use Rattle.tw_replay_output.proofs.ReplayNames.{AreAnswerDetails, AreStateDetails, Event, Input, AreEndingDetails, IsAnswer, IsAnswerFrom, IsDetailed, IsReplayFrom, IsReplayOf, MayBeSource, NotEnabled, Outcome, PlainView, Position, Procedure, Spoken as Reply, Start, State, PrintsCircle, Trap, Went, append-nil, coded, failed, failed_with, open_error_code, reached_from, reply, run, text_of}
 use Rattle.tw_types.specs.declared.ending.Ending.{Ending}
 use Rattle.tw_types.specs.declared.ending.Ending.TheVariants.{Stuck}
@@ -15,7 +20,7 @@ use Rattle.tw_code.specs.machine.Inputs.{has_fitting_inputs, has_input_count}
 use Rattle.tw_source.specs.Failure.{code_text, failure_line, position_text}
 use Rattle.tw_source.specs.declared.failure.Position.TheVariants as position
 use Rattle.tw_replay_output.specs.Opening.{AreOpeningDetails, IsUnfitAt, IsWrongInput}
-use Rattle.tw_replay_output.specs.Replay.{ByOutcome, AreRejectionDetails, MayExplain}
+use Rattle.tw_replay_output.specs.Replay.{ByOutcome, AreRejectionDetails, AreReportDetails, IsReason, MayExplain}
 use Rattle.tw_source.specs.declared.close.Close.TheVariants as close
 use Rattle.tw_source.specs.declared.source.SourceText.{SourceText}
 use Rattle.tw_replay_output.specs.declared.replaying.Replaying.{Replaying}
@@ -87,8 +92,15 @@ IsReported Numbers = Unit {0}
 IsReported Json = ⊥
 IsReported (Picture shown) = ⊥
 
+-- holds for one that says why an event failed
+abbrev pub IsExplained : Answer → Type 0
+IsExplained Report = Unit {0}
+IsExplained Numbers = Unit {0}
+IsExplained Json = Unit {0}
+IsExplained (Picture shown) = ⊥
+
 abbrev pub PrintsEnding : List ℕ → Start → List Event → Outcome State → List ℕ → Type 0
-PrintsEnding text start events o more = ByOutcome o (λ s. AreEndingDetails text start events s (ending s) more) (HidesNothing more)
+PrintsEnding text start events o more = ByOutcome o (λ s. AreEndingDetails text start events s (ending s) more) (IsReason more)
 
 in_text : (answer : Answer) (text : List ℕ) (start : Start) (events : List Event) (more : List ℕ) → IsReported answer → PrintsEnding text start events (reached_from start events) more → AreAnswerDetails (Some text) answer start events more
 in_text Report text start events more is h = h
@@ -102,20 +114,42 @@ details_reached : (text : Option (List ℕ)) (answer : Answer) (start : Start) (
 details_reached None answer start events s more is leads h = h
 details_reached (Some text) answer start events s more is leads h = in_text answer text start events more is (subst (λ (o : Outcome State). PrintsEnding text start events o more) (sym leads) h)
 
-no_ending : (text : List ℕ) (start : Start) (events : List Event) (o : Outcome State) (X : Type 0) (more : List ℕ) → ByOutcome o (λ s. ⊥) X → HidesNothing more → PrintsEnding text start events o more
-no_ending text start events (Went s) X more h seen = absurd h
-no_ending text start events NotEnabled X more h seen = seen
-no_ending text start events (Trap cause) X more h seen = seen
+after_failure : (o : Outcome State) (goes : State → Type 0) (X Y : Type 0) → ByOutcome o (λ s. ⊥) X → Y → ByOutcome o goes Y
+after_failure (Went s) goes X Y h is = absurd h
+after_failure NotEnabled goes X Y h is = is
+after_failure (Trap cause) goes X Y h is = is
 
--- a visible text may explain why
-pub explains : (bytes : List ℕ) → HidesNothing (visible_bytes bytes)
-explains bytes = nothing_is_hidden Lines (utf8_lossy bytes)
+pub hides_nothing : (bytes : List ℕ) → HidesNothing (visible_bytes bytes)
+hides_nothing bytes = nothing_is_hidden Lines (utf8_lossy bytes)
+
+no_feed_first : (b : ℕ) (text : List ℕ) (first : Bool) → (b == 10) ≡ first → (first || list_any (λ b. b == 10) text) ≡ false
+    → (list_any (λ b. b == 10) text ≡ false → All (λ byte. byte ≢ 10) text) → All (λ byte. byte ≢ 10) (b ∷ text)
+no_feed_first b text true is none others = absurd cc
+no_feed_first b text false is none others = All-cons (λ byte. byte ≢ 10) b text (λ same. let wrong : (10 == 10) ≡ false = subst (λ n. (n == 10) ≡ false) same is in cc) (others none)
+
+without_feeds : (text : List ℕ) → list_any (λ b. b == 10) text ≡ false → All (λ byte. byte ≢ 10) text
+without_feeds [] none = All-nil (λ byte. byte ≢ 10)
+without_feeds (b ∷ text) none = no_feed_first b text (b == 10) refl none (without_feeds text)
+
+-- what hides nothing and has no line feed is a line, if one follows
+pub is_reason : (text : List ℕ) → HidesNothing text → list_any (λ b. b == 10) text ≡ false → IsReason (text ++ codes "\n")
+unfolding encode
+is_reason text (cs, is, seen) none =
+    let line : HidesNothing (text ++ codes "\n") = (cs ++ 10 ∷ [], ap (λ (t : List ℕ). t ++ codes "\n") is ∙ sym (encodes-append cs (10 ∷ [])), rw (list_all-append, seen) refl) in
+    inr (line, (text, refl, without_feeds text none))
+
+explained : (answer : Answer) (text : List ℕ) (start : Start) (events : List Event) (o : Outcome State) (X : Type 0) (more : List ℕ) → IsExplained answer → ByOutcome o (λ s. ⊥) X → IsReason more
+    → AreReportDetails answer text start events o more
+explained Report text start events o X more is h said = after_failure o (λ s. AreEndingDetails text start events s (ending s) more) X (IsReason more) h said
+explained Numbers text start events o X more is h said = after_failure o (λ s. AreEndingDetails text start events s (ending s) more) X (IsReason more) h said
+explained Json text start events o X more is h said = after_failure o (λ s. more ≡ []) X (IsReason more) h said
+explained (Picture shown) text start events o X more is h said = absurd is
 
 -- those of an event that failed
-details_stopped : (text : Option (List ℕ)) (answer : Answer) (start : Start) (events : List Event) (o : Outcome State) (X : Type 0) (more : List ℕ) → IsReported answer → o ≡ reached_from start events → ByOutcome o (λ s. ⊥) X → MayExplain text more
+details_stopped : (text : Option (List ℕ)) (answer : Answer) (start : Start) (events : List Event) (o : Outcome State) (X : Type 0) (more : List ℕ) → IsExplained answer → o ≡ reached_from start events → ByOutcome o (λ s. ⊥) X → MayExplain text more
     → AreAnswerDetails text answer start events more
 details_stopped None answer start events o X more is same h said = said
-details_stopped (Some text) answer start events o X more is same h said = in_text answer text start events more is (subst (λ (p : Outcome State). PrintsEnding text start events p more) same (no_ending text start events o X more h said))
+details_stopped (Some text) answer start events o X more is same h said = subst (λ (p : Outcome State). AreReportDetails answer text start events p more) same (explained answer text start events o X more is h said)
 
 pub stopped_is : (o : Outcome State) (X : Type 0) → ByOutcome o (λ s. ⊥) X → X
 stopped_is (Went s) X h = absurd h
@@ -133,7 +167,12 @@ alone Answers text answer start events r h none = (r, [], h, none, ap (λ (t : L
 
 json_details : (text : Option (List ℕ)) (start : Start) (events : List Event) → AreAnswerDetails text Json start events []
 json_details None start events = refl
-json_details (Some text) start events = refl
+json_details (Some text) start events = by (reached_from start events)
+  where
+    by : (o : Outcome State) → AreReportDetails Json text start events o []
+    by (Went s) = refl
+    by NotEnabled = inl refl
+    by (Trap cause) = inl refl
 
 picture_details : (text : Option (List ℕ)) (shown : EventRange) (start : Start) (events : List Event) → AreAnswerDetails text (Picture shown) start events []
 picture_details None shown start events = refl
@@ -153,7 +192,7 @@ module _ (source : Option SourceText) (answer : Answer) (first : PlainView) (eve
       let (more, are, whole) = added start events may replay in
       (answered, more, is, details_reached (text_of source) answer start events replaying.plain.state more reported replay.leads are, whole)
 
-  pub from_stopped : (X : Type 0) (answered : Reply) → IsReported answer → IsAnswer answer first events answered → ByOutcome (run first.program first.layout events first.state) (λ s. ⊥) X
+  pub from_stopped : (X : Type 0) (answered : Reply) → IsExplained answer → IsAnswer answer first events answered → ByOutcome (run first.program first.layout events first.state) (λ s. ⊥) X
       → ((more : List ℕ) × MayExplain (text_of source) more × (r ≡ reply (answered.text ++ more) answered.close)) → IsAnswerFrom source answer first events r
   from_stopped X answered reported is stopped (more, said, whole) = λ start opened may.
       (answered, more, is, details_stopped (text_of source) answer start events (run first.program first.layout events first.state) X more reported (from_there start first events opened) stopped said, whole)

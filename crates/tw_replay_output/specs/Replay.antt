@@ -18,6 +18,7 @@ use Rattle.tw_bounds.specs.Runs.{instructions_in}
 use Rattle.tw_order.specs.declared.runs.Answer.{Answer}
 use Rattle.tw_order.specs.declared.runs.Answer.TheVariants.{Json, Numbers, Picture, Report}
 use Rattle.tw_order.specs.declared.runs.ReplayOrder.{ReplayOrder}
+use Rattle.tw_json_output.specs.Lines.{IsOneLine}
 use Rattle.tw_json_output.specs.Run.{json_line, run_json}
 use Rattle.tw_machine.specs.PlainView.{PlainView}
 use Rattle.tw_machine.specs.declared.rejection.OpenError.{OpenError}
@@ -126,16 +127,20 @@ IsAnswer (Picture shown) first events r = IsDrawn first events r
 
 -- ---- details of an answer, if the program was read from a text
 
--- holds for what says why an event failed; without a text that isn't said
+-- holds for a line that says why an event failed, or for none
+abbrev pub IsReason : List ℕ → Type 0
+IsReason more = (more ≡ []) ⊎ (HidesNothing more × IsOneLine more)
+
+-- without a text that isn't said
 abbrev pub MayExplain : Option (List ℕ) → List ℕ → Type 0
 MayExplain None more = more ≡ []
-MayExplain (Some text) more = HidesNothing more
+MayExplain (Some text) more = IsReason more
 
--- holds for the details of a report and of statistics, also if an event failed; a timeline and a JSON line have none
+-- holds for the details of a report and of statistics, or for why an event failed; a timeline has none, and a JSON line only the latter
 abbrev pub AreReportDetails : Answer → List ℕ → Start → List Event → Outcome State → List ℕ → Type 0
 AreReportDetails (Picture shown) text start events o more = more ≡ []
-AreReportDetails Json text start events o more = more ≡ []
-AreReportDetails answer text start events o more = ByOutcome o (λ s. AreEndingDetails text start events s (machine.ending s) more) (HidesNothing more)
+AreReportDetails Json text start events o more = ByOutcome o (λ s. more ≡ []) (IsReason more)
+AreReportDetails answer text start events o more = ByOutcome o (λ s. AreEndingDetails text start events s (machine.ending s) more) (IsReason more)
 
 abbrev pub AreAnswerDetails : Option (List ℕ) → Answer → Start → List Event → List ℕ → Type 0
 AreAnswerDetails None answer start events more = more ≡ []

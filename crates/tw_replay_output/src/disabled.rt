@@ -6,7 +6,7 @@ use tw_machine::{Frame, Plain, Rule, Stopped, actor_of};
 use tw_source::Reply;
 use tw_types::{Actor, Event, Layout, RuleNo};
 
-/// The reply to an event that isn't enabled or traps, and a line that says why it isn't enabled.
+/// The reply to an event that isn't enabled or traps, and a line that says why it isn't enabled, without a line feed.
 #[derive(Drop)]
 pub struct Unplayed {
     pub reply: Reply,
@@ -32,10 +32,10 @@ fn missing_line(alloc: Global, layout: Layout, actor: Actor) -> Result<String, A
     };
     let name = name_of(alloc, actor)?;
     if actor.number() >= most {
-        return format!(in alloc; "there is no {name}, not even with {option} {most}\n");
+        return format!(in alloc; "there is no {name}, not even with {option} {most}");
     }
     let needed = u32::from(actor.number()) + 1;
-    format!(in alloc; "there is no {name} with {option} {count}; {option} {needed} has it\n")
+    format!(in alloc; "there is no {name} with {option} {count}; {option} {needed} has it")
 }
 
 /// Returns the instruction that a task executes next.
@@ -58,7 +58,7 @@ fn next_line(
         Some(Instr::Ret) => "RET, which is an event `end`",
         _ => "an event `call`",
     };
-    format!(in alloc; "at place {place} of procedure {procedure} {name} has {event}\n")
+    format!(in alloc; "at place {place} of procedure {procedure} {name} has {event}")
 }
 
 /// Says what an actor's task does in place of its event.
@@ -78,15 +78,15 @@ fn task_line(
     }
     let (place, procedure) = (frame.place(), frame.procedure());
     format!(in alloc;
-        "from place {place} of procedure {procedure} on {name} has only so many local instructions: {there}\n"
+        "from place {place} of procedure {procedure} on {name} has only so many local instructions: {there}"
     )
 }
 
 /// Says why an actor takes no task.
 fn take_line(alloc: Global, plain: &Plain, actor: Actor, name: &str) -> Result<String, AllocError> {
     match plain.state().frame(actor) {
-        Some(_) => format!(in alloc; "the task of {name} hasn't ended\n"),
-        None => format!(in alloc; "no task waits that {name} may take\n"),
+        Some(_) => format!(in alloc; "the task of {name} hasn't ended"),
+        None => format!(in alloc; "no task waits that {name} may take"),
     }
 }
 
@@ -99,10 +99,10 @@ fn stage_line(
 ) -> Result<String, AllocError> {
     let number = number.number();
     if let Some(parameter) = parameter {
-        return format!(in alloc; "rule {number} needn't ask for parameter {parameter}\n");
+        return format!(in alloc; "rule {number} needn't ask for parameter {parameter}");
     }
     match rule.stages().iter().position(|stage| !stage.is_settled()) {
-        Some(parameter) => format!(in alloc; "rule {number} waits for parameter {parameter}\n"),
+        Some(parameter) => format!(in alloc; "rule {number} waits for parameter {parameter}"),
         None => Ok(String::new(alloc)),
     }
 }
@@ -116,17 +116,17 @@ fn rule_line(
     parameter: Option<u8>,
 ) -> Result<String, AllocError> {
     if plain.state().frame(Actor::Engine(engine)).is_some() {
-        return format!(in alloc; "the task of e{engine} hasn't ended\n");
+        return format!(in alloc; "the task of e{engine} hasn't ended");
     }
     match plain.state().rules().get(&number.number()) {
         Some(rule) if rule.engine() == engine => stage_line(alloc, number, rule, parameter),
         Some(rule) => {
             let (number, engine) = (number.number(), rule.engine());
-            format!(in alloc; "rule {number} is of e{engine}\n")
+            format!(in alloc; "rule {number} is of e{engine}")
         }
         None => {
             let number = number.number();
-            format!(in alloc; "rule {number} isn't pending\n")
+            format!(in alloc; "rule {number} isn't pending")
         }
     }
 }
@@ -147,12 +147,12 @@ fn line_of(alloc: Global, plain: &Plain, event: Event) -> Result<String, AllocEr
         Event::Deliver(server, datum, rule, parameter) => {
             let (datum, rule) = (datum.number(), rule.number());
             format!(in alloc;
-                "s{server} has no notice of datum {datum} for parameter {parameter} of rule {rule}\n"
+                "s{server} has no notice of datum {datum} for parameter {parameter} of rule {rule}"
             )
         }
         Event::Local(_, _) | Event::Call(_) | Event::End(_) => match plain.state().frame(actor) {
             Some(frame) => task_line(alloc, plain, name.as_str(), frame, event),
-            None => format!(in alloc; "{name} has no task\n"),
+            None => format!(in alloc; "{name} has no task"),
         },
     }
 }

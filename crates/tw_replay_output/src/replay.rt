@@ -129,7 +129,7 @@ fn answer_of(
     match answer {
         Answer::Report => report_reply(alloc, source, first, events),
         Answer::Numbers => counted_reply(alloc, source, first, events, &names, budgets),
-        Answer::Json => json_reply(alloc, first, events),
+        Answer::Json => json_reply(alloc, source, first, events),
         Answer::Picture(shown) => draw(alloc, shown, names, first, events, None),
     }
 }

@@ -1,6 +1,7 @@
 //! Details after the reply to a replay of a program that was read from a text.
 
-ghost use Rattle.std.specs.Prelude.{◌≡◌, ◌≢◌, ◌++◌, ℕ, List, IfOk, OnOk};
+ghost use Rattle.std.specs.Prelude.{◌≡◌, ◌≢◌, ◌==◌, ◌++◌, ℕ, List, IfOk, OnOk};
+ghost use Rattle.std.specs.List.{list_any};
 ghost use Rattle.tw_types.specs.declared.event.Event.{Event as AnEvent};
 ghost use Rattle.tw_code.specs.machine.Ending.{ending};
 ghost use Rattle.tw_machine.specs.Opening.{open_error_code};
@@ -8,7 +9,7 @@ ghost use Rattle.tw_source.specs.Failure.{coded, failed_with};
 ghost use Rattle.tw_source.specs.Reply.{reply};
 ghost use Rattle.tw_source.specs.Source.{IsSource, MayBeSource, text_of};
 ghost use Rattle.tw_replay_output.specs.Circle.{AreEndingDetails, Start};
-ghost use Rattle.tw_replay_output.specs.Replay.{AreRejectionDetails, MayExplain};
+ghost use Rattle.tw_replay_output.specs.Replay.{AreRejectionDetails, IsReason, MayExplain};
 ghost use Rattle.tw_replay_output.specs.Stuck.{AreStateDetails, IsReplayOf};
 
 use crate::disabled::Unplayed;
@@ -18,9 +19,10 @@ use crate::stuck::put_circle;
 use std::alloc::{AllocError, Global};
 use tw_machine::{OpenError, OpenRefused};
 use tw_order::ReplayOrder;
+use tw_report::put;
 use tw_source::{Position, Reply, SourceText, failed_reply};
 use tw_types::Ending;
-use tw_visible::put_visible;
+use tw_visible::visible_bytes;
 
 /// Returns the reply to a program that isn't opened.
 pub fn unopened_reply(
@@ -82,6 +84,25 @@ pub fn put_state_details(
     }
 }
 
+/// Returns whether a text has a line feed.
+fn has_feed(text: &[u8]) -> bool
+    ensures { result ≡ list_any (λ b. b == 10) text.now }
+{
+    text.iter().any(|byte| *byte == b'\n')
+}
+
+/// Adds a line that says why an event failed, without hidden characters. There is none if nothing is said, or more than one line.
+fn put_why(alloc: Global, out: &mut Vec<u8>, why: &str) -> Result<(), AllocError>
+    ensures { OnOk result ((more : List ℕ) × IsReason more × (out.new.items ≡ out.old.items ++ more)) }
+{
+    let line = visible_bytes(alloc, why.as_bytes())?;
+    if line.is_empty() || has_feed(&line) {
+        return Ok(());
+    }
+    out.extend_from_slice(&line)?;
+    put(out, "\n")
+}
+
 /// Adds why an event failed. Without a text that isn't said.
 fn put_reason(
     alloc: Global,
@@ -92,7 +113,7 @@ fn put_reason(
     ensures { OnOk result ((more : List ℕ) × MayExplain (text_of source.now) more × (out.new.items ≡ out.old.items ++ more)) }
 {
     match source {
-        Some(_) => put_visible(alloc, out, why.as_bytes()),
+        Some(_) => put_why(alloc, out, why),
         None => Ok(()),
     }
 }

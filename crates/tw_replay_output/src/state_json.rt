@@ -4,16 +4,19 @@ ghost use Rattle.std.specs.Prelude.{◌≡◌, ◌≤◌, IfOk, length, string_b
 ghost use Rattle.tw_bounds.specs.Runs.{instructions_by, instructions_in};
 ghost use Rattle.tw_code.specs.machine.Bounds.{AreBelow, opening_bound};
 ghost use Rattle.tw_source.specs.Reply.{reply};
+ghost use Rattle.tw_order.specs.declared.runs.Answer.TheVariants.{Json};
 ghost use Rattle.tw_replay_output.specs.Counted.{AreShort};
-ghost use Rattle.tw_replay_output.specs.Replay.{IsShownState, pending_of, shown_state, state_line, status_of};
+ghost use Rattle.tw_replay_output.specs.Replay.{pending_of, shown_state, state_line, status_of};
+ghost use Rattle.tw_replay_output.specs.Stuck.{IsAnswerFrom};
 
 use crate::replay::close_of;
+use crate::replay_details::with_reason;
 use crate::replaying::play;
 use std::alloc::{AllocError, Global};
 use tw_json_output::{RunEnd, RunNumbers, run_line};
 use tw_machine::Plain;
 use tw_report::circle_state;
-use tw_source::Reply;
+use tw_source::{Reply, SourceText};
 use tw_types::{Ending, Event};
 
 /// Returns the word for the end of a trace.
@@ -90,14 +93,19 @@ fn shown_state(alloc: Global, plain: &Plain, events: &[Event]) -> Result<Reply, 
 }
 
 /// Returns the JSON line of the state to which the events lead, or the reply to the first event that isn't enabled or traps.
-pub fn json_reply(alloc: Global, first: Plain, events: &[Event]) -> Result<Reply, AllocError>
+pub fn json_reply(
+    alloc: Global,
+    source: &Option<SourceText<'_>>,
+    first: Plain,
+    events: &[Event],
+) -> Result<Reply, AllocError>
     requires below { AreBelow opening_bound first.state }
     requires sizes { AreShort events.now }
     requires few { length events.now ≤ 16777217 }
-    ensures { IfOk result (λ r. IsShownState first events.now (reply r.text.items r.close)) }
+    ensures { IfOk result (λ r. IsAnswerFrom source.now Json first events.now (reply r.text.items r.close)) }
 {
     match play(alloc, first, events)? {
         Ok(replaying) => shown_state(alloc, &replaying.plain, events),
-        Err(failed) => Ok(failed.reply),
+        Err(failed) => with_reason(alloc, source, failed),
     }
 }

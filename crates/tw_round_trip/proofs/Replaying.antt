@@ -30,9 +30,8 @@ use Rattle.tw_source.specs.Reply.{Reply, reply}
 use Rattle.tw_source.specs.declared.close.Close.{Close}
 use Rattle.tw_report.specs.Report.{report, ending_lines}
 use Rattle.tw_report.proofs.Histories.{one_history}
-use Rattle.tw_visible.specs.Visible.{HidesNothing}
 use Rattle.tw_replay_output.specs.Circle.{AreEndingDetails}
-use Rattle.tw_replay_output.specs.Replay.{AreAnswerDetails, ByOutcome, IsAnswered, OpensOr, after_event, close_of, played, state_reply}
+use Rattle.tw_replay_output.specs.Replay.{AreAnswerDetails, ByOutcome, IsAnswered, IsReason, OpensOr, after_event, close_of, played, state_reply}
 use Rattle.tw_run_output.specs.Ends.{end_report}
 use Rattle.tw_run_output.specs.Run as ran
 use Rattle.tw_round_trip.specs.Replays.{IsReportOf, ReplaysPrintReports, closing_of, replay_of}
@@ -79,7 +78,7 @@ module _ (program : List Procedure) (text : Option (List ℕ)) (order : RunOrder
   details (Some text) more goes h =
       ending_details text program order events s e more
       (subst (λ (o : Option Ending). AreEndingDetails text (ran.start_of program order) events s o more) is
-      (subst (λ (o : Outcome State). ByOutcome o (λ t. AreEndingDetails text (ran.start_of program order) events t (machine.ending t) more) (HidesNothing more)) goes h))
+      (subst (λ (o : Outcome State). ByOutcome o (λ t. AreEndingDetails text (ran.start_of program order) events t (machine.ending t) more) (IsReason more)) goes h))
 
   -- an answer to the events is the report
   answered : (version : Version) (r : Reply) → reached program order.inputs order.options.layout events ≡ Went s → IsAnswered text (replay_of order) (record { version = version; procedures = program }) events r → IsReportOf text program order events s e r

@@ -1,6 +1,6 @@
 use Rattle.tw_replay_output.proofs.ReplayNames.{IfOk-weaker, Reply, reply}
 use Rattle.tw_order.specs.declared.runs.Answer.TheVariants.{Json, Numbers, Picture, Report}
-use Rattle.tw_replay_output.proofs.Behinds.{json_from, picture_from, with_answer}
+use Rattle.tw_replay_output.proofs.Behinds.{picture_from, with_answer}
 use Rattle.tw_replay_output.proofs.replay.answer_of.Goals as goal
 
 pub returns-in-Report : goal.returns-in-Report
@@ -13,7 +13,7 @@ returns-in-Numbers c =
 
 pub returns-in-Json : goal.returns-in-Json
 returns-in-Json c =
-    IfOk-weaker _ _ _ (λ (r : Reply) h. with_answer c.args.source.now Json c.args.first c.args.events.now (reply r.text.items r.close) c.args.answer c.in-Json.is (json_from c.args.source.now c.args.first c.args.events.now (reply r.text.items r.close) h)) c.json_reply.ensures
+    IfOk-weaker _ _ _ (λ (r : Reply) h. with_answer c.args.source.now Json c.args.first c.args.events.now (reply r.text.items r.close) c.args.answer c.in-Json.is h) c.json_reply.ensures
 
 pub returns-in-Picture : goal.returns-in-Picture
 returns-in-Picture c =
