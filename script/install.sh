@@ -54,7 +54,9 @@ put_filled() {
 
 put_program() {
     need_proved tw_main "./tw build"
-    put 755 "$program" bin/tw
+    put 755 "$program" libexec/yuglemit/tw
+    put 644 "$root/script/terminal.sh" libexec/yuglemit/terminal.sh
+    put 755 "$root/script/install/tw.sh" bin/tw
     put 644 "$root/docs/tw.1" share/man/man1/tw.1
     put 644 "$root/script/install/tw.bash" share/bash-completion/completions/tw
     put 644 "$root/script/install/tw.zsh" share/zsh/site-functions/_tw

@@ -8,32 +8,10 @@
 #
 # script/find.sh finds the program. What it found is noted in out/, with the names, sizes and times of all files that were read for it, so
 # that the next command only looks whether these are the same.
-room='' out='' program='' kind=''
-
-# Prints its input without hidden characters, as the program does (docs/FORMAT.md, "Errors of a text").
-shown() {
-    LC_ALL=C awk '
-        function hide(bytes, point) { text[bytes] = sprintf("\\u{%x}", point) }
-        BEGIN {
-            for (i = 1; i < 32; i++) if (i != 10) hide(sprintf("%c", i), i)
-            for (i = 127; i < 160; i++) hide((i > 127 ? "\302" : "") sprintf("%c", i), i)
-            for (i = 14; i < 47; i++) if (i < 16 || i > 41) hide("\342\200" sprintf("%c", 128 + i), 8192 + i)
-            for (i = 38; i < 42; i++) hide("\342\201" sprintf("%c", 128 + i), 8256 + i)
-            hide("\330\234", 1564)
-            text["\t"] = " "
-        }
-        { for (bytes in text) gsub(bytes, text[bytes]); print }'
-}
-
-say() {
-    printf 'tw: %s\n' "$1" | shown >&2
-}
-
-# Sets `room` to a folder for the files of this command, if one can be made.
-make_room() {
-    [ -n "$room" ] && return
-    room=$(mktemp -d) && trap 'rm -rf "$room"' EXIT
-}
+out='' program='' kind=''
+case ${0##*/} in pick.sh) root=$(dirname "$(dirname "$(readlink -f "$0")")") ;; esac
+# shellcheck source=script/terminal.sh
+. "$root/script/terminal.sh"
 
 need_room() {
     make_room || { say "no folder can be made in ${TMPDIR:-/tmp}"; exit 70; }
@@ -101,7 +79,6 @@ pick_for_tool() {
 
 case ${0##*/} in
     pick.sh)
-        root=$(dirname "$(dirname "$(readlink -f "$0")")")
         # shellcheck source=script/find.sh
         . "$root/script/find.sh"
         shows_kind=''

@@ -80,17 +80,16 @@ is_stoppable() {
     make_room 2>/dev/null
 }
 
-# Stops the run. A second time, or if the file can't be made, the program is ended. A signal soon after the first is the same key: `timeout` sends
-# it again. All is done by the shell alone, since a signal would end another command.
+# Stops the run. A second time, or if the file can't be made, the program is ended. What comes a moment after a signal is the same key, since
+# `timeout` sends it again.
 stop_run() {
-    now=''
-    { read -r now _ </proc/uptime; } 2>/dev/null && now=1${now%.*}${now#*.}
-    if [ -z "$interrupted" ]; then
-        interrupted=${now:-yes}
+    trap '' INT
+    sleep 0.1
+    again=$interrupted interrupted=yes
+    trap stop_run INT
+    if [ -z "$again" ]; then
         echo "tw: stopping; a second Ctrl-C ends it without a report" >&2
         { true >"$TW_STOP"; } 2>/dev/null && return
-    elif [ -n "$now" ] && [ $((now - interrupted)) -lt 30 ]; then
-        return
     fi
     kill "$child"
 }

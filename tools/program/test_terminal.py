@@ -83,8 +83,8 @@ class Terminal(unittest.TestCase):
         self.assertEqual(self.at_terminal("--help", columns=50)[1].split(), plain.split())
 
     def test_a_run_is_stopped(self) -> None:
-        status, shown = self.at_terminal("run", "x", typed=(("begun", b"\x03"),))
-        self.assertEqual((status, shown), (130, "begun\n^Ctw: stopping; a second Ctrl-C ends it without a report\nout\n"))
+        status, shown = self.at_terminal("run", "x", typed=(("begun", b"\x03\x03"),))
+        self.assertEqual((status, shown.replace("^C", "")), (130, "begun\ntw: stopping; a second Ctrl-C ends it without a report\nout\n"))
         self.assert_left_nothing()
 
     def test_a_second_time_the_program_is_ended(self) -> None:

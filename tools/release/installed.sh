@@ -81,6 +81,42 @@ uninstalled_by_force() {
         [ "$(files "$prefix")" = ./bin/other ]
 }
 
+# Runs the installed tw at a terminal without a width, where standard input is typed. Prints what it shows, and the status.
+at_terminal() {
+    (cd "$room" && env -i --default-signal=INT PATH="$prefix/bin:/usr/bin:/bin" script -qec "exec $1" /dev/null; echo "status $?") | tr -d '\r'
+}
+
+# At a terminal help has its width, or 80 columns, and Ctrl-C ends a run with its report.
+installed_terminal() {
+    ends_with 0 ./tw install "$prefix" && [ "$(at_terminal 'tw help run' </dev/null | wc -L)" -le 80 ] && [ "$("$prefix/bin/tw" help run | wc -L)" -gt 80 ] || return
+    cat >"$room/long.tw" <<'TEXT'
+proc control closed int write int
+regs int
+GET v0 d0
+DROPR d0
+PUT 1 0 any 1 0
+RET
+proc control write int val int
+regs int int int
+JEQ v0 v1 done
+INT v2 -1
+ADD v0 v0 v2 +0
+REPEAT 1000
+REPEAT 1000
+INT v2 7
+END
+END
+PUT 1 0 any 0 0
+RET
+done:
+STORE d0 v0
+RET
+TEXT
+    (sleep 2; printf '\003'; sleep 1) | at_terminal 'tw run --quiet long.tw int:100000' >"$room/page"
+    cat "$room/page"
+    [ "$(tail -n 3 "$room/page" | sed 's/\x1b\[[0-9]*m//g; s/\x1b\[K//')" = "$(printf 'out 0 unset\nstopped\nstatus 130')" ]
+}
+
 # The last line says how to remove what is installed, also where a name has blanks and a quote.
 closing_hint() {
     ends_with 0 ./tw install "$room/it's here" || return
@@ -197,6 +233,7 @@ check "--force replaces it" forced
 check "an installation is replaced" installed_again
 check "what was changed stays" changed_files
 check "a list of an earlier version" earlier_list
+check "the installed tw at a terminal" installed_terminal
 check "uninstalling leaves what isn't ours" uninstalled
 check "--force --uninstall" uninstalled_by_force
 check "the closing hint removes what is installed" closing_hint

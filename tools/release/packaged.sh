@@ -79,6 +79,7 @@ check_plain_system() {
     check_output "tw run answers" "tw run examples/store_seven.tw" "out 0 int 7"
     check_output "an option comes before the file" "tw run --workers 2 sum.twn" "out 0 int 55"
     check_output "tw --version" "tw --version" "tw $version"
+    check_inside "tw at a terminal" "[ \$(script -qec 'tw help run' /dev/null | wc -L) -le 81 ] && [ \$(tw help run | wc -L) -gt 81 ]"
     check_inside "man tw" "MANPAGER=cat man tw | grep -q 'dataflow programs'"
     check_inside "bash completes" "bash -c '. /usr/share/bash-completion/completions/tw; COMP_WORDS=(tw ru); COMP_CWORD=1; _tw; [ \"\${COMPREPLY[0]}\" = run ]'"
     check_inside "the package says since when each call is there" "grep -q '^ yuglemit_raw_run@YUGLEMIT_$abi ' /var/lib/dpkg/info/yuglemit.symbols"
