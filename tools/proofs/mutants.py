@@ -146,7 +146,7 @@ MUTANTS = (
     *(Mutant(name, "host", place.file, place.old, place.new) for place in WAKES for name in names_of((place,))[1:]),
     # The script: what it answers itself, and the program that it calls.
     Mutant("versions_are_the_programs", "script", "tw", 'echo "tw $(cat "$root/VERSION")"', "echo tw"),
-    Mutant("statuses_are_lost", "script", "tw", '[ -n "$room" ] || exec "$program" "$@"', '[ -n "$room" ] || { "$program" "$@"; exit 0; }'),
+    Mutant("statuses_are_lost", "script", "script/terminal.sh", '[ -n "$room" ] || exec "$program" "$@"', '[ -n "$room" ] || { "$program" "$@"; exit 0; }'),
     Mutant("every_release_fits", "release", SOURCES, "    lines_of_crates \"$1\" | sha256sum | sed 's/-$/crates.txt/'\n", ""),
     Mutant("proofs_are_code", "release", SOURCES, "grep -v '  crates/[^/]*/\\(specs\\|proofs\\)/'", "cat"),
     Mutant("crates_below_do_not_count", "release", SOURCES, "for (i = split(uses[crate], deps, \" \"); i > 0; i--) visit(deps[i])", "i = 0"),
