@@ -32,7 +32,7 @@ def helps_of(top: str, texts: Mapping[str, str]) -> Helps:
     """Returns what `tw --help` says, and the help text of each command."""
     helps = Helps({name: re.findall(rf"(?m)^  {name} +(.*)$", top)[0] for name in texts}, {}, {})
     for command, text in texts.items():
-        for option, sentence in re.findall(r"(?m)^ {2,6}(?:-\w, )?(--[a-z-]+).*\n {10}(.*)$", text):
+        for option, sentence in re.findall(r"(?m)^ {2,6}(?:-\w, )?(--[a-z-]+)\S*(?: \S+)?(?: {2,}|\n {10})(.*)$", text):
             if option not in COMMON:
                 helps.options[option] = sentence.replace("`", "")
                 helps.takers.setdefault(option, set()).add(command)

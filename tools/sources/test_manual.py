@@ -8,11 +8,10 @@ TOP = "Usage: tw\n\nCommands:\n  run   Runs a program\n  help  Helps\n\nOptions:
 RUN = """Runs a program
 
 Options:
-      --limit <limit>
-          The most events: 1 to 9 (default: 3)
-      --trace
-          Write a line `events` of "e"
-      --inputs
+      --limit <N>  The most events: 1 to 9 (default: 3)
+      --trace      Write a line `events` of "e"
+Input:
+      --inputs [DATA]
           Read a file DATA
   -h, --help
           Print help
@@ -71,9 +70,9 @@ class Differences(Table):
         )
 
     def test_helps(self) -> None:
-        new, other = RUN + "      --new\n          New\n", TOP.replace("  help ", "  check  Checks\n  help ")
+        new, other = RUN + "      --new  New\n", TOP.replace("  help ", "  check  Checks\n  help ")
         self.assertEqual(found("", "", new), ["--new has no entry"])
         self.assertEqual(found("", "", RUN.replace(" DATA", "")), [
             "--inputs names the file DATA, and its help None", "--inputs takes a file, and its help names none"])
-        taken = found(".SH OPTIONS", CHECK, RUN, other, "      --limit <limit>\n          The most events: 1 to 9 (default: 3)\n")
+        taken = found(".SH OPTIONS", CHECK, RUN, other, "      --limit <N>\n          The most events: 1 to 9 (default: 3)\n")
         self.assertEqual(taken, ["--limit is for: run; and taken by: check, run"])
