@@ -120,7 +120,7 @@ TEXT
 # The last line says how to remove what is installed, also where a name has blanks and a quote.
 closing_hint() {
     ends_with 0 ./tw install "$room/it's here" || return
-    hint=$(sed -n 's/.*; \(.*\) removes it$/\1/p' "$room/said")
+    hint=$(sed -n 's/.*; \(.*\) removes it$/\1/p' "$room/log")
     clean sh -c "$hint" && [ -z "$(files "$room/it's here")" ]
 }
 
