@@ -105,7 +105,7 @@ void test_result_unfinished() {
     CHECK(std::string(cut->try_outputs().error().what()).find("ended by its limit after 3 events") != std::string::npos);
     CHECK(*cut->try_partial() == std::vector<Value>{Ints()} && *cut->try_end() == End::limit);
     { const auto gone = std::move(*cut); }
-    CHECK(fails_as(cut->try_end(), Kind::use) && fails_as(cut->try_partial(), Kind::use));
+    CHECK(fails_as(cut->try_end(), Kind::use) && fails_as(cut->try_partial(), Kind::use) && fails_as(cut->try_outputs(), Kind::use));
 }
 
 void test_result_errors() {
@@ -358,6 +358,7 @@ void test_stops() {
     CHECK_THROWS(std::logic_error, cut.end());
     CHECK_THROWS(std::logic_error, cut.events());
     CHECK_THROWS(std::logic_error, cut.output_count());
+    CHECK_THROWS(std::logic_error, cut.partial());
 }
 
 // A stop within a task: its instructions are counted, up to one of the looks for the flag.

@@ -363,6 +363,7 @@ public:
 
     // Returns the outputs as they are, however the run ended.
     Result<std::vector<Value>> try_partial() const {
+        if (!handle_.get()->at) return detail::error_of(YUGLEMIT_NO_REPORT);
         std::vector<Value> values(ending_.outputs);
         for (std::size_t output = 0; output < values.size(); output++)
             if (const auto code = read_output(output, values[output])) return detail::error_of(code);
@@ -400,6 +401,7 @@ private:
     bool is_quiet() const { return ending_.status == YUGLEMIT_STATUS_QUIET; }
 
     Error unfinished() const {
+        if (!handle_.get()->at) return detail::error_of(YUGLEMIT_NO_REPORT);
         const char *const end = ending_.status == YUGLEMIT_STATUS_STUCK ? "is stuck" : ending_.status == YUGLEMIT_STATUS_LIMIT ? "ended by its limit" : "was stopped";
         return {Error::Kind::unfinished, YUGLEMIT_UNFINISHED,
                 std::string("the run ") + end + " after " + std::to_string(ending_.events) + " events, so its outputs aren't the program's answer; partial() has them"};
