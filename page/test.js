@@ -315,7 +315,7 @@ async function mistakes(reader) {
         say((await reader.value("text")) === text, title, "isn't undone");
     }
     for (const name of ["fan_out", "words", "matrix"]) {
-        await reader.choose("pick", name);
+        await reader.choose("pick", name); await reader.key("Shift"); // What plays moves the buttons.
         for (let k = 1; k <= buttons.length; k++) { await reader.click(`#mistakes button:nth-child(${k})`); say((await reader.seen("#broken")).length > 40, name, k, "says nothing"); }
         await reader.click("#broken button");
     }
