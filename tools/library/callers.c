@@ -436,8 +436,10 @@ static uint8_t run_with(yuglemit_program *program, const yuglemit_inputs *inputs
 
 /* A call that takes handles of a kind says so of one of another kind. */
 #define TAKES(its, code, call) check(kind == (its) || (call) == (code), #call)
-#define OF_A_PROGRAM(call) TAKES(OF_PROGRAM, YUGLEMIT_NO_PROGRAM, call)
-#define OF_A_REPORT(call) TAKES(OF_REPORT, YUGLEMIT_NO_REPORT, call)
+/* One that changes nothing is made with its own kind, too, and says something else of that. */
+#define ASKS(its, code, call) check((kind == (its)) != ((call) == (code)), #call)
+#define OF_A_PROGRAM(call) ASKS(OF_PROGRAM, YUGLEMIT_NO_PROGRAM, call)
+#define OF_A_REPORT(call) ASKS(OF_REPORT, YUGLEMIT_NO_REPORT, call)
 #define OF_A_CONTAINER(call) TAKES(OF_CONTAINER, YUGLEMIT_NO_CONTAINER, call)
 /* An empty handle has no input. */
 #define OF_SOME_INPUTS(call) TAKES(kind == EMPTY ? EMPTY : OF_INPUTS, YUGLEMIT_NO_INPUTS, call)
@@ -454,8 +456,8 @@ static void ask_program_and_report(int kind, yuglemit_program *program, yuglemit
     yuglemit_procedure procedure = YUGLEMIT_PROCEDURE;
     yuglemit_parameter parameter = YUGLEMIT_PARAMETER;
     yuglemit_needs needs = YUGLEMIT_NEEDS;
-    yuglemit_ending ending = YUGLEMIT_ENDING;
-    yuglemit_meter meter = YUGLEMIT_METER;
+    yuglemit_ending ending = {sizeof ending, 9, 9, 9};
+    yuglemit_meter meter = {sizeof meter, 9, 9, 9, 9, 9, 9};
     yuglemit_item item;
     yuglemit_member member;
     uint8_t room[ROOM] = {0};
@@ -486,6 +488,9 @@ static void ask_program_and_report(int kind, yuglemit_program *program, yuglemit
     OF_A_REPORT(yuglemit_print_trace(report, &text));
     OF_A_REPORT(yuglemit_print_json(report, &text));
     OF_A_REPORT(yuglemit_report_order(report, &order));
+    check(kind == OF_REPORT || (ending.events == 9 && meter.events == 9), "nothing is written");
+    yuglemit_program_free(other);
+    yuglemit_text_free(text);
 }
 
 static void ask_others(int kind, void *at, handles *all) {
@@ -526,7 +531,7 @@ static void make_each(handles *all) {
 }
 
 /* Each call with each kind of handle that it doesn't take: they are as they were then. */
-static void check_pairs(void) {
+void check_pairs(void) {
     handles all = NO_HANDLES;
     size_t size;
     make_each(&all);
@@ -580,7 +585,6 @@ int main(int argc, char **argv) {
     check_no_members();
     check_versions();
     check_told();
-    check_pairs();
     check_layouts();
     check_many();
     check_refused();

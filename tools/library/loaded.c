@@ -15,22 +15,11 @@ enum { THREADS = 8, RUNS = 200, LIMIT = 10000 };
 
 static pthread_attr_t small; /* of a thread with little stack */
 
-static uint8_t run_by(const yuglemit_program *program, const yuglemit_inputs *inputs, yuglemit_options options, yuglemit_report *report) {
-    yuglemit_stop no_stop = {NULL};
-    return yuglemit_run(program, inputs, &options, &no_stop, report);
-}
-
 static uint8_t run(const yuglemit_program *program, const yuglemit_inputs *inputs, size_t limit, yuglemit_report *report) {
     yuglemit_options options = YUGLEMIT_OPTIONS;
-    options.limit = limit;
-    return run_by(program, inputs, options, report);
-}
-
-static uint8_t run_within(const yuglemit_program *program, const yuglemit_inputs *inputs, size_t limit, yuglemit_caps caps, yuglemit_report *report) {
-    yuglemit_options options = YUGLEMIT_OPTIONS;
     yuglemit_stop no_stop = {NULL};
     options.limit = limit;
-    return yuglemit_run_within(program, inputs, &options, &caps, &no_stop, report);
+    return yuglemit_run(program, inputs, &options, &no_stop, report);
 }
 
 static void check_load(yuglemit_program *program) {
@@ -96,21 +85,6 @@ static void check_sources(void) {
     }
 }
 
-/* The program's bytes as hex text, with a line end after each. */
-static void check_hex(void) {
-    static uint8_t hex[3 * sizeof program_bytes + 1];
-    yuglemit_program program = {NULL};
-    yuglemit_verdict v = YUGLEMIT_VERDICT;
-    for (size_t k = 0; k < program_length; k++) snprintf((char *)hex + 3 * k, 4, "%02X\n", program_bytes[k]);
-    yuglemit_load_source(hex, 3 * program_length, YUGLEMIT_ANY_FORMAT, &program, &v);
-    check(v.letter == 0 && program.at, "hex text");
-    yuglemit_load_source(program_bytes, program_length, YUGLEMIT_BYTES, &program, &v);
-    check(v.letter == 0 && program.at, "bytes by the other call");
-    yuglemit_load_source(program_bytes, program_length, YUGLEMIT_TEXT, &program, &v);
-    check(v.letter != 0 && program.at, "bytes are no text, and the handle stays");
-    yuglemit_program_free(program);
-}
-
 /* Changes each byte in turn. What is accepted then may be run. */
 static void check_damaged(void) {
     for (size_t k = 0; k < program_length; k++) {
@@ -132,439 +106,94 @@ static void check_damaged(void) {
     }
 }
 
-static void check_questions(yuglemit_program *program) {
-    yuglemit_program empty = {NULL};
-    size_t count = 99;
-    uint64_t budget = 99;
-    check(yuglemit_program_procedures(&empty, &count) == YUGLEMIT_NO_PROGRAM && count == 99, "procedures of an empty handle");
-    check(yuglemit_program_budget(&empty, 0, &budget) == YUGLEMIT_NO_PROGRAM && budget == 99, "budget of an empty handle");
-    check(yuglemit_program_procedures(program, &count) == 0 && count > 0 && count < 99, "procedures");
-    check(yuglemit_program_budget(program, count, &budget) == YUGLEMIT_NO_INDEX && budget == 99, "budget of no procedure");
-    check(yuglemit_program_budget(program, SIZE_MAX, &budget) == YUGLEMIT_NO_INDEX && budget == 99, "budget of the greatest index");
-    check(yuglemit_program_budget(program, 0, &budget) == 0 && budget > 0 && budget != 99, "budget");
-    yuglemit_program_free(empty);
-}
+/* A struct of numbers, which begins with its size in bytes, with room for more numbers than there are. */
+enum { MOST = 12 };
+typedef union numbers {
+    yuglemit_caps caps;
+    yuglemit_options options;
+    yuglemit_bounds bounds;
+    yuglemit_order order;
+    yuglemit_meter meter;
+    uint64_t at[MOST];
+} numbers;
 
-/* A handle of another kind: nothing is written. callers.c has each call with each kind. */
-static void check_kinds(yuglemit_program *program) {
+static int is_size(size_t size) { return size >= 8 && size % 8 == 0; }
+
+/* Caps and options of each size. Those that a smaller struct lacks are as usual. The program has each kind of bound, and a cap may be one below it. */
+static void check_caps(void) {
+    static const char text[] = "proc control\nregs int text\nNEW d0 d1 cont int\nDROPR d1\nNEW d2 d3 int\nSTORE d2 v0\nINS d0 v0 d3 there\nJMP done\nthere:\nDROPR d3\ndone:\nDROPW d0\n"
+                               "RULE 1 0 any\nRET\n\nproc leaf\nregs\nRET\n";
+    yuglemit_program program = {NULL};
     yuglemit_inputs inputs = {NULL};
-    yuglemit_report of_program = {program->at}, unused = {NULL};
-    yuglemit_program other = {NULL};
-    yuglemit_ending ending = {sizeof ending, 1, 1, 1};
-    yuglemit_meter meter = {sizeof meter, 1, 1, 1, 1, 1, 1};
-    check(yuglemit_report_ending(&of_program, &ending) == YUGLEMIT_NO_REPORT && ending.events == 1, "a program has no ending");
-    check(yuglemit_report_meter(&of_program, &meter) == YUGLEMIT_NO_REPORT && meter.events == 1, "a program has no meter");
-    check(yuglemit_input_text(&inputs, (const uint8_t *)"7", 1) == 0, "a text");
-    yuglemit_program of_inputs = {inputs.at};
-    check(yuglemit_program_share(&of_inputs, &other) == YUGLEMIT_NO_PROGRAM && !other.at, "inputs aren't shared");
-    check(run(&of_inputs, &inputs, LIMIT, &unused) == YUGLEMIT_NO_PROGRAM && !unused.at, "inputs aren't run");
-    yuglemit_inputs_free(inputs);
-}
-
-static void check_run(yuglemit_program *program) {
-    yuglemit_inputs inputs = {NULL};
-    yuglemit_report report = {NULL};
-    static uint8_t long_text[5000];
-    memset(long_text, 'a', sizeof long_text);
-    check(run(program, &inputs, LIMIT, &report) == YUGLEMIT_INPUT_COUNT && !report.at, "O01: no input");
-    check(yuglemit_input_text(&inputs, (const uint8_t *)"\xff", 1) == YUGLEMIT_NO_UTF8 && !inputs.at, "no UTF-8");
-    check(yuglemit_input_text(&inputs, long_text, sizeof long_text) == 0, "a long text");
-    check(run(program, &inputs, LIMIT, &report) == YUGLEMIT_INPUT_TYPE && !report.at, "O02: a text that is too long");
-    yuglemit_inputs_free(inputs);
-    inputs.at = NULL;
-    check(yuglemit_input_text(&inputs, (const uint8_t *)"41", 2) == 0, "a text");
-    yuglemit_options options = YUGLEMIT_OPTIONS;
-    options.engines = 0;
-    check(run_by(program, &inputs, options, &report) == YUGLEMIT_NO_LAYOUT, "no engine");
-    options.engines = 1, options.workers = 17;
-    check(run_by(program, &inputs, options, &report) == YUGLEMIT_NO_LAYOUT && !report.at, "17 workers");
-    options.workers = 1, options.size = 0;
-    check(run_by(program, &inputs, options, &report) == YUGLEMIT_NO_SIZE && !report.at, "options of no size");
-    options.size = sizeof options + 1;
-    check(run_by(program, &inputs, options, &report) == YUGLEMIT_NO_SIZE && !report.at, "options of another size");
-    check(run(program, &inputs, 0, &report) == YUGLEMIT_NO_LIMIT, "O04: no event");
-    check(run(program, &inputs, 1000001, &report) == YUGLEMIT_NO_LIMIT && !report.at, "O04: too many events");
-    check(run(program, &inputs, 1, &report) == 0 && report.at, "one event");
-    yuglemit_ending ending = YUGLEMIT_ENDING;
-    check(yuglemit_report_ending(&report, &ending) == 0 && ending.status == 4 && ending.events == 1, "the limit");
-    check(run(program, &inputs, LIMIT, &report) == 0, "a run over a full report");
-    yuglemit_inputs_free(inputs);
-    yuglemit_report_free(report);
-}
-
-/* Caps and options of each size. Those that a smaller struct lacks are as usual. */
-static void check_sizes(const yuglemit_program *program, const yuglemit_inputs *inputs, const yuglemit_bounds *bounds, uint64_t budget) {
-    struct { yuglemit_caps caps; uint64_t more[2]; } large = {
-        {sizeof(yuglemit_caps), bounds->tasks, bounds->instructions, bounds->data, bounds->bytes, budget, bounds->members, bounds->rules}, {0, 0}};
-    struct { yuglemit_options options; uint64_t more[2]; } many = {YUGLEMIT_OPTIONS, {0, 0}};
     yuglemit_report report = {NULL};
     yuglemit_stop no_stop = {NULL};
-    for (size_t size = 0; size <= sizeof large; size++) {
-        large.caps.size = size;
-        uint8_t code = yuglemit_run_within(program, inputs, &many.options, &large.caps, &no_stop, &report);
-        check(code == (size >= 8 && size <= sizeof(yuglemit_caps) && size % 8 == 0 ? YUGLEMIT_DONE : YUGLEMIT_NO_SIZE), "caps of a size");
+    yuglemit_verdict verdict = YUGLEMIT_VERDICT;
+    yuglemit_bounds b = YUGLEMIT_BOUNDS;
+    uint64_t budget = 0;
+    numbers caps = {.at = {0}}, options = {.at = {0}};
+    yuglemit_load_source((const uint8_t *)text, sizeof text - 1, YUGLEMIT_TEXT, &program, &verdict);
+    check(yuglemit_program_bounds(&program, 0, &b) == 0 && yuglemit_program_budget(&program, 0, &budget) == 0, "bounds and a budget");
+    caps.caps = (yuglemit_caps){sizeof(yuglemit_caps), b.tasks, b.instructions, b.data, b.bytes, budget, b.members, b.rules};
+    options.options = (yuglemit_options)YUGLEMIT_OPTIONS;
+    for (size_t k = 1; k <= sizeof(yuglemit_caps) / 8; k++) {
+        caps.at[0] = 8 * k;
+        check(yuglemit_run_within(&program, &inputs, &options.options, &caps.caps, &no_stop, &report) == 0, "caps at the bounds");
+        if (k == sizeof(yuglemit_caps) / 8) break;
+        caps.at[k]--;
+        check(yuglemit_run_within(&program, &inputs, &options.options, &caps.caps, &no_stop, &report) == 0, "a cap that isn't given");
+        caps.at[0] += 8;
+        check(yuglemit_run_within(&program, &inputs, &options.options, &caps.caps, &no_stop, &report) == YUGLEMIT_ABOVE_CAP, "O07: a bound above its cap");
+        caps.at[k]++;
     }
-    large.caps.tasks--;
-    large.caps.size = 8;
-    check(yuglemit_run_within(program, inputs, &many.options, &large.caps, &no_stop, &report) == 0, "a cap that isn't given");
-    large.caps.size = 16;
-    check(yuglemit_run_within(program, inputs, &many.options, &large.caps, &no_stop, &report) == YUGLEMIT_ABOVE_CAP, "O07: the first cap");
-    for (size_t size = 0; size <= sizeof many; size++) {
-        many.options.size = size;
-        uint8_t code = yuglemit_run(program, inputs, &many.options, &no_stop, &report);
-        check(code == (size >= 8 && size <= sizeof(yuglemit_options) && size % 8 == 0 ? YUGLEMIT_DONE : YUGLEMIT_NO_SIZE), "options of a size");
+    for (size_t k = 0; k <= sizeof caps + 2; k++) {
+        size_t size = k <= sizeof caps ? k : SIZE_MAX - 7 * (k - sizeof caps - 1);
+        caps.at[0] = size;
+        uint8_t code = yuglemit_run_within(&program, &inputs, &options.options, &caps.caps, &no_stop, &report);
+        check(code == (is_size(size) && size <= sizeof(yuglemit_caps) ? YUGLEMIT_DONE : YUGLEMIT_NO_SIZE), "caps of a size");
+        options.at[0] = size;
+        code = yuglemit_run(&program, &inputs, &options.options, &no_stop, &report);
+        check(code == (is_size(size) && size <= sizeof(yuglemit_options) ? YUGLEMIT_DONE : YUGLEMIT_NO_SIZE), "options of a size");
+        options.at[0] = sizeof(yuglemit_options);
     }
-    yuglemit_options wide = YUGLEMIT_OPTIONS;
-    wide.engines = 257; /* 1, if it were cut to a byte */
-    check(run_by(program, inputs, wide, &report) == YUGLEMIT_NO_LAYOUT, "257 engines");
     yuglemit_report_free(report);
+    yuglemit_program_free(program);
+}
+
+enum { BOUNDS, ORDER, RUN_ORDER, METER, KINDS };
+
+static uint8_t write_numbers(int kind, const yuglemit_program *program, const yuglemit_report *report, numbers *room) {
+    switch (kind) {
+    case BOUNDS: return yuglemit_program_bounds(program, LIMIT, &room->bounds);
+    case ORDER: return yuglemit_program_order(program, &room->order);
+    case RUN_ORDER: return yuglemit_report_order(report, &room->order);
+    default: return yuglemit_report_meter(report, &room->meter);
+    }
 }
 
 /* Structs that are written, of each size: as many numbers as there is room for, and the rest stays. */
 static void check_written(const yuglemit_program *program) {
-    struct { yuglemit_bounds bounds; uint64_t more[2]; } large = {YUGLEMIT_BOUNDS, {9, 9}};
-    yuglemit_bounds whole = YUGLEMIT_BOUNDS;
-    check(yuglemit_program_bounds(program, LIMIT, &whole) == 0, "bounds");
-    for (size_t count = 0; count <= 9; count++) {
-        uint64_t *numbers = &large.bounds.tasks;
-        for (size_t k = 0; k < 9; k++) numbers[k] = 9;
-        large.bounds.size = 8 * (count + 1);
-        check(yuglemit_program_bounds(program, LIMIT, &large.bounds) == 0, "bounds of a size");
-        for (size_t k = 0; k < 9; k++) check(numbers[k] == (k < count && k < 7 ? (&whole.tasks)[k] : 9), "a bound is written, or stays");
-    }
-    for (size_t size = 0; size < 8; size++) {
-        large.bounds.size = size;
-        check(yuglemit_program_bounds(program, LIMIT, &large.bounds) == YUGLEMIT_NO_SIZE, "no room for a size");
-    }
-}
-
-/* Caps on members and rules: a program that makes one member of a container and one rule. */
-static void check_more_caps(void) {
-    const char *text = "proc control\nregs int\nNEW d0 d1 cont int\nDROPR d1\nNEW d2 d3 int\nSTORE d2 v0\nINS d0 v0 d3 there\nJMP done\nthere:\nDROPR d3\ndone:\nDROPW d0\nRULE 1 0 any\nRET\n\n"
-                       "proc leaf\nregs\nRET\n";
-    yuglemit_program program = {NULL};
-    yuglemit_inputs inputs = {NULL};
-    yuglemit_report report = {NULL};
-    yuglemit_verdict verdict = YUGLEMIT_VERDICT;
-    yuglemit_bounds bounds = YUGLEMIT_BOUNDS;
-    yuglemit_load_source((const uint8_t *)text, strlen(text), 't', &program, &verdict);
-    check(verdict.letter == 0 && yuglemit_program_bounds(&program, LIMIT, &bounds) == 0, "a member and a rule");
-    check(bounds.members == 1 && bounds.rules == 1, "one member, one rule");
-    yuglemit_caps caps = YUGLEMIT_CAPS;
-    caps.members = caps.rules = 1;
-    check(run_within(&program, &inputs, LIMIT, caps, &report) == 0, "caps at the bounds");
-    caps.members = 0;
-    check(run_within(&program, &inputs, LIMIT, caps, &report) == YUGLEMIT_ABOVE_CAP, "O07: a member above its cap");
-    caps.size -= 8;
-    check(run_within(&program, &inputs, LIMIT, caps, &report) == YUGLEMIT_ABOVE_CAP, "without the cap on rules");
-    caps.size -= 8;
-    check(run_within(&program, &inputs, LIMIT, caps, &report) == 0, "the size of version 0.16: no cap on members");
-    caps.size += 16;
-    caps.members = 1;
-    caps.rules = 0;
-    check(run_within(&program, &inputs, LIMIT, caps, &report) == YUGLEMIT_ABOVE_CAP, "O07: a rule above its cap");
-    yuglemit_report_free(report);
-    yuglemit_program_free(program);
-}
-
-/* The bounds of a program, and caps at them and below them. */
-static void check_caps(yuglemit_program *program) {
-    yuglemit_program empty = {NULL};
-    yuglemit_inputs inputs = {NULL}, nothing = {NULL};
-    yuglemit_report report = {NULL};
-    yuglemit_bounds bounds = YUGLEMIT_BOUNDS, one = {sizeof one, 9, 9, 9, 9, 9, 9, 9};
-    uint64_t budget = 0, most = 0;
-    check(yuglemit_program_bounds(&empty, 0, &one) == YUGLEMIT_NO_PROGRAM && one.tasks == 9, "bounds of no program");
-    check(yuglemit_program_bounds(program, 1000001, &one) == YUGLEMIT_NO_LIMIT && one.tasks == 9, "O04: bounds of too many events");
-    check(yuglemit_program_bounds(program, 0, &bounds) == 0 && bounds.tasks == 1 && bounds.data == 0 && bounds.rules == 0, "bounds of one task");
-    check(bounds.members == 0 && bounds.bytes == 4096, "it makes no member, and has a register of texts");
-    check(bounds.instructions > 1 && bounds.instructions < YUGLEMIT_OVER && bounds.events > 1, "its bounds are numbers");
-    check(yuglemit_program_bounds(program, 1, &one) == 0 && one.tasks == 1 && one.data == 0 && one.events == 1, "bounds of one event");
-    check(one.members == 0 && one.bytes == 4096, "so has one event");
-    check(yuglemit_program_budget(program, 0, &budget) == 0 && budget == bounds.instructions, "one task executes at most its budget");
-    check(yuglemit_input_text(&inputs, (const uint8_t *)"41", 2) == 0, "a text");
-    yuglemit_caps caps = {sizeof(yuglemit_caps), bounds.tasks, bounds.instructions, bounds.data, bounds.bytes, budget, bounds.members, bounds.rules};
-    uint64_t *each[] = {&caps.tasks, &caps.instructions, &caps.budget};
-    for (size_t k = 0; k < sizeof each / sizeof *each; k++) {
-        most = (*each[k])--;
-        check(run_within(program, &inputs, LIMIT, caps, &report) == YUGLEMIT_ABOVE_CAP && !report.at, "O07: a bound above its cap");
-        check(run_within(program, &nothing, LIMIT, caps, &report) == YUGLEMIT_ABOVE_CAP, "O07 comes before O01");
-        check(run_within(program, &inputs, 0, caps, &report) == YUGLEMIT_NO_LIMIT, "O04: no event");
-        *each[k] = most;
-    }
-    const size_t sizes[] = {0, 7, sizeof caps - 1, sizeof caps + 8, SIZE_MAX, SIZE_MAX - 7}, size = caps.size;
-    for (size_t k = 0; k < sizeof sizes / sizeof *sizes; k++) {
-        caps.size = sizes[k];
-        check(run_within(program, &inputs, LIMIT, caps, &report) == YUGLEMIT_NO_SIZE && !report.at, "caps of another size");
-    }
-    caps.size = size;
-    check(run_within(program, &inputs, LIMIT, caps, &report) == 0 && report.at, "caps at the bounds");
-    yuglemit_caps none = YUGLEMIT_CAPS;
-    check(run_within(program, &inputs, LIMIT, none, &report) == 0, "no caps");
-    check_sizes(program, &inputs, &bounds, budget);
-    check_written(program);
-    yuglemit_inputs_free(inputs);
-    yuglemit_report_free(report);
-}
-
-/* Whether the order of events may show, also with less and with more room. */
-static void check_order(void) {
-    const char *texts[] = {"proc control write cont int\nregs int\nNEW d1 d2 int\nSTORE d1 v0\nINS d0 v0 d2 +1\nJMP +1\nDROPR d2\nDROPW d0\nRET\n",
-                           "proc control write cont int\nregs\nDUPW d1 d0\nPUT 1 0 any 0\nPUT 1 0 any 1\nRET\n\n"
-                           "proc leaf write cont int\nregs int\nNEW d1 d2 int\nSTORE d1 v0\nINS d0 v0 d2 +1\nJMP +1\nDROPR d2\nDROPW d0\nRET\n"};
-    yuglemit_program program = {NULL};
-    yuglemit_verdict verdict = YUGLEMIT_VERDICT;
-    struct { yuglemit_order order; uint64_t more; } large = {{sizeof(yuglemit_order), 9, 9, 9}, 9};
-    yuglemit_order *order = &large.order;
-    check(yuglemit_program_order(&program, order) == YUGLEMIT_NO_PROGRAM && order->may_show == 9, "the order of no program");
-    check(yuglemit_load_source((const uint8_t *)texts[0], strlen(texts[0]), 't', &program, &verdict) == 0, "a program without DUPW");
-    check(yuglemit_program_order(&program, order) == 0 && order->may_show == 0 && order->procedure == 0 && order->place == 0, "the same in every order");
-    check(yuglemit_load_source((const uint8_t *)texts[1], strlen(texts[1]), 't', &program, &verdict) == 0, "a program with DUPW");
-    order->size = 2 * sizeof(uint64_t);
-    check(yuglemit_program_order(&program, order) == 0 && order->may_show == 1 && order->procedure == 0 && order->place == 0, "one number alone");
-    order->size = sizeof large;
-    check(yuglemit_program_order(&program, order) == 0 && order->may_show == 1 && order->procedure == 1 && order->place == 2, "an insertion by a copy");
-    check(large.more == 9, "no number more");
-    order->size = sizeof *order - 1;
-    check(yuglemit_program_order(&program, order) == YUGLEMIT_NO_SIZE, "an order of no size");
-    yuglemit_program_free(program);
-}
-
-/* The order of a run: two tasks insert at the two inputs by copies of one right, which is contested if they are one. */
-static void check_run_order(void) {
-    static const struct { int64_t second; uint64_t limit, may_show, procedure, place; } rows[] = {{2, LIMIT, 0, 0, 0}, {1, LIMIT, 1, 1, 2}, {1, 3, 2, 0, 0}};
-    const char *text = "proc control closed int closed int write cont int\nregs int int\nGET v0 d0\nGET v1 d1\nDROPR d0\nDROPR d1\nDUPW d3 d2\nPUT 1 0 any 2 0\nPUT 1 0 any 3 1\nRET\n"
-                       "proc leaf write cont int val int\nregs int\nNEW d1 d2 int\nSTORE d1 v0\nINS d0 v0 d2 +1\nJMP +1\nDROPR d2\nDROPW d0\nRET\n";
-    yuglemit_program program = {NULL};
-    yuglemit_stop none = {NULL};
-    yuglemit_report report = {NULL};
-    yuglemit_verdict verdict = YUGLEMIT_VERDICT;
-    yuglemit_options options = YUGLEMIT_OPTIONS;
-    struct { yuglemit_order order; uint64_t more; } large = {{sizeof large, 9, 9, 9}, 9};
-    yuglemit_order *order = &large.order;
-    check(yuglemit_report_order(&report, order) == YUGLEMIT_NO_REPORT && order->may_show == 9, "the order of no report");
-    check(yuglemit_load_source((const uint8_t *)text, strlen(text), 't', &program, &verdict) == 0, "a program with two tasks");
-    for (size_t k = 0; k < sizeof rows / sizeof *rows; k++) {
-        yuglemit_inputs inputs = {NULL};
-        options.limit = rows[k].limit;
-        yuglemit_input_int(&inputs, 1);
-        yuglemit_input_int(&inputs, rows[k].second);
-        options.order = 0;
-        check(yuglemit_run(&program, &inputs, &options, &none, &report) == 0, "a run without its order");
-        order->may_show = 9;
-        check(yuglemit_report_order(&report, order) == YUGLEMIT_NO_ORDER && order->may_show == 9, "it has none");
-        options.order = 1;
-        check(yuglemit_run(&program, &inputs, &options, &none, &report) == 0 && yuglemit_report_order(&report, order) == 0, "a run with its order");
-        check(order->may_show == rows[k].may_show && order->procedure == rows[k].procedure && order->place == rows[k].place, "which is this one");
-        yuglemit_inputs_free(inputs);
-    }
-    check(large.more == 9, "no number more");
-    order->size = sizeof *order - 1;
-    check(yuglemit_report_order(&report, order) == YUGLEMIT_NO_SIZE, "an order of a run of no size");
-    yuglemit_report_free(report);
-    yuglemit_program_free(program);
-}
-
-/* Which input doesn't fit. */
-static void check_unfit(yuglemit_program *program) {
-    const char *text = "proc control closed int closed text closed int\nregs\nDROPR d0\nDROPR d1\nDROPR d2\nRET\n";
-    yuglemit_program three = {NULL}, empty = {NULL};
-    yuglemit_inputs inputs = {NULL}, none = {NULL};
-    yuglemit_report report = {NULL};
-    yuglemit_verdict verdict = YUGLEMIT_VERDICT;
-    size_t index = 9;
-    yuglemit_load_source((const uint8_t *)text, strlen(text), 't', &three, &verdict);
-    check(verdict.letter == 0, "three inputs");
-    check(yuglemit_unfit_input(&empty, &inputs, &index) == YUGLEMIT_NO_PROGRAM && index == 9, "no program has no input");
-    check(yuglemit_unfit_input(&three, &none, &index) == YUGLEMIT_INPUT_COUNT && index == 9, "O01: no inputs");
-    yuglemit_inputs of_program = {three.at};
-    check(yuglemit_unfit_input(program, &of_program, &index) == YUGLEMIT_NO_INPUTS && index == 9, "a program is no input");
-    check(yuglemit_input_int(&inputs, 7) == 0 && yuglemit_unfit_input(&three, &inputs, &index) == YUGLEMIT_INPUT_COUNT, "O01: one input");
-    check(yuglemit_input_int(&inputs, 8) == 0 && yuglemit_input_text(&inputs, (const uint8_t *)"", 0) == 0, "three of them");
-    check(run(&three, &inputs, LIMIT, &report) == YUGLEMIT_INPUT_TYPE && !report.at, "O02: the second is no text");
-    check(yuglemit_unfit_input(&three, &inputs, &index) == 0 && index == 1, "the first that doesn't fit, from 0");
-    check(yuglemit_unfit_input(program, &inputs, &index) == YUGLEMIT_INPUT_COUNT && index == 1, "O01: three for one");
-    yuglemit_inputs_free(inputs);
-    inputs.at = NULL;
-    check(yuglemit_input_text(&inputs, (const uint8_t *)"41", 2) == 0, "a text");
-    check(yuglemit_unfit_input(program, &inputs, &index) == YUGLEMIT_NO_INDEX && index == 1, "each fits");
-    yuglemit_inputs_free(inputs);
-    yuglemit_program_free(three);
-}
-
-static void check_report(yuglemit_program *program) {
-    yuglemit_inputs inputs = {NULL};
-    yuglemit_report report = {NULL};
-    yuglemit_ending ending = YUGLEMIT_ENDING;
-    yuglemit_item item;
-    yuglemit_member member;
-    uint8_t room[4] = {9, 9, 9, 9};
-    check(yuglemit_input_text(&inputs, (const uint8_t *)"41", 2) == 0 && run(program, &inputs, LIMIT, &report) == 0, "a run");
-    yuglemit_inputs_free(inputs);
-    check(yuglemit_report_ending(&report, &ending) == 0 && ending.status == 0 && ending.outputs > 0, "quiet");
-    check(yuglemit_report_output(&report, ending.outputs, &item) == YUGLEMIT_NO_INDEX, "no output");
-    check(yuglemit_report_output(&report, 0, &item) == 0 && item.kind == 't' && item.length == 2 && item.closed == 1, "an output");
-    check(yuglemit_report_text(&report, 0, room, 1) == YUGLEMIT_NO_ROOM && room[0] == 9, "a text in less room");
-    check(yuglemit_report_text(&report, 0, room, sizeof room) == 0 && memcmp(room, "42\t\t", 4) == 0, "a text, and the room after it");
-    check(yuglemit_report_text(&report, 1, room, sizeof room) == YUGLEMIT_NO_INDEX, "the text of no output");
-    check(yuglemit_report_member(&report, 0, 0, &member) == YUGLEMIT_NO_INDEX, "a text has no member");
-    check(yuglemit_report_subscript_text(&report, 0, 0, room, sizeof room) == YUGLEMIT_NO_INDEX, "nor a subscript");
-    size_t place = 9;
-    check(yuglemit_report_find_int(&report, 0, 42, &place) == YUGLEMIT_NO_INDEX && place == 9, "nor a place of one");
-    check(yuglemit_report_member(&report, SIZE_MAX, SIZE_MAX, &member) == YUGLEMIT_NO_INDEX, "no output, no member");
-    yuglemit_report_free(report);
-}
-
-/* Loads a text, and runs it with the inputs. */
-static void run_text(const char *text, yuglemit_inputs *inputs, yuglemit_report *report) {
-    yuglemit_program program = {NULL};
-    yuglemit_verdict verdict = YUGLEMIT_VERDICT;
-    yuglemit_load_source((const uint8_t *)text, strlen(text), 't', &program, &verdict);
-    check(verdict.letter == 0 && run(&program, inputs, LIMIT, report) == 0, "a text is run");
-    yuglemit_program_free(program);
-}
-
-/* What a store holds at the end: a map from "ab" to a text of two bytes, and a container with "abc" at 7. Three data were made. */
-static void check_held(void) {
-    static const uint64_t held[] = {3, 2, 7};
-    yuglemit_inputs inputs = {NULL};
-    yuglemit_report report = {NULL};
-    yuglemit_meter meter = YUGLEMIT_METER;
-    run_text("version 4\nproc control write tmap text write cont text\nregs text text int\nTEXT v0 \"ab\"\nTEXT v1 \"\xc3\xa9\"\nMINS d0 v0 v1 +0\nNEW d2 d3 text\nTEXT v0 \"abc\"\n"
-             "STORE d2 v0\nINT v2 7\nINS d1 v2 d3 have\nJMP next\nhave:\nDROPR d3\nnext:\nDROPW d0\nDROPW d1\nRET\n", &inputs, &report);
-    check(yuglemit_report_meter(&report, &meter) == 0 && !memcmp(&meter.data, held, sizeof held), "data, members and bytes");
-    yuglemit_report_free(report);
-}
-
-/* What a run did: main's task makes 2 PUT and a RET, and each of the two tasks that it puts 2 INT and a RET. Main's events are Take, Call, Call and
- * End, those of a leaf Take, Local and End. As many numbers are written as there is room for. */
-static void check_meter(void) {
-    check_held();
-    static const uint64_t did[] = {10, 3, 9, 0, 0, 0};
-    struct { yuglemit_meter meter; uint64_t more[2]; } large = {YUGLEMIT_METER, {9, 9}};
-    yuglemit_inputs inputs = {NULL};
-    yuglemit_report report = {NULL};
-    uint64_t *numbers = &large.meter.events;
-    check(yuglemit_report_meter(&report, &large.meter) == YUGLEMIT_NO_REPORT && numbers[0] == 0, "no report, no meter");
-    run_text("proc control\nregs\nPUT 1 0 any\nPUT 1 0 any\nRET\nproc leaf\nregs int\nINT v0 7\nINT v0 8\nRET\n", &inputs, &report);
-    for (size_t count = 0; count <= 8; count++) {
-        for (size_t k = 0; k < 8; k++) numbers[k] = 9;
-        large.meter.size = 8 * (count + 1);
-        check(yuglemit_report_meter(&report, &large.meter) == 0, "a meter of a size");
-        for (size_t k = 0; k < 8; k++) check(numbers[k] == (k < count && k < 6 ? did[k] : 9), "a number is written, or stays");
-    }
-    for (size_t size = 0; size < 8; size++) {
-        large.meter.size = size;
-        check(yuglemit_report_meter(&report, &large.meter) == YUGLEMIT_NO_SIZE, "no room for a size");
-    }
-    yuglemit_report_free(report);
-}
-
-/* Members by subscript: -6, -3, 0, 3 and 6 in one output, a text in the other. */
-static void check_finds(void) {
-    const char *by_int = "proc control write cont int\nregs int int\nINT v0 -6\nINT v1 3\nREPEAT 5\nNEW d1 d2 int\nSTORE d1 v0\nINS d0 v0 d2 have\nJMP next\nhave:\nDROPR d2\n"
-                         "next:\nADD v0 v0 v1 too_large\ntoo_large:\nEND\nDROPW d0\nRET\n";
-    const char *by_text = "version 2\nproc control closed text write tcont int\nregs text int\nGET v0 d0\nDROPR d0\nNEW d2 d3 int\nSTORE d2 v1\nTINS d1 v0 d3 have\nJMP next\n"
-                          "have:\nDROPR d3\nnext:\nDROPW d1\nRET\n";
-    static const uint8_t name[] = "\xc3\xa9", none[] = "\xff";
-    yuglemit_inputs inputs = {NULL};
-    yuglemit_report report = {NULL};
-    yuglemit_member member;
-    size_t place = 9;
-    check(yuglemit_report_find_int(&report, 0, 0, &place) == YUGLEMIT_NO_REPORT && place == 9, "no report has no member");
-    check(yuglemit_report_find_text(&report, 0, none, 1, &place) == YUGLEMIT_NO_UTF8 && place == 9, "no UTF-8 comes first");
-    run_text(by_int, &inputs, &report);
-    for (int64_t subscript = -7; subscript <= 7; subscript++) {
-        uint8_t code = yuglemit_report_find_int(&report, 0, subscript, &place);
-        int is_there = subscript % 3 == 0;
-        check(code == (is_there ? 0 : YUGLEMIT_NO_INDEX), "every third subscript");
-        check(!is_there || place == (size_t)((subscript + 6) / 3), "as many smaller ones");
-        check(!is_there || (yuglemit_report_member(&report, 0, place, &member) == 0 && member.subscript.number == subscript), "its member");
-    }
-    place = 9;
-    check(yuglemit_report_find_int(&report, 0, INT64_MIN, &place) == YUGLEMIT_NO_INDEX, "the least integer");
-    check(yuglemit_report_find_int(&report, 0, INT64_MAX, &place) == YUGLEMIT_NO_INDEX, "the greatest");
-    check(yuglemit_report_find_int(&report, 1, 0, &place) == YUGLEMIT_NO_INDEX, "no output");
-    check(yuglemit_report_find_int(&report, SIZE_MAX, 0, &place) == YUGLEMIT_NO_INDEX, "nor this one");
-    check(yuglemit_report_find_text(&report, 0, name, 2, &place) == YUGLEMIT_NO_INDEX && place == 9, "a text among integers");
-    check(yuglemit_input_text(&inputs, name, 2) == 0, "a text");
-    run_text(by_text, &inputs, &report);
-    check(yuglemit_report_find_text(&report, 0, name, 1, &place) == YUGLEMIT_NO_UTF8 && place == 9, "half a character");
-    check(yuglemit_report_find_text(&report, 0, name, 0, &place) == YUGLEMIT_NO_INDEX && place == 9, "the empty text");
-    check(yuglemit_report_find_text(&report, 0, name, 3, &place) == YUGLEMIT_NO_INDEX && place == 9, "a longer one");
-    check(yuglemit_report_find_int(&report, 0, 0, &place) == YUGLEMIT_NO_INDEX && place == 9, "an integer among texts");
-    check(yuglemit_report_find_text(&report, 0, name, 2, &place) == 0 && place == 0, "the text itself");
-    yuglemit_inputs_free(inputs);
-    yuglemit_report_free(report);
-}
-
-/* Stops a run before its first event, and makes it again without. */
-static void check_stop(yuglemit_program *program) {
+    static const size_t counts[KINDS] = {7, 3, 3, 6};
     yuglemit_options options = YUGLEMIT_OPTIONS;
     yuglemit_inputs inputs = {NULL};
+    yuglemit_stop no_stop = {NULL};
     yuglemit_report report = {NULL};
-    yuglemit_stop stop = {NULL}, other = {NULL};
-    yuglemit_ending ending = YUGLEMIT_ENDING;
-    yuglemit_meter meter = YUGLEMIT_METER;
-    check(yuglemit_input_text(&inputs, (const uint8_t *)"41", 2) == 0, "a text");
-    check(yuglemit_stop_raise(&stop) == YUGLEMIT_NO_STOP && yuglemit_stop_share(&stop, &other) == YUGLEMIT_NO_STOP, "there is no flag yet");
-    check(yuglemit_stop_new(&stop) == 0 && yuglemit_stop_share(&stop, &other) == 0 && other.at != stop.at, "a flag and its other handle");
-    check(yuglemit_run(program, &inputs, &options, &stop, &report) == 0, "a run with a flag");
-    check(yuglemit_report_ending(&report, &ending) == 0 && ending.status == 0, "isn't stopped");
-    check(yuglemit_stop_raise(&other) == 0 && yuglemit_run(program, &inputs, &options, &stop, &report) == 0, "a run with a raised flag");
-    check(yuglemit_report_ending(&report, &ending) == 0 && ending.status == 8 && ending.events == 0, "is stopped before its first event");
-    check(yuglemit_report_meter(&report, &meter) == 0 && meter.events == 0 && meter.tasks == 0 && meter.instructions == 0, "did nothing");
-    for (int k = 0; k < 2; k++) {
-        check(yuglemit_run(program, &inputs, &options, k ? &other : &stop, &report) == 0, "one more run, whose look lowers nothing");
-        check(yuglemit_report_ending(&report, &ending) == 0 && ending.status == 8 && ending.events == 0, "is stopped, too");
-        check(yuglemit_stop_raise(&stop) == 0, "the flag is raised a second time");
+    numbers part = {.at = {sizeof(yuglemit_order), 99}};
+    check(yuglemit_input_text(&inputs, (const uint8_t *)"41", 2) == 0 && run(program, &inputs, LIMIT, &report) == 0, "a run without its order");
+    check(write_numbers(RUN_ORDER, program, &report, &part) == YUGLEMIT_NO_ORDER && part.at[1] == 99, "has none");
+    options.order = 1;
+    check(yuglemit_run(program, &inputs, &options, &no_stop, &report) == 0, "a run with its order");
+    for (int kind = 0; kind < KINDS; kind++) {
+        numbers whole = {.at = {8 * (counts[kind] + 1)}};
+        check(write_numbers(kind, program, &report, &whole) == 0, "all numbers");
+        for (size_t size = 0; size <= sizeof part; size++) {
+            for (size_t k = 1; k < MOST; k++) part.at[k] = 99;
+            part.at[0] = size;
+            check(write_numbers(kind, program, &report, &part) == (is_size(size) ? YUGLEMIT_DONE : YUGLEMIT_NO_SIZE), "a struct of a size");
+            for (size_t k = 1; k < MOST; k++) check(part.at[k] == (is_size(size) && k < size / 8 && k <= counts[kind] ? whole.at[k] : 99), "a number is written, or stays");
+        }
     }
-    check(yuglemit_stop_lower(&stop) == 0 && yuglemit_run(program, &inputs, &options, &other, &report) == 0, "a run with a lowered flag");
-    check(yuglemit_report_ending(&report, &ending) == 0 && ending.status == 0, "ends by itself");
-    yuglemit_stop of_report = {report.at};
-    check(yuglemit_run(program, &inputs, &options, &of_report, &report) == YUGLEMIT_NO_STOP, "a report is no flag");
-    yuglemit_stop_free(stop);
-    yuglemit_stop_free(other);
     yuglemit_inputs_free(inputs);
     yuglemit_report_free(report);
-}
-
-/* A run of another thread, which only the flag ends soon. */
-typedef struct stopped {
-    yuglemit_program program;
-    yuglemit_stop stop;
-    uint8_t code, status;
-} stopped;
-
-static void *run_stopped(void *given) {
-    stopped *s = given;
-    yuglemit_options options = YUGLEMIT_OPTIONS;
-    yuglemit_inputs inputs = {NULL};
-    yuglemit_ending ending = YUGLEMIT_ENDING;
-    yuglemit_input_text(&inputs, (const uint8_t *)"41", 2);
-    do {
-        yuglemit_report report = {NULL};
-        s->code = yuglemit_run(&s->program, &inputs, &options, &s->stop, &report);
-        if (s->code == 0) yuglemit_report_ending(&report, &ending);
-        yuglemit_report_free(report);
-    } while (s->code == 0 && ending.status != 8);
-    s->status = (uint8_t)ending.status;
-    yuglemit_inputs_free(inputs);
-    return NULL;
-}
-
-static void check_stopped_thread(yuglemit_program *program) {
-    pthread_t thread;
-    stopped s = {{NULL}, {NULL}, 0, 0};
-    yuglemit_stop mine = {NULL};
-    check(yuglemit_program_share(program, &s.program) == 0 && yuglemit_stop_new(&mine) == 0 && yuglemit_stop_share(&mine, &s.stop) == 0, "shares");
-    check(pthread_create(&thread, &small, run_stopped, &s) == 0, "a thread");
-    check(yuglemit_stop_raise(&mine) == 0, "the flag is raised");
-    pthread_join(thread, NULL);
-    check(s.code == 0 && s.status == 8, "the other thread's runs are stopped");
-    yuglemit_program_free(s.program);
-    yuglemit_stop_free(s.stop);
-    yuglemit_stop_free(mine);
 }
 
 /* Begins containers of all types, and adds members of other types. */
@@ -687,33 +316,6 @@ static void check_lengths(void) {
     yuglemit_program_free(program);
 }
 
-/* All members of a container by one call, at each place and of each number. */
-static void check_members(void) {
-    const char *text = "proc control write cont int\nregs int int\nINT v0 -6\nINT v1 3\nREPEAT 5\nNEW d1 d2 int\nSTORE d1 v0\nINS d0 v0 d2 have\nJMP next\nhave:\nDROPR d2\n"
-                       "next:\nADD v0 v0 v1 too_large\ntoo_large:\nEND\nDROPW d0\nRET\n";
-    yuglemit_inputs inputs = {NULL};
-    yuglemit_report report = {NULL};
-    yuglemit_member members[7];
-    check(yuglemit_report_members(&report, 0, 0, members, 7) == YUGLEMIT_NO_REPORT, "no report has no members");
-    run_text(text, &inputs, &report);
-    for (size_t first = 0; first < 7; first++) {
-        for (size_t count = 0; count < 7; count++) {
-            uint8_t code = yuglemit_report_members(&report, 0, first, members, count);
-            int is_there = first + count <= 5;
-            check(code == (is_there ? YUGLEMIT_DONE : YUGLEMIT_NO_INDEX), "so many members from a place on");
-            for (size_t k = 0; is_there && k < count; k++) {
-                yuglemit_member one;
-                check(yuglemit_report_member(&report, 0, first + k, &one) == 0 && !memcmp(&one.subscript.number, &members[k].subscript.number, 8)
-                          && one.value.number == members[k].value.number && members[k].value.kind == 'i', "is the member of this place");
-            }
-        }
-    }
-    check(yuglemit_report_members(&report, 0, SIZE_MAX, members, 7) == YUGLEMIT_NO_INDEX, "a place beyond all");
-    check(yuglemit_report_members(&report, 1, 0, members, 1) == YUGLEMIT_NO_INDEX, "members of no output");
-    check(yuglemit_report_members(&report, SIZE_MAX, 0, members, 0) == YUGLEMIT_NO_INDEX, "none of no output");
-    yuglemit_report_free(report);
-}
-
 /* What a thread reads of a report that others read, too. */
 static void *read_report(void *given) {
     const yuglemit_report *report = given;
@@ -815,26 +417,14 @@ static void *check_all(void *unused) {
     check(yuglemit_version() == YUGLEMIT_VERSION_NUMBER, "the header's version");
     check_load(&program);
     check_sources();
-    check_hex();
     check_damaged();
-    check_questions(&program);
-    check_kinds(&program);
-    check_run(&program);
-    check_caps(&program);
-    check_more_caps();
-    check_order();
-    check_run_order();
-    check_unfit(&program);
-    check_report(&program);
-    check_meter();
-    check_finds();
-    check_members();
+    check_caps();
+    check_written(&program);
+    check_pairs();
     check_codes();
     check_lengths();
     check_one_handle(&program);
     check_readers(&program);
-    check_stop(&program);
-    check_stopped_thread(&program);
     check_containers(&program);
     check_sessions();
     check_threads(&program);

@@ -118,8 +118,21 @@ class Report:
         given = {subscript for subscript, _ in members}
         for other in {near for subscript in given for near in near_by(subscript)} - given:
             expect(f"no place of {other!r}", (NO_INDEX, 77), self.place_of(output, other))
-        found = self.calls.native.Member()
+        found, half = self.calls.native.Member(), len(members) // 2
+        rest = (self.calls.native.Member * (len(members) - half))()
+        expect("the members from the middle on", 0, self.calls.raw_report_members(self.handle, output, half, rest))
+        expect("the members from the middle on", [listed(it) for it in some[half:]], [listed(it) for it in rest])
         expect("the member after the last", NO_INDEX, self.calls.raw_report_member(self.handle, output, len(members), found))
+        for call in (self.calls.raw_report_subscript_text, self.calls.raw_report_member_text):
+            expect("its texts", NO_INDEX, self.written([call, output, len(members)], ROOM)[0])
+        expect("no UTF-8", NO_UTF8, self.calls.raw_report_find_text(self.handle, output, b"\xff", ctypes.c_size_t(77)))
+
+    def compare_beyond(self, output: int, expected: int) -> None:
+        """Compares what is said of an output that there isn't."""
+        item, member = self.calls.native.Item(), self.calls.native.Member()
+        answers = [self.calls.raw_report_output(self.handle, output, item), self.calls.raw_report_member(self.handle, output, 0, member)]
+        answers += [self.written([self.calls.raw_report_text, output], ROOM)[0], self.place_of(output, 0)[0], self.place_of(output, "")[0]]
+        expect(f"output {output}", [expected] * 5, answers)
 
     def place_of(self, output: int, subscript: Scalar) -> tuple[int, int]:
         """Returns the answer of the call that finds a member, and the place, which is 77 if it writes none."""
@@ -206,7 +219,7 @@ class HandlesTest(RunTest):
         expect("verdict", (answer.code, answer.procedure, answer.place), (f"{chr(letter)}{number:02}" if letter else "", procedure, place))
         expect("a handle", not answer.code, bool(program.at))
         self.compare_program(native, program, not answer.code)
-        if self.program.version > OLDER:
+        if self.program.version > OLDER and not answer.code:
             self.compare_older(native, data)
         if not answer.code:
             expect("share", 0, native.raw_program_share(program, shared))
@@ -225,7 +238,8 @@ class HandlesTest(RunTest):
         answer = native.raw_program_procedures(program, count)
         expected = (0, len(self.program.procedures)) if is_accepted else (NO_PROGRAM, 77)
         expect("procedures", expected, (answer, count.value))
-        for number, most in enumerate([*budgets(self.program), None] if is_accepted else []):
+        procedures = [*enumerate([*budgets(self.program), None]), ((1 << 64) - 1, None)]
+        for number, most in procedures if is_accepted else []:
             answer = native.raw_program_budget(program, number, budget)
             expect("budget", (0, most) if most is not None else NO_INDEX, (answer, budget.value) if most is not None else answer)
         for limit in (0, 1, 600, 1_000_001):
@@ -349,6 +363,8 @@ class HandlesTest(RunTest):
         expect("ending", (machine.events, len(machine.outputs), status_of(machine)), tuple(ending))
         self.compare_meter(native, report, machine)
         self.compare_run_order(native, report, machine)
+        for output in (len(machine.outputs), (1 << 64) - 1):
+            Report(native, report, machine).compare_beyond(output, UNFINISHED if ending[2] and not self.partial else NO_INDEX)
         for output, number in enumerate(machine.outputs):
             if ending[2] and not self.partial:
                 expect("an output of an unfinished run", UNFINISHED, native.raw_report_output(report, output, native.native.Item()))
