@@ -239,74 +239,24 @@ static void check_wrong_lists(void) {
     check(!inputs.at, "nothing is appended");
 }
 
-/* ---- Runs that don't end by themselves, and versions of the language */
+/* ---- Runs that don't end by themselves */
 
-/* Returns the code of a call on the outputs of a report, which are two: an integer and a container of texts by texts. */
-static uint8_t read_output(int row, yuglemit_report *report) {
-    yuglemit_item item;
-    yuglemit_member member;
-    uint8_t room[ROOM] = {0};
-    size_t place;
-    switch (row) {
-    case 0: return yuglemit_report_output(report, 0, &item);
-    case 1: return yuglemit_report_member(report, 1, 0, &member);
-    case 2: return yuglemit_report_members(report, 1, 0, &member, 0);
-    case 3: return yuglemit_report_find_int(report, 1, 0, &place);
-    case 4: return yuglemit_report_find_text(report, 1, room, 0, &place);
-    case 5: return yuglemit_report_text(report, 0, room, ROOM);
-    case 6: return yuglemit_report_member_text(report, 1, 0, room, ROOM);
-    default: return yuglemit_report_subscript_text(report, 1, 0, room, ROOM);
-    }
-}
-
-/* After one event both outputs are there, unset and without a member. */
+/* Outputs of an unfinished run are read if the options ask for it. Those of six numbers are of a caller that read them before there was that option. */
 static void check_unfinished(void) {
-    static const char source[] = "version 2\nproc control write int write tcont text\nregs int\nPUT 0 0 any 0 1\nRET\n";
-    static const uint8_t partial[] = {0, YUGLEMIT_NO_INDEX, 0, YUGLEMIT_NO_INDEX, YUGLEMIT_NO_INDEX, YUGLEMIT_NO_TEXT, YUGLEMIT_NO_INDEX, YUGLEMIT_NO_INDEX};
+    static const char source[] = "proc control write int\nregs int\nPUT 0 0 any 0\nRET\n";
     handles all = NO_HANDLES;
     yuglemit_options options = YUGLEMIT_OPTIONS;
+    yuglemit_item item;
     options.limit = 1;
-    check(load(&all, (const uint8_t *)source, strlen(source), YUGLEMIT_TEXT) == 0 && yuglemit_run(&all.program, &all.inputs, &options, &all.stop, &all.report) == 0, "a run of one event");
-    for (int row = 0; row < 8; row++) check(read_output(row, &all.report) == YUGLEMIT_UNFINISHED, "an output of an unfinished run");
-    check(yuglemit_print_report(&all.report, &all.text) == 0 && yuglemit_print_json(&all.report, &all.text) == 0, "it is printed");
-    options.partial = 1;
-    check(yuglemit_run(&all.program, &all.inputs, &options, &all.stop, &all.report) == 0, "a run whose options ask for what is there");
-    for (int row = 0; row < 8; row++) check(read_output(row, &all.report) == partial[row], "what is there");
-    options.size -= sizeof options.partial;
-    check(yuglemit_run(&all.program, &all.inputs, &options, &all.stop, &all.report) == 0, "a run with options of six numbers");
-    for (int row = 0; row < 8; row++) check(read_output(row, &all.report) == partial[row], "as they were then");
-    free_all(&all);
-}
-
-/* A read of no member is one of an output that there is, up to its end. */
-static void check_no_members(void) {
-    handles all = NO_HANDLES;
-    yuglemit_member member;
-    make_each(&all);
-    check(yuglemit_report_members(&all.report, 0, 0, &member, 0) == 0, "none of a number");
-    check(yuglemit_report_members(&all.report, 0, 1, &member, 0) == YUGLEMIT_NO_INDEX && yuglemit_report_members(&all.report, 0, SIZE_MAX, &member, 0) == YUGLEMIT_NO_INDEX, "after its end");
-    check(yuglemit_report_members(&all.report, 1, 0, &member, 0) == YUGLEMIT_NO_INDEX && yuglemit_report_members(&all.report, SIZE_MAX, 0, &member, 0) == YUGLEMIT_NO_INDEX, "of no output");
-    free_all(&all);
-}
-
-/* A program is loaded if its version is at most that of the options. */
-static void check_versions(void) {
-    static const char *const sources[] = {"proc control\nregs\nRET\n", "version 2\nproc control\nregs\nRET\n", "version 4\nproc control\nregs\nRET\n"};
-    static const uint64_t versions[] = {1, 2, 4}, most[] = {0, 1, 2, 3, 4, 5, UINT64_MAX};
-    for (int k = 0; k < 3 * 7; k++) {
-        const uint8_t *source = (const uint8_t *)sources[k % 3];
-        yuglemit_load_options options = YUGLEMIT_LOAD_OPTIONS;
-        yuglemit_program program = {NULL};
-        yuglemit_verdict verdict = YUGLEMIT_VERDICT;
-        options.version = most[k / 3];
-        uint8_t code = yuglemit_load_with(source, strlen(sources[k % 3]), YUGLEMIT_TEXT, &options, &program, &verdict);
-        int is_loaded = versions[k % 3] <= most[k / 3];
-        check(code == (is_loaded ? 0 : YUGLEMIT_REJECTED) && !program.at == !is_loaded, "a program up to a version");
-        check(is_loaded || (verdict.letter == 'F' && verdict.number == 2 && verdict.place == 3), "a later one is F02");
-        options.size -= sizeof options.version;
-        check(yuglemit_load_with(source, strlen(sources[k % 3]), YUGLEMIT_TEXT, &options, &program, &verdict) == 0, "as without this option");
-        yuglemit_program_free(program);
+    check(load(&all, (const uint8_t *)source, strlen(source), YUGLEMIT_TEXT) == 0, "a program");
+    for (int row = 0; row < 3; row++) {
+        if (row == 1) options.partial = 1;
+        if (row == 2) options.size -= sizeof options.partial, options.partial = 0;
+        check(yuglemit_run(&all.program, &all.inputs, &options, &all.stop, &all.report) == 0, "a run of one event");
+        check(yuglemit_report_output(&all.report, 0, &item) == (row ? 0 : YUGLEMIT_UNFINISHED), "its output");
+        check(yuglemit_print_report(&all.report, &all.text) == 0 && yuglemit_print_json(&all.report, &all.text) == 0, "it is printed");
     }
+    free_all(&all);
 }
 
 /* Why a program is refused, in words: lines of a check if the error is in a line, else what the code means. */
@@ -582,8 +532,6 @@ int main(int argc, char **argv) {
     check_lists();
     check_wrong_lists();
     check_unfinished();
-    check_no_members();
-    check_versions();
     check_told();
     check_layouts();
     check_many();

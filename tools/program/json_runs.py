@@ -16,6 +16,7 @@ from typing import Any
 from tools import ROOT
 from tools.common.program import program
 from tools.fuzz import positions
+from tools.fuzz.kinds.inputs import unquoted
 from tools.cases.files import Let, read_book
 from tools.cases.json_cases import COMMANDS, UNCHECKED, faults, validators
 
@@ -36,26 +37,12 @@ class Session:
     given: bytes
 
 
-def quoted_text(word: str) -> str:
-    """Returns the text that a quoted word of a report denotes."""
-    inside = word[1:-1].encode()
-    plain = re.sub(rb"\\(x[0-9a-f]{2}|.)", lambda match: escaped(match[1]), inside)
-    return plain.decode()
-
-
-def escaped(sign: bytes) -> bytes:
-    """Returns the byte of an escape, without its backslash."""
-    if sign.startswith(b"x"):
-        return bytes([int(sign[1:], 16)])
-    return {b"n": b"\n"}.get(sign, sign)
-
-
 def scalar(words: str) -> int | str | None:
     """Returns the value of `int 7`, `text "a"`, `unset` or `gone`."""
     kind, _, value = words.partition(" ")
     if kind == "int":
         return int(value)
-    return quoted_text(value) if kind == "text" else None
+    return unquoted(value) if kind == "text" else None
 
 
 def output_of(words: str) -> tuple[str, Any]:
@@ -85,7 +72,7 @@ def report_object(report: str) -> dict[str, Any]:
             kinds.append(kind)
             outputs.append(value)
         elif member := re.fullmatch(r'  at ("(?:[^"\\]|\\.)*"|-?\d+) (.*)', line):
-            key = quoted_text(member[1]) if member[1].startswith('"') else member[1]
+            key = unquoted(member[1]) if member[1].startswith('"') else member[1]
             outputs[-1][key] = scalar(member[2])
         elif line in ("quiet", "limit", "stopped", "running"):
             found["status"] = line

@@ -119,20 +119,24 @@ class Report:
         for other in {near for subscript in given for near in near_by(subscript)} - given:
             expect(f"no place of {other!r}", (NO_INDEX, 77), self.place_of(output, other))
         found, half = self.calls.native.Member(), len(members) // 2
-        rest = (self.calls.native.Member * (len(members) - half))()
+        rest, none = (self.calls.native.Member * (len(members) - half))(), (self.calls.native.Member * 0)()
         expect("the members from the middle on", 0, self.calls.raw_report_members(self.handle, output, half, rest))
         expect("the members from the middle on", [listed(it) for it in some[half:]], [listed(it) for it in rest])
+        answers = [self.calls.raw_report_members(self.handle, output, first, none) for first in (len(members), len(members) + 1, (1 << 64) - 1)]
+        expect("no members from the last on, and past it", [0, NO_INDEX, NO_INDEX], answers)
         expect("the member after the last", NO_INDEX, self.calls.raw_report_member(self.handle, output, len(members), found))
         for call in (self.calls.raw_report_subscript_text, self.calls.raw_report_member_text):
             expect("its texts", NO_INDEX, self.written([call, output, len(members)], ROOM)[0])
         expect("no UTF-8", NO_UTF8, self.calls.raw_report_find_text(self.handle, output, b"\xff", ctypes.c_size_t(77)))
 
-    def compare_beyond(self, output: int, expected: int) -> None:
-        """Compares what is said of an output that there isn't."""
+    def compare_none(self, output: int, expected: int) -> None:
+        """Compares what is said of an output that there isn't, or that is of an unfinished run."""
         item, member = self.calls.native.Item(), self.calls.native.Member()
         answers = [self.calls.raw_report_output(self.handle, output, item), self.calls.raw_report_member(self.handle, output, 0, member)]
         answers += [self.written([self.calls.raw_report_text, output], ROOM)[0], self.place_of(output, 0)[0], self.place_of(output, "")[0]]
-        expect(f"output {output}", [expected] * 5, answers)
+        answers += [self.written([call, output, 0], ROOM)[0] for call in (self.calls.raw_report_member_text, self.calls.raw_report_subscript_text)]
+        answers += [self.calls.raw_report_members(self.handle, output, 0, (self.calls.native.Member * count)()) for count in (0, 1)]
+        expect(f"output {output}", {expected}, {*answers})
 
     def place_of(self, output: int, subscript: Scalar) -> tuple[int, int]:
         """Returns the answer of the call that finds a member, and the place, which is 77 if it writes none."""
@@ -219,9 +223,8 @@ class HandlesTest(RunTest):
         expect("verdict", (answer.code, answer.procedure, answer.place), (f"{chr(letter)}{number:02}" if letter else "", procedure, place))
         expect("a handle", not answer.code, bool(program.at))
         self.compare_program(native, program, not answer.code)
-        if self.program.version > OLDER and not answer.code:
-            self.compare_older(native, data)
         if not answer.code:
+            self.compare_versions(native, data)
             expect("share", 0, native.raw_program_share(program, shared))
             self.append(native, inputs)
             self.compare_run(native, program, inputs, report)
@@ -363,13 +366,11 @@ class HandlesTest(RunTest):
         expect("ending", (machine.events, len(machine.outputs), status_of(machine)), tuple(ending))
         self.compare_meter(native, report, machine)
         self.compare_run_order(native, report, machine)
-        for output in (len(machine.outputs), (1 << 64) - 1):
-            Report(native, report, machine).compare_beyond(output, UNFINISHED if ending[2] and not self.partial else NO_INDEX)
-        for output, number in enumerate(machine.outputs):
-            if ending[2] and not self.partial:
-                expect("an output of an unfinished run", UNFINISHED, native.raw_report_output(report, output, native.native.Item()))
-            else:
-                Report(native, report, machine).compare(output, number)
+        is_shown = not ending[2] or self.partial
+        for output in (*(() if is_shown else range(len(machine.outputs))), len(machine.outputs), (1 << 64) - 1):
+            Report(native, report, machine).compare_none(output, NO_INDEX if is_shown else UNFINISHED)
+        for output, number in enumerate(machine.outputs) if is_shown else ():
+            Report(native, report, machine).compare(output, number)
 
     def compare_meter(self, native: Calls, report: Any, machine: Machine) -> None:
         """Compares what a run did, and what the store holds then, with the machine."""
@@ -406,11 +407,14 @@ class HandlesTest(RunTest):
             for handle, name in ((stop, "stop"), (other, "stop"), (report, "report")):
                 getattr(native, f"{name}_free")(handle)
 
-    def compare_older(self, native: Calls, data: bytes) -> None:
-        """Loads the program as a caller that names no version."""
-        program, verdict = native.handle(), native.numbers(*[0] * 9)
-        native.raw_load_source(data, ord("b"), native.numbers(), program, verdict)
-        expect("a later version", (ord("F"), 2, 3, None), (*verdict[:2], verdict[5], program.at))
+    def compare_versions(self, native: Calls, data: bytes) -> None:
+        """Loads the program as callers that name no version, or another one."""
+        for options in ((), NEWEST[:1], *((NEWEST[0], version) for version in (0, 1, 2, 3, 4, 5, (1 << 64) - 1))):
+            program, verdict, is_loaded = native.handle(), native.numbers(*[0] * 9), self.program.version <= (options[1] if options[1:] else OLDER)
+            answered = native.raw_load_source(data, ord("b"), native.numbers(*options), program, verdict)
+            expect(f"options {options}", (0 if is_loaded else REJECTED, is_loaded), (answered, bool(program.at)))
+            expect(f"options {options}", [0, 0, 0] if is_loaded else [ord("F"), 2, 3], [*verdict[:2], verdict[5]])
+            native.program_free(program)
 
     def compare_hex(self, native: Calls, data: bytes, program: Any) -> None:
         """Loads the program again, from hex text."""

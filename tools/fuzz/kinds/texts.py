@@ -290,14 +290,7 @@ class DamagedText(FuzzTest):
         return None
 
     def smaller(self) -> Iterator[FuzzTest]:
-        lines = self.text.split("\n")
-        for size in (len(lines) // 2, len(lines) // 4, 1):
-            for first in range(0, len(lines), max(1, size)) if size else ():
-                yield replace(self, text="\n".join(lines[:first] + lines[first + size:]))
-        for place, line in enumerate(lines):
-            words = line.split(" ")
-            for at in range(len(words) if len(words) > 1 else 0):
-                yield replace(self, text="\n".join([*lines[:place], " ".join(words[:at] + words[at + 1:]), *lines[place + 1:]]))
+        return without_parts(self, "text")
 
     def case(self) -> list[str]:
         expected = self.expected()
