@@ -6,13 +6,13 @@ its complaint says that the case is done.
 
 import contextlib
 import os
-import queue
 import re
 import subprocess
 import sys
 import threading
 import time
 from collections.abc import Callable
+from concurrent.futures import ThreadPoolExecutor, as_completed
 from dataclasses import dataclass
 from pathlib import Path
 from typing import IO
@@ -178,51 +178,34 @@ def batches_of(cases: list[Case], times: Times) -> list[list[Case]]:
 
 
 def run_all(cases: list[Case], times: Times, make: Callable[[str], Runner], jobs: int, report: Callable[[list[Result]], None]) -> list[Result]:
-    """Runs cases by so many processes, and reports each batch as it is done."""
-    waiting: queue.SimpleQueue[list[Case]] = queue.SimpleQueue()
-    done: queue.SimpleQueue[list[Result] | BaseException | None] = queue.SimpleQueue()
-    for batch in batches_of(cases, times):
-        waiting.put(batch)
-    threads = [threading.Thread(target=work, args=(make, waiting, done), daemon=True) for _ in range(jobs)]
-    for thread in threads:
-        thread.start()
-    results: list[Result] = []
-    running = len(threads)
-    while running:
-        done_now = done.get()
-        if isinstance(done_now, BaseException):
-            raise done_now
-        if done_now is None:
-            running -= 1
-            continue
-        results += done_now
-        report(done_now)
-    return results
+    """Runs cases in so many threads, each with processes of its own, and reports each batch as it is done."""
+    runners: list[Runner] = []
+    own = threading.local()
 
+    def run(batch: list[Case]) -> list[Result]:
+        """Runs a batch. Cases that a program didn't reach, since it stopped, are run by its next process."""
+        crate = batch[0].crate
+        if not hasattr(own, crate):
+            setattr(own, crate, make(crate))
+            runners.append(getattr(own, crate))
+        results: list[Result] = []
+        while len(results) < len(batch):
+            results += getattr(own, crate).run(batch[len(results):])
+        return results
 
-def work(make: Callable[[str], Runner], waiting: queue.SimpleQueue[list[Case]], done: queue.SimpleQueue[list[Result] | BaseException | None]) -> None:
-    """Runs batches until none is left. Cases that a program didn't reach, since it stopped, are run by its next process."""
-    runners: dict[str, Runner] = {}
-    try:
-        while True:
-            try:
-                batch = waiting.get_nowait()
-            except queue.Empty:
-                break
-            crate = batch[0].crate
-            if crate not in runners:
-                runners[crate] = make(crate)
-            while batch:
-                results = runners[crate].run(batch)
-                done.put(results)
-                batch = batch[len(results):]
-        for runner in runners.values():
-            runner.finish()
-        done.put(None)
-    except BaseException as fault:
-        for runner in runners.values():
-            runner.stop()
-        done.put(fault)
+    with ThreadPoolExecutor(jobs) as threads:
+        batches = [threads.submit(run, batch) for batch in batches_of(cases, times)]
+        try:
+            for done in as_completed(batches):
+                report(done.result())
+            for runner in runners:
+                runner.finish()
+        except BaseException:
+            threads.shutdown(wait=False, cancel_futures=True)
+            for runner in runners:
+                runner.stop()
+            raise
+    return [result for done in batches for result in done.result()]
 
 
 # --- What is shown

@@ -159,7 +159,7 @@ MUTANTS = (
     Mutant("a_dead_runner_passes", "cases", RUNS, 'Result(case, f"{case.name}: the program stopped, or took longer than {MOST_SECONDS:.0f} s", 0.0)', 'Result(case, "", 0.0)'),
     Mutant("controls_are_not_looked_at", "cases", RUNS, "        return self.said == expected", "        return self.said == expected or self.case.complaint is not None"),
     Mutant("uncounted_cases_pass", "cases", RUNS, 'if said.decode(errors="replace") != f"{self.silent} cases as wanted\\n":', "if False:"),
-    Mutant("a_batch_goes_on_after_a_stop", "cases", RUNS, "batch = batch[len(results):]", "batch = []"),
+    Mutant("a_batch_goes_on_after_a_stop", "cases", RUNS, "while len(results) < len(batch):", "while not results:"),
     Mutant("ci_may_update", "cases", CASES, 'if is_update and (os.environ.get("CI") or not patterns):', "if is_update and not patterns:"),
     Mutant("cases_may_be_double", "cases", CASES, "in found if other is not case]", "in found if other is None]"),
     Mutant("unused_bytes_stay", "cases", CASES, "for made in unused_lets(book)]", "for made in []]"),
