@@ -1,5 +1,5 @@
 # SPDX-License-Identifier: Apache-2.0
-"""Reads where a text has an error off the lines that are printed: for tools/library/loaded.py, ./dev json_runs and tools/fuzz/kinds/texts.py."""
+"""Reads where a text has an error off the lines that are printed: for ./dev json_runs and tools/fuzz/kinds/texts.py."""
 
 import re
 

@@ -109,6 +109,7 @@ static void check_damaged(void) {
 /* A struct of numbers, which begins with its size in bytes, with room for more numbers than there are. */
 enum { MOST = 12 };
 typedef union numbers {
+    yuglemit_load_options load;
     yuglemit_caps caps;
     yuglemit_options options;
     yuglemit_bounds bounds;
@@ -119,7 +120,7 @@ typedef union numbers {
 
 static int is_size(size_t size) { return size >= 8 && size % 8 == 0; }
 
-/* Caps and options of each size. Those that a smaller struct lacks are as usual. The program has each kind of bound, and a cap may be one below it. */
+/* Caps, and options of a run and of a load, of each size. Those that a smaller struct lacks are as usual. The program has each kind of bound, and a cap may be one below it. */
 static void check_caps(void) {
     static const char text[] = "proc control\nregs int text\nNEW d0 d1 cont int\nDROPR d1\nNEW d2 d3 int\nSTORE d2 v0\nINS d0 v0 d3 there\nJMP done\nthere:\nDROPR d3\ndone:\nDROPW d0\n"
                                "RULE 1 0 any\nRET\n\nproc leaf\nregs\nRET\n";
@@ -130,11 +131,12 @@ static void check_caps(void) {
     yuglemit_verdict verdict = YUGLEMIT_VERDICT;
     yuglemit_bounds b = YUGLEMIT_BOUNDS;
     uint64_t budget = 0;
-    numbers caps = {.at = {0}}, options = {.at = {0}};
+    numbers caps = {.at = {0}}, options = {.at = {0}}, load = {.at = {0}};
     yuglemit_load_source((const uint8_t *)text, sizeof text - 1, YUGLEMIT_TEXT, &program, &verdict);
     check(yuglemit_program_bounds(&program, 0, &b) == 0 && yuglemit_program_budget(&program, 0, &budget) == 0, "bounds and a budget");
     caps.caps = (yuglemit_caps){sizeof(yuglemit_caps), b.tasks, b.instructions, b.data, b.bytes, budget, b.members, b.rules};
     options.options = (yuglemit_options)YUGLEMIT_OPTIONS;
+    load.load = (yuglemit_load_options)YUGLEMIT_LOAD_OPTIONS;
     for (size_t k = 1; k <= sizeof(yuglemit_caps) / 8; k++) {
         caps.at[0] = 8 * k;
         check(yuglemit_run_within(&program, &inputs, &options.options, &caps.caps, &no_stop, &report) == 0, "caps at the bounds");
@@ -154,6 +156,9 @@ static void check_caps(void) {
         code = yuglemit_run(&program, &inputs, &options.options, &no_stop, &report);
         check(code == (is_size(size) && size <= sizeof(yuglemit_options) ? YUGLEMIT_DONE : YUGLEMIT_NO_SIZE), "options of a size");
         options.at[0] = sizeof(yuglemit_options);
+        load.at[0] = size;
+        code = yuglemit_load_with((const uint8_t *)text, sizeof text - 1, YUGLEMIT_TEXT, &load.load, &program, &verdict);
+        check(code == (is_size(size) && size <= sizeof(yuglemit_load_options) ? YUGLEMIT_DONE : YUGLEMIT_NO_SIZE), "options of a load");
     }
     yuglemit_report_free(report);
     yuglemit_program_free(program);
@@ -297,25 +302,6 @@ static void check_codes(void) {
     check(known == 25 && !strcmp(yuglemit_code_name(YUGLEMIT_NO_MEMORY), "NO_MEMORY"), "the codes of the header");
 }
 
-/* The greatest length of a source. */
-static void check_lengths(void) {
-    yuglemit_program program = {NULL};
-    yuglemit_verdict verdict = YUGLEMIT_VERDICT;
-    yuglemit_load_options options = YUGLEMIT_LOAD_OPTIONS;
-    options.most_bytes = program_length;
-    check(yuglemit_load_with(program_bytes, program_length, YUGLEMIT_BYTES, &options, &program, &verdict) == 0 && program.at, "a program of the greatest length");
-    yuglemit_program_free(program);
-    program.at = NULL;
-    options.most_bytes = program_length - 1;
-    check(yuglemit_load_with(program_bytes, program_length, YUGLEMIT_BYTES, &options, &program, &verdict) == YUGLEMIT_REJECTED && !program.at, "a longer one");
-    check(verdict.letter == 'H' && verdict.number == 2 && verdict.line == 0, "is H02");
-    options.size = sizeof(size_t);
-    check(yuglemit_load_with(program_bytes, program_length, YUGLEMIT_BYTES, &options, &program, &verdict) == 0 && program.at, "no greatest length is 16 MiB");
-    options.size = sizeof options + 8;
-    check(yuglemit_load_with(program_bytes, program_length, YUGLEMIT_BYTES, &options, &program, &verdict) == YUGLEMIT_NO_SIZE, "more options than there are");
-    yuglemit_program_free(program);
-}
-
 /* What a thread reads of a report that others read, too. */
 static void *read_report(void *given) {
     const yuglemit_report *report = given;
@@ -422,7 +408,6 @@ static void *check_all(void *unused) {
     check_written(&program);
     check_pairs();
     check_codes();
-    check_lengths();
     check_one_handle(&program);
     check_readers(&program);
     check_containers(&program);

@@ -7,7 +7,6 @@ import sys
 from pathlib import Path
 
 from tools.common.sessions import sessions
-from tools.fuzz import positions
 
 root, room, tw, *watch = sys.argv[1:]
 examples = Path(root, "examples")
@@ -58,47 +57,6 @@ def compare_examples() -> tuple[int, int]:
         for inputs in inputs_of(path) if code is not None else []:
             for source in (code or b"", (code or b"").hex().encode(), path.read_bytes()):
                 counts[is_same(path, source, inputs)] += 1
-    return counts[True], counts[False]
-
-
-def damaged(text: bytes) -> list[bytes]:
-    """Returns texts with an error: a word dropped, a word too many, and a word changed, in a few lines."""
-    lines = text.split(b"\n")
-    made = []
-    for index in range(1, len(lines), max(1, len(lines) // 6)):
-        words = lines[index].split(b" ")
-        for line in (b" ".join(words[:-1]), lines[index] + b" 7", b" ".join([*words[:-1], b"zz"])):
-            made.append(b"\n".join([*lines[:index], line, *lines[index + 1:]]))
-    return made
-
-
-def position(text: str) -> tuple[str, int, int, int]:
-    """Returns code, line, word and column of an error that `tw check --text` prints. A register's error has no word."""
-    code = re.search(r"^refused ([A-Z])0?(\d+)", text, re.M)
-    line = re.search(r" at line (\d+)$", text, re.M) or re.search(r"^at line (\d+)", text, re.M)
-    lines = text.split("\n")[:-1]
-    at = positions.of_error(lines, lines[1]) if len(lines) > 1 else (0, 0)
-    return f"{code[1]}{int(code[2]):02}" if code else "", int(line[1]) if line else 0, *at
-
-
-def has_same_position(path: Path, text: bytes) -> bool:
-    """Compares where the library and `tw check` find the error of a text."""
-    _, told = started([tw, "check", "--text"], text)
-    status, said = started([f"{room}/loaded"], text)
-    found = re.match(rb"refused ([A-Z]\d+) procedure \d+ place \d+ line (\d+) word (\d+) column (\d+)", said)
-    wanted_at = position(told.decode(errors="replace"))
-    is_alike = found is None if not wanted_at[0] else found is not None and (found[1].decode(), *map(int, found.groups()[1:])) == wanted_at
-    if not is_alike:
-        print("DIFFERS", path.name, status, said[:100], told[:200])
-    return is_alike
-
-
-def compare_positions() -> tuple[int, int]:
-    """Returns how many errors of texts are at the same position, and how many differ."""
-    counts = {True: 0, False: 0}
-    for path in sorted(examples.glob("*.tw")) + sorted(examples.glob("*.twn")):
-        for text in damaged(path.read_bytes()):
-            counts[has_same_position(path, text)] += 1
     return counts[True], counts[False]
 
 
@@ -157,12 +115,10 @@ def main() -> int:
     cpp, text = started([*watch, f"{room}/cpp", str(examples)]) if Path(room, "cpp").exists() else (0, b"C++: no compiler\n")
     print(text.decode(), end="")
     same, differ = compare_examples()
-    alike, apart = compare_positions()
-    print(f"{alike} errors of texts at the same position, {apart} not")
     taken, strange = compare_words()
     print(f"{taken} input words taken alike, {strange} not")
     print(f"{same} same, {differ} differ")
-    return int(not has_version() or hostile + cpp != 0 or differ + apart + strange != 0 or same == 0 or alike == 0)
+    return int(not has_version() or hostile + cpp != 0 or differ + strange != 0 or same == 0)
 
 
 if __name__ == "__main__":

@@ -224,7 +224,7 @@ class HandlesTest(RunTest):
         expect("a handle", not answer.code, bool(program.at))
         self.compare_program(native, program, not answer.code)
         if not answer.code:
-            self.compare_versions(native, data)
+            self.compare_options(native, data)
             expect("share", 0, native.raw_program_share(program, shared))
             self.append(native, inputs)
             self.compare_run(native, program, inputs, report)
@@ -407,13 +407,16 @@ class HandlesTest(RunTest):
             for handle, name in ((stop, "stop"), (other, "stop"), (report, "report")):
                 getattr(native, f"{name}_free")(handle)
 
-    def compare_versions(self, native: Calls, data: bytes) -> None:
-        """Loads the program as callers that name no version, or another one."""
-        for options in ((), NEWEST[:1], *((NEWEST[0], version) for version in (0, 1, 2, 3, 4, 5, (1 << 64) - 1))):
-            program, verdict, is_loaded = native.handle(), native.numbers(*[0] * 9), self.program.version <= (options[1] if options[1:] else OLDER)
+    def compare_options(self, native: Calls, data: bytes) -> None:
+        """Loads the program with other options: none, another newest version, and its length or a byte less as the most."""
+        lengths = [(most, NEWEST[1]) for most in (len(data), len(data) - 1)]
+        for options in ((), NEWEST[:1], *((NEWEST[0], version) for version in (0, 1, 2, 3, 4, 5, (1 << 64) - 1)), *lengths):
+            most, newest = *options, *(NEWEST[0], OLDER)[len(options):]
+            letter, *where = ("H", 2, 0) if len(data) > most else ("F", 2, 3) if self.program.version > newest else ("", 0, 0)
+            program, verdict = native.handle(), native.numbers(*[0] * 9)
             answered = native.raw_load_source(data, ord("b"), native.numbers(*options), program, verdict)
-            expect(f"options {options}", (0 if is_loaded else REJECTED, is_loaded), (answered, bool(program.at)))
-            expect(f"options {options}", [0, 0, 0] if is_loaded else [ord("F"), 2, 3], [*verdict[:2], verdict[5]])
+            got = (answered, bool(program.at), verdict[0], verdict[1], verdict[5])
+            expect(f"options {options}", (REJECTED if letter else 0, not letter, ord(letter or "\0"), *where), got)
             native.program_free(program)
 
     def compare_hex(self, native: Calls, data: bytes, program: Any) -> None:

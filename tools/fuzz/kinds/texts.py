@@ -11,6 +11,7 @@ from tools.fuzz.oracle.assembler import Error, assembled
 from tools.fuzz.oracle.code import (
     FORMS, Fault, Program, decode, disassembled, encode, head_text, instr_text, labelled_lines, registers_text, smaller, version_lines,
 )
+from tools.fuzz.kinds.handles import NEWEST, Calls
 from tools.fuzz.library import Library
 from tools.fuzz.oracle.names import is_name, new_name, symbolic, wrong
 from tools.fuzz.common import Corpus, FuzzTest, answer_part, difference, indented, input_lines, visible, without_parts
@@ -243,7 +244,7 @@ class DamagedText(FuzzTest):
         if expected is not None and got != expected:
             return difference("asm", expected, got)
         if status == 0:
-            return self.accepted_fault(library, got)
+            return self.accepted_fault(library, got) or self.verdict_fault(library, library.session(["check", "--text"], self.text)[1])
         lines = max(1, lines_in(self.text))
         found = ERROR.match(got)
         if status != 1 or not found or found[2] is None or not 1 <= int(found[2]) <= lines:
@@ -280,14 +281,27 @@ class DamagedText(FuzzTest):
 
     def column_fault(self, library: Library) -> str | None:
         """Compares the column in the object of an error with the lines that `check --text` prints. `asm` reads no names."""
-        lines = library.session(["check", "--text"], self.text)[1].split("\n")[:-1]
-        source = ["", *self.text.split("\n"), ""]
+        printed = library.session(["check", "--text"], self.text)[1]
+        lines, source = printed.split("\n")[:-1], ["", *self.text.split("\n"), ""]
         for words in (["check", "--text"], ["asm"])[:1 if self.is_symbolic else 2]:
             error = json.loads(library.session([*words, "--json"], self.text)[1]).get("error", {})
             expected = positions.of_error(lines, source[error.get("line", 0)])[1]
             if error.get("column", 0) != expected:
                 return f"{words[0]} --json: expected column {expected}, got {error.get('column', 0)}"
-        return None
+        return self.verdict_fault(library, printed)
+
+    def verdict_fault(self, library: Library, printed: str) -> str | None:
+        """Compares where the library's call finds an error with what `check --text` prints, which has main's first line of V16."""
+        native = Calls(library)
+        program, verdict = native.handle(), native.numbers(*[0] * 9)
+        native.raw_load_source(self.text.encode(), ord("t"), native.numbers(*NEWEST), program, verdict)
+        native.program_free(program)
+        code, line = re.search(r"(?m)^refused ([A-Z])(\d+)", printed), re.search(r"(?m)(?:^| )at line (\d+)(?:$|:| in )", printed)
+        number = verdict[6] if printed.startswith("refused V16") else int(line[1]) if line else 0
+        at = positions.of_error(printed.split("\n")[:-1], ["", *self.text.split("\n"), ""][number])
+        expected = [ord(code[1]), int(code[2]), number, *at] if code else [0] * 5
+        got = [*verdict[:2], *verdict[6:]]
+        return None if got == expected else f"the verdict: expected {expected}, got {got}, of {printed[:200]!r}"
 
     def smaller(self) -> Iterator[FuzzTest]:
         return without_parts(self, "text")
