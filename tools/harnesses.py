@@ -4,6 +4,7 @@ nights and release/HARNESSES take them from here.
 The arguments of a harness are those of CI and of quick nights (`short`), and of whole ones (`whole`), each with the least number of things that
 it has to count as passed. `@seed` is the run's, `@seconds` and `@count` those of a whole night; `NAME=1` is a variable."""
 
+import sys
 from pathlib import Path
 from typing import NamedTuple
 
@@ -53,6 +54,18 @@ def path_of(file: str) -> Path:
     """Returns the path of a file of the table, without arguments."""
     file = file.split()[0]
     return ROOT / file if file.startswith("./") else ROOT / "tools" / file
+
+
+def named(words: list[str]) -> list[Tool]:
+    """Returns the harnesses of these names; `fuzz` is each of its kinds. Exits if one is none."""
+    found: list[Tool] = []
+    for word in words:
+        rows = [tool for tool in TOOLS if tool.is_harness and (tool.name == word or word == "fuzz" and tool.name.startswith("fuzz_"))]
+        if not rows:
+            print(f"there is no harness {word}; ./dev list names them", file=sys.stderr)
+            raise SystemExit(2)
+        found += rows
+    return found
 
 
 def fuzz(kind: str) -> Tool:

@@ -1,7 +1,7 @@
 /* SPDX-License-Identifier: Apache-2.0 */
 /* Measures how much stack calls of the library take: makes them in a thread, and prints how many bytes below the caller's frame were written.
  * Fails if they are more than the 64 KiB that yuglemit.h asks for. The arguments are those of tw, for which the session is kept in a handle too,
- * and standard input is the input; with the one argument `verify` it is a program's bytes. The stack ends at a page that can't be touched.
+ * and standard input is the input. The stack ends at a page that can't be touched.
  * ./dev embedded builds and runs it. */
 #define _GNU_SOURCE /* MAP_ANONYMOUS, MAP_STACK */
 #include "../../embed/yuglemit.h"
@@ -18,23 +18,16 @@ typedef struct call {
     uint8_t *lines, *words, *input;
     size_t words_length, input_length;
     uintptr_t frame; /* an address in the caller's frame */
-    int verifies;
 } call;
-
-static void make_session(const call *c) {
-    uint8_t status, room[1];
-    yuglemit_text output = {NULL};
-    yuglemit_session(c->lines, c->words_length, c->input, c->input_length, room, 0, &status);
-    yuglemit_session_text(c->words, c->words_length, c->input, c->input_length, &output);
-    yuglemit_text_free(output);
-}
 
 static void *made(void *given) {
     call *c = given;
-    yuglemit_verdict verdict = YUGLEMIT_VERDICT;
-    c->frame = (uintptr_t)&verdict;
-    if (c->verifies) yuglemit_verify(c->input, c->input_length, &verdict);
-    else make_session(c);
+    uint8_t status, room[1];
+    yuglemit_text output = {NULL};
+    c->frame = (uintptr_t)&output;
+    yuglemit_session(c->lines, c->words_length, c->input, c->input_length, room, 0, &status);
+    yuglemit_session_text(c->words, c->words_length, c->input, c->input_length, &output);
+    yuglemit_text_free(output);
     return NULL;
 }
 
@@ -69,7 +62,6 @@ int main(int count, char **word) {
     uint8_t *stack = mmap(NULL, STACK + GUARD, PROT_READ | PROT_WRITE, MAP_PRIVATE | MAP_ANONYMOUS | MAP_STACK, -1, 0);
     if (stack == MAP_FAILED || mprotect(stack, GUARD, PROT_NONE)) return 5;
     memset(stack + GUARD, BLANK, STACK);
-    c.verifies = count == 2 && !strcmp(word[1], "verify");
     read_words(&c, count, word);
     read_input(&c);
     pthread_attr_init(&attributes);

@@ -10,13 +10,12 @@ What is tested is the release, or what is built here (script/pick.sh). The seed 
 the same ones before a commit, after it and in CI."""
 
 import os
-import sys
 import tempfile
 from pathlib import Path
 
 from tools import ROOT
 from tools.common.program import LIBRARY, PROGRAM, describe, for_package
-from tools.harnesses import TOOLS, Tool
+from tools.harnesses import TOOLS, Tool, named
 from tools.night import record
 from tools.night.runner import FAILED, LEFT_OUT, Ended, Runner, heed_signals, status_of, total
 
@@ -28,14 +27,12 @@ def seed() -> str:
     return record.sum_of(next(tool for tool in TOOLS if tool.name.startswith("fuzz_")))
 
 
-def chosen(words: list[str]) -> list[Tool] | str:
-    """Returns the harnesses that arguments name, or which of these names isn't one."""
+def chosen(words: list[str]) -> list[Tool]:
+    """Returns the harnesses that arguments name, or all of CI."""
     rows = [tool for tool in TOOLS if tool.is_harness and tool.in_ci]
     if words in (["--sources"], ["--built"]):
         return [tool for tool in rows if bool(tool.tests) == (words == ["--built"])]
-    named = {tool.name: tool for tool in TOOLS if tool.is_harness}
-    unknown = [word for word in words if word not in named]
-    return unknown[0] if unknown else [named[word] for word in words] or rows
+    return named(words) or rows
 
 
 def report(ended: Ended, logs: Path, prints_all: bool) -> None:
@@ -52,9 +49,6 @@ def main(words: list[str]) -> int:
     """Runs them; returns an exit status."""
     prints_all = "--times" in words
     tools = chosen([word for word in words if word != "--times"])
-    if isinstance(tools, str):
-        print(f"there is no harness {tools}; ./dev list names them", file=sys.stderr)
-        return 2
     environment: dict[str, str] = {}
     if any(tool.tests for tool in tools):
         print(f"tests {describe(PROGRAM)} and {describe(LIBRARY)}", flush=True)

@@ -23,7 +23,7 @@ from pathlib import Path
 
 from tools import ROOT
 from tools.common.program import ARCHIVE, LIBRARY, NOTHING, PROGRAM, describe, for_package, found
-from tools.harnesses import TOOLS, Tool
+from tools.harnesses import TOOLS, Tool, named
 from tools.night import record
 from tools.night.runner import FAILED, Ended, Runner, heed_signals, status_of, total
 
@@ -55,19 +55,10 @@ def failed_before() -> list[str]:
     return [row["name"] for path in last for row in map(json.loads, path.read_text(encoding="utf-8").splitlines()) if row["outcome"] == FAILED]
 
 
-def chosen(names: list[str], is_all: bool, day: int) -> list[Tool] | str:
-    """Returns the harnesses of a night, or the name that isn't one."""
-    rows = [tool for tool in TOOLS if tool.is_harness]
-    if not names:
-        again = failed_before()
-        return [tool for tool in rows if is_all or tool.shard in (None, day % 7) or tool.name in again]
-    found_rows: list[Tool] = []
-    for name in names:
-        named = [tool for tool in rows if tool.name == name or name == "fuzz" and tool.name.startswith("fuzz_")]
-        if not named:
-            return name
-        found_rows += named
-    return found_rows
+def chosen(names: list[str], is_all: bool, day: int) -> list[Tool]:
+    """Returns the harnesses of these names, or of a night."""
+    again = [] if names else failed_before()
+    return named(names) or [tool for tool in TOOLS if tool.is_harness and (is_all or tool.shard in (None, day % 7) or tool.name in again)]
 
 
 def runner_of(folder: Path, logs: Path, whole: bool) -> Runner:
@@ -112,10 +103,7 @@ def run(tools: list[Tool], runner: Runner, jobs: int) -> int:
 
 def run_here(words: list[str]) -> int:
     """Runs these harnesses whole, in this folder; returns an exit status."""
-    tools = chosen(words, False, 0) if words else "without a name"
-    if isinstance(tools, str):
-        print(f"there is no harness {tools}; ./dev list names them", file=sys.stderr)
-        return 2
+    tools = named(words or ["without a name"])
     logs = NIGHTS / f"{datetime.datetime.now():%Y-%m-%dT%H%M%S}-{os.getpid()}"
     logs.mkdir(parents=True)
     runner = runner_of(ROOT, logs, True)
@@ -132,9 +120,6 @@ def main(words: list[str]) -> int:
     parser.add_argument("names", nargs="*")
     given = parser.parse_args(words)
     tools = chosen(given.names, given.all or given.quick, datetime.date.today().toordinal())
-    if isinstance(tools, str):
-        print(f"there is no harness {tools}; ./dev list names them", file=sys.stderr)
-        return 2
     if changed():
         print(f"commit first; a night tests what is committed:\n{changed()}", file=sys.stderr)
         return NOTHING

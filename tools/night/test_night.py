@@ -144,19 +144,15 @@ class RunnerTest(WithScripts):
 
 
 class NamesTest(unittest.TestCase):
-    def call(self, main: object, *words: str) -> tuple[int, str]:
-        errors = io.StringIO()
-        with contextlib.redirect_stderr(errors):
-            return main(list(words)), errors.getvalue()  # type: ignore[operator]
-
     def test_a_name_that_is_none_is_no_pass(self) -> None:
-        for main in (check.main, night.main, night.run_here):
-            self.assertEqual(self.call(main, "words", "lode"), (2, "there is no harness lode; ./dev list names them\n"))
-        self.assertEqual(self.call(night.run_here)[0], 2)
+        for main, words, name in ((check.main, ["words", "lode"], "lode"), (night.main, ["words", "lode"], "lode"), (night.run_here, [], "without a name")):
+            with self.assertRaises(SystemExit) as ended, contextlib.redirect_stderr(io.StringIO()) as errors:
+                main(words)
+            self.assertEqual((ended.exception.code, errors.getvalue()), (2, f"there is no harness {name}; ./dev list names them\n"))
 
     def test_shards_and_failures_of_the_night_before(self) -> None:
         with mock.patch.object(night, "failed_before", return_value=["many"]):
-            names = [{tool.name for tool in night.chosen([], False, day)} for day in range(7)]  # type: ignore[union-attr]
+            names = [{tool.name for tool in night.chosen([], False, day)} for day in range(7)]
         self.assertTrue(all({"shown", "many", "fuzz_run"} <= found for found in names))
         self.assertEqual([day for day, found in enumerate(names) if "hostile" in found], [4])
         self.assertEqual(set().union(*names), {tool.name for tool in TOOLS if tool.is_harness})
@@ -172,7 +168,7 @@ class NamesTest(unittest.TestCase):
                     self.assertNotEqual(check.seed(), first)
 
     def test_parts_of_check(self) -> None:
-        sources, built = ({tool.name for tool in check.chosen([word])} for word in ("--sources", "--built"))  # type: ignore[union-attr]
+        sources, built = ({tool.name for tool in check.chosen([word])} for word in ("--sources", "--built"))
         self.assertEqual(sources & built, set())
         self.assertEqual(sources | built, {tool.name for tool in TOOLS if tool.is_harness and tool.in_ci})
         self.assertLessEqual({"shown", "stream", "loaded", "abi", "python", "test", "fuzz_orders"}, built)
