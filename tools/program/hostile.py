@@ -94,30 +94,28 @@ def padded(front: str, filler: str, back: str = "") -> Maker:
     return lambda most: front + filler * ((most - len((front + back).encode())) // len(filler.encode())) + back
 
 
-def numbered(front: str, line: str, back: str = "") -> Maker:
-    """Makes a line, repeated between two texts with `%` as a number that counts up."""
+def named(names: Callable[[int], Iterator[str]]) -> Callable[..., Maker]:
+    """Makes a line, repeated between two texts with `%` as another one of these names each time; of some 17 bytes there are so many lines."""
+    def repeated(front: str, line: str, back: str = "") -> Maker:
+        def made(most: int) -> str:
+            room, lines = most - len(front) - len(back), list[str]()
+            for name in names(room // (len(line) + collisions.LENGTH)):
+                lines.append(line.replace("%", name))
+                room -= len(lines[-1])
+                if room < 0:
+                    return front + "".join(lines[:-1]) + back
+            return front + "".join(lines) + back
 
-    def made(most: int) -> str:
-        lines: list[str] = []
-        size = len(front) + len(back)
-        while size < most:
-            lines.append(line.replace("%", str(len(lines))))
-            size += len(lines[-1])
-        return front + "".join(lines[:-1]) + back
+        return made
 
-    return made
+    return repeated
 
 
-def lettered(front: str, line: str, back: str) -> Maker:
-    """Makes a line, repeated between two texts with `%` as another name of four letters each time."""
-
-    def made(most: int) -> str:
-        letters = string.ascii_letters + string.digits + "_"
-        names = map("".join, itertools.product("bghjkqsuwxyz", letters, letters, letters))
-        count = (most - len(front) - len(back)) // (len(line) + 3)
-        return front + "".join(line.replace("%", name) for name in itertools.islice(names, count)) + back
-
-    return made
+LETTERS = string.ascii_letters + string.digits + "_"
+# Numbers that count up, names of four letters, and names that all collide where the hash of names has a fixed seed.
+numbered = named(lambda most: map(str, itertools.count()))
+lettered = named(lambda most: map("".join, itertools.product("bghjkqsuwxyz", LETTERS, LETTERS, LETTERS)))
+colliding = named(lambda most: collisions.colliding(min(COLLIDING, most)))
 
 
 def halves(front: str, first: str, between: str, second: str) -> Maker:
@@ -126,16 +124,6 @@ def halves(front: str, first: str, between: str, second: str) -> Maker:
     def made(most: int) -> str:
         half = (most - len(front) - len(between)) // 2
         return front + first * (half // len(first)) + between + second * (half // len(second))
-
-    return made
-
-
-def colliding(front: str, line: str, back: str) -> Maker:
-    """Makes a line, repeated between two texts with `%` as a name; all names collide where the hash of names has a fixed seed."""
-
-    def made(most: int) -> str:
-        count = min(COLLIDING, (most - len(front) - len(back)) // (len(line) + collisions.LENGTH))
-        return front + "".join(line.replace("%", name) for name in collisions.colliding(count)) + back
 
     return made
 

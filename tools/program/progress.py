@@ -213,33 +213,21 @@ def are_answers(written: str, lines: int) -> bool:
     )
 
 
-def each_faults() -> list[str]:
-    """Returns what is wrong with `--each` of some seconds, likewise."""
-    faults: list[str] = []
-    rows: list[tuple[str, list[str], bool, bool]] = [
-        ("--each on a terminal", [], True, True), ("--each --jobs 2", ["--jobs=2"], True, True),
-        ("--each --quiet", ["--quiet"], True, False), ("--each into a pipe", [], False, False),
-    ]
-    for name, words, on_terminal, is_printed in rows:
-        lines, got, took = run_long(LINES, words, on_terminal, is_printed)
-        is_right = is_line_progress(got.printed, took, lines) if is_printed else not got.printed
-        is_well = is_right and are_answers(got.written, lines) and got.status == 0
-        faults.append("" if is_well else f"{name}, {lines} lines, {took.all:.1f} seconds: {got.printed!r}, status {got.status}, {got.written[-200:]}")
-    return faults
-
-
 def long_faults() -> list[str]:
-    """Returns what is wrong with runs of some seconds, or nothing for each that is well."""
+    """Returns what is wrong with runs of some seconds and with `--each`, or nothing for each that is well."""
     faults: list[str] = []
-    rows: list[tuple[str, list[str], bool, str]] = [
-        ("a run on a terminal", [], True, "events"), ("--quiet", ["--quiet"], True, ""), ("into a pipe", [], False, ""),
-        ("--in-turn", ["--in-turn"], True, "turns"), ("--in-turn --quiet", ["--in-turn", "--quiet"], True, ""),
+    rows: list[tuple[str, Work, list[str], bool, str]] = [
+        ("a run on a terminal", TASKS, [], True, "events"), ("--quiet", TASKS, ["--quiet"], True, ""), ("into a pipe", TASKS, [], False, ""),
+        ("--in-turn", TASKS, ["--in-turn"], True, "turns"), ("--in-turn --quiet", TASKS, ["--in-turn", "--quiet"], True, ""),
+        ("--each on a terminal", LINES, [], True, "lines"), ("--each --jobs 2", LINES, ["--jobs=2"], True, "lines"),
+        ("--each --quiet", LINES, ["--quiet"], True, ""), ("--each into a pipe", LINES, [], False, ""),
     ]
-    for name, words, on_terminal, what in rows:
-        _, got, took = run_long(TASKS, words, on_terminal, bool(what))
-        is_right = is_progress(got.printed, what, took) if what else not got.printed
-        is_well = is_right and (got.written, got.status) == ("quiet\n", 0)
-        faults.append("" if is_well else f"{name}, {took.all:.1f} seconds: {got}")
+    for name, work, words, on_terminal, what in rows:
+        count, got, took = run_long(work, words, on_terminal, bool(what))
+        is_right = is_line_progress(got.printed, took, count) if what == "lines" else is_progress(got.printed, what, took) if what else not got.printed
+        is_answered = are_answers(got.written, count) if work == LINES else got.written == "quiet\n"
+        is_well = is_right and is_answered and got.status == 0
+        faults.append("" if is_well else f"{name}, {count} tasks or lines, {took.all:.1f} seconds: {got.printed!r}, status {got.status}, {got.written[-200:]}")
     return faults
 
 
@@ -291,7 +279,7 @@ def coloured_faults() -> list[str]:
 
 
 def main(words: list[str]) -> int:
-    results = long_faults() + each_faults() + short_faults() + terminal_faults() + coloured_faults()
+    results = long_faults() + short_faults() + terminal_faults() + coloured_faults()
     faults = [fault for fault in results if fault]
     print("\n".join([*faults, f"{len(results) - len(faults)} as wanted, {len(faults)} not"]))
     return 1 if faults else 0

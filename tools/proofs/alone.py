@@ -4,26 +4,14 @@
 This is for the first minutes in a fresh clone, where `rt check` would prove all of those first. It takes the arguments of `rt check`. With
 --only FUNCTION it checks that function and what it calls, in the crates below too. Without it all functions of those are checked as well."""
 
-import importlib
 import os
-import shutil
 import sys
-from pathlib import Path
-from typing import Any
 
-
-def kit() -> Path:
-    """Returns the folder of the toolchain whose command rt is on the PATH."""
-    command = shutil.which("rt")
-    if command is None:
-        sys.exit("alone: the command rt isn't on the PATH")
-    return Path(command).resolve().parent.parent
+from tools.common import kit
 
 
 def main(given: list[str]) -> int:
-    sys.dont_write_bytecode = True
-    sys.path.insert(0, str(kit() / "bin"))
-    rtlib: Any = importlib.import_module("rtlib")  # the words of a check, as `rt check` has them
+    rtlib = kit.rtlib(kit.folder())  # the words of a check, as `rt check` has them
     if not os.path.isdir("src"):
         sys.exit("alone: call it in a crate's folder")
     here = os.getcwd()

@@ -11,6 +11,7 @@ from dataclasses import dataclass
 from pathlib import Path
 
 from tools import ROOT
+from tools.common import kit
 
 # Is in the program where the number of a break is written.
 MARK = int.from_bytes(b"mutants!", "little")
@@ -66,13 +67,12 @@ def add_breaks(folder: Path, places: tuple[Place, ...]) -> None:
 def built(crate: str, places: tuple[Place, ...]) -> bytes:
     """Returns the program of a crate with all breaks, which is built unproved."""
     name = Path(sys.argv[0]).name
-    kit = Path(shutil.which("rt") or sys.exit(f"{name}: the toolchain isn't installed")).resolve().parent.parent
     with tempfile.TemporaryDirectory() as room:
         folder = Path(room)
         copy_to(folder)
         add_breaks(folder, places)
         program = folder / crate
-        subprocess.run([sys.executable, "-B", ROOT / "tools/proofs/unverified.py", kit, folder, crate, program], check=True)
+        subprocess.run([sys.executable, "-B", ROOT / "tools/proofs/unverified.py", kit.folder(), folder, crate, program], check=True)
         made = program.read_bytes()
     if MARK.to_bytes(8, "little") not in made:
         sys.exit(f"{name}: the program has no place for the number of a break")

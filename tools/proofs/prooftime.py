@@ -11,10 +11,8 @@ what the borrow checker leaves, `Proof` its goals. Compare figures of one sittin
 
 import argparse
 import bisect
-import importlib
 import os
 import re
-import shutil
 import subprocess
 import sys
 import tempfile
@@ -26,6 +24,7 @@ from pathlib import Path
 from typing import Any, NamedTuple
 
 from tools import ROOT
+from tools.common import kit
 from tools.common.processes import fields_of, seconds_in
 
 KINDS = ("Lts", "Proof", "Tie", "Reads", "Kinds", "Layout")
@@ -122,16 +121,6 @@ def run_check(words: list[str], folder: Path) -> tuple[str, Samples]:
     return log, samples
 
 
-def load_toolchain() -> Any:
-    """Returns the module of the toolchain's command rt that knows the words of a check."""
-    command = shutil.which("rt")
-    if command is None:
-        sys.exit("prooftime: the command rt isn't on the PATH")
-    sys.dont_write_bytecode = True
-    sys.path.insert(0, str(Path(command).resolve().parent.parent / "bin"))
-    return importlib.import_module("rtlib")
-
-
 def words_of(rtlib: Any, folder: Path, kept: Path, only: str | None) -> list[str]:
     """Returns the words of a check of the crate in a folder; builds the crates below if they aren't."""
     crate = rtlib.Crate(str(folder), str(ROOT), {})
@@ -189,5 +178,5 @@ def main(words: list[str]) -> int:
     given = parser.parse_args(words)
     if unknown := [name for name in given.names if not (ROOT / "crates" / name / "src").is_dir()]:
         parser.error(f"there is no crate {unknown[0]}")
-    rtlib = load_toolchain()
+    rtlib = kit.rtlib(kit.folder())
     return max([measure(rtlib, name, given.only, given.functions) for name in given.names])

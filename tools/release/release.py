@@ -31,6 +31,7 @@ from pathlib import Path
 from typing import Any, Iterable, Mapping
 
 from tools import ROOT
+from tools.common.kit import folder as kit_folder
 from tools.night import record
 from tools.proofs import must_fail
 
@@ -155,14 +156,6 @@ def what_is_proved(root: Path) -> str:
 
 
 # ---- The builds
-
-
-def kit_folder() -> Path:
-    """Returns the toolchain's folder, by the command rt on the PATH."""
-    found = shutil.which("rt")
-    if not found:
-        raise SystemExit("./dev release needs the command rt on the PATH")
-    return Path(found).resolve().parent.parent
 
 
 def kit_id(kit: Path) -> str:
