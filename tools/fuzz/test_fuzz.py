@@ -17,6 +17,7 @@ from tools import ROOT
 from tools.cases import files
 from tools.fuzz import main as fuzz
 from tools.fuzz.kinds import calls, inputs, orders, runs
+from tools.fuzz.kinds.handles import NEWEST, REJECTED, Calls
 from tools.fuzz import make
 from tools.fuzz.oracle.assembler import Error, assembled
 from tools.fuzz.oracle.bounds import COUNTED, bound, bound_lines, budgets, check_lines, has_circle, is_circle
@@ -351,6 +352,33 @@ class CallsTest(unittest.TestCase):
         for path in (*ROOT.glob("tools/fuzz/**/*.py"), *ROOT.glob("embed/python/yuglemit/*.py")):
             called = set(re.findall(r"\.(yuglemit_\w+)\(", path.read_text(encoding="utf-8")))
             self.assertEqual(called - exported, set(), path.name)
+
+    def test_where_errors_are(self) -> None:
+        """A name that a line has twice has no word, since it isn't known which one is wrong. Columns are characters."""
+        native, main = Calls(Library()), "names\nproc control main()\nregs"
+        rows: list[tuple[Any, ...]] = [
+            ("zz", "h", "H01", 0, 0, 0), ("\udcff", "t", "H03", 0, 0, 0), ("\udcff", "\0", "H03", 0, 0, 0), ("54 57 42", "\0", "F03", 0, 0, 0), ("TWB", "\0", "F03", 0, 0, 0),
+            ("", "\0", "F03", 0, 0, 0), ("", "t", "A06", 1, 0, 0), ("proc leaf write int\n  regs\n  ENDS d0\n", "\0", "A01", 3, 1, 3), ("names\nconst n 7\n", "t", "N01", 2, 3, 9),
+            ("names\n const n\n", "t", "N01", 2, 1, 2), ("names\nproc control main(out:write int)\n", "t", "N01", 2, 3, 19), ("names\nconst n = n*2 ; n\n", "t", "N01", 2, 4, 11),
+            ("names\nconst n = n\n", "t", "N01", 2, 0, 0), ("names\n\tconst 7up = 8\n", "t", "N02", 2, 2, 8), ("names\nconst ten = 10\nconst ten = 11\n", "t", "N03", 3, 2, 7),
+            ("names\nconst a = 1\nproc control main(aa: val int, a: val int)\n", "t", "N03", 3, 6, 32), (f"{main} a: int, a: int\n", "t", "N03", 3, 0, 0),
+            (f"{main}\nINT totl 7\n", "t", "N04", 4, 2, 5), (f"{main}\nADD é v0 totl next\n", "t", "N04", 4, 4, 10),
+            ("names\nproc control main(x: ref int, y: ref int)\nregs\nPUT main 0 any(x,totl)\n", "t", "N04", 4, 4, 18),
+            ("names\nconst turns = 8\nproc control main()\nregs\nINT turns 7 ; too many turns\n", "t", "N05", 5, 2, 5),
+            (f"{main} {', '.join(f'{name}: int' for name in 'abcdefghijklmnopq')}\n", "t", "N06", 3, 34, 134),
+        ]
+        for source, form, *expected in rows:
+            program, verdict = native.handle(), native.numbers(*[0] * 9)
+            answered = native.raw_load_source(source.encode("utf-8", "surrogateescape"), ord(form), native.numbers(*NEWEST), program, verdict)
+            self.assertEqual([answered, program.at, f"{verdict[0]:c}{verdict[1]:02}", *verdict[6:]], [REJECTED, None, *expected], source)
+
+    def test_arguments_that_end_with_nuls(self) -> None:
+        source = b"proc control closed text write text\nregs text\nGET v0 d0\nDROPR d0\nSTORE d1 v0\nRET\n"
+        none = b'input word 1 refused\ninput 1: "": expected int:, ints:, text:, texts:, tints: or ttexts: before it\n'
+        rows = {b"run\0--text\0text:a\nb\0": (0, b'out 0 text "a\\nb"\nquiet\n'), b"run\0--text\0text:a\n": (0, b'out 0 text "a\\n"\nquiet\n'), b"run\0--text\0\0text:a\0": (2, none)}
+        rows |= dict.fromkeys((b"run\n--text\ntext:a\n", b"run\0--text\0text:\xff\0", b"\0"), (2, b"command line refused\n"))
+        for words, expected in rows.items():
+            self.assertEqual(Library().into_text(words, source), expected, words)
 
     def test_a_help_reads_no_file(self) -> None:
         """The program takes a word for a file where the library, which has none, rejects it."""

@@ -6,8 +6,6 @@ import re
 import subprocess
 import sys
 from collections.abc import Callable
-from functools import cache, partial
-from typing import Any
 
 from tools.common.program import package, program
 from tools.common.sessions import sessions
@@ -34,21 +32,9 @@ def started(program: str, words: list[str], data: bytes = b"") -> Answer:
     return done.returncode, done.stdout
 
 
-@cache
-def module() -> Any:
-    """Returns the Python package."""
-    return package()
-
-
-def by_python(words: list[str], data: bytes) -> Answer:
-    """Returns what the Python package answers."""
-    status, text = module().session(words, data)
-    return int(status), bytes(text)
-
-
 def answer_of(language: str, words: list[str], data: bytes) -> Answer:
-    """Returns what a language's example answers."""
-    return by_python(words, data) if language == "python" else started(f"{room}/{language}", words, data)
+    """Returns what a language's example answers, or the Python package."""
+    return package().session(words, data) if language == "python" else started(f"{room}/{language}", words, data)  # type: ignore[no-any-return]
 
 
 def compare(words: list[str], data: bytes = b"") -> None:
@@ -94,22 +80,10 @@ def compare_call(name: str, order: list[str], data: bytes, call: Callable[[], st
     """Compares what a function of the Python module gives, or refuses, with the program's text."""
     try:
         got = call()
-    except module().Refused as why:
+    except package().Refused as why:
         got = why.text
     wanted = started(tw, order, data)[1].decode()
     say(got == wanted, "python", name, order, got[:100], wanted[:100])
-
-
-def hex_of(text: str) -> str:
-    return str(module().assemble(text).hex()) + "\n"
-
-
-def checked(text: str) -> str:
-    return str(module().load(text).checked)
-
-
-def reported(text: str, inputs: list[str]) -> str:
-    return str(module().load(text).run(*map(module().read_input, inputs), workers=2).text)
 
 
 def compare_report(name: str, assembles: list[str], text: str, inputs: list[str]) -> None:
@@ -118,19 +92,19 @@ def compare_report(name: str, assembles: list[str], text: str, inputs: list[str]
     words = ["--in-turn", "--workers", "2", *inputs]
     is_accepted = started(tw, ["check", "--text"], data)[0] == 0
     order, given = (["run", *words], started(tw, assembles, data)[1]) if is_accepted else (["run", "--text", *words], data)
-    compare_call(name, order, given, partial(reported, text, inputs))
+    compare_call(name, order, given, lambda: str(package().load(text).run(*map(package().read_input, inputs), workers=2).text))
 
 
 def compare_calls() -> None:
     """Compares the functions of the Python module with the program."""
-    yuglemit = module()
+    yuglemit = package()
     for name in sorted(it for it in os.listdir(folder) if it.endswith((".tw", ".twn"))):
         with open(f"{folder}/{name}", encoding="utf-8") as file:
             text = file.read()
         inputs: list[str] = next((list(it.inputs) for it in sessions() if it.command == "run" and it.path.name == name), [])
         data, order = text.encode(), ["asm", "--names"] if name.endswith(".twn") else ["asm"]
-        compare_call(name, order, data, partial(hex_of, text))
-        compare_call(name, ["check", "--text"], data, partial(checked, text))
+        compare_call(name, order, data, lambda text=text: f"{yuglemit.assemble(text).hex()}\n")
+        compare_call(name, ["check", "--text"], data, lambda text=text: str(yuglemit.load(text).checked))
         if inputs or not re.search(r"^proc control.*\b(closed|ref)\b", text, re.M):  # inputs that main doesn't ask for are a TypeError
             compare_report(name, order, text, inputs)
         try:

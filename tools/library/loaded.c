@@ -40,51 +40,6 @@ static void check_load(yuglemit_program *program) {
     check(verdict.letter == 0, "a load over a full handle");
 }
 
-/* A source and where its error is. */
-typedef struct wrong {
-    const char *source;
-    uint8_t format, letter, number;
-    size_t line, word, column;
-} wrong;
-
-static const wrong sources[] = {
-    {"zz", YUGLEMIT_HEX, 'H', 1, 0, 0, 0},
-    {"\xff", YUGLEMIT_TEXT, 'H', 3, 0, 0, 0},
-    {"\xff", YUGLEMIT_ANY_FORMAT, 'H', 3, 0, 0, 0},
-    {"54 57 42", YUGLEMIT_ANY_FORMAT, 'F', 3, 0, 0, 0},
-    {"TWB", YUGLEMIT_ANY_FORMAT, 'F', 3, 0, 0, 0},
-    {"", YUGLEMIT_ANY_FORMAT, 'F', 3, 0, 0, 0},
-    {"", YUGLEMIT_TEXT, 'A', 6, 1, 0, 0},
-    {"proc leaf write int\n  regs\n  ENDS d0\n", YUGLEMIT_ANY_FORMAT, 'A', 1, 3, 1, 3},
-    {"names\nconst n 7\n", YUGLEMIT_TEXT, 'N', 1, 2, 3, 9},
-    {"names\n const n\n", YUGLEMIT_TEXT, 'N', 1, 2, 1, 2}, /* a word is missing */
-    {"names\nproc control main(out:write int)\n", YUGLEMIT_TEXT, 'N', 1, 2, 3, 19},
-    {"names\nconst n = n*2 ; n\n", YUGLEMIT_TEXT, 'N', 1, 2, 4, 11},
-    {"names\nconst n = n\n", YUGLEMIT_TEXT, 'N', 1, 2, 0, 0}, /* it isn't known which n is wrong */
-    {"names\n\tconst 7up = 8\n", YUGLEMIT_TEXT, 'N', 2, 2, 2, 8},
-    {"names\nconst ten = 10\nconst ten = 11\n", YUGLEMIT_TEXT, 'N', 3, 3, 2, 7},
-    {"names\nconst a = 1\nproc control main(aa: val int, a: val int)\n", YUGLEMIT_TEXT, 'N', 3, 3, 6, 32},
-    {"names\nproc control main()\nregs a: int, a: int\n", YUGLEMIT_TEXT, 'N', 3, 3, 0, 0}, /* it isn't known which a is wrong */
-    {"names\nproc control main()\nregs\nINT totl 7\n", YUGLEMIT_TEXT, 'N', 4, 4, 2, 5},
-    {"names\nproc control main()\nregs\nADD \xc3\xa9 v0 totl next\n", YUGLEMIT_TEXT, 'N', 4, 4, 4, 10}, /* columns are characters */
-    {"names\nproc control main(x: ref int, y: ref int)\nregs\nPUT main 0 any(x,totl)\n", YUGLEMIT_TEXT, 'N', 4, 4, 4, 18},
-    {"names\nconst turns = 8\nproc control main()\nregs\nINT turns 7 ; too many turns\n", YUGLEMIT_TEXT, 'N', 5, 5, 2, 5},
-    {"names\nproc control main()\nregs a: int, b: int, c: int, d: int, e: int, f: int, g: int, h: int, i: int, j: int, k: int, l: int, m: int, "
-     "n: int, o: int, p: int, q: int\n", YUGLEMIT_TEXT, 'N', 6, 3, 34, 134},
-};
-
-static void check_sources(void) {
-    for (size_t k = 0; k < sizeof sources / sizeof *sources; k++) {
-        const wrong *w = &sources[k];
-        yuglemit_program program = {NULL};
-        yuglemit_verdict v = YUGLEMIT_VERDICT;
-        uint8_t code = yuglemit_load_source((const uint8_t *)w->source, strlen(w->source), w->format, &program, &v);
-        int holds = v.letter == w->letter && v.number == w->number && v.line == w->line && v.word == w->word && v.column == w->column;
-        check(holds && code == YUGLEMIT_REJECTED && !program.at, w->source);
-        if (!holds) printf("%c%02d line %zu word %zu column %zu\n", (char)v.letter, (int)v.number, (size_t)v.line, (size_t)v.word, (size_t)v.column);
-    }
-}
-
 /* Changes each byte in turn. What is accepted then may be run. */
 static void check_damaged(void) {
     for (size_t k = 0; k < program_length; k++) {
@@ -201,66 +156,6 @@ static void check_written(const yuglemit_program *program) {
     yuglemit_report_free(report);
 }
 
-/* Begins containers of all types, and adds members of other types. */
-static void check_containers(yuglemit_program *program) {
-    static const uint8_t text[] = "a", none[] = "\xff";
-    for (int types = 0; types < 4; types++) {
-        yuglemit_container c = {NULL};
-        yuglemit_inputs inputs = {NULL};
-        yuglemit_report report = {NULL};
-        uint8_t by = types & 1 ? 't' : 'i', scalar = types & 2 ? 't' : 'i', other = YUGLEMIT_NO_CONTAINER;
-        check(yuglemit_member_int(&c, 1, 1) == YUGLEMIT_NO_CONTAINER && yuglemit_input_container(&inputs, &c) == YUGLEMIT_NO_CONTAINER, "no container yet");
-        check(yuglemit_container_new(&c, by, scalar) == 0 && c.at, "a container");
-        check(yuglemit_member_int(&c, 1, 1) == (types == 0 ? 0 : other), "a member int");
-        check(yuglemit_member_int_by_text(&c, text, 1, 1) == (types == 1 ? 0 : other), "a member int by text");
-        check(yuglemit_member_text(&c, 1, text, 1) == (types == 2 ? 0 : other), "a member text");
-        check(yuglemit_member_text_by_text(&c, text, 1, text, 1) == (types == 3 ? 0 : other), "a member text by text");
-        check(yuglemit_member_text_by_text(&c, text, 1, none, 1) == YUGLEMIT_NO_UTF8, "no UTF-8");
-        check(yuglemit_member_text_by_text(&c, none, 1, text, 1) == YUGLEMIT_NO_UTF8, "a subscript that is no UTF-8");
-        check(yuglemit_input_container(&inputs, &c) == 0 && inputs.at, "the container is an input");
-        check(run(program, &inputs, LIMIT, &report) == YUGLEMIT_INPUT_TYPE && !report.at, "O02: main takes a text");
-        check(yuglemit_input_container(&inputs, &c) == 0 && c.at, "the empty container too");
-        check(run(program, &inputs, LIMIT, &report) == YUGLEMIT_INPUT_COUNT && !report.at, "O01: two inputs");
-        yuglemit_inputs of_program = {program->at};
-        check(yuglemit_input_container(&of_program, &c) == YUGLEMIT_NO_INPUTS, "a program takes no input");
-        yuglemit_container_free(c);
-        yuglemit_inputs_free(inputs);
-    }
-}
-
-/* Arguments, each ended by a NUL, with the session's status and text for a program that returns the text that it is given. */
-typedef struct spoken {
-    const char *words;
-    size_t words_length;
-    uint8_t status;
-    const char *text;
-} spoken;
-
-#define WORDS(words) (words), sizeof(words) - 1
-
-static const spoken sessions[] = {
-    {WORDS("run\0--text\0text:a\nb\0"), 0, "out 0 text \"a\\nb\"\nquiet\n"},
-    {WORDS("run\0--text\0text:a\n"), 0, "out 0 text \"a\\n\"\nquiet\n"},
-    {WORDS("run\n--text\ntext:a\n"), 2, "command line refused\n"},
-    {WORDS("run\0--text\0\0text:a\0"), 2, "input word 1 refused\ninput 1: \"\": expected int:, ints:, text:, texts:, tints: or ttexts: before it\n"},
-    {WORDS("run\0--text\0text:\xff\0"), 2, "command line refused\n"},
-    {WORDS("\0"), 2, "command line refused\n"},
-};
-
-static void check_sessions(void) {
-    static const char source[] = "proc control closed text write text\nregs text\nGET v0 d0\nDROPR d0\nSTORE d1 v0\nRET\n";
-    yuglemit_text text = {NULL};
-    for (size_t k = 0; k < sizeof sessions / sizeof *sessions; k++) {
-        const spoken *s = &sessions[k];
-        uint8_t room[128];
-        size_t size = 0;
-        check(yuglemit_session_text((const uint8_t *)s->words, s->words_length, (const uint8_t *)source, sizeof source - 1, &text) == s->status, "a status");
-        check(yuglemit_text_length(&text, &size) == 0 && size == strlen(s->text), "the text's length");
-        check(yuglemit_text_copy(&text, room, sizeof room) == 0 && !memcmp(room, s->text, size), "the text");
-    }
-    yuglemit_text_free(text);
-}
-
 /* One handle for two parameters. */
 static void check_one_handle(yuglemit_program *program) {
     yuglemit_inputs inputs = {NULL};
@@ -283,6 +178,7 @@ static void check_one_handle(yuglemit_program *program) {
     check(yuglemit_report_ending(&report, &ending) == 0 && ending.outputs == 1, "the report is as it was");
     check(yuglemit_container_new(&container, 'i', 'i') == 0, "a container");
     check(yuglemit_input_container((yuglemit_inputs *)(void *)&container, &container) == YUGLEMIT_ONE_HANDLE, "a container into itself");
+    check(yuglemit_input_container(&inputs, &container) == 0 && yuglemit_input_container(&inputs, &container) == 0 && container.at, "and into inputs, then an empty one");
     yuglemit_container_free(container);
     yuglemit_inputs_free(inputs);
     yuglemit_stop_free(stop);
@@ -402,7 +298,6 @@ static void *check_all(void *unused) {
     yuglemit_program program = {NULL};
     check(yuglemit_version() == YUGLEMIT_VERSION_NUMBER, "the header's version");
     check_load(&program);
-    check_sources();
     check_damaged();
     check_caps();
     check_written(&program);
@@ -410,8 +305,6 @@ static void *check_all(void *unused) {
     check_codes();
     check_one_handle(&program);
     check_readers(&program);
-    check_containers(&program);
-    check_sessions();
     check_threads(&program);
     return unused;
 }

@@ -20,7 +20,6 @@ import tempfile
 import time
 from collections.abc import Callable, Iterator, Sequence
 from dataclasses import dataclass
-from pathlib import Path
 
 from tools import ROOT
 from tools.common.program import package, program
@@ -60,14 +59,6 @@ STOPPED = "out 0 unset\nstopped\n"
 TRIES = 5
 # After so many seconds a process isn't waited for any longer.
 PATIENCE = 120.0
-
-
-@dataclass(frozen=True)
-class Given:
-    """The program, and the file with the turns."""
-
-    tw: str
-    turns: str
 
 
 @dataclass(frozen=True)
@@ -124,15 +115,15 @@ def in_time(window: Window, make: Callable[[], Ran]) -> Ran:
     raise Wrong(f"the quickest of {TRIES} runs took {quickest:.3f} seconds")
 
 
-def command(given: Given, *words: str) -> list[str]:
+def command(turns: str, *words: str) -> list[str]:
     """Returns the command of a run that takes minutes."""
-    return [given.tw, "run", given.turns, f"int:{MANY}", MOST_EVENTS, *words]
+    return [program(), "run", turns, f"int:{MANY}", MOST_EVENTS, *words]
 
 
-def reported(*words: str) -> Callable[[Given], None]:
+def reported(*words: str) -> Callable[[str], None]:
     """A run is stopped, and its report says so."""
-    def check(given: Given) -> None:
-        ran = in_time(A_SECOND, lambda: run(command(given, "--seconds", "1", *words)))
+    def check(turns: str) -> None:
+        ran = in_time(A_SECOND, lambda: run(command(turns, "--seconds", "1", *words)))
         expect("status and report", (ran.status, ran.output), (4, STOPPED))
     return check
 
@@ -148,19 +139,19 @@ def stopped_answer(text: str) -> dict[str, object]:
     return {"events": events, "instructions": int(found["instructions"]), "kinds": ["unset"], "outputs": [None], "status": TIMED}
 
 
-def in_json(given: Given) -> None:
+def in_json(turns: str) -> None:
     """The object of a stopped run has all members, and no order, since another run may end."""
-    ran = in_time(A_SECOND, lambda: run(command(given, "--in-turn", "--json", "--seconds", "1")))
+    ran = in_time(A_SECOND, lambda: run(command(turns, "--in-turn", "--json", "--seconds", "1")))
     expect("status and object", (ran.status, json.loads(ran.output)), (4, stopped_answer(ran.output)))
-    ordered = run(command(given, "--in-turn", "--json", "--seconds", "1", "--order"))
+    ordered = run(command(turns, "--in-turn", "--json", "--seconds", "1", "--order"))
     expect("status and object", (ordered.status, json.loads(ordered.output)), (4, stopped_answer(ordered.output) | {"order": None}))
 
 
-def on_terminal(given: Given) -> None:
+def on_terminal(turns: str) -> None:
     """A run in threads that prints its progress is stopped, too."""
     ours, theirs = pty.openpty()
     try:
-        ran = in_time(Window(3.0, 6.0, 4.5), lambda: run(command(given, "--seconds", "3"), stderr=theirs))
+        ran = in_time(Window(3.0, 6.0, 4.5), lambda: run(command(turns, "--seconds", "3"), stderr=theirs))
     finally:
         os.close(theirs)
     printed = os.read(ours, 65536)
@@ -175,10 +166,10 @@ def quick_answer(line: int) -> dict[str, object]:
     return {"line": line, "events": 9, "instructions": 7, "kinds": ["int"], "outputs": [0], "status": "quiet"}
 
 
-def each(jobs: int, least: float) -> Callable[[Given], None]:
+def each(jobs: int, least: float) -> Callable[[str], None]:
     """Two of five lines are stopped, each after its own second; the others have their ends. Without other jobs that takes two seconds."""
-    def check(given: Given) -> None:
-        words = [given.tw, "run", given.turns, "--each", "-", "--jobs", str(jobs), MOST_EVENTS, "--seconds", "1"]
+    def check(turns: str) -> None:
+        words = [program(), "run", turns, "--each", "-", "--jobs", str(jobs), MOST_EVENTS, "--seconds", "1"]
         lines = b"[0]\n[%d]\n[0]\n[%d]\n[0]\n" % (MANY, MANY)
         ran = in_time(Window(least, 6.0, 4.0), lambda: run(words, lines))
         answers = ran.output.splitlines()
@@ -188,10 +179,10 @@ def each(jobs: int, least: float) -> Callable[[Given], None]:
     return check
 
 
-def by_signal(number: signal.Signals, *words: str) -> Callable[[Given], None]:
+def by_signal(number: signal.Signals, *words: str) -> Callable[[str], None]:
     """A signal ends a run whose time is limited, and nothing is written."""
-    def check(given: Given) -> None:
-        process = subprocess.Popen(command(given, "--seconds", "100000", *words), stdout=subprocess.PIPE, preexec_fn=heed_signals)
+    def check(turns: str) -> None:
+        process = subprocess.Popen(command(turns, "--seconds", "100000", *words), stdout=subprocess.PIPE, preexec_fn=heed_signals)
         time.sleep(0.3)
         process.send_signal(number)
         output, _ = process.communicate(timeout=PATIENCE)
@@ -199,15 +190,15 @@ def by_signal(number: signal.Signals, *words: str) -> Callable[[Given], None]:
     return check
 
 
-def of_decimals(given: Given) -> None:
+def of_decimals(turns: str) -> None:
     """A run is stopped after a fifth of a second."""
-    ran = in_time(Window(0.2, 2.0, 1.2), lambda: run(command(given, "--in-turn", "--seconds", "0.2")))
+    ran = in_time(Window(0.2, 2.0, 1.2), lambda: run(command(turns, "--in-turn", "--seconds", "0.2")))
     expect("status and report", (ran.status, ran.output), (4, STOPPED))
 
 
-def typed(given: Given, *words: str) -> tuple[int, str]:
+def typed(turns: str, *words: str) -> tuple[int, str]:
     """Runs ./tw at a terminal, at which Ctrl-C is typed. Returns the status and what the terminal shows."""
-    _, *others = command(given, *words)
+    _, *others = command(turns, *words)
     process, ours = pty.fork()
     if process == 0:
         heed_signals()
@@ -219,21 +210,21 @@ def typed(given: Given, *words: str) -> tuple[int, str]:
     return os.waitstatus_to_exitcode(status), shown
 
 
-def by_keyboard(*words: str) -> Callable[[Given], None]:
+def by_keyboard(*words: str) -> Callable[[str], None]:
     """Ctrl-C at a terminal stops a run, which prints its report."""
-    def check(given: Given) -> None:
-        status, shown = typed(given, "--quiet", *words)
+    def check(turns: str) -> None:
+        status, shown = typed(turns, "--quiet", *words)
         expect("status", status, 130)
         if "out 0 unset\n" not in shown or "stopped" not in shown:
             raise Wrong(f"the terminal shows {shown!r}")
     return check
 
 
-def unreached(given: Given) -> None:
+def unreached(turns: str) -> None:
     """A run that ends in time is as without the option."""
     runs: tuple[list[str], ...] = ([], ["--in-turn"], ["--json", "--in-turn"], ["--trace", "--in-turn"])
     for words in runs:
-        plain = [given.tw, "run", given.turns, "int:2", *words]
+        plain = [program(), "run", turns, "int:2", *words]
         expect(f"{words}", run([*plain, "--seconds", "4294967295"]).output, run(plain).output)
 
 
@@ -250,23 +241,23 @@ def session(words: list[str], text: str) -> tuple[int, str]:
     return int(status), answer.decode()
 
 
-def clockless(_: Given) -> None:
+def clockless(_: str) -> None:
     """A session rejects the option, before a run and before lines."""
     expect("a run", session(["run", "--text", "--seconds", "100", "int:0"], TURNS), (2, CLOCKLESS))
     expect("lines", session(["run", "--text", "--each", "--seconds", "100"], f"{TURNS}inputs\n[0]\n"), (2, CLOCKLESS))
 
 
-def rejected(given: Given) -> None:
+def rejected(turns: str) -> None:
     """A session and the command reject the same numbers."""
     for words in (["--seconds"], ["--seconds", "0"], ["--seconds", "4294967296"], ["--seconds", "1.5000"], ["--seconds", "1", "--seconds", "1"]):
-        ran = run([given.tw, "run", *words, given.turns, "int:0"])
+        ran = run([program(), "run", *words, turns, "int:0"])
         expect(f"command {words}", (ran.status, ran.output), (2, "command line refused\n"))
         expect(f"session {words}", session(["run", "--text", *words, "int:0"], TURNS), (2, "command line refused\n"))
 
 
 # ---- All checks
 
-Check = Callable[[Given], None]
+Check = Callable[[str], None]
 # These are made beside a load, too.
 CHECKS: dict[str, Check] = {
     "in turn": reported("--in-turn"), "by a seed": reported("--in-turn", "--seed", "7"), "in threads": reported(),
@@ -292,12 +283,12 @@ def load() -> Iterator[None]:
             process.wait()
 
 
-def wrong(checks: dict[str, Check], where: str, given: Given) -> int:
+def wrong(checks: dict[str, Check], where: str, turns: str) -> int:
     """Makes the checks, prints why one fails, and returns how many do."""
     count = 0
     for what, check in checks.items():
         try:
-            check(given)
+            check(turns)
         except Wrong as why:
             print(f"seconds.py: {what}{where}: {why}", flush=True)
             count += 1
@@ -305,14 +296,12 @@ def wrong(checks: dict[str, Check], where: str, given: Given) -> int:
 
 
 def main(words: list[str]) -> int:
-    with tempfile.TemporaryDirectory() as name:
-        folder = Path(name)
-        turns = folder / "turns.tw"
-        turns.write_text(TURNS, encoding="ascii")
-        given = Given(program(), str(turns))
-        count = wrong(CHECKS | QUIET_CHECKS, "", given)
+    with tempfile.NamedTemporaryFile("w", suffix=".tw") as turns:
+        turns.write(TURNS)
+        turns.flush()
+        count = wrong(CHECKS | QUIET_CHECKS, "", turns.name)
         with load():
-            count += wrong(CHECKS, ", beside a load", given)
+            count += wrong(CHECKS, ", beside a load", turns.name)
     if not validators():
         print(UNCHECKED)
     print(f"{2 * len(CHECKS) + len(QUIET_CHECKS) - count} passed, {count} failed")

@@ -75,10 +75,11 @@ class OfARepository(WithRepository):
         self.edit("release/MANIFEST", unproved.text())
         self.assertEqual(release.staleness(self.root), ["its files aren't proved"])
 
-    def test_a_changed_library_changes_all_that_is_built_on_it(self) -> None:
-        self.edit("crates/low/src/lib.rt", "pub fn one() -> u8 {\n    2\n}\n")
-        (fault,) = release.staleness(self.root)
-        self.assertTrue(fault.endswith("tw_main, tw_cases, tw_host_cases, tw_embed"), fault)
+    def test_a_change_makes_stale_what_is_built_on_it(self) -> None:
+        for crate, built in (("other", "nothing"), ("low", "tw_main, tw_cases, tw_host_cases, tw_embed")):
+            self.edit(f"crates/{crate}/src/lib.rt", "fn another() {}\n")
+            (fault,) = release.staleness(self.root)
+            self.assertTrue(fault.endswith(f"of what is built: {built}"), fault)
 
     def test_a_program_that_the_release_has_not_yet_is_named(self) -> None:
         self.edit("release/MANIFEST", "".join(line for line in self.manifest.text().splitlines(True) if "tw_host_cases" not in line))
@@ -86,30 +87,21 @@ class OfARepository(WithRepository):
         (fault,) = release.staleness(self.root)
         self.assertTrue(fault.endswith("of what is built: tw_host_cases"), fault)
 
-    def test_a_changed_crate_that_nothing_is_built_on_is_named_so(self) -> None:
-        self.edit("crates/other/src/lib.rt", "fn another() {}\n")
-        (fault,) = release.staleness(self.root)
-        self.assertTrue(fault.endswith("nothing"), fault)
-
-    def test_a_changed_proof_changes_the_sources_and_not_the_code(self) -> None:
-        self.edit("crates/low/proofs/Lib.antt", "mod two\n")
-        sources, code = release.sums_of_sources(self.root, "tw_main")
-        self.assertNotEqual(sources, self.manifest.sources["tw_main"])
-        self.assertEqual(code, self.manifest.code["tw_main"])
-
-    def test_a_renamed_file_changes_the_sources(self) -> None:
+    def test_what_changes_the_sums(self) -> None:
+        """A proof changes the sources and not the code; a comment of the list and another crate's line change nothing."""
+        list_of = "low: slab{}\ntw_main: low{}\ntw_embed staticlib: low\ntw_cases: low\ntw_host_cases: low\nother:{}\n"
+        before, rows = self.manifest.sources["tw_main"], (("crates/low/proofs/Lib.antt", "mod two\n", False), ("crates.txt", list_of.format(" # low", "", " low"), True), ("crates.txt", list_of.format("", " slab", ""), False))
+        for name, text, is_same in rows:
+            kept = (self.root / name).read_text(encoding="utf-8")
+            self.edit(name, text)
+            sources, code = release.sums_of_sources(self.root, "tw_main")
+            self.assertEqual((sources == before, name == "crates.txt" or code == self.manifest.code["tw_main"]), (is_same, True), text)
+            self.edit(name, kept)
         (self.root / "crates/low/proofs/Lib.antt").rename(self.root / "crates/low/proofs/Lob.antt")
-        self.assertNotEqual(release.sums_of_sources(self.root, "tw_main")[0], self.manifest.sources["tw_main"])
-
-    def test_a_comment_of_the_list_and_another_crates_line_change_nothing(self) -> None:
-        self.edit("crates.txt", "low: slab # low\ntw_main: low\ntw_embed staticlib: low\ntw_cases: low\ntw_host_cases: low\nother: low\n")
-        self.assertEqual(release.sums_of_sources(self.root, "tw_main")[0], self.manifest.sources["tw_main"])
-
-    def test_a_crates_own_line_changes_the_sources(self) -> None:
-        self.edit("crates.txt", "low: slab\ntw_main: low slab\ntw_embed staticlib: low\ntw_cases: low\ntw_host_cases: low\nother:\n")
-        self.assertNotEqual(release.sums_of_sources(self.root, "tw_main")[0], self.manifest.sources["tw_main"])
+        self.assertNotEqual(release.sums_of_sources(self.root, "tw_main")[0], before)
 
     def test_each_place_of_the_version_is_compared(self) -> None:
+        self.assertEqual(release.version_faults(ROOT), [])
         self.edit("VERSION", "0.6\n")
         self.assertEqual(len(release.staleness(self.root)), 5)
 

@@ -23,7 +23,7 @@ NEWEST = (1 << 24, VERSIONS[-1])  # the options of a load: the most bytes, and t
 OLDER = 4  # the newest version that a load takes without options
 # Codes of calls (yuglemit_code).
 INPUT_COUNT, INPUT_TYPE, NO_LIMIT, ABOVE_CAP = 201, 202, 204, 207
-NO_PROGRAM, NO_REPORT, NO_LAYOUT, NO_INDEX, NO_TEXT, NO_UTF8, NO_ROOM, REJECTED, NO_LIST, UNFINISHED = 211, 215, 222, 223, 224, 225, 226, 229, 231, 232
+NO_PROGRAM, NO_CONTAINER, NO_REPORT, NO_LAYOUT, NO_INDEX, NO_TEXT, NO_UTF8, NO_ROOM, REJECTED, NO_LIST, UNFINISHED = 211, 213, 215, 222, 223, 224, 225, 226, 229, 231, 232
 
 
 class Fault(Exception):
@@ -334,6 +334,11 @@ class HandlesTest(RunTest):
         container, letters = native.handle(), {INT: ord("i"), TEXT: ord("t"), CONT: ord("i"), TCONT: ord("t")}
         try:
             expect("container", 0, native.container_new(container, letters[type_[0]], letters[type_[1]]))
+            for of, by in itertools.product(("int", "text"), ("", "_by_text")):
+                words = [b"a" if by else 1, b"a" if of == "text" else 1]
+                is_its = (of == "text", by != "") == (type_[1] == TEXT, type_[0] == TCONT)
+                expect("a member of another type", NO_CONTAINER, NO_CONTAINER if is_its else getattr(native, f"member_{of}{by}")(container, *words))
+            expect("members that are no UTF-8", [NO_UTF8] * 2, [native.member_text_by_text(container, *words) for words in ((b"a", b"\xff"), (b"\xff", b"a"))])
             for subscript in sorted(value, key=lambda s: s.encode() if isinstance(s, str) else s):
                 words = [word.encode() if isinstance(word, str) else word for word in (subscript, value[subscript])]
                 name = ("text" if isinstance(value[subscript], str) else "int") + ("_by_text" if isinstance(subscript, str) else "")
