@@ -23,7 +23,7 @@ def rtlib(kit: Path) -> Any:
 
 
 def wrap(toolchain: Path, room: Path, name: str, script: str) -> None:
-    """Makes a folder that acts as the toolchain, but for a program of this name, which is a script there."""
+    """Makes a folder that acts as the toolchain. Its program of this name is a script."""
     (room / "bin").mkdir(parents=True)
     for entry in (*toolchain.iterdir(), *(toolchain / "bin").iterdir()):
         if entry not in (toolchain / "bin", toolchain / "bin" / name):

@@ -16,6 +16,7 @@ import os
 import re
 import resource
 import string
+import subprocess
 import tempfile
 from collections.abc import Callable, Iterator
 from pathlib import Path
@@ -321,25 +322,18 @@ def all_inputs() -> Iterator[Input]:
         yield from kind()
 
 
-def start(program: str, words: list[str], source: Path, output: Path) -> None:
-    """Becomes the program, with bounds on its processor time and its addresses."""
+def limited() -> None:
+    """Bounds a child's processor time and its addresses."""
     resource.setrlimit(resource.RLIMIT_CPU, (STOPPED, STOPPED + 1))
     resource.setrlimit(resource.RLIMIT_AS, (16 << 30, 16 << 30))
-    os.dup2(os.open(source, os.O_RDONLY), 0)
-    os.dup2(os.open(output, os.O_WRONLY | os.O_CREAT | os.O_TRUNC, 0o600), 1)
-    os.dup2(os.open(os.devnull, os.O_WRONLY), 2)
-    os.execv(program, [program, *words])
 
 
 def used(program: str, words: list[str], source: Path, output: Path) -> Use:
-    """Runs the program once, in a child of its own."""
-    child = os.fork()
-    if child == 0:
-        try:
-            start(program, words, source, output)
-        finally:
-            os._exit(127)
-    _, state, usage = os.wait4(child, 0)
+    """Runs the program once."""
+    with source.open("rb") as given, output.open("wb") as to:
+        child = subprocess.Popen([program, *words], stdin=given, stdout=to, stderr=subprocess.DEVNULL, preexec_fn=limited)
+        _, state, usage = os.wait4(child.pid, 0)
+        child.returncode = os.waitstatus_to_exitcode(state)
     return Use(os.waitstatus_to_exitcode(state), usage.ru_utime + usage.ru_stime, usage.ru_maxrss / 1024, output.stat().st_size, output.read_bytes()[:40].decode(errors="replace"))
 
 
@@ -361,7 +355,6 @@ def faults(words: str, use: Use, size: int, given: Input) -> list[str]:
     form = REFUSED if use.status in (1, 2) else r"(?!quiet\n)" if repeats else ANSWERS.get(words.split()[0], "")
     tried = (
         (use.status < 0, f"ended by signal {-use.status}"),
-        (use.status == 127, "can't be started"),
         (use.seconds > given.seconds, f"{use.seconds:.1f} s where {given.seconds:.1f} are allowed"),
         (use.megabytes > most, f"{use.megabytes:.0f} MB where {most:.0f} are allowed"),
         (use.status in range(7) and not re.match(form, use.begins), f"status {use.status} and an answer that begins {use.begins!r}"),

@@ -219,8 +219,9 @@ refused_before_any_run() {
     refuses "$many/parallel.sh" "$tw" "$room/refused.tw" "$room/one" "$room/none" && [ "$(answers "$room/none")" = 0 ]
 }
 
-no_inputs() {
-    "$many/parallel.sh" "$tw" "$program" "$room/nowhere" "$room/none"
+# without_inputs SCRIPT: whether a script says that there are no inputs.
+without_inputs() {
+    "$many/$1" "$tw" "$program" "$room/nowhere" "$room/none"
     [ $? = 66 ]
 }
 
@@ -299,7 +300,7 @@ scripts() {
     check "parallel.sh: nothing changed, nothing runs" unchanged_is_kept
     check "parallel.sh: options after --" options_reach_the_run
     check "parallel.sh: a rejected program starts nothing" refused_before_any_run
-    check "parallel.sh: no inputs" no_inputs
+    check "parallel.sh: no inputs" without_inputs parallel.sh
     check "parallel.sh, array.sh, todo.sh: no program" missing_programs
     check "parallel.sh: rejected inputs are answers" refused_input_is_an_answer
     check "one.sh: a program with inputs of its own is rejected" own_inputs_of_one
@@ -523,16 +524,11 @@ array_options() {
     until_it 60 slurm_is_done && return "$good"
 }
 
-array_without_inputs() {
-    "$many/array.sh" "$tw" "$program" "$room/nowhere" "$room/none"
-    [ $? = 66 ]
-}
-
 slurm() {
     installed command -v slurmctld && installed command -v munged && installed command -v sbatch || return
     check "slurm: one node" start_slurm
     check "array.sh: options of sbatch and no number of files" array_options
-    check "array.sh: no inputs" array_without_inputs
+    check "array.sh: no inputs" without_inputs array.sh
     printf 'proc control closed cont int\nregs\nREPEAT 1000\nREPEAT 1000\nREPEAT 900\nEND\nEND\nEND\nDROPR d0\nRET\n' >"$room/other_slow.tw"
     check "slurm: a job's time keeps to the partition's, with options of sbatch and without" slurm_time
     check "slurm: $count inputs by array.sh, more than MaxArraySize jobs of 20, one job ended" slurm_scripts 20 --partition=short

@@ -315,10 +315,6 @@ def put_built(folder: Path, part: str, name: str) -> None:
         write_cases(folder)
 
 
-def library_of(_: Path) -> Path:
-    return found(LIBRARY).path
-
-
 def archive_of(folder: Path) -> Path:
     """Returns the library for C, C++ and Rust; its folder has no other file of that name."""
     made = folder / "out" / "archive" / "libyuglemit.a"
@@ -346,7 +342,7 @@ def module_of(folder: Path) -> Path:
 def test(part: str, folder: Path, seconds: float = SECONDS) -> tuple[bool, str]:
     """Runs the tests of a part for so many seconds at most. Returns whether they pass, and the first that failed or the last line that they wrote."""
     command = TESTS[part]
-    for word, path_in in (("@LIBRARY@", library_of), ("@ARCHIVE@", archive_of), ("@MODULE@", module_of)):
+    for word, path_in in (("@LIBRARY@", lambda _: found(LIBRARY).path), ("@ARCHIVE@", archive_of), ("@MODULE@", module_of)):
         if word in command:
             command = command.replace(word, str(path_in(folder)))
     run = subprocess.Popen(command, shell=True, cwd=folder, stdin=subprocess.DEVNULL, stdout=subprocess.PIPE, stderr=subprocess.STDOUT, start_new_session=True)

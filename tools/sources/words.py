@@ -13,6 +13,7 @@ rise. Code blocks, code spans, the exceptions below, and what tools write betwee
 
 import ast
 import functools
+import itertools
 import json
 import pathlib
 import posixpath
@@ -124,14 +125,12 @@ def without_code(text: str) -> str:
 def markdown_lines(text: str) -> list[Line]:
     """Returns the lines of a Markdown text outside of code blocks, as they are. Four blanks after an empty line begin a block, too."""
     lines: list[Line] = []
-    fenced, before, indented = False, "", False
-    for number, line in enumerate(text.splitlines(), 1):
-        indented = line.startswith("    ") and (indented or not before)
-        before = line.strip()
-        if before.startswith("```"):
+    fenced = False
+    for line in without_blocks(itertools.starmap(Line, enumerate(text.splitlines(), 1)), "    "):
+        if line.text.strip().startswith("```"):
             fenced = not fenced
-        elif not fenced and not indented:
-            lines.append(Line(number, line))
+        elif not fenced:
+            lines.append(line)
     return lines
 
 
@@ -164,11 +163,11 @@ def docstring_lines(text: str) -> Iterator[Line]:
             yield from without_blocks(Line(number, without_code(line.removeprefix(margin))) for number, line in lines)
 
 
-def without_blocks(lines: Iterable[Line]) -> Iterator[Line]:
-    """Leaves out the blocks of code in comments. Two more blanks after an empty line begin a block, as in a list of calls."""
+def without_blocks(lines: Iterable[Line], margin: str = "  ") -> Iterator[Line]:
+    """Leaves out the blocks of code, which blanks after an empty line begin: in comments two more, as in a list of calls."""
     before, indented = "", False
     for line in lines:
-        indented = line.text.startswith("  ") and (indented or not before)
+        indented = line.text.startswith(margin) and (indented or not before)
         before = line.text.strip()
         if not indented:
             yield line

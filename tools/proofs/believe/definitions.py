@@ -186,13 +186,9 @@ def specs() -> dict[str, str]:
     known: dict[str, str] = {}
     for crate in CRATES:
         for room in ("specs", "proofs"):
-            top = os.path.join(ROOT, "crates", crate, room)
-            for folder, _, files in os.walk(top):
-                for name in files:
-                    if name.endswith(".antt"):
-                        file = os.path.join(folder, name)
-                        inner = os.path.relpath(file, top)[:-5].replace(os.sep, ".")
-                        known[f"Rattle.{crate}.{room}.{inner}"] = os.path.relpath(file, ROOT)
+            top = tools.ROOT / "crates" / crate / room
+            for file in top.rglob("*.antt"):
+                known[".".join(("Rattle", crate, room, *file.relative_to(top).with_suffix("").parts))] = str(file.relative_to(ROOT))
     return known
 
 

@@ -1,10 +1,10 @@
 # SPDX-License-Identifier: Apache-2.0
 """Code: the types, constants and functions of src/, what Rust sees there, and what the terms of a contract name."""
 
-import os
 import re
 from collections.abc import Iterator, Sequence
 from dataclasses import dataclass, field
+from pathlib import Path
 from typing import NamedTuple, Optional, Union
 
 from tools.proofs.believe.definitions import CRATES, CodeScope, Item, Meaning, Modules, Names, ROOT, Use, bound, fail, imports, read, used, words_of
@@ -236,13 +236,10 @@ class Code:
 def code_files() -> dict[tuple[str, tuple[str, ...]], str]:
     known: dict[tuple[str, tuple[str, ...]], str] = {}
     for crate in CRATES:
-        top = os.path.join(ROOT, "crates", crate, "src")
-        for folder, _, files in os.walk(top):
-            for name in files:
-                if name.endswith(".rt"):
-                    inner = os.path.relpath(os.path.join(folder, name), top)[:-3].replace(os.sep, ".")
-                    module = tuple(part for part in inner.split(".") if part not in ("lib", "main", "mod"))
-                    known[(crate, module)] = os.path.relpath(os.path.join(folder, name), ROOT)
+        top = Path(ROOT, "crates", crate, "src")
+        for file in top.rglob("*.rt"):
+            module = tuple(part for part in file.relative_to(top).with_suffix("").parts if part not in ("lib", "main", "mod"))
+            known[(crate, module)] = str(file.relative_to(ROOT))
     return known
 
 
