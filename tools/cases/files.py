@@ -34,7 +34,6 @@ EVENT_KINDS = {"machine", "state", "steps", "turns"}
 # The keys that hold a case's input, with what joins the lines of a value.
 JOINED_BY = {"program": " / ", "bytes": " ", "input": "\\n", "given": " ", "phrases": " / ", "events": ", ", "script": ", "}
 KEYS = {"about", "kind", "status", "output", "complaint"} | JOINED_BY.keys()
-# Keys that aren't followed by a value, or by at most one line.
 
 NAME = re.compile(r"[a-z][a-z0-9_]*")
 GENERATOR = re.compile(r'\{(repeat (?P<times>\d+)|count (?P<first>-?\d+) to (?P<last>-?\d+)) "(?P<text>(?:[^"\\]|\\.)*)"(?: by "(?P<by>(?:[^"\\]|\\.)*)")?\}')

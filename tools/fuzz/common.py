@@ -8,6 +8,7 @@ from pathlib import Path
 from typing import Any, Callable, Iterator, Sequence
 
 from tools import ROOT
+from tools.cases.files import value_lines
 from tools.fuzz.oracle.code import Program, decode, disassembled, encode, smaller
 from tools.fuzz.library import Library
 from tools.fuzz.oracle.machine import Layout, Value
@@ -97,10 +98,6 @@ class Kind:
 # --- As a case
 
 
-# The most columns of a line of a value.
-COLUMNS = 180
-
-
 def case_word(word: str) -> str:
     """Returns an argument as cases write it."""
     if not word:
@@ -109,24 +106,13 @@ def case_word(word: str) -> str:
 
 
 def ended(line: str) -> str:
-    """Returns a line of a case's value, whose last letter is no blank."""
-    if not line or line == line.rstrip():
-        return line
-    return line[:-1] + ("\\s" if line[-1] == " " else "".join(f"\\x{byte:02x}" for byte in line[-1].encode()))
+    """Returns a line of a case's value, whose last letter is no white space but a blank."""
+    return line if line[-1:] in ("", " ") or not line[-1].isspace() else line[:-1] + "".join(f"\\x{byte:02x}" for byte in line[-1].encode())
 
 
-def wrapped(line: str) -> list[str]:
-    """Parts a long line into lines that a backslash continues; no part ends in a blank or a backslash."""
-    parts: list[str] = []
-    while len(line) > COLUMNS:
-        at = next((place for place in range(COLUMNS, 0, -1) if line[place - 1] != "\\" and not line[place - 1].isspace()), COLUMNS)
-        parts.append(line[:at] + "\\")
-        line = line[at:]
-    return [*parts, line]
-
-
-def indented(text: str) -> list[str]:
-    return [f"    {part}".rstrip() for line in text.rstrip("\n").split("\n") for part in wrapped(ended(line))]
+def value(key: str, text: str) -> list[str]:
+    """Returns a key and its value as lines of a case."""
+    return value_lines(key, list(map(ended, text.rstrip("\n").split("\n"))))
 
 
 def input_lines(data: str) -> list[str]:
@@ -134,18 +120,18 @@ def input_lines(data: str) -> list[str]:
     if not data:
         return []
     escaped = re.sub(r"[\x00-\x09\x0b-\x1f\\|\x7f]", lambda found: f"\\x{ord(found[0]):02x}", data)
-    return ["input", *indented(escaped.rstrip("\n")[:8000] + ("\\n" if data.endswith("\n") else ""))]
+    return value("input", escaped.rstrip("\n")[:8000] + ("\\n" if data.endswith("\n") else ""))
 
 
 def program_part(program: Program) -> list[str]:
     text = disassembled(program)
     if " / " in text or "|" in text or "{" in text:
-        return ["bytes", *indented(" ".join(f"{byte:02x}" for byte in encode(program)))]
-    return ["program", *indented(text)]
+        return value("bytes", " ".join(f"{byte:02x}" for byte in encode(program)))
+    return value("program", text)
 
 
 def answer_part(status: int, text: str) -> list[str]:
-    return [f"status {status}", "output", *indented(text)] if text else [f"status {status}"]
+    return [f"status {status}", *(value("output", text) if text else [])]
 
 
 def difference(what: str, expected: str, got: str) -> str | None:
@@ -235,7 +221,7 @@ class Failure:
             body = self.test.case()
         except Exception as why:  # a test without a case is shown as it is
             body = [f"# {why!r}", f"# {self.test!r}"[:4000]]
-        if "output" not in body and not any(line.startswith("status ") for line in body):
+        if not any(line.startswith(("output", "status ")) for line in body):
             body += ["output", "    ?"]
         comments = [line for line in body if line.startswith("#")]
         about = f"about {self.kind}, found by ./dev fuzz {self.kind} {self.seed}."

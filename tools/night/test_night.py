@@ -1,6 +1,7 @@
 """Tests of ./dev check, ./dev night, ./dev record and of the table of harnesses."""
 
 import contextlib
+import hashlib
 import inspect
 import io
 import json
@@ -14,6 +15,7 @@ from pathlib import Path
 from unittest import mock
 
 from tools import ROOT, entry
+from tools.common import program
 from tools.common.testing import folder_of
 from tools.fuzz import main as fuzz
 from tools.harnesses import KINDS, TOOLS, Run, Tool, path_of
@@ -137,6 +139,12 @@ class RunnerTest(WithScripts):
         with mock.patch.object(runner, "LATE", 1000):
             self.assertEqual(self.runner.run(self.tool("waits", "sleep 3; echo 1 passed", limit=1)).outcome, OK)
             self.assertEqual(self.runner.run(self.tool("counts", "while :; do :; done", limit=1)).text, "took longer than 1 s; it says nothing")
+
+    def test_what_is_tested_is_named(self) -> None:
+        path = self.root / "dev"
+        with mock.patch.object(program, "found", return_value=program.Found(path, "built")):
+            named = program.describe("tw_main")
+        self.assertEqual(named, f"dev {record.version()} (built, {hashlib.sha256(path.read_bytes()).hexdigest()[:12]})")
 
     def test_those_that_measure_are_run_one_after_another(self) -> None:
         words = "mkdir one && sleep 0.3 && rmdir one && echo 1 passed"

@@ -120,10 +120,10 @@ def command(turns: str, *words: str) -> list[str]:
     return [program(), "run", turns, f"int:{MANY}", MOST_EVENTS, *words]
 
 
-def reported(*words: str) -> Callable[[str], None]:
+def reported(*words: str, seconds: str = "1", window: Window = A_SECOND) -> Callable[[str], None]:
     """A run is stopped, and its report says so."""
     def check(turns: str) -> None:
-        ran = in_time(A_SECOND, lambda: run(command(turns, "--seconds", "1", *words)))
+        ran = in_time(window, lambda: run(command(turns, "--seconds", seconds, *words)))
         expect("status and report", (ran.status, ran.output), (4, STOPPED))
     return check
 
@@ -188,12 +188,6 @@ def by_signal(number: signal.Signals, *words: str) -> Callable[[str], None]:
         output, _ = process.communicate(timeout=PATIENCE)
         expect("status and output", (process.returncode, output), (-number, b""))
     return check
-
-
-def of_decimals(turns: str) -> None:
-    """A run is stopped after a fifth of a second."""
-    ran = in_time(Window(0.2, 2.0, 1.2), lambda: run(command(turns, "--in-turn", "--seconds", "0.2")))
-    expect("status and report", (ran.status, ran.output), (4, STOPPED))
 
 
 def typed(turns: str, *words: str) -> tuple[int, str]:
@@ -265,7 +259,7 @@ CHECKS: dict[str, Check] = {
     "each line": each(1, 2.0), "each line, 4 jobs": each(4, 1.0),
 }
 QUIET_CHECKS: dict[str, Check] = {
-    "JSON": in_json, "on a terminal": on_terminal, "unreached": unreached, "decimals": of_decimals,
+    "JSON": in_json, "on a terminal": on_terminal, "unreached": unreached, "decimals": reported("--in-turn", seconds="0.2", window=Window(0.2, 2.0, 1.2)),
     "Ctrl-C": by_keyboard(), "Ctrl-C in turn": by_keyboard("--in-turn"), "a session": clockless, "rejected": rejected,
     "SIGTERM": by_signal(signal.SIGTERM), "SIGINT": by_signal(signal.SIGINT), "SIGHUP in turn": by_signal(signal.SIGHUP, "--in-turn"),
 }

@@ -40,6 +40,14 @@ class Found(unittest.TestCase):
         (self.top / "crates/tw_main/src/main.rt").write_text("fn other() {}\n", encoding="utf-8")
         self.assert_fails("the sources aren't the release's, and the command rt")
 
+    def test_a_build_answers_if_it_is_newer_than_its_sources(self) -> None:
+        built = self.top / "crates/tw_main/out/tw_main"
+        put(self.top, {"crates/tw_main/out/tw_main": "#!/bin/sh\necho built\n"})
+        built.chmod(0o755)
+        for written, answer in ((0, "answered run\n"), (2**32, "built\n")):
+            os.utime(built, (written, written))
+            self.assertEqual(self.answer("run")[:2], (0, answer))
+
     def test_changed_definitions(self) -> None:
         """The release answers, and a line says so; of other documents nothing is said."""
         put(self.top, {"crates/tw_main/specs/Lib.antt": "-- a comment\n", "docs/IDIOMS.md": "x\n"})

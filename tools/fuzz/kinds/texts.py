@@ -14,7 +14,7 @@ from tools.fuzz.oracle.code import (
 from tools.fuzz.kinds.handles import NEWEST, Calls
 from tools.fuzz.library import Library
 from tools.fuzz.oracle.names import is_name, new_name, symbolic, wrong
-from tools.fuzz.common import Corpus, FuzzTest, answer_part, difference, indented, input_lines, visible, without_parts
+from tools.fuzz.common import Corpus, FuzzTest, answer_part, difference, input_lines, value, visible, without_parts
 
 ERROR = re.compile(r"refused ([AN]\d\d)(?: at line (\d+))?(?:\n|$)")
 
@@ -427,7 +427,7 @@ class BytesTest(FuzzTest):
 
     def case(self) -> list[str]:
         text = self.expected().removeprefix("refused ") or "program"
-        return ["kind decode", "bytes", *indented(" ".join(f"{byte:02x}" for byte in self.data)), "output", *indented(text)]
+        return ["kind decode", *value("bytes", " ".join(f"{byte:02x}" for byte in self.data)), *value("output", text)]
 
 
 @dataclass(frozen=True)

@@ -12,7 +12,7 @@ from tools.fuzz.oracle.code import (
 )
 from tools.fuzz.library import Library
 from tools.fuzz.oracle.machine import LOCAL_TYPES
-from tools.fuzz.common import Corpus, FuzzTest, difference, indented, program_part
+from tools.fuzz.common import Corpus, FuzzTest, difference, program_part, value
 
 Typing = tuple[tuple[int, Type] | None, ...]
 MOST_BUDGET = 1_000_000_000
@@ -401,7 +401,7 @@ class VerifyTest(FuzzTest):
         return map(VerifyTest, smaller(self.program))
 
     def case(self) -> list[str]:
-        return ["kind verify", *program_part(self.program), "output", *indented(self.expected())]
+        return ["kind verify", *program_part(self.program), *value("output", self.expected())]
 
 
 def make_verify(chance: random.Random, corpus: Corpus) -> FuzzTest:
