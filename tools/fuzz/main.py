@@ -91,12 +91,8 @@ def shrunk(failure: Failure, library: Library, seconds: float) -> Failure:
     return failure
 
 
-def is_terminal() -> bool:
-    return sys.stderr.isatty()
-
-
 def show_progress(kind: str, number: int, count: int) -> None:
-    if is_terminal():
+    if sys.stderr.isatty():
         print(f"\r{kind} {number} of {count} ", end="" if number < count else "\r\x1b[K", file=sys.stderr, flush=True)
 
 

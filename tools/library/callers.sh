@@ -11,7 +11,9 @@
 root=$(readlink -f "$0") && root=${root%/tools/*}
 room=$(mktemp -d)
 trap 'rm -rf "$room"' EXIT
-passed=0 failed=0 large=16777216
+large=16777216
+# shellcheck source=tools/common/report.sh
+. "$root/tools/common/report.sh"
 library=$("$root/script/pick.sh" libyuglemit.a) || exit
 [ "$1" != --quick ] || large=65536
 warnings="-Wall -Wextra -pedantic -Werror"
@@ -23,18 +25,12 @@ threads="-fsanitize=thread"
 watch="valgrind --quiet --leak-check=full --show-leak-kinds=all --error-exitcode=9"
 export UBSAN_OPTIONS=print_stacktrace=1 ASAN_OPTIONS=detect_leaks=1 TSAN_OPTIONS=halt_on_error=1
 
-# Runs a command, and says whether it succeeded: `tried NAME COMMAND..`.
+# Runs a command, and reports whether it succeeded, with its last line: `tried NAME COMMAND..`.
 tried() {
     name=$1
     shift
-    if "$@" >"$room/log" 2>&1 </dev/null; then
-        passed=$((passed + 1))
-        printf 'ok      %-24s %.100s\n' "$name" "$(grep -v '^$' "$room/log" | tail -n 1)"
-    else
-        failed=$((failed + 1))
-        printf 'FAILED  %s\n' "$name"
-        tail -n 30 "$room/log"
-    fi
+    "$@" >"$room/log" 2>&1 </dev/null
+    report $? "$name" "$(grep -v '^$' "$room/log" | tail -n 1 | cut -c 1-100)"
 }
 
 has() {
@@ -125,5 +121,4 @@ if has cargo "the Rust crate's tests"; then
         tried rust_valgrind cargo test --offline --quiet --test runs
     fi
 fi
-echo "$passed passed, $failed failed"
-[ "$failed" = 0 ]
+summary

@@ -46,10 +46,7 @@ HEX = ("check", "check --places", "disasm", "disasm --places", "run --in-turn", 
 HISTORY = ("replay --text", "replay --text --stats", "picture --text", "replay --text --json")
 INPUTS = ("run --inputs --in-turn", "replay --inputs", "picture --inputs", "run --inputs --in-turn --json")
 EACH = ("run --each --text", "run --each --text --jobs 4", "run --inputs-json --text --in-turn")
-RUN = (
-    "run --text --limit 1000000 --in-turn", "run --text --limit 1000000", "run --text --limit 1000000 --in-turn --stats",
-    "run --text --limit 1000000 --in-turn --json",
-)
+RUN = tuple(f"run --text --limit 1000000{words}" for words in (" --in-turn", "", " --in-turn --stats", " --in-turn --json"))
 SHORT_RUN = ("run --text --in-turn", "run --text")
 
 RETURNS = "proc control\nregs\nRET\n"

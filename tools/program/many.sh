@@ -44,7 +44,7 @@ start() {
 
 installed() {
     "$@" >/dev/null 2>&1 && return
-    echo "left out: $1 isn't installed"
+    echo "left out: ${3:-$1} isn't installed"
     return 1
 }
 
@@ -388,25 +388,9 @@ parallel_runs() {
 start_sshd() {
     mkdir -p "$room/ssh" /run/sshd
     for key in host user; do ssh-keygen -q -t ed25519 -N '' -f "$room/ssh/$key" || return; done
-    cat >"$room/ssh/server" <<TEXT
-Port $1
-ListenAddress 127.0.0.1
-HostKey $room/ssh/host
-AuthorizedKeysFile $room/ssh/user.pub
-UsePAM no
-StrictModes no
-TEXT
-    cat >"$room/ssh/client" <<TEXT
-Host one
-  HostName 127.0.0.1
-  Port $1
-  IdentityFile $room/ssh/user
-  StrictHostKeyChecking no
-  UserKnownHostsFile /dev/null
-  LogLevel ERROR
-TEXT
-    printf '#!/bin/sh\nexec ssh -F %s "$@"\n' "$room/ssh/client" >"$room/ssh/ssh" && chmod +x "$room/ssh/ssh"
-    start "$(command -v sshd)" -D -f "$room/ssh/server"
+    printf '#!/bin/sh\nexec ssh -F /dev/null -o HostName=127.0.0.1 -p %s -i %s -o StrictHostKeyChecking=no -o UserKnownHostsFile=/dev/null -o LogLevel=ERROR "$@"\n' \
+        "$1" "$room/ssh/user" >"$room/ssh/ssh" && chmod +x "$room/ssh/ssh"
+    start "$(command -v sshd)" -D -f /dev/null -p "$1" -h "$room/ssh/host" -o ListenAddress=127.0.0.1 -o "AuthorizedKeysFile=$room/ssh/user.pub" -o UsePAM=no -o StrictModes=no
     until_it 20 "$room/ssh/ssh" one true
 }
 

@@ -10,6 +10,7 @@ a row takes more than its price. The time is the processor's, so other work on t
 """
 
 import argparse
+import itertools
 import re
 import time
 from typing import Any, Iterator, NamedTuple
@@ -120,13 +121,6 @@ def task_rows() -> Iterator[Row]:
     yield Row("tasks of sixteen texts", f"proc control\nregs{' text' * 16}\n{full}PUT 0 0 any\nRET\n", "event")
 
 
-def rows() -> Iterator[Row]:
-    yield from local_rows()
-    yield from data_rows()
-    yield from map_rows()
-    yield from task_rows()
-
-
 def measure(row: Row) -> tuple[float, float]:
     """Returns the nanoseconds of one instruction or event of a row, and how much of its price the run takes."""
     program = package().load_text(row.text)
@@ -158,7 +152,7 @@ def main(words: list[str]) -> int:
     passed, failed = 0, int(script_prices() != prices)
     if failed:
         print(f"examples/many/bound.sh has other prices: {script_prices()}, not {prices}")
-    for row in rows():
+    for row in itertools.chain(local_rows(), data_rows(), map_rows(), task_rows()):
         if words and not any(word in row.name for word in words):
             continue
         nanoseconds, part = measure(row)

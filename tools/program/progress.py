@@ -17,6 +17,7 @@ from typing import Callable, NamedTuple
 
 from tools.common import terminal
 from tools.common.program import program
+from tools.program.memory import looped
 
 SECONDS = 60
 # How many runs of some seconds are made before one that isn't timely is a fault.
@@ -29,40 +30,9 @@ NO_LINES = (
 REFUSED = "\x1b[31merror: --workers takes a number from 1 to 16\n\x1b[0mtw: tw run --help lists its arguments\n"
 # The most tasks that an event limit of 1,000,000 allows, with five events each.
 MOST_TASKS = 199_000
-# Tasks of a hundred thousand iterations each, one after the other on one worker.
-LONG = """proc control
-regs
-REPEAT %d
-REPEAT %d
-PUT 1 0 any
-END
-END
-RET
-
-proc leaf
-regs int int
-INT v1 1
-REPEAT 1000
-REPEAT 100
-ADD v0 v0 v1 +0
-END
-END
-RET
-"""
-
-
-# A run of ten thousand iterations, which is made for each line of inputs.
-EACH = """proc control write int
-regs int int
-INT v1 1
-REPEAT 100
-REPEAT 100
-ADD v0 v0 v1 +0
-END
-END
-STORE d0 v0
-RET
-"""
+# Tasks of a hundred thousand iterations each, one after the other on one worker; and a run of ten thousand, which is made for each line of inputs.
+LONG = "proc control\nregs\nREPEAT %d\nREPEAT %d\nPUT 1 0 any\nEND\nEND\nRET\n\n" + looped("proc leaf\nregs int int\n", "INT v1 1\n", "ADD v0 v0 v1 +0\n", "", 1000)
+EACH = looped("proc control write int\nregs int int\n", "INT v1 1\n", "ADD v0 v0 v1 +0\n", "STORE d0 v0\n", 100)
 # The most lines that are tried.
 MOST_LINES = 2_000_000
 # A terminal that has colours.

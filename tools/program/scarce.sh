@@ -15,18 +15,14 @@ program=$("$root/script/pick.sh" tw_cases) || exit
 cc -O2 -shared -fPIC -o "$room/one_arena.so" "$root/tools/program/one_arena.c" -ldl || exit
 # The first processor that this process may use.
 first=$(taskset -cp $$ | sed 's/.*: //; s/[-,].*//') || exit
-passed=0 failed=0
+# shellcheck source=tools/common/report.sh
+. "$root/tools/common/report.sh"
 for _ in $(seq "${1:-1}"); do
     for name in $(sed -n 's/^\(long_[a-z_]*\) | scarce .*/\1/p' "$rows"); do
         grep -E "^let |^$name " "$rows" >"$room/rows"
-        LD_PRELOAD=$room/one_arena.so taskset -c "$first" "$program" <"$room/rows" >"$room/out" 2>&1
-        if [ "$(cat "$room/out")" = "1 cases as wanted" ]; then
-            passed=$((passed + 1))
-        else
-            failed=$((failed + 1))
-            head -n 1 "$room/out"
-        fi
+        LD_PRELOAD=$room/one_arena.so taskset -c "$first" "$program" <"$room/rows" >"$room/log" 2>&1
+        [ "$(cat "$room/log")" = "1 cases as wanted" ]
+        report $? "$name"
     done
 done
-echo "$passed passed, $failed failed"
-[ "$failed" = 0 ] && [ "$passed" -gt 0 ]
+summary && [ "$passed" -gt 0 ]

@@ -28,30 +28,9 @@ from tools.cases.json_cases import TIMED, UNCHECKED, faults, validators
 from tools.program.stream import Wrong, expect, heed_signals
 
 # Each turn joins texts 5,000 times, which takes a millisecond or more, and starts the next one, as many as the input says.
-TURNS = """proc control closed int write int
-regs int
-GET v0 d0
-DROPR d0
-PUT 1 0 any 1 0
-RET
-
-proc control write int val int
-regs int int int text
-JEQ v0 v1 done
-INT v2 -1
-ADD v0 v0 v2 +0
-REPEAT 5
-REPEAT 1000
-TEXT v3 "aaaaaaaaaaaaaaaaaaaaaaaaaaaaaaaaaaaaaaaaaaaaaaaaaaaaaaaaaaaaaaaa"
-CAT v3 v3 v3 +0
-END
-END
-PUT 1 0 any 0 0
-RET
-done:
-STORE d0 v0
-RET
-"""
+TURNS = (
+    "proc control closed int write int\nregs int\nGET v0 d0\nDROPR d0\nPUT 1 0 any 1 0\nRET\n\nproc control write int val int\nregs int int int text\n"
+    "JEQ v0 v1 done\nINT v2 -1\nADD v0 v0 v2 +0\nREPEAT 5\nREPEAT 1000\n" f'TEXT v3 "{"a" * 64}"\n' "CAT v3 v3 v3 +0\nEND\nEND\nPUT 1 0 any 0 0\nRET\ndone:\nSTORE d0 v0\nRET\n")
 # As many turns as the most events allow.
 MANY = 240_000
 MOST_EVENTS = "--limit=1000000"

@@ -12,7 +12,7 @@ from tools.common.program import program
 from tools.program import orders
 
 # Two tasks insert 1 and 2 at one subscript, each by its copy; the first one takes longer, so with two workers the second one is first.
-RACE = """names
+MAIN = """names
 proc control main(out: write cont int)
 regs a: int, b: int
 INT a 1
@@ -23,28 +23,12 @@ PUT slow 0 any first a
 PUT fast 0 any second b
 DROPW out
 RET
-proc leaf slow(into: write cont int, x: val int)
+"""
+LEAF = """proc leaf {}(into: write cont int, x: val int)
 regs zero: int
 NEW mo m int
 STORE mo x
-DUPR k m
-DROPR k
-DUPR k2 m
-DROPR k2
-DUPR k3 m
-DROPR k3
-INS into zero m taken
-JMP done
-taken:
-DROPR m
-done:
-DROPW into
-RET
-proc leaf fast(into: write cont int, x: val int)
-regs zero: int
-NEW mo m int
-STORE mo x
-INS into zero m taken
+{}INS into zero m taken
 JMP done
 taken:
 DROPR m
@@ -52,6 +36,7 @@ done:
 DROPW into
 RET
 """
+RACE = MAIN + LEAF.format("slow", "".join(f"DUPR k{number} m\nDROPR k{number}\n" for number in range(3))) + LEAF.format("fast", "")
 
 # Runs each layout once, in turn.
 ONCE = ("--runs", "0", "--seeds", "0")

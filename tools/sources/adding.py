@@ -50,17 +50,7 @@ EDITS = (
     Edit("tw_code/specs/machine/Local.antt", RESULT, "result_of Minimum a b = Some (if int_lt b a then b else a)\n"),
     Edit("tw_code/src/compute.rt", "        Arithmetic::Remainder => left.checked_rem(right),\n", "        Arithmetic::Minimum => Some(if right < left { right } else { left }),\n"),
 )
-PROGRAM = """version 2
-proc control closed int closed int write int
-regs int int int
-GET v0 d0
-DROPR d0
-GET v1 d1
-DROPR d1
-MIN v2 v0 v1 +0
-STORE d2 v2
-RET
-"""
+PROGRAM = "version 2\nproc control closed int closed int write int\nregs int int int\nGET v0 d0\nDROPR d0\nGET v1 d1\nDROPR d1\nMIN v2 v0 v1 +0\nSTORE d2 v2\nRET\n"
 # Commands on texts, the status, and what they begin to print. A skip is for operands without a result, and MIN has one of all.
 RUNS = (
     ("run --text int:3 int:-4", PROGRAM, 0, "out 0 int -4"),

@@ -107,10 +107,7 @@ class EachTest(RunTest):
             return why
         jobs = ["--jobs", str(self.jobs)]
         printed = [visible_json(line) for line in expected]
-        return (
-            self.answer_fault(printed, library.command([*self.arguments, *jobs], self.data))
-            or self.answer_fault(printed, self.streamed(library, jobs))
-        )
+        return self.answer_fault(printed, library.command([*self.arguments, *jobs], self.data)) or self.answer_fault(printed, self.streamed(library, jobs))
 
     def smaller(self) -> Iterator[FuzzTest]:
         yield from without_parts(self, "lines")

@@ -18,9 +18,7 @@ from tools.fuzz.common import Corpus, FuzzTest, RunTest, answer_part, case_word,
 
 NUMBER = r"-?[0-9]+"
 QUOTED = r'"(?:[^"\\]|\\["\\n]|\\x[0-7][0-9A-Fa-f])*"'
-FORMS: dict[str, Type] = {
-    "int": (INT,), "text": (TEXT,), "ints": (CONT, INT), "texts": (CONT, TEXT), "tints": (TCONT, INT), "ttexts": (TCONT, TEXT),
-}
+FORMS: dict[str, Type] = {"int": (INT,), "text": (TEXT,), "ints": (CONT, INT), "texts": (CONT, TEXT), "tints": (TCONT, INT), "ttexts": (TCONT, TEXT)}
 Pairs = list[tuple[Scalar, Scalar]]
 
 
