@@ -25,8 +25,6 @@ MOST_SECONDS = 900.0
 SHORT_SECONDS = 0.1
 MOST_TOGETHER = 16
 MOST_BYTES = 32_000
-
-
 # Cases of this prefix take long, and longer by an unverified build.
 LONG = "long_"
 

@@ -82,7 +82,6 @@ class Unseen(unittest.TestCase):
         found = [line.removeprefix("run: no case has ") for line in json_cases.unseen("run", schema, seen)]
         self.assertEqual(found, ["`more` with the status b", "`status` with the status c"])
 
-
     def test_stopped_runs(self) -> None:
         schema: dict[str, Any] = {"oneOf": [{"properties": {"status": {"enum": ["quiet", "stopped"]}}}]}
         found = [line.split("has ")[1] for line in json_cases.unseen("run", schema, [])]

@@ -33,11 +33,6 @@ BUILT = {PROGRAM: "crates/tw_main/out/tw_main", LIBRARY: "crates/tw_embed/out/li
          "tw_cases": "crates/tw_cases/out/tw_cases", "tw_host_cases": "crates/tw_host_cases/out/tw_host_cases"}
 
 
-def changed() -> str:
-    """Returns the tracked files that aren't committed, which a clone wouldn't have."""
-    return subprocess.run(["git", "-C", str(ROOT), "status", "--porcelain", "-uno"], capture_output=True, text=True, check=True).stdout
-
-
 def make_clone(clone: Path, tools: list[Tool]) -> None:
     """Makes the clone, with what is built here of that which is tested; it is newer than its sources there."""
     subprocess.run(["git", "clone", "-q", str(ROOT), str(clone)], check=True)
@@ -120,8 +115,8 @@ def main(words: list[str]) -> int:
     parser.add_argument("names", nargs="*")
     given = parser.parse_args(words)
     tools = chosen(given.names, given.all or given.quick, datetime.date.today().toordinal())
-    if changed():
-        print(f"commit first; a night tests what is committed:\n{changed()}", file=sys.stderr)
+    if changed := subprocess.run(["git", "-C", str(ROOT), "status", "--porcelain", "-uno"], capture_output=True, text=True, check=True).stdout:
+        print(f"commit first; a night tests what is committed:\n{changed}", file=sys.stderr)
         return NOTHING
     logs = NIGHTS / f"{datetime.datetime.now():%Y-%m-%dT%H%M%S}-{os.getpid()}"
     logs.mkdir(parents=True)

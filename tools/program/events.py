@@ -22,11 +22,7 @@ FIGURES = ROOT / "bench" / "events.csv"
 EVENTS = 100_000
 # How much more than its figure a row may take. Runs in threads wait for one another at other places each time: up to 5 percent were seen.
 MOST, MOST_IN_THREADS = 1.02, 1.15
-MODES: dict[str, list[str]] = {
-    "in turn, 1/1/1": ["--in-turn"],
-    "in turn, 4/4/16": ["--in-turn", "--engines=4", "--servers=4", "--workers=16"],
-    "in threads": [],
-}
+MODES: dict[str, list[str]] = {"in turn, 1/1/1": ["--in-turn"], "in turn, 4/4/16": ["--in-turn", "--engines=4", "--servers=4", "--workers=16"], "in threads": []}
 PROGRAMS = ("put", "rules", "cont")
 
 

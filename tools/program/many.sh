@@ -438,10 +438,6 @@ PartitionName=short Nodes=$host Default=YES MaxTime=60 State=UP
 TEXT
 }
 
-slurm_is_up() {
-    [ "$(sinfo -h -o %t)" = idle ]
-}
-
 slurm_is_done() {
     [ -z "$(squeue -h)" ]
 }
@@ -459,7 +455,7 @@ start_slurm() {
     until_it 20 test -S "$room/slurm/munge.sock"
     start slurmctld -D
     start slurmd -D
-    until_it 60 slurm_is_up
+    until_it 60 sh -c '[ "$(sinfo -h -o %t)" = idle ]'
 }
 
 # Submits the array, ends one of its jobs and one run in the middle, and submits again what has no answer.

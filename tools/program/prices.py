@@ -19,8 +19,6 @@ from tools import ROOT
 from tools.common.program import package
 from tools.program.memory import circle, pending
 
-
-
 LONG, HALF = "a" * 4096, "a" * 2048
 MOST_EVENTS = 1_000_000
 

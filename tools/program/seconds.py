@@ -20,12 +20,13 @@ import tempfile
 import time
 from collections.abc import Callable, Iterator, Sequence
 from dataclasses import dataclass
+from functools import partial
 
 from tools import ROOT
 from tools.common.program import package, program
 from tools.common.terminal import read_to_end
 from tools.cases.json_cases import TIMED, UNCHECKED, faults, validators
-from tools.program.stream import Wrong, expect, heed_signals
+from tools.program.stream import Wrong, expect, heed_signals, made
 
 # Each turn joins texts 5,000 times, which takes a millisecond or more, and starts the next one, as many as the input says.
 TURNS = (
@@ -256,26 +257,15 @@ def load() -> Iterator[None]:
             process.wait()
 
 
-def wrong(checks: dict[str, Check], where: str, turns: str) -> int:
-    """Makes the checks, prints why one fails, and returns how many do."""
-    count = 0
-    for what, check in checks.items():
-        try:
-            check(turns)
-        except Wrong as why:
-            print(f"seconds.py: {what}{where}: {why}", flush=True)
-            count += 1
-    return count
-
-
 def main(words: list[str]) -> int:
     with tempfile.NamedTemporaryFile("w", suffix=".tw") as turns:
         turns.write(TURNS)
         turns.flush()
-        count = wrong(CHECKS | QUIET_CHECKS, "", turns.name)
+        quiet = made({what: partial(check, turns.name) for what, check in (CHECKS | QUIET_CHECKS).items()})
         with load():
-            count += wrong(CHECKS, ", beside a load", turns.name)
+            loaded = made({f"{what}, beside a load": partial(check, turns.name) for what, check in CHECKS.items()})
     if not validators():
         print(UNCHECKED)
-    print(f"{2 * len(CHECKS) + len(QUIET_CHECKS) - count} passed, {count} failed")
-    return int(count > 0)
+    passed, failed = map(sum, zip(quiet, loaded))
+    print(f"{passed} passed, {failed} failed")
+    return int(failed > 0)

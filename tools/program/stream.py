@@ -13,6 +13,8 @@ import subprocess
 import sys
 import tempfile
 import time
+from collections.abc import Mapping
+from functools import partial
 from pathlib import Path
 from typing import IO, Callable
 
@@ -23,6 +25,7 @@ ECHO = "proc control closed int write int\nregs int\nGET v0 d0\nDROPR d0\nSTORE 
 SLOW = ECHO.replace("regs int\n", "regs int int\n").replace("STORE", "REPEAT 20\nREPEAT 1000\nREPEAT 1000\nADD v1 v0 v0 +0\nEND\nEND\nEND\nSTORE")
 MOST = 16_777_216
 WAIT = 60.0
+# After so many checks that fail no more are made, since each may wait a minute.
 FEW = 2
 # More than the program's own memory and the longest line, and much less than all lines.
 MEMORY = 64_000_000
@@ -216,24 +219,17 @@ CHECKS: dict[str, Check] = {
 LARGE_CHECKS: dict[str, Check] = {"long lines": long_lines, "memory": in_memory}
 
 
-def is_wrong(what: str, check: Check, tw: str, program: Path, jobs: int) -> bool:
-    """Returns whether a check fails, and prints why."""
-    try:
-        check(tw, program, jobs)
-    except Wrong as why:
-        print(f"stream.py: {what}, {jobs} jobs: {why}")
-        return True
-    return False
-
-
-def made(checks: dict[str, Check], echo: Path) -> tuple[int, int]:
-    """Makes checks, and returns how many pass and how many fail; after the first few that fail no more are tried, since each may wait a minute."""
+def made(checks: Mapping[str, Callable[[], None]], few: float = float("inf")) -> tuple[int, int]:
+    """Makes checks, prints why one fails, and returns how many pass and how many fail; after so many that fail no more are made."""
     passed = failed = 0
     for what, check in checks.items():
-        for jobs in (1, 4):
-            if failed < FEW:
-                wrong = is_wrong(what, check, program(), echo, jobs)
-                passed, failed = passed + (not wrong), failed + wrong
+        if failed < few:
+            try:
+                check()
+                passed += 1
+            except Wrong as why:
+                print(f"{what}: {why}", flush=True)
+                failed += 1
     return passed, failed
 
 
@@ -245,6 +241,7 @@ def main(words: list[str]) -> int:
     with tempfile.TemporaryDirectory() as name:
         echo = Path(name) / "echo.tw"
         echo.write_text(ECHO, encoding="ascii")
-        passed, failed = made(checks, echo)
+        named = {f"{what}, {jobs} jobs": partial(check, program(), echo, jobs) for what, check in checks.items() for jobs in (1, 4)}
+        passed, failed = made(named, FEW)
     print(f"{passed} passed, {failed} failed")
     return int(failed > 0)

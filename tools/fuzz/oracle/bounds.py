@@ -211,8 +211,7 @@ def needs(program: Program) -> tuple[int, int]:
 
 def check_lines(program: Program) -> list[str]:
     """Returns what `check` writes of an accepted program."""
-    heads = [f"proc {number} {('control', 'leaf')[found.kind]} budget {budget}"
-             for number, (found, budget) in enumerate(zip(program.procedures, budgets(program)))]
+    heads = [f"proc {number} {('control', 'leaf')[found.kind]} budget {budget}" for number, (found, budget) in enumerate(zip(program.procedures, budgets(program)))]
     engines, workers = needs(program)
     searching = sum(any(instr.name in SEARCHES for instr in found.code) for found in program.procedures)
     return ["accepted", *heads, f"needs engines {engines} workers {workers}", *([f"searches {searching}"] if searching else [])]

@@ -190,8 +190,7 @@ def sizes(items: set[Item]) -> tuple[int, int, int]:
 
 def size(items: set[Item]) -> str:
     definitions, types, files = sizes(items)
-    return (f"{definitions + types} lines in {files} file{'' if files == 1 else 's'}: "
-            f"{definitions} of definitions, {types} of types in the code")
+    return f"{definitions + types} lines in {files} file{'' if files == 1 else 's'}: {definitions} of definitions, {types} of types in the code"
 
 
 def promise_named(name: str) -> Promise:
