@@ -76,15 +76,9 @@ def objects_of(case: Case) -> Iterator[Expected]:
 # --- What schemas allow
 
 
-def branches(schema: dict[str, Any]) -> list[dict[str, Any]]:
-    """Returns the kinds of objects that a schema allows."""
-    kinds: list[dict[str, Any]] = schema.get("oneOf", [schema])
-    return kinds
-
-
 def members_of(schema: dict[str, Any]) -> Iterator[tuple[str, str]]:
     """Yields each member that a schema allows, with each status."""
-    for branch in branches(schema):
+    for branch in schema.get("oneOf", [schema]):
         status = branch["properties"]["status"]
         for word in status.get("enum", [status.get("const")]):
             for member in branch["properties"]:

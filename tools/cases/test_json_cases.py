@@ -42,9 +42,7 @@ class Schemas(unittest.TestCase):
 
     def test_run(self) -> None:
         self.assertTrue(self.fits("run", QUIET))
-        wrongs: list[dict[str, Any]] = [
-            {"status": "running"}, {"pending": 1}, {"events": -1}, {"outputs": [1.5]}, {"outputs": [2**63]}, {"outputs": [[]]}, {"kinds": ["none"]},
-        ]
+        wrongs: list[dict[str, Any]] = [{"status": "running"}, {"pending": 1}, {"events": -1}, *({"outputs": [it]} for it in (1.5, 2**63, [])), {"kinds": ["none"]}]
         for wrong in wrongs:
             self.assertFalse(self.fits("run", QUIET | wrong), wrong)
         for member in QUIET:

@@ -20,7 +20,6 @@ from collections import Counter
 from dataclasses import dataclass
 from typing import Any
 
-sys.dont_write_bytecode = True
 from tools.common.processes import fields_of, seconds_in
 from tools.fuzz.kinds import calls, each, handles, inputs, orders, reached, runs, texts, verify
 from tools.fuzz.library import Library

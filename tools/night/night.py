@@ -58,8 +58,8 @@ def chosen(names: list[str], is_all: bool, day: int) -> list[Tool]:
 
 def runner_of(folder: Path, logs: Path, whole: bool) -> Runner:
     """Returns what runs harnesses, as the environment says."""
-    given = {"seed": os.environ.get("SEED") or str(datetime.date.today()), "count": os.environ.get("COUNT", "100000"),
-             "seconds": os.environ.get("SECONDS_A_KIND", "120")}
+    usual = {"SEED": str(datetime.date.today()), "COUNT": "100000", "SECONDS_A_KIND": "120"}
+    given = {name.split("_")[0].lower(): os.environ.get(name) or value for name, value in usual.items()}
     return Runner(folder, logs, given, float(os.environ.get("PATIENCE", "1")), whole)
 
 

@@ -295,12 +295,6 @@ def hostile_lines() -> Iterator[Run]:
     yield Run("short lines", number, ("--each", "--quiet"), inputs="inputs\n" + "[1]\n" * 190_000)
 
 
-def hostile() -> Iterator[Run]:
-    """Yields programs that keep as much as they can of one thing."""
-    for kind in (hostile_programs, hostile_events, hostile_members, hostile_tasks, hostile_inputs, hostile_lines):
-        yield from kind()
-
-
 def limited(most: int) -> None:
     """Limits a child's memory and processor time, and starts no dump."""
     resource.setrlimit(resource.RLIMIT_CPU, (SECONDS, SECONDS + 1))
@@ -336,6 +330,7 @@ def main(words: list[str]) -> int:
     parser = argparse.ArgumentParser(description="Runs programs with the memory that docs/HOSTING.md says.")
     parser.add_argument("--only", default="", metavar="TEXT", help="the programs whose names have this text")
     asked = parser.parse_args(words)
-    answers = [passes(program(), run) for run in (*examples(), *hostile()) if asked.only in run.name]
+    kinds = (examples, hostile_programs, hostile_events, hostile_members, hostile_tasks, hostile_inputs, hostile_lines)
+    answers = [passes(program(), run) for kind in kinds for run in kind() if asked.only in run.name]
     print(f"{sum(answers)} passed, {len(answers) - sum(answers)} failed")
     return 0 if answers and all(answers) else 1

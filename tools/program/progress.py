@@ -23,10 +23,7 @@ SECONDS = 60
 # How many runs of some seconds are made before one that isn't timely is a fault.
 TRIES = 5
 SHORT = "proc control write int\nregs int\nINT v0 7\nSTORE d0 v0\nRET\n"
-NO_LINES = (
-    "tw: --each needs lines of inputs: tw run FILE --each LINES; those in FILE itself follow a line `inputs`\n"
-    "tw: tw run --help lists its arguments\n"
-)
+NO_LINES = "tw: --each needs lines of inputs: tw run FILE --each LINES; those in FILE itself follow a line `inputs`\ntw: tw run --help lists its arguments\n"
 REFUSED = "\x1b[31merror: --workers takes a number from 1 to 16\n\x1b[0mtw: tw run --help lists its arguments\n"
 # The most tasks that an event limit of 1,000,000 allows, with five events each.
 MOST_TASKS = 199_000

@@ -55,12 +55,10 @@ class Found(unittest.TestCase):
         self.assertEqual((status, printed, complaint.count("\n")), (0, "answered run\n", 1))
 
     def test_no_release(self) -> None:
-        (self.top / "release/tw.gz").unlink()
-        self.assert_fails("release/tw.gz is missing, and the command rt")
-
-    def test_no_manifest(self) -> None:
-        (self.top / "release/MANIFEST").unlink()
-        self.assert_fails("release/MANIFEST is missing, and the command rt")
+        for name in ("release/tw.gz", "release/MANIFEST"):
+            (self.top / name).rename(self.top / "away")
+            self.assert_fails(f"{name} is missing, and the command rt")
+            (self.top / "away").rename(self.top / name)
 
     def test_a_build_without_toolchain(self) -> None:
         self.assert_fails("./tw build proves the sources, and the command rt", "build")

@@ -212,14 +212,11 @@ python_answers() {
     [ "$found" = "$wanted" ]
 }
 
-# Without write access the library is unpacked into the user's cache, or for this process alone. (root writes everywhere.)
+# Without write access the library is unpacked for this process alone. (root writes everywhere.) embed/python/tests/test_released.py has the other places.
 python_of_clone() {
-    rm -rf "$clone/out"
-    python_answers && [ -f "$clone/out/release/libyuglemit.so" ] && python_answers || return
-    echo broken >"$clone/out/release/libyuglemit.so" && python_answers || return
-    rm -rf "$clone/out" && echo "no folder" >"$clone/out" && python_answers && [ -n "$(find "$home/.cache/yuglemit" -name libyuglemit.so)" ] || return
-    rm -rf "$home/.cache" && echo "no folder" >"$home/.cache" && TMPDIR=$room/temporary && mkdir "$TMPDIR" && python_answers TMPDIR="$TMPDIR" || return
-    [ -z "$(find "$TMPDIR" -mindepth 1)" ] && rm "$clone/out" "$home/.cache"
+    rm -rf "$clone/out" && python_answers || return
+    rm -rf "$clone/out" "$home/.cache" && echo "no folder" >"$clone/out" && echo "no folder" >"$home/.cache" && mkdir "$room/temporary" || return
+    python_answers TMPDIR="$room/temporary" && [ -z "$(find "$room/temporary" -mindepth 1)" ] && rm "$clone/out" "$home/.cache"
 }
 
 clean ./tw install "$room/first" 2>"$room/said"

@@ -42,16 +42,6 @@ class Row(NamedTuple):
     word: str
 
     @property
-    def operation(self) -> str | None:
-        """Returns the operation, if it is one on two integers."""
-        return self.given.get("operation")
-
-    @property
-    def sought(self) -> str | None:
-        """Returns the search, if it is one in a text."""
-        return self.given.get("sought")
-
-    @property
     def skips(self) -> bool:
         """Returns whether its last operand is a skip."""
         return self.forms[-1:] == ("Skip",)
@@ -102,7 +92,7 @@ def row_of(opcode: str, text: str, version: str, word: str, variants: dict[str, 
 
 def each(form: str, of: str = "opcode") -> Callable[[list[Row]], Iterator[str]]:
     """Returns a function that yields a row of this form for each opcode, or of those with an operation or a search."""
-    return lambda rows: (form.format(it=row) for row in rows if getattr(row, of))
+    return lambda rows: (form.format(it=row) for row in rows if of == "opcode" or of in row.given)
 
 
 def list_rows(rows: list[Row]) -> Iterator[str]:
@@ -141,9 +131,9 @@ def pattern(row: Row) -> str:
 
 def opcode_in(parts: list[Row], star: str) -> str:
     """Returns the opcode of a variant, which a field may decide."""
-    if parts[0].operation:
+    if "operation" in parts[0].given:
         return f"opcode_of_operation({star}operation)"
-    if parts[0].sought:
+    if "sought" in parts[0].given:
         return f"opcode_of_search({star}sought)"
     if len(parts) == 1:
         return f"Opcode::{parts[0].opcode}"
@@ -220,12 +210,12 @@ REGIONS: tuple[Region, ...] = (
     Region("tw_code/src/opcode.rt", "    fn since(", "        match self {", "        }", version_rows),
     Region("tw_code/src/opcode.rt", "    pub fn forms(", "        match self {", "        }", form_rows),
     Region("tw_code/src/opcode.rt", "pub fn word_of(", "    match opcode {", "    }", each('        Opcode::{it.opcode} => "{it.word}",')),
-    Region("tw_code/src/sink.rt", "fn opcode_of_operation(", "    match operation {", "    }", each("        Arithmetic::{it.operation} => Opcode::{it.opcode},", "operation")),
-    Region("tw_code/src/sink.rt", "fn opcode_of_search(", "    match sought {", "    }", each("        Sought::{it.sought} => Opcode::{it.opcode},", "sought")),
+    Region("tw_code/src/sink.rt", "fn opcode_of_operation(", "    match operation {", "    }", each("        Arithmetic::{it.given[operation]} => Opcode::{it.opcode},", "operation")),
+    Region("tw_code/src/sink.rt", "fn opcode_of_search(", "    match sought {", "    }", each("        Sought::{it.given[sought]} => Opcode::{it.opcode},", "sought")),
     Region("tw_code/src/sink.rt", "fn put_local<", "    match instr {", "    }", sink_rows("Local", "*")),
     Region("tw_code/src/sink.rt", "fn put_data<", "    match instr {", "    }", sink_rows("Data", "")),
-    Region(TABLE, HEAD, "abbrev pub opcode_of_operation : Arithmetic → Opcode", "", each("opcode_of_operation operation.{it.operation} = opcode.{it.opcode}", "operation")),
-    Region(TABLE, HEAD, "abbrev pub opcode_of_search : Sought → Opcode", "", each("opcode_of_search sought.{it.sought} = opcode.{it.opcode}", "sought")),
+    Region(TABLE, HEAD, "abbrev pub opcode_of_operation : Arithmetic → Opcode", "", each("opcode_of_operation operation.{it.given[operation]} = opcode.{it.opcode}", "operation")),
+    Region(TABLE, HEAD, "abbrev pub opcode_of_search : Sought → Opcode", "", each("opcode_of_search sought.{it.given[sought]} = opcode.{it.opcode}", "sought")),
     Region(TABLE, HEAD, "abbrev pub local_row : LocalInstr → Opcode × List Operand", "", back_rows("Local", "local_row")),
     Region(TABLE, HEAD, "abbrev pub data_row : DataInstr → Opcode × List Operand", "", back_rows("Data", "data_row")),
     Region("tw_code/src/operands.rt", "pub fn make(", "    match opcode {", "        _ =>", making_rows),

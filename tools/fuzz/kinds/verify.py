@@ -28,11 +28,6 @@ class Refusal:
         return f"refused V{self.code:02} in procedure {self.procedure} at place {self.place}"
 
 
-def first_of(faults: list[tuple[int, int]]) -> tuple[int, int] | None:
-    """Returns the first place with a fault, and its lowest code, of pairs of place and code."""
-    return min(faults, default=None)
-
-
 # --- Structure
 
 
@@ -302,11 +297,11 @@ def refusal(program: Program) -> Refusal | None:
     if not is_main(program.main):
         return Refusal(16, 0, 0)
     for number, procedure in enumerate(program.procedures):
-        found = first_of(structure_faults(procedure.code))
+        found = min(structure_faults(procedure.code), default=None)  # the first place with a fault, and its lowest code
         if found is None:
             paths = Paths(program, procedure)
             paths.search()
-            found = first_of(paths.faults())
+            found = min(paths.faults(), default=None)
         if found is None and budgets(Program((procedure,)))[0] > MOST_BUDGET:
             found = (0, 17)
         if found is not None:

@@ -10,6 +10,7 @@ import re
 import sys
 from collections.abc import Callable, Iterable, Iterator
 from dataclasses import dataclass, field
+from functools import cache
 from typing import NoReturn, Optional, Protocol, Union
 
 import tools
@@ -193,13 +194,11 @@ def specs() -> dict[str, str]:
 
 
 FILES = specs()
-loaded: dict[str, Definitions] = {}
 
 
+@cache
 def definitions(path: str) -> Optional[Definitions]:
-    if path in FILES and path not in loaded:
-        loaded[path] = Definitions(path, FILES[path])
-    return loaded.get(path)
+    return Definitions(path, FILES[path]) if path in FILES else None
 
 
 def crate_of(path: str) -> Optional[str]:
