@@ -13,7 +13,7 @@ from tools import ROOT
 # The kinds of fuzz tests, and how many CI makes of each: some ten seconds of a processor. A number of tests and no time bounds them, and their
 # seed is a sum of what they test (record.sum_of). So the same sources have the same tests here and in CI, and others have others.
 KINDS = {
-    "check": 100, "bounds": 700, "run": 450, "each": 2000, "names": 2000, "asm": 2000, "decode": 4000, "args": 8000, "library": 2000, "handles": 900,
+    "check": 100, "bounds": 700, "run": 450, "each": 2000, "names": 2000, "asm": 2000, "decode": 4000, "args": 8000, "library": 2000, "handles": 600,
     "verify": 2000, "orders": 60, "history": 3000, "traces": 4000, "inputs": 2000, "stats": 800,
 }
 
