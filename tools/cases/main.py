@@ -16,7 +16,6 @@ import shutil
 import sys
 from pathlib import Path
 
-sys.dont_write_bytecode = True
 from tools import ROOT
 from tools.cases.files import CRATES, Book, Case, Fault, answer_text, lets_of, read_book, unknown_names, unused_lets
 from tools.cases.runs import LONG, Program, Progress, Result, Runner, Times, run_all, shown_failure

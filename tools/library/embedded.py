@@ -103,8 +103,8 @@ def compare_calls() -> None:
             text = file.read()
         inputs: list[str] = next((list(it.inputs) for it in sessions() if it.command == "run" and it.path.name == name), [])
         data, order = text.encode(), ["asm", "--names"] if name.endswith(".twn") else ["asm"]
-        compare_call(name, order, data, lambda text=text: f"{yuglemit.assemble(text).hex()}\n")
-        compare_call(name, ["check", "--text"], data, lambda text=text: str(yuglemit.load(text).checked))
+        compare_call(name, order, data, lambda: f"{yuglemit.assemble(text).hex()}\n")
+        compare_call(name, ["check", "--text"], data, lambda: str(yuglemit.load(text).checked))
         if inputs or not re.search(r"^proc control.*\b(closed|ref)\b", text, re.M):  # inputs that main doesn't ask for are a TypeError
             compare_report(name, order, text, inputs)
         try:

@@ -153,7 +153,7 @@ class RunnerTest(WithScripts):
 
 class NamesTest(unittest.TestCase):
     def test_a_name_that_is_none_is_no_pass(self) -> None:
-        for main, words, name in ((check.main, ["words", "lode"], "lode"), (night.main, ["words", "lode"], "lode"), (night.run_here, [], "without a name")):
+        for main, words, name in ((check.main, ["words", "lode"], "lode"), (night.main, ["words", "lode"], "lode"), (night.run_here, list[str](), "without a name")):
             with self.assertRaises(SystemExit) as ended, contextlib.redirect_stderr(io.StringIO()) as errors:
                 main(words)
             self.assertEqual((ended.exception.code, errors.getvalue()), (2, f"there is no harness {name}; ./dev list names them\n"))

@@ -266,6 +266,6 @@ def main(words: list[str]) -> int:
             loaded = made({f"{what}, beside a load": partial(check, turns.name) for what, check in CHECKS.items()})
     if not validators():
         print(UNCHECKED)
-    passed, failed = map(sum, zip(quiet, loaded))
+    passed, failed = quiet[0] + loaded[0], quiet[1] + loaded[1]
     print(f"{passed} passed, {failed} failed")
     return int(failed > 0)

@@ -25,8 +25,7 @@ ECHO = "proc control closed int write int\nregs int\nGET v0 d0\nDROPR d0\nSTORE 
 SLOW = ECHO.replace("regs int\n", "regs int int\n").replace("STORE", "REPEAT 20\nREPEAT 1000\nREPEAT 1000\nADD v1 v0 v0 +0\nEND\nEND\nEND\nSTORE")
 MOST = 16_777_216
 WAIT = 60.0
-# After so many checks that fail no more are made, since each may wait a minute.
-FEW = 2
+FEW = 2  # after so many checks that fail no more are made, since each may wait a minute
 # More than the program's own memory and the longest line, and much less than all lines.
 MEMORY = 64_000_000
 

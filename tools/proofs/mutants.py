@@ -342,7 +342,9 @@ def module_of(folder: Path) -> Path:
 def test(part: str, folder: Path, seconds: float = SECONDS) -> tuple[bool, str]:
     """Runs the tests of a part for so many seconds at most. Returns whether they pass, and the first that failed or the last line that they wrote."""
     command = TESTS[part]
-    for word, path_in in (("@LIBRARY@", lambda _: found(LIBRARY).path), ("@ARCHIVE@", archive_of), ("@MODULE@", module_of)):
+    if "@LIBRARY@" in command:
+        command = command.replace("@LIBRARY@", str(found(LIBRARY).path))
+    for word, path_in in (("@ARCHIVE@", archive_of), ("@MODULE@", module_of)):
         if word in command:
             command = command.replace(word, str(path_in(folder)))
     run = subprocess.Popen(command, shell=True, cwd=folder, stdin=subprocess.DEVNULL, stdout=subprocess.PIPE, stderr=subprocess.STDOUT, start_new_session=True)

@@ -70,9 +70,9 @@ class Differences(Table):
         )
 
     def test_helps(self) -> None:
-        new, other = RUN + "      --new  New\n", TOP.replace("  help ", "  check  Checks\n  help ")
-        self.assertEqual(found("", "", new), ["--new has no entry"])
-        self.assertEqual(found("", "", RUN.replace(" DATA", "")), [
-            "--inputs names the file DATA, and its help None", "--inputs takes a file, and its help names none"])
+        other = TOP.replace("  help ", "  check  Checks\n  help ")
+        self.assertEqual(found("", "", RUN + "      --new  New\n"), ["--new has no entry"])
+        unnamed = ["--inputs names the file DATA, and its help None", "--inputs takes a file, and its help names none"]
+        self.assertEqual(found("", "", RUN.replace(" DATA", "")), unnamed)
         taken = found(".SH OPTIONS", CHECK, RUN, other, "      --limit <N>\n          The most events: 1 to 9 (default: 3)\n")
         self.assertEqual(taken, ["--limit is for: run; and taken by: check, run"])
