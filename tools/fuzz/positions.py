@@ -6,6 +6,8 @@ import re
 # The signs that separate names in a line, and those that may also follow one.
 PARTING = r" \t\r(),"
 ENDING = PARTING + ":;"
+# A word; a no-break space is part of one.
+WORD = re.compile(r"[^ \t\r]+")
 # The end of a word that is cut.
 CUT = " .."
 # A hidden character, as it is printed.
@@ -40,7 +42,7 @@ def of_name(line: str, reason: str) -> tuple[int, int]:
     places = [found.start() for found in re.finditer(rf"(?<![^{PARTING}]){name}(?![^{ENDING}])", code)]
     if len(places) != 1 or re.search(f"[{PARTING}]", reason.partition(": ")[0].removesuffix(CUT)):
         return 0, 0
-    return len(line[: places[0] + 1].split()), places[0] + 1
+    return len(WORD.findall(line[: places[0] + 1])), places[0] + 1
 
 
 def of_error(lines: list[str], line: str) -> tuple[int, int]:

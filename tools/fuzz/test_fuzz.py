@@ -15,10 +15,9 @@ from unittest import mock
 
 from tools import ROOT
 from tools.cases import files
-from tools.fuzz import main as fuzz
+from tools.fuzz import main as fuzz, make, positions
 from tools.fuzz.kinds import calls, inputs, orders, runs
 from tools.fuzz.kinds.handles import NEWEST, REJECTED, Calls
-from tools.fuzz import make
 from tools.fuzz.oracle.assembler import Error, assembled
 from tools.fuzz.oracle.bounds import COUNTED, bound, bound_lines, budgets, check_lines, has_circle, is_circle
 from tools.fuzz.oracle.code import Fault, Instr, Param, Procedure, Program, decode, disassembled, encode, program_text, quoted, smaller, without
@@ -282,6 +281,9 @@ class RulesTest(unittest.TestCase):
 
 
 class TextsTest(unittest.TestCase):
+    def test_a_no_break_space_is_part_of_a_word(self) -> None:
+        self.assertEqual(positions.of_error(["refused N02 at line 2", "let \xa0", "\xa0: this can't be a name"], "let \xa0"), (2, 5))
+
     def test_other_names_are_others(self) -> None:
         text = "names\nproc control main(out: write int)\nregs total: int\nINT total 7 ; total\nSTORE out total\nRET\n"
         other = renamed(random.Random(1), text)

@@ -9,9 +9,7 @@ from tools.fuzz.oracle.bounds import COUNTED, OVER, bound, bound_lines, budgets,
 from tools.fuzz.oracle.code import Program, encode
 from tools.fuzz.library import Library
 from tools.fuzz.oracle.machine import Event, Layout, Machine, NotEnabled, Trap, actors_of, run_by_seed, run_in_turn
-from tools.fuzz.oracle.report import (
-    circle_fault, event_text, report_lines, split_circle, split_trace, stats_lines, status_of, trace_text,
-)
+from tools.fuzz.oracle.report import circle_fault, event_text, report_lines, split_circle, split_trace, stats_lines, status_of, trace_text
 from tools.fuzz.common import Corpus, RunTest, FuzzTest, answer_part, case_word, difference, without_parts
 
 

@@ -8,9 +8,7 @@ from typing import Callable, Iterator
 
 from tools.fuzz import make, positions
 from tools.fuzz.oracle.assembler import Error, assembled
-from tools.fuzz.oracle.code import (
-    FORMS, Fault, Program, decode, disassembled, encode, head_text, instr_text, labelled_lines, registers_text, smaller, version_lines,
-)
+from tools.fuzz.oracle.code import FORMS, Fault, Program, decode, disassembled, encode, head_text, instr_text, labelled_lines, registers_text, smaller, version_lines
 from tools.fuzz.kinds.handles import NEWEST, Calls
 from tools.fuzz.library import Library
 from tools.fuzz.oracle.names import is_name, new_name, symbolic, wrong
@@ -227,7 +225,7 @@ class DamagedText(FuzzTest):
     @property
     def is_symbolic(self) -> bool:
         """Returns whether the first word says that the text has names."""
-        return next((words[0] for words in (line.split(";")[0].split() for line in self.text.split("\n")) if words), "") == "names"
+        return next((words[0] for words in (positions.WORD.findall(line.split(";")[0]) for line in self.text.split("\n")) if words), "") == "names"
 
     def expected(self) -> str | None:
         """Returns what `asm` writes of a text without names."""
