@@ -7,6 +7,7 @@ case $0 in
 esac
 [ ! -L "$own" ] || own=$(readlink -f "$own")
 program=${own%/*}/../libexec/yuglemit/tw
+[ -x "$program" ] || { echo "tw: ../libexec/yuglemit/tw is missing: copy the whole installation, or that program alone" >&2; exit 70; }
 [ -t 1 ] || [ -t 2 ] || exec "$program" "$@"
 # shellcheck source=script/terminal.sh
 . "${program%/*}/terminal.sh"

@@ -119,11 +119,9 @@ class Installed(Terminal):
         super().setUp()
         self.folder, inside = self.top / "a bin", self.top / "libexec/yuglemit"
         self.folder.mkdir()
-        inside.mkdir(parents=True)
+        subprocess.run(["install", "-D", "/dev/stdin", inside / "tw"], input=FAKE, check=True)
         self.command = Path(shutil.copy(ROOT / "script/install/tw.sh", self.folder / "tw"))
         shutil.copy(ROOT / "script/terminal.sh", inside)
-        (inside / "tw").write_bytes(FAKE)
-        (inside / "tw").chmod(0o755)
 
     def test_elsewhere_it_becomes_the_program(self) -> None:
         process = subprocess.Popen([self.command, "itself", " a  *"], stdin=subprocess.PIPE, stdout=subprocess.PIPE, stderr=subprocess.PIPE)
@@ -144,6 +142,7 @@ class Installed(Terminal):
                 self.assertEqual(self.elsewhere([f"./{called}" if called == name else called, "x"], cwd=self.top), (3, "begun\n"))
         for path in (self.folder, f"{self.top}/links:", ""):
             self.assertEqual(self.elsewhere(["sh", "-c", "tw x"], cwd=self.folder, PATH=f"{path}:{os.environ['PATH']}"), (3, "begun\n"))
+        self.assertEqual(self.elsewhere([shutil.copy(self.command, self.top / "alone")])[0], 70)
 
     def elsewhere(self, words: list[str | Path], cwd: Path | None = None, **variables: str) -> tuple[int, str]:
         """Returns the status and the output of a command that has no terminal."""
