@@ -25,6 +25,7 @@ pub(crate) enum End {
 
 /// Makes one step of an actor, with its kept `Done`. Runs a job that it is issued at once, and keeps the `Done` for its next step. The job
 /// is cut off if the stop signal is raised.
+#[inline(always)]
 fn turn_one<'a, S: StopSignal>(
     alloc: Global,
     pool: &mut Pool<'a>,

@@ -122,6 +122,7 @@ impl<'a> Pool<'a> {
     }
 
     /// Returns the index of the first actor from this one on whose scheduling step in the pool may not be idle. Makes none.
+    #[inline(always)]
     pub fn next_busy(&self, from: usize) -> Option<usize>
         ensures { IsNextBusy self.now from (actor_count self.now.layout) result }
     {

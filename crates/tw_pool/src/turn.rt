@@ -89,6 +89,7 @@ impl<'a> Pool<'a> {
     }
 
     /// Like `turn`, with a result of the job that is issued to the actor, or none. Doesn't compare it with that job.
+    #[inline(always)]
     pub fn turn_owed(&mut self, alloc: Global, actor: Actor, given: Option<Done<'a>>) -> Turn<'a>
         requires actor { is_in self.old.layout actor ≡ true }
         requires owed { IfSome given (λ d. IsOwedBy self.old actor d) }

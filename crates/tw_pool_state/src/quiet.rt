@@ -15,6 +15,7 @@ use tw_store::Store;
 use tw_types::{Ending, Layout};
 
 /// Returns whether a notice waits for one of the first `servers` servers, so that the pool isn't quiet.
+#[inline(never)]
 fn has_notice(store: &Store, servers: u8) -> bool
     requires { servers ≤ length store.now.queues }
     ensures { MatchBool result
@@ -30,6 +31,7 @@ fn has_notice(store: &Store, servers: u8) -> bool
 }
 
 /// Returns whether one of the first `engines` engines has something to ask for or to release, so that the pool isn't quiet.
+#[inline(never)]
 fn has_work(rules: &RuleTable, engines: u8) -> bool
     ensures { MatchBool result
         ((engine : ℕ) × ((is_some (next_ask engine rules.now.rules) ≡ true) ⊎ (is_some (next_release engine rules.now.rules) ≡ true)))
@@ -49,6 +51,7 @@ fn has_work(rules: &RuleTable, engines: u8) -> bool
 impl<'a> Parts<'a> {
     /// Returns whether in the pool no task runs or waits, no notice has to be delivered, and no engine has anything to do with its
     /// rules. Reads only counters, and the first entries of at most four queues and four agendas.
+    #[inline(always)]
     fn is_quiet(&self, layout: Layout) -> bool
         requires parts { (verified : TypedProgram) × (notices : Notices) × AreParts verified layout self.now notices }
         ensures { (verified : TypedProgram) (notices : Notices) → AreParts verified layout self.now notices → result ≡ is_quiet (state_of self.now notices) }
