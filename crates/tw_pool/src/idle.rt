@@ -65,49 +65,47 @@ impl<'a> Pool<'a> {
         }
     }
 
-    /// Returns the index of the first engine of the pool from this index on that may not rest.
-    fn next_engine(&self, from: usize) -> Option<usize>
+    /// Returns the index of the first worker of the pool from this one on that may not rest.
+    #[inline(always)]
+    fn next_worker(&self, from: u8) -> Option<usize>
         requires runs_on { RunsOn self.now }
-        ensures { IsNextBusy self.now from self.now.layout.engines result }
-    {
-        for engine in from..usize::from(self.layout.engines()) {
-            if !self.engine_rests(engine as u8) {
-                return Some(engine);
-            }
-        }
-        None
-    }
-
-    /// Returns the index of the first server of the pool from this index on that may not rest. The engines from there on do.
-    fn next_server(&self, from: usize) -> Option<usize>
-        requires runs_on { RunsOn self.now }
-        requires idle { AreIdle self.now from self.now.layout.engines }
-        ensures { IsNextBusy self.now from (self.now.layout.engines + self.now.layout.servers) result }
-    {
-        let first = usize::from(self.layout.engines());
-        let start = from.saturating_sub(first);
-        for server in start..usize::from(self.layout.servers()) {
-            if !self.server_rests(server as u8) {
-                return Some(first + server);
-            }
-        }
-        None
-    }
-
-    /// Returns the index of the first worker of the pool from this index on that may not rest. The other actors from there on do.
-    fn next_worker(&self, from: usize) -> Option<usize>
-        requires runs_on { RunsOn self.now }
-        requires idle { AreIdle self.now from (self.now.layout.engines + self.now.layout.servers) }
-        ensures { IsNextBusy self.now from (actor_count self.now.layout) result }
+        ensures { IsNextBusy self.now (self.now.layout.engines + self.now.layout.servers + from) (actor_count self.now.layout) result }
     {
         let first = usize::from(self.layout.engines()) + usize::from(self.layout.servers());
-        let start = from.saturating_sub(first);
-        for worker in start..usize::from(self.layout.workers()) {
-            if !self.worker_rests(worker as u8) {
-                return Some(first + worker);
+        for worker in from..self.layout.workers() {
+            if !self.worker_rests(worker) {
+                return Some(first + usize::from(worker));
             }
         }
         None
+    }
+
+    /// Returns the index of the first server of the pool from this one on that may not rest, or else of such a worker.
+    #[inline(always)]
+    fn next_server(&self, from: u8) -> Option<usize>
+        requires runs_on { RunsOn self.now }
+        ensures { IsNextBusy self.now (self.now.layout.engines + from) (actor_count self.now.layout) result }
+    {
+        let first = usize::from(self.layout.engines());
+        for server in from..self.layout.servers() {
+            if !self.server_rests(server) {
+                return Some(first + usize::from(server));
+            }
+        }
+        self.next_worker(0)
+    }
+
+    /// Returns the index of the first engine of the pool from this one on that may not rest, or else of such a server or worker.
+    fn next_engine(&self, from: u8) -> Option<usize>
+        requires runs_on { RunsOn self.now }
+        ensures { IsNextBusy self.now from (actor_count self.now.layout) result }
+    {
+        for engine in from..self.layout.engines() {
+            if !self.engine_rests(engine) {
+                return Some(usize::from(engine));
+            }
+        }
+        self.next_server(0)
     }
 
     /// Returns whether a scheduling step of the pool by this actor would be idle. Makes none.
@@ -137,12 +135,10 @@ impl<'a> Pool<'a> {
         if let Some(_) = self.closing() {
             return Some(from);
         }
-        if let Some(engine) = self.next_engine(from) {
-            return Some(engine);
+        match first {
+            Actor::Engine(engine) => self.next_engine(engine),
+            Actor::Server(server) => self.next_server(server),
+            Actor::Worker(worker) => self.next_worker(worker),
         }
-        if let Some(server) = self.next_server(from) {
-            return Some(server);
-        }
-        self.next_worker(from)
     }
 }
