@@ -3,8 +3,8 @@
 use crate::numbers::Numbers;
 use clap::ArgMatches;
 use tw_order::{
-    Answer, AssembleOrder, Assembling, BoundsOf, CheckOrder, DisassembleOrder, EventOrder, Form,
-    Places, RunAnswer, RunOptions, Source,
+    Answer, AssembleOrder, Assembling, BoundsOf, CheckLines, CheckOrder, DisassembleOrder,
+    EventOrder, Form, Places, RunAnswer, RunOptions, Source,
 };
 
 /// The lines for options that exclude each other.
@@ -102,27 +102,33 @@ fn bounds_given(matches: &ArgMatches<'_>) -> Result<BoundsOf, &'static str> {
     }
 }
 
+/// Returns what a check says after the budgets and the needs.
+fn lines_given(matches: &ArgMatches<'_>) -> Result<CheckLines, &'static str> {
+    Ok(CheckLines {
+        bounds: bounds_given(matches)?,
+        event_order: if matches.get_flag("order") {
+            EventOrder::Checked
+        } else {
+            EventOrder::Ignored
+        },
+    })
+}
+
 /// Returns what a check prints beside the budgets, and what it admits.
 pub(crate) fn check_given(
     matches: &ArgMatches<'_>,
     numbers: &Numbers,
 ) -> Result<CheckOrder, &'static str> {
-    let bounds = bounds_given(matches)?;
+    let lines = lines_given(matches)?;
     let limit = if is_named(matches, "limit") {
         Some(numbers.limit)
     } else {
         None
     };
-    let event_order = if matches.get_flag("order") {
-        EventOrder::Checked
-    } else {
-        EventOrder::Ignored
-    };
     Ok(CheckOrder {
         places: places_given(matches),
-        bounds,
         limit,
-        event_order,
+        lines,
         caps: numbers.caps,
         form: form_given(matches),
     })

@@ -20,17 +20,31 @@ pub enum EventOrder {
     Checked,
 }
 
+/// What a check says after the budgets and the needs.
+#[derive(Clone, Copy, PartialEq, Eq)]
+pub struct CheckLines {
+    /// Whose bounds are printed.
+    pub bounds: BoundsOf,
+    /// Whether a line says if the order of events may show.
+    pub event_order: EventOrder,
+}
+
+impl CheckLines {
+    /// Nothing.
+    pub const NONE: CheckLines = CheckLines {
+        bounds: BoundsOf::NoBounds,
+        event_order: EventOrder::Ignored,
+    };
+}
+
 /// The output of a check in addition to the budgets.
 #[derive(Clone, Copy)]
 pub struct CheckOrder {
     /// Whether the instructions are listed before the budgets.
     pub places: Places,
-    /// Whose bounds are printed after the budgets.
-    pub bounds: BoundsOf,
     /// The most events of a run, if its bounds by this limit are printed too.
     pub limit: Option<EventLimit>,
-    /// Whether the last line says if the order of events may show.
-    pub event_order: EventOrder,
+    pub lines: CheckLines,
     /// The caps above which the program is rejected.
     pub caps: Caps,
     pub form: Form,

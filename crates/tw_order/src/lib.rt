@@ -10,7 +10,7 @@ mod range;
 mod runs;
 
 pub use caps::Caps;
-pub use check::{BoundsOf, CheckOrder, EventOrder};
+pub use check::{BoundsOf, CheckLines, CheckOrder, EventOrder};
 pub use form::{AssembleOrder, Assembling, DisassembleOrder, Form, Places};
 pub use limit::EventLimit;
 pub use order::{Order, Source};

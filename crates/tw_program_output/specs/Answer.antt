@@ -80,5 +80,5 @@ pub record IsAnswer (order : CheckOrder) (program : List Procedure) (answer : Ch
   pub engines : answer.needs.0 ≡ needed Control program
   pub workers : answer.needs.1 ≡ needed Leaf program
   pub searches : answer.searching ≡ searching program
-  pub bounds : MayBeFound order.bounds order.limit program answer.bounds
-  pub insertion : MayBeChecked order.event_order program answer.insertion
+  pub bounds : MayBeFound order.lines.bounds order.limit program answer.bounds
+  pub insertion : MayBeChecked order.lines.event_order program answer.insertion

@@ -1,12 +1,10 @@
 -- Output of `check` about a program. Without options its text is specified; what options add is only tested, as is JSON, which is one line that is read back.
-use Rattle.std.specs.Prelude.{◌≡◌, ℕ, List, [], ◌∷◌, ◌++◌, codes, ◌==◌, if◌then◌else◌, Option, Some, None, option_map, ⊤}
+use Rattle.std.specs.Prelude.{◌≡◌, ℕ, List, [], ◌∷◌, ◌++◌, codes, ◌==◌, if◌then◌else◌, Option, Some, None, option_map}
 use Rattle.std.specs.List.{flat_map}
 use Rattle.tw_code.specs.declared.procedure.Procedure.{Procedure}
-use Rattle.tw_order.specs.declared.check.BoundsOf.{BoundsOf}
-use Rattle.tw_order.specs.declared.check.BoundsOf.TheVariants.{NoBounds, OfMain, OfEach}
+use Rattle.tw_order.specs.declared.check.CheckLines.{CheckLines}
 use Rattle.tw_order.specs.declared.check.CheckOrder.{CheckOrder}
-use Rattle.tw_order.specs.declared.check.EventOrder.{EventOrder}
-use Rattle.tw_order.specs.declared.check.EventOrder.TheVariants.{Ignored, Checked}
+use Rattle.tw_order.specs.declared.check.TheConstants.CheckLines.{NONE}
 use Rattle.tw_order.specs.declared.form.Places.{Places}
 use Rattle.tw_order.specs.declared.form.Places.TheVariants.{Hidden, Shown}
 use Rattle.tw_order.specs.declared.form.Form.{Form}
@@ -53,24 +51,18 @@ abbrev pub listing_text : Option (List ℕ) → List ℕ
 listing_text None = []
 listing_text (Some listing) = listing
 
--- returns the listing, the budgets, the needs and the searches, then these lines about bounds and about the order of events
-abbrev pub check_text : CheckOrder → CheckAnswer → List ℕ → List ℕ → List ℕ
-check_text order answer bounds last =
+-- returns the listing, the budgets, the needs and the searches, then these lines about what is requested
+abbrev pub check_text : CheckOrder → CheckAnswer → List ℕ → List ℕ
+check_text order answer more =
     listing_text (option_map (λ t. t.items) answer.listing) ++ (codes "accepted\n"
-    ++ (procedure_lines (shown_names order.places answer.names) answer.procedures.items ++ (needs_line answer.needs.0 answer.needs.1 ++ (searches_line answer.searching ++ (bounds ++ last)))))
+    ++ (procedure_lines (shown_names order.places answer.names) answer.procedures.items ++ (needs_line answer.needs.0 answer.needs.1 ++ (searches_line answer.searching ++ more))))
 
--- hold for any lines about what is requested
-abbrev pub MayHaveBounds : BoundsOf → List ℕ → Type 0
-MayHaveBounds NoBounds lines = lines ≡ []
-MayHaveBounds OfMain lines = ⊤
-MayHaveBounds OfEach lines = ⊤
-
-abbrev pub MayHaveOrder : EventOrder → List ℕ → Type 0
-MayHaveOrder Ignored lines = lines ≡ []
-MayHaveOrder Checked lines = ⊤
+-- holds for any lines about what is requested
+abbrev pub MayHaveMore : CheckLines → List ℕ → Type 0
+MayHaveMore requested lines = requested ≡ NONE → lines ≡ []
 
 abbrev pub IsCheckText : CheckOrder → CheckAnswer → List ℕ → Type 0
-IsCheckText order answer text = (bounds : List ℕ) × (last : List ℕ) × MayHaveBounds order.bounds bounds × MayHaveOrder order.event_order last × (text ≡ check_text order answer bounds last)
+IsCheckText order answer text = (more : List ℕ) × MayHaveMore order.lines more × (text ≡ check_text order answer more)
 
 -- ---- replies
 

@@ -127,9 +127,9 @@ fn found_bounds(
     order: &CheckOrder,
     verified: &Verified,
 ) -> Result<Option<FoundBounds>, AllocError>
-    ensures { IfOk result (MayBeFound order.now.bounds order.now.limit verified.now.program) }
+    ensures { IfOk result (MayBeFound order.now.lines.bounds order.now.limit verified.now.program) }
 {
-    match order.bounds {
+    match order.lines.bounds {
         BoundsOf::NoBounds => Ok(None),
         BoundsOf::OfMain | BoundsOf::OfEach => all_bounds(alloc, verified, order.limit),
     }
@@ -161,7 +161,7 @@ pub(crate) fn check_answer(
 ) -> Result<CheckAnswer, AllocError>
     ensures { IfOk result (IsAnswer order.now verified.now.program) }
 {
-    let insertion = found_insertion(alloc, order.event_order, verified)?;
+    let insertion = found_insertion(alloc, order.lines.event_order, verified)?;
     let bounds = found_bounds(alloc, order, verified)?;
     let listing = requested_listing(alloc, source, order.places, verified)?;
     let names = symbols_of(alloc, source)?;

@@ -1,12 +1,9 @@
 //! Output of `check --bounds` about a program's runs.
 
-ghost use Rattle.std.specs.Prelude.{IfOk};
-ghost use Rattle.tw_program_output.specs.Check.{MayHaveBounds};
-
 use crate::answer::{CheckAnswer, FoundBounds};
-use crate::place::{place_object, placed_text};
+use crate::place::{place_object, put_placed_text};
 use crate::rows::{Cell, Shown, put_each, put_line, row_object};
-use std::alloc::{AllocError, Global};
+use std::alloc::Global;
 use tw_bounds::{Bound, Circle, LimitedBounds, RunBounds};
 use tw_json_output::ObjectWriter;
 use tw_order::BoundsOf;
@@ -79,17 +76,7 @@ fn put_bound_lines(out: &mut Writer, answer: &CheckAnswer, bounds: &RunBounds) {
 /// Adds why there are no bounds, with the line of the call if there is a text.
 fn put_circle(out: &mut Writer, source: &Option<SourceText<'_>>, circle: Circle) {
     let (head, tail) = ("bound none: procedure ", " leads back to itself\n");
-    match placed_text(
-        out.alloc,
-        source,
-        head,
-        circle.procedure,
-        circle.place,
-        tail,
-    ) {
-        Ok(text) => out.put_bytes(&text),
-        Err(_) => out.fail(),
-    }
+    put_placed_text(out, source, head, circle.procedure, circle.place, tail);
 }
 
 /// Adds main's bounds, or those of each procedure.
@@ -101,38 +88,22 @@ fn put_own_lines(out: &mut Writer, whose: BoundsOf, answer: &CheckAnswer, found:
     }
 }
 
-/// Returns the lines of the bounds that were found.
-fn found_text(
-    alloc: Global,
+/// Adds the lines of the bounds, if they were found.
+pub(crate) fn put_bounds(
+    out: &mut Writer,
     source: &Option<SourceText<'_>>,
     whose: BoundsOf,
     answer: &CheckAnswer,
-) -> Result<Vec<u8>, AllocError> {
-    let mut out = Writer::new(alloc);
-    if let Some(found) = &answer.bounds {
-        put_own_lines(&mut out, whose, answer, found);
-        if let Some(circle) = found.circle {
-            put_circle(&mut out, source, circle);
-        }
-        if let Some(bounds) = found.limited {
-            put_each(&mut out, "limited ", &limit_cells(bounds), "\n");
-        }
+) {
+    let Some(found) = &answer.bounds else {
+        return;
+    };
+    put_own_lines(out, whose, answer, found);
+    if let Some(circle) = found.circle {
+        put_circle(out, source, circle);
     }
-    out.finish()
-}
-
-/// Returns the lines of the bounds, if they are requested.
-pub(crate) fn bounds_text(
-    alloc: Global,
-    source: &Option<SourceText<'_>>,
-    whose: BoundsOf,
-    answer: &CheckAnswer,
-) -> Result<Vec<u8>, AllocError>
-    ensures { IfOk result (λ text. MayHaveBounds whose text.items) }
-{
-    match whose {
-        BoundsOf::NoBounds => Ok(Vec::new(alloc)),
-        BoundsOf::OfMain | BoundsOf::OfEach => found_text(alloc, source, whose, answer),
+    if let Some(bounds) = found.limited {
+        put_each(out, "limited ", &limit_cells(bounds), "\n");
     }
 }
 

@@ -14,9 +14,8 @@ ghost use Rattle.tw_writer.specs.Appended.{IsAppended};
 
 use crate::acceptance::{Admitted, admit};
 use crate::answer::{CheckAnswer, ProcedureRow, check_answer, kind_word};
-use crate::bounds::bounds_text;
 use crate::check_json::check_line;
-use crate::event_order::order_text;
+use crate::requested::requested_lines;
 use crate::rows::{Cell, Shown, put_line};
 use crate::text_listing::refused_listing;
 use std::alloc::{AllocError, Global};
@@ -109,15 +108,14 @@ fn put_searches(out: &mut Writer, searching: usize)
     );
 }
 
-/// Returns the lines of an answer, with these about bounds and about the order of events.
+/// Returns the lines of an answer, with these about what is requested.
 fn answer_text(
     alloc: Global,
     order: &CheckOrder,
     answer: &CheckAnswer,
-    bounds: &[u8],
-    last: &[u8],
+    more: &[u8],
 ) -> Result<Vec<u8>, AllocError>
-    ensures { IfOk result (λ text. text.items ≡ check_text order.now answer.now bounds.now last.now) }
+    ensures { IfOk result (λ text. text.items ≡ check_text order.now answer.now more.now) }
 {
     let mut text = Writer::new(alloc);
     put_listing(&mut text, &answer.listing);
@@ -125,8 +123,7 @@ fn answer_text(
     put_budgets(alloc, &mut text, order.places, answer);
     put_needs(&mut text, answer.needs);
     put_searches(&mut text, answer.searching);
-    text.put_bytes(bounds);
-    text.put_bytes(last);
+    text.put_bytes(more);
     text.finish()
 }
 
@@ -139,9 +136,8 @@ fn check_text(
 ) -> Result<Vec<u8>, AllocError>
     ensures { IfOk result (λ text. IsCheckText order.now answer.now text.items) }
 {
-    let bounds = bounds_text(alloc, source, order.bounds, answer)?;
-    let last = order_text(alloc, source, order.event_order, answer.insertion)?;
-    answer_text(alloc, order, answer, &bounds, &last)
+    let more = requested_lines(alloc, source, order.lines, answer)?;
+    answer_text(alloc, order, answer, &more)
 }
 
 /// Returns an answer about an accepted program in the requested form.

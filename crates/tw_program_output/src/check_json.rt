@@ -4,9 +4,9 @@ ghost use Rattle.std.specs.Prelude.{IfOk};
 ghost use Rattle.tw_json_output.specs.Lines.{IsJsonLine};
 
 use crate::answer::{CheckAnswer, ProcedureRow};
-use crate::bounds::{bounds_object, put_found};
+use crate::bounds::bounds_object;
 use crate::check::{needs_cells, procedure_cells};
-use crate::event_order::put_order;
+use crate::requested::put_requested;
 use crate::rows::row_object;
 use std::alloc::{AllocError, Global};
 use tw_json_output::{ArrayWriter, ObjectWriter};
@@ -44,17 +44,6 @@ fn put_searches(object: &mut ObjectWriter, searching: usize) {
     }
 }
 
-/// Adds what is requested: the listing, the bounds and the order.
-fn put_requested(alloc: Global, object: &mut ObjectWriter, answer: &CheckAnswer) {
-    if let Some(text) = &answer.listing {
-        object.put_lines("listing", text);
-    }
-    if let Some(found) = &answer.bounds {
-        put_found(alloc, object, found);
-    }
-    put_order(alloc, object, answer.insertion);
-}
-
 /// Returns the JSON line of the check of an accepted program, with inputs that fit it.
 pub(crate) fn check_line(
     alloc: Global,
@@ -67,7 +56,10 @@ pub(crate) fn check_line(
     let inputs = example_lines(alloc, verified.signature())?;
     let mut object = ObjectWriter::new(alloc);
     object.put_word("status", "accepted");
-    object.put_array("procedures", procedure_array(alloc, order.bounds, answer));
+    object.put_array(
+        "procedures",
+        procedure_array(alloc, order.lines.bounds, answer),
+    );
     object.put_lines("inputs", &inputs);
     object.put_object("needs", row_object(alloc, &needs_cells(answer.needs)));
     put_searches(&mut object, answer.searching);

@@ -5,19 +5,21 @@ ghost use Rattle.serde_json.specs.View.{view};
 ghost use Rattle.tw_code.specs.declared.instr.Instr.{Instr};
 ghost use Rattle.tw_code.specs.declared.procedure.Procedure.{Procedure};
 ghost use Rattle.tw_copies.specs.Copies.{IsAt};
-ghost use Rattle.tw_program_output.specs.Check.{MayHaveOrder};
 ghost use Rattle.tw_program_output.specs.EventOrder.{insertion_line, order_json};
 ghost use Rattle.tw_program_output.specs.Place.{IsPlaced};
 ghost use Rattle.tw_source.specs.Source.{MayBeSource, text_of};
 ghost use Rattle.tw_source.specs.Text.{IsPlaceText};
 
-use crate::place::{place_object, placed_text};
+use crate::place::{place_object, placed_text, put_placed_text};
 use serde_json::{Value as Json, json};
 use std::alloc::{AllocError, Global};
 use tw_copies::CopyInsertion;
 use tw_json_output::ObjectWriter;
-use tw_order::EventOrder;
 use tw_source::SourceText;
+use tw_writer::Writer;
+
+/// The words before the place of an insertion that may show the order.
+const MAY_SHOW: &str = "order may show in procedure ";
 
 /// Returns the line of an insertion that may show the order, and the insertion's line of the text if there is a text.
 fn insertion_text(
@@ -28,14 +30,7 @@ fn insertion_text(
     ensures { (program : List Procedure) → MayBeSource source.now program → (i : Instr) → IsAt program at.procedure at.place i
         → IfOk result (λ text. IsPlaced (text_of source.now) (insertion_line at) at.procedure at.place text.items) }
 {
-    placed_text(
-        alloc,
-        source,
-        "order may show in procedure ",
-        at.procedure,
-        at.place,
-        "\n",
-    )
+    placed_text(alloc, source, MAY_SHOW, at.procedure, at.place, "\n")
 }
 
 /// Adds that line, and the insertion's line of the text if there is a text.
@@ -52,30 +47,16 @@ pub fn put_insertion(
     out.extend_from_slice(&text)
 }
 
-/// Returns the line about the order of events, by the first insertion that may show it.
-fn found_text(
-    alloc: Global,
+/// Adds the line about the order of events, if there is an answer.
+pub(crate) fn put_order_line(
+    out: &mut Writer,
     source: &Option<SourceText<'_>>,
-    found: Option<CopyInsertion>,
-) -> Result<Vec<u8>, AllocError> {
-    match found {
-        Some(insertion) => insertion_text(alloc, source, insertion),
-        None => "order same\n".as_bytes().to_vec(alloc),
-    }
-}
-
-/// Returns the line about the order of events, if that is requested.
-pub(crate) fn order_text(
-    alloc: Global,
-    source: &Option<SourceText<'_>>,
-    requested: EventOrder,
     answer: Option<Option<CopyInsertion>>,
-) -> Result<Vec<u8>, AllocError>
-    ensures { IfOk result (λ text. MayHaveOrder requested text.items) }
-{
-    match requested {
-        EventOrder::Ignored => Ok(Vec::new(alloc)),
-        EventOrder::Checked => found_text(alloc, source, answer.unwrap_or(None)),
+) {
+    match answer {
+        Some(Some(at)) => put_placed_text(out, source, MAY_SHOW, at.procedure, at.place, "\n"),
+        Some(None) => out.put("order same\n"),
+        None => {}
     }
 }
 

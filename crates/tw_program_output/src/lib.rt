@@ -12,6 +12,7 @@ mod error_json;
 mod event_order;
 mod listing;
 mod place;
+mod requested;
 mod rows;
 mod text_listing;
 

@@ -43,6 +43,21 @@ pub(crate) fn placed_text(
     text.finish()
 }
 
+/// Adds such a line, and the place's line of the text if there is a text.
+pub(crate) fn put_placed_text(
+    out: &mut Writer,
+    source: &Option<SourceText<'_>>,
+    head: &str,
+    procedure: usize,
+    place: usize,
+    tail: &str,
+) {
+    match placed_text(out.alloc, source, head, procedure, place, tail) {
+        Ok(text) => out.put_bytes(&text),
+        Err(_) => out.fail(),
+    }
+}
+
 /// Returns the object of a place.
 pub(crate) fn place_object(alloc: Global, procedure: usize, place: usize) -> ObjectWriter {
     row_object(
