@@ -79,11 +79,9 @@ IsRunOrder held old new code = MatchOption (finished_in held) (Fails no_report o
 
 -- returns how a run ended by itself, if it did
 abbrev pub own_end : Option Closing → Option Ending
-own_end None = None
 own_end (Some Quiet) = Some ending.Quiet
 own_end (Some (Stuck rules)) = Some (ending.Stuck rules)
-own_end (Some Stopped) = None
-own_end (Some Limit) = None
+own_end closing = None
 
 -- the facts about a finished run
 pub record IsOfRun (program : List Procedure) (inputs : List Input) (layout : ActorCounts) (left : StoppableResult) : Type 0 where

@@ -10,7 +10,7 @@ use Rattle.tw_handles.specs.declared.container.Container.TheVariants.{Ints, Text
 use Rattle.tw_handles.specs.declared.container.NewMember.{NewMember}
 use Rattle.tw_handles.specs.declared.container.NewMember.TheVariants as member
 use Rattle.tw_handles.specs.declared.held.Held.{Held}
-use Rattle.tw_handles.specs.declared.held.Held.TheVariants.{Program, Inputs, Container, Report, Stop, Text}
+use Rattle.tw_handles.specs.declared.held.Held.TheVariants.{Container}
 
 -- the input that it is to be
 abbrev pub input_of : container.Container → Input
@@ -27,63 +27,30 @@ empty_by by scalar =
 
 -- the container of a handle, as an input
 abbrev pub container_in : Option Held → Option Input
-container_in None = None
-container_in (Some (Program verified)) = None
-container_in (Some (Inputs inputs)) = None
 container_in (Some (Container members)) = Some (input_of members)
-container_in (Some (Report left)) = None
-container_in (Some (Stop flag)) = None
-container_in (Some (Text text)) = None
+container_in held = None
 
 -- the handle holds this container, or an allocation failed
 abbrev pub IsBegun : Input → Option Held → Option Held → ℕ → Type 0
 IsBegun given old new code = ((container_in new ≡ Some given) × (code ≡ done)) ⊎ Fails no_memory old new code
 
--- a member at the end of a container of its types
-abbrev pub with_int : Input → ℤ → ℤ → Option Input
-with_int (input.Int n) subscript number = None
-with_int (input.Text text) subscript number = None
-with_int (input.Ints members) subscript number = Some (input.Ints (members ++ (subscript, number) ∷ []))
-with_int (input.Texts members) subscript number = None
-with_int (input.IntsByText members) subscript number = None
-with_int (input.TextsByText members) subscript number = None
+-- the container with a member at its end, if that has its types
+abbrev pub with_member : NewMember → Input → Option Input
+with_member (member.Int subscript number) (input.Ints members) = Some (input.Ints (members ++ (subscript, number) ∷ []))
+with_member (member.Text subscript value) (input.Texts members) = Some (input.Texts (members ++ (subscript, value) ∷ []))
+with_member (member.IntByText subscript number) (input.IntsByText members) = Some (input.IntsByText (members ++ (subscript, number) ∷ []))
+with_member (member.TextByText subscript value) (input.TextsByText members) = Some (input.TextsByText (members ++ (subscript, value) ∷ []))
+with_member added given = None
 
-abbrev pub with_text : Input → ℤ → List ℕ → Option Input
-with_text (input.Int n) subscript value = None
-with_text (input.Text text) subscript value = None
-with_text (input.Ints members) subscript value = None
-with_text (input.Texts members) subscript value = Some (input.Texts (members ++ (subscript, value) ∷ []))
-with_text (input.IntsByText members) subscript value = None
-with_text (input.TextsByText members) subscript value = None
-
-abbrev pub with_int_by_text : Input → List ℕ → ℤ → Option Input
-with_int_by_text (input.Int n) subscript number = None
-with_int_by_text (input.Text text) subscript number = None
-with_int_by_text (input.Ints members) subscript number = None
-with_int_by_text (input.Texts members) subscript number = None
-with_int_by_text (input.IntsByText members) subscript number = Some (input.IntsByText (members ++ (subscript, number) ∷ []))
-with_int_by_text (input.TextsByText members) subscript number = None
-
-abbrev pub with_text_by_text : Input → List ℕ → List ℕ → Option Input
-with_text_by_text (input.Int n) subscript value = None
-with_text_by_text (input.Text text) subscript value = None
-with_text_by_text (input.Ints members) subscript value = None
-with_text_by_text (input.Texts members) subscript value = None
-with_text_by_text (input.IntsByText members) subscript value = None
-with_text_by_text (input.TextsByText members) subscript value = Some (input.TextsByText (members ++ (subscript, value) ∷ []))
+-- an item at the end of a list, or the list as it was
+abbrev pub IsPut : {T : Type 0} → T → List T → List T → ℕ → Type 0
+IsPut item old new code = ((new ≡ old ++ item ∷ []) × (code ≡ done)) ⊎ ((new ≡ old) × (code ≡ no_memory))
 
 -- the container with a member more, if its types are these; an allocation that fails leaves its members
 abbrev pub IsLonger : (Input → Option Input) → Option Input → Option Input → ℕ → Type 0
 IsLonger with_member None new code = (new ≡ None) × (code ≡ no_container)
 IsLonger with_member (Some before) new code =
     MatchOption (with_member before) ((new ≡ Some before) × (code ≡ no_container)) (λ after. ((new ≡ Some after) × (code ≡ done)) ⊎ ((new ≡ Some before) × (code ≡ no_memory)))
-
--- the member at the end of a container of its types
-abbrev pub with_member : NewMember → Input → Option Input
-with_member (member.Int subscript number) given = with_int given subscript number
-with_member (member.Text subscript value) given = with_text given subscript value
-with_member (member.IntByText subscript number) given = with_int_by_text given subscript number
-with_member (member.TextByText subscript value) given = with_text_by_text given subscript value
 
 abbrev pub IsMemberAdded : NewMember → Option Held → Option Held → ℕ → Type 0
 IsMemberAdded added old new code = IsLonger (with_member added) (container_in old) (container_in new) code
@@ -99,12 +66,11 @@ WithText bytes Then old new code = (IsUtf8 bytes × (Then ⊎ Fails no_memory ol
 
 -- the types stay, without members
 abbrev pub emptied : Input → Input
-emptied (input.Int n) = input.Int n
-emptied (input.Text text) = input.Text text
 emptied (input.Ints members) = input.Ints []
 emptied (input.Texts members) = input.Texts []
 emptied (input.IntsByText members) = input.IntsByText []
 emptied (input.TextsByText members) = input.TextsByText []
+emptied given = given
 
 -- the container's members are an input more, and the container is empty; or an allocation failed, and inputs and members are as they were
 abbrev pub AreMovedAfter : Input → List Input → Option Held → Option Input → ℕ → Type 0

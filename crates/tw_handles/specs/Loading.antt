@@ -13,37 +13,23 @@ use Rattle.tw_handles.specs.Codes.{loading_code, no_options}
 use Rattle.tw_handles.specs.Numbers.{filled}
 use Rattle.tw_handles.specs.declared.finished.Finished.{Finished}
 use Rattle.tw_handles.specs.declared.held.Held.{Held}
-use Rattle.tw_handles.specs.declared.held.Held.TheVariants.{Program, Inputs, Container, Report, Stop, Text}
+use Rattle.tw_handles.specs.declared.held.Held.TheVariants.{Inputs, Program, Report}
 
 -- returns the loaded program of a handle
 abbrev pub program_in : Option Held → Option TypedProgram
-program_in None = None
 program_in (Some (Program verified)) = Some (arc_value verified)
-program_in (Some (Inputs inputs)) = None
-program_in (Some (Container container)) = None
-program_in (Some (Report left)) = None
-program_in (Some (Stop flag)) = None
-program_in (Some (Text text)) = None
+program_in held = None
 
 -- returns the inputs of a handle; a null handle has no inputs
 abbrev pub inputs_in : Option Held → Option (List Input)
 inputs_in None = Some []
-inputs_in (Some (Program verified)) = None
 inputs_in (Some (Inputs inputs)) = Some inputs.items
-inputs_in (Some (Container container)) = None
-inputs_in (Some (Report left)) = None
-inputs_in (Some (Stop flag)) = None
-inputs_in (Some (Text text)) = None
+inputs_in held = None
 
 -- returns the result of a run, with its certificate, from a report's handle
 abbrev pub finished_in : Option Held → Option Finished
-finished_in None = None
-finished_in (Some (Program verified)) = None
-finished_in (Some (Inputs inputs)) = None
-finished_in (Some (Container container)) = None
 finished_in (Some (Report run)) = Some run
-finished_in (Some (Stop flag)) = None
-finished_in (Some (Text text)) = None
+finished_in held = None
 
 -- the handle holds the program, or an allocation failed
 abbrev pub IsKept : TypedProgram → SourceVerdict → Option Held → Option Held → SourceVerdict → Type 0

@@ -5,7 +5,7 @@ use Rattle.tw_flags.specs.Flags.{IsSet, IsShared, values_of}
 use Rattle.tw_handles.specs.Asking.{Fails}
 use Rattle.tw_handles.specs.Codes.{done, no_memory, no_stop}
 use Rattle.tw_handles.specs.declared.held.Held.{Held}
-use Rattle.tw_handles.specs.declared.held.Held.TheVariants.{Program, Inputs, Container, Report, Stop, Text}
+use Rattle.tw_handles.specs.declared.held.Held.TheVariants.{Stop}
 
 -- the handle holds this flag, or an allocation failed
 abbrev pub IsFlagPut : StopFlag → Option Held → Option Held → ℕ → Type 0
@@ -17,13 +17,8 @@ IsStopMade old new code = ((flag : StopFlag) × (values_of flag ≡ []) × (new 
 
 -- returns the flag of a handle; a null one has none
 abbrev pub flag_in : Option Held → Option StopFlag
-flag_in None = None
-flag_in (Some (Program verified)) = None
-flag_in (Some (Inputs inputs)) = None
-flag_in (Some (Container container)) = None
-flag_in (Some (Report left)) = None
 flag_in (Some (Stop flag)) = Some flag
-flag_in (Some (Text text)) = None
+flag_in held = None
 
 -- the handle holds the same flag, or an allocation failed
 abbrev pub IsFlagShared : StopFlag → Option Held → Option Held → ℕ → Type 0

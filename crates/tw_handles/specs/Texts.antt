@@ -11,17 +11,12 @@ use Rattle.tw_handles.specs.Codes.{done, no_end, no_memory, no_report, no_string
 use Rattle.tw_handles.specs.Loading.{finished_in}
 use Rattle.tw_handles.specs.Reading.{IsFilled, final_of, history_of}
 use Rattle.tw_handles.specs.declared.held.Held.{Held}
-use Rattle.tw_handles.specs.declared.held.Held.TheVariants.{Program, Inputs, Container, Report, Stop, Text}
+use Rattle.tw_handles.specs.declared.held.Held.TheVariants.{Text}
 
 -- returns the text of a handle
 abbrev pub text_in : Option Held → Option (List ℕ)
-text_in None = None
-text_in (Some (Program verified)) = None
-text_in (Some (Inputs inputs)) = None
-text_in (Some (Container container)) = None
-text_in (Some (Report left)) = None
-text_in (Some (Stop flag)) = None
 text_in (Some (Text text)) = Some text.items
+text_in held = None
 
 -- holds if the handle holds the text, or an allocation failed
 abbrev pub IsTextKept : List ℕ → Option Held → Option Held → ℕ → Type 0

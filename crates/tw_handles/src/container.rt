@@ -1,7 +1,7 @@
 //! A container that is to be an input.
 
 ghost use Rattle.std.specs.Prelude.{◌≡◌, Some};
-ghost use Rattle.tw_handles.specs.Containers.{IsLonger, empty_by, emptied, input_of, with_int, with_int_by_text, with_member, with_text, with_text_by_text};
+ghost use Rattle.tw_handles.specs.Containers.{IsLonger, IsPut, empty_by, emptied, input_of, with_member};
 
 use crate::codes;
 use std::alloc::Global;
@@ -67,71 +67,30 @@ impl Container {
     pub(crate) fn push(&mut self, member: NewMember) -> u8
         ensures { IsLonger (with_member member) (Some (input_of self.old)) (Some (input_of self.new)) result }
     {
-        match member {
-            NewMember::Int(subscript, number) => push_int(self, subscript, number),
-            NewMember::Text(subscript, text) => push_text(self, subscript, text),
-            NewMember::IntByText(subscript, number) => push_int_by_text(self, subscript, number),
-            NewMember::TextByText(subscript, text) => push_text_by_text(self, subscript, text),
+        match (self, member) {
+            (Container::Ints(members), NewMember::Int(subscript, number)) => {
+                put(members, (subscript, number))
+            }
+            (Container::Texts(members), NewMember::Text(subscript, text)) => {
+                put(members, (subscript, text))
+            }
+            (Container::IntsByText(members), NewMember::IntByText(subscript, number)) => {
+                put(members, (subscript, number))
+            }
+            (Container::TextsByText(members), NewMember::TextByText(subscript, text)) => {
+                put(members, (subscript, text))
+            }
+            _ => codes::NO_CONTAINER,
         }
     }
 }
 
-/// Adds an integer by an integer.
-fn push_int(container: &mut Container, subscript: i64, number: i64) -> u8
-    ensures { IsLonger (λ given. with_int given subscript number) (Some (input_of container.old)) (Some (input_of container.new)) result }
+/// Adds an item at the end of a list.
+fn put<T: Drop>(list: &mut Vec<T>, item: T) -> u8
+    ensures { IsPut item list.old.items list.new.items result }
 {
-    match container {
-        Container::Ints(members) => match members.push((subscript, number)) {
-            Ok(()) => codes::DONE,
-            Err(_) => codes::NO_MEMORY,
-        },
-        Container::Texts(_) | Container::IntsByText(_) | Container::TextsByText(_) => {
-            codes::NO_CONTAINER
-        }
-    }
-}
-
-/// Adds a text by an integer.
-fn push_text(container: &mut Container, subscript: i64, text: InputText) -> u8
-    ensures { IsLonger (λ given. with_text given subscript text) (Some (input_of container.old)) (Some (input_of container.new)) result }
-{
-    match container {
-        Container::Texts(members) => match members.push((subscript, text)) {
-            Ok(()) => codes::DONE,
-            Err(_) => codes::NO_MEMORY,
-        },
-        Container::Ints(_) | Container::IntsByText(_) | Container::TextsByText(_) => {
-            codes::NO_CONTAINER
-        }
-    }
-}
-
-/// Adds an integer by a text.
-fn push_int_by_text(container: &mut Container, subscript: InputText, number: i64) -> u8
-    ensures { IsLonger (λ given. with_int_by_text given subscript number) (Some (input_of container.old)) (Some (input_of container.new)) result }
-{
-    match container {
-        Container::IntsByText(members) => match members.push((subscript, number)) {
-            Ok(()) => codes::DONE,
-            Err(_) => codes::NO_MEMORY,
-        },
-        Container::Ints(_) | Container::Texts(_) | Container::TextsByText(_) => {
-            codes::NO_CONTAINER
-        }
-    }
-}
-
-/// Adds a text by a text.
-fn push_text_by_text(container: &mut Container, subscript: InputText, text: InputText) -> u8
-    ensures { IsLonger (λ given. with_text_by_text given subscript text) (Some (input_of container.old)) (Some (input_of container.new)) result }
-{
-    match container {
-        Container::TextsByText(members) => match members.push((subscript, text)) {
-            Ok(()) => codes::DONE,
-            Err(_) => codes::NO_MEMORY,
-        },
-        Container::Ints(_) | Container::Texts(_) | Container::IntsByText(_) => {
-            codes::NO_CONTAINER
-        }
+    match list.push(item) {
+        Ok(()) => codes::DONE,
+        Err(_) => codes::NO_MEMORY,
     }
 }
