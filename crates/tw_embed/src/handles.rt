@@ -1,13 +1,14 @@
 //! Exports the calls of `tw_handles` that load programs, describe them, and make inputs.
 
-ghost use Rattle.std.specs.Prelude.{◌≡◌};
-ghost use Rattle.tw_handles.specs.Asking.{IsBudgetOf, IsCountOf, IsShared};
-ghost use Rattle.tw_handles.specs.Caps.{AreBounds};
+ghost use Rattle.std.specs.Prelude.{◌≡◌, length};
+ghost use Rattle.tw_handles.specs.Asking.{IsBudgetIn, IsShare, WithProgram, Writes};
+ghost use Rattle.tw_handles.specs.Caps.{AreBoundsIn};
 ghost use Rattle.tw_handles.specs.Containers.{IsBegun, IsContainerAdded, IsMemberAdded, WithText, container_in, empty_by};
-ghost use Rattle.tw_handles.specs.EventOrder.{IsOrder};
+ghost use Rattle.tw_handles.specs.EventOrder.{IsOrderFound};
 ghost use Rattle.tw_handles.specs.Loading.{IsLoading, IsVerified};
+ghost use Rattle.tw_handles.specs.Numbers.{Fills};
 ghost use Rattle.tw_handles.specs.Running.{IsAdded};
-ghost use Rattle.tw_handles.specs.Shape.{AreNeeds, IsNameRead, IsParameter, IsSection};
+ghost use Rattle.tw_handles.specs.Shape.{IsNameRead, IsParameterIn, IsSectionIn, needs_of};
 ghost use Rattle.tw_handles.specs.Texts.{MayBeTold};
 ghost use Rattle.tw_handles.specs.declared.container.NewMember.TheVariants as member;
 ghost use Rattle.tw_verdict.specs.Format.{format_of};
@@ -64,7 +65,7 @@ pub extern "C" fn yuglemit_raw_program_share(
     other: &mut Handle,
 ) -> u8
     ensures kept { program.new.held ≡ program.old.held }
-    ensures is { IsShared program.old.held other.old.held other.new.held result }
+    ensures is { WithProgram IsShare program.old.held other.old.held other.new.held result }
 {
     reading!(alloc, program, shared_of, shared => tw_handles::share(alloc, shared, other))
 }
@@ -77,7 +78,7 @@ pub extern "C" fn yuglemit_raw_program_procedures(
     count: &mut usize,
 ) -> u8
     ensures kept { program.new.held ≡ program.old.held }
-    ensures is { IsCountOf program.old.held count.old count.new result }
+    ensures is { WithProgram (λ verified. Writes (length verified.program)) program.old.held count.old count.new result }
 {
     reading!(alloc, program, program_of, verified => tw_handles::procedures(verified, count))
 }
@@ -91,7 +92,7 @@ pub extern "C" fn yuglemit_raw_program_budget(
     budget: &mut u64,
 ) -> u8
     ensures kept { program.new.held ≡ program.old.held }
-    ensures is { IsBudgetOf program.old.held procedure budget.old budget.new result }
+    ensures is { WithProgram (λ verified. IsBudgetIn verified procedure) program.old.held budget.old budget.new result }
 {
     reading!(alloc, program, program_of, verified => tw_handles::budget(verified, procedure, budget))
 }
@@ -105,7 +106,7 @@ pub extern "C" fn yuglemit_raw_program_bounds(
     numbers: &mut [u64],
 ) -> u8
     ensures kept { program.new.held ≡ program.old.held }
-    ensures is { AreBounds program.old.held limit numbers.old numbers.new result }
+    ensures is { WithProgram (λ verified. AreBoundsIn verified limit) program.old.held numbers.old numbers.new result }
 {
     reading!(alloc, program, program_of, verified => tw_handles::program_bounds(alloc, verified, limit, numbers))
 }
@@ -118,7 +119,7 @@ pub extern "C" fn yuglemit_raw_program_order(
     numbers: &mut [u64],
 ) -> u8
     ensures kept { program.new.held ≡ program.old.held }
-    ensures is { IsOrder program.old.held numbers.old numbers.new result }
+    ensures is { WithProgram IsOrderFound program.old.held numbers.old numbers.new result }
 {
     reading!(alloc, program, program_of, verified => tw_handles::program_order(alloc, verified, numbers))
 }
@@ -132,7 +133,7 @@ pub extern "C" fn yuglemit_raw_program_procedure(
     numbers: &mut [u64],
 ) -> u8
     ensures kept { program.new.held ≡ program.old.held }
-    ensures is { IsSection program.old.held procedure numbers.old numbers.new result }
+    ensures is { WithProgram (λ verified. IsSectionIn verified procedure) program.old.held numbers.old numbers.new result }
 {
     reading!(alloc, program, program_of, verified => tw_handles::describe_procedure(verified, procedure, numbers))
 }
@@ -147,7 +148,7 @@ pub extern "C" fn yuglemit_raw_program_parameter(
     numbers: &mut [u64],
 ) -> u8
     ensures kept { program.new.held ≡ program.old.held }
-    ensures is { IsParameter program.old.held procedure index numbers.old numbers.new result }
+    ensures is { WithProgram (λ verified. IsParameterIn verified procedure index) program.old.held numbers.old numbers.new result }
 {
     reading!(alloc, program, program_of, verified => tw_handles::describe_parameter(verified, procedure, index, numbers))
 }
@@ -160,7 +161,7 @@ pub extern "C" fn yuglemit_raw_program_needs(
     numbers: &mut [u64],
 ) -> u8
     ensures kept { program.new.held ≡ program.old.held }
-    ensures is { AreNeeds program.old.held numbers.old numbers.new result }
+    ensures is { WithProgram (λ verified. Fills (needs_of verified)) program.old.held numbers.old numbers.new result }
 {
     reading!(alloc, program, program_of, verified => tw_handles::read_needs(verified, numbers))
 }

@@ -1,13 +1,15 @@
 //! Exports the calls of `tw_handles` that read reports.
 
 ghost use Rattle.std.specs.Prelude.{◌≡◌};
-ghost use Rattle.tw_handles.specs.Certificates.{IsRunOrder};
+ghost use Rattle.tw_handles.specs.Asking.{Writes};
+ghost use Rattle.tw_handles.specs.Certificates.{IsNumbered};
 ghost use Rattle.tw_handles.specs.Finding.{IsPlace, IsTextPlace};
-ghost use Rattle.tw_handles.specs.Many.{AreMembers};
-ghost use Rattle.tw_handles.specs.Members.{IsMember, IsMemberText, IsSubscriptText};
-ghost use Rattle.tw_handles.specs.Meter.{IsMetered};
-ghost use Rattle.tw_handles.specs.Reading.{IsEnding, IsOutput, IsOutputText};
-ghost use Rattle.tw_handles.specs.Texts.{IsInstructionCount, IsJsonPrinted, IsReportPrinted, IsTextCopied, IsTextLength, IsTracePrinted};
+ghost use Rattle.tw_handles.specs.Many.{AreReadIn};
+ghost use Rattle.tw_handles.specs.Members.{IsMemberIn, IsMemberTextIn, IsSubscriptTextIn};
+ghost use Rattle.tw_handles.specs.Meter.{meter_of};
+ghost use Rattle.tw_handles.specs.Numbers.{Fills};
+ghost use Rattle.tw_handles.specs.Reading.{IsOutputIn, IsOutputTextIn, WithOutputs, WithReport, ending_of};
+ghost use Rattle.tw_handles.specs.Texts.{IsJsonIn, IsReportOf, IsTextCopied, IsTextLength, IsTextMade, IsTrace, executed};
 ghost use Rattle.tw_types.specs.declared.value.Value.TheVariants as value;
 
 use std::alloc::Global;
@@ -22,7 +24,7 @@ pub extern "C" fn yuglemit_raw_report_ending(
     numbers: &mut [u64],
 ) -> u8
     ensures kept { report.new.held ≡ report.old.held }
-    ensures is { IsEnding report.old.held numbers.old numbers.new result }
+    ensures is { WithReport (λ run. Fills (ending_of run.left)) report.old.held numbers.old numbers.new result }
 {
     reading!(alloc, report, report_of, run => tw_handles::report_ending(&run.left, numbers))
 }
@@ -36,7 +38,7 @@ pub extern "C" fn yuglemit_raw_report_output(
     item: &mut Item,
 ) -> u8
     ensures kept { report.new.held ≡ report.old.held }
-    ensures is { IsOutput report.old.held index item.old item.new result }
+    ensures is { WithOutputs (λ final. IsOutputIn final index) report.old.held item.old item.new result }
 {
     reading!(alloc, report, outputs_of, outcome => tw_handles::output(outcome, index, item))
 }
@@ -50,7 +52,7 @@ pub extern "C" fn yuglemit_raw_report_text(
     room: &mut [u8],
 ) -> u8
     ensures kept { report.new.held ≡ report.old.held }
-    ensures is { IsOutputText report.old.held index room.old room.new result }
+    ensures is { WithOutputs (λ final. IsOutputTextIn final index) report.old.held room.old room.new result }
 {
     reading!(alloc, report, outputs_of, outcome => tw_handles::output_text(outcome, index, room))
 }
@@ -65,7 +67,7 @@ pub extern "C" fn yuglemit_raw_report_member(
     member: &mut Member,
 ) -> u8
     ensures kept { report.new.held ≡ report.old.held }
-    ensures is { IsMember report.old.held index place member.old member.new result }
+    ensures is { WithOutputs (λ final. IsMemberIn final index place) report.old.held member.old member.new result }
 {
     reading!(alloc, report, outputs_of, outcome => tw_handles::output_member(outcome, index, place, member))
 }
@@ -80,7 +82,7 @@ pub extern "C" fn yuglemit_raw_report_members(
     members: &mut [Member],
 ) -> u8
     ensures kept { report.new.held ≡ report.old.held }
-    ensures is { AreMembers report.old.held index first members.old members.new result }
+    ensures is { WithOutputs (λ final. AreReadIn final index first) report.old.held members.old members.new result }
 {
     reading!(alloc, report, outputs_of, outcome => tw_handles::output_members(outcome, index, first, members))
 }
@@ -95,7 +97,7 @@ pub extern "C" fn yuglemit_raw_report_member_text(
     room: &mut [u8],
 ) -> u8
     ensures kept { report.new.held ≡ report.old.held }
-    ensures is { IsMemberText report.old.held index place room.old room.new result }
+    ensures is { WithOutputs (λ final. IsMemberTextIn final index place) report.old.held room.old room.new result }
 {
     reading!(alloc, report, outputs_of, outcome => tw_handles::member_text(outcome, index, place, room))
 }
@@ -110,7 +112,7 @@ pub extern "C" fn yuglemit_raw_report_subscript_text(
     room: &mut [u8],
 ) -> u8
     ensures kept { report.new.held ≡ report.old.held }
-    ensures is { IsSubscriptText report.old.held index place room.old room.new result }
+    ensures is { WithOutputs (λ final. IsSubscriptTextIn final index place) report.old.held room.old room.new result }
 {
     reading!(alloc, report, outputs_of, outcome => tw_handles::subscript_text(outcome, index, place, room))
 }
@@ -160,7 +162,7 @@ pub extern "C" fn yuglemit_raw_report_meter(
     numbers: &mut [u64],
 ) -> u8
     ensures kept { report.new.held ≡ report.old.held }
-    ensures is { IsMetered report.old.held numbers.old numbers.new result }
+    ensures is { WithReport (λ run. Fills (meter_of run.left)) report.old.held numbers.old numbers.new result }
 {
     reading!(alloc, report, report_of, run => tw_handles::report_meter(&run.left, numbers))
 }
@@ -173,7 +175,7 @@ pub extern "C" fn yuglemit_raw_report_order(
     numbers: &mut [u64],
 ) -> u8
     ensures kept { report.new.held ≡ report.old.held }
-    ensures is { IsRunOrder report.old.held numbers.old numbers.new result }
+    ensures is { WithReport (λ run. IsNumbered run.certificate) report.old.held numbers.old numbers.new result }
 {
     reading!(alloc, report, report_of, run => tw_handles::report_order(run.certificate, numbers))
 }
@@ -186,7 +188,7 @@ pub extern "C" fn yuglemit_raw_report_instructions(
     count: &mut u64,
 ) -> u8
     ensures kept { report.new.held ≡ report.old.held }
-    ensures is { IsInstructionCount report.old.held count.old count.new result }
+    ensures is { WithReport (λ run. Writes (executed run.left)) report.old.held count.old count.new result }
 {
     reading!(alloc, report, report_of, run => tw_handles::instructions(&run.left, count))
 }
@@ -199,7 +201,7 @@ pub extern "C" fn yuglemit_raw_print_report(
     text: &mut Handle,
 ) -> u8
     ensures kept { report.new.held ≡ report.old.held }
-    ensures is { IsReportPrinted report.old.held text.old.held text.new.held result }
+    ensures is { WithReport (λ run. IsTextMade (IsReportOf run.left)) report.old.held text.old.held text.new.held result }
 {
     reading!(alloc, report, report_of, run => tw_handles::print_report(alloc, &run.left, text))
 }
@@ -212,7 +214,7 @@ pub extern "C" fn yuglemit_raw_print_trace(
     text: &mut Handle,
 ) -> u8
     ensures kept { report.new.held ≡ report.old.held }
-    ensures is { IsTracePrinted report.old.held text.old.held text.new.held result }
+    ensures is { WithReport (λ run. IsTextMade (IsTrace run.left)) report.old.held text.old.held text.new.held result }
 {
     reading!(alloc, report, report_of, run => tw_handles::print_trace(alloc, &run.left, text))
 }
@@ -225,7 +227,7 @@ pub extern "C" fn yuglemit_raw_print_json(
     text: &mut Handle,
 ) -> u8
     ensures kept { report.new.held ≡ report.old.held }
-    ensures is { IsJsonPrinted report.old.held text.old.held text.new.held result }
+    ensures is { WithReport (λ run. IsJsonIn run.left) report.old.held text.old.held text.new.held result }
 {
     reading!(alloc, report, report_of, run => tw_handles::print_json(alloc, &run.left, text))
 }

@@ -1,9 +1,10 @@
 //! Exports the calls of `tw_handles` that run programs, and those on stop flags.
 
 ghost use Rattle.std.specs.Prelude.{◌≡◌, true, false};
+ghost use Rattle.tw_handles.specs.Asking.{WithProgram};
 ghost use Rattle.tw_handles.specs.Running.{IsRun};
 ghost use Rattle.tw_handles.specs.Stops.{IsStopMade, IsStopSet, IsStopShared};
-ghost use Rattle.tw_handles.specs.Unfit.{IsUnfit};
+ghost use Rattle.tw_handles.specs.Unfit.{IsUnfitBy};
 
 use std::alloc::Global;
 use tw_handles::{Handle, inputs_of, program_of, reading, stop_of};
@@ -73,7 +74,7 @@ pub extern "C" fn yuglemit_raw_unfit_input(
 ) -> u8
     ensures program { program.new.held ≡ program.old.held }
     ensures inputs { inputs.new.held ≡ inputs.old.held }
-    ensures is { IsUnfit program.old.held inputs.old.held index.old index.new result }
+    ensures is { WithProgram (λ verified. IsUnfitBy verified inputs.old.held) program.old.held index.old index.new result }
 {
     reading!(alloc, program, program_of, verified => {
         reading!(alloc, inputs, inputs_of, given => tw_handles::unfit_input(verified, given, index))

@@ -1,5 +1,5 @@
 -- Caps on the runs of a loaded program, and the bounds of its runs.
-use Rattle.std.specs.Prelude.{◌≡◌, ◌⊎◌, ◌&&◌, ◌||◌, ◌+◌, ◌<◌, ◌≤◌, ◌∷◌, [], ℕ, Bool, true, false, List, Option, Some, None, MatchOption, nat_le, nat_lt, length, slice_get, unwrap_or}
+use Rattle.std.specs.Prelude.{◌≡◌, ◌⊎◌, ◌&&◌, ◌||◌, ◌+◌, ◌<◌, ◌≤◌, ◌∷◌, [], ℕ, Bool, true, false, List, Option, Some, None, nat_le, nat_lt, length, slice_get, unwrap_or}
 use Rattle.tw_types.specs.declared.event.Event.{Event}
 use Rattle.tw_types.specs.declared.input.Input.{Input}
 use Rattle.tw_types.specs.Layout.{ActorCounts}
@@ -21,11 +21,9 @@ use Rattle.tw_order.specs.Orders.{greatest_cap}
 use Rattle.tw_program_output.specs.Admission.{is_within}
 use Rattle.tw_verify.specs.Typed.{TypedProgram}
 use Rattle.tw_handles.specs.Asking.{Fails}
-use Rattle.tw_handles.specs.Codes.{done, no_limit, no_memory, no_program}
-use Rattle.tw_handles.specs.Loading.{program_in}
+use Rattle.tw_handles.specs.Codes.{done, no_limit, no_memory}
 use Rattle.tw_handles.specs.Numbers.{filled}
 use Rattle.tw_handles.specs.declared.caps.AllCaps.{AllCaps}
-use Rattle.tw_handles.specs.declared.held.Held.{Held}
 
 -- ---- caps
 
@@ -112,6 +110,3 @@ AreFound verified limit old new code =
 abbrev pub AreBoundsIn : TypedProgram → ℕ → List ℕ → List ℕ → ℕ → Type 0
 AreBoundsIn verified limit old new code =
     ((limit ≡ 0) × AreFound verified None old new code) ⊎ (IsLimit limit × AreFound verified (Some limit) old new code) ⊎ ((1000000 < limit) × Fails no_limit old new code)
-
-abbrev pub AreBounds : Option Held → ℕ → List ℕ → List ℕ → ℕ → Type 0
-AreBounds held limit old new code = MatchOption (program_in held) (Fails no_program old new code) (λ verified. AreBoundsIn verified limit old new code)

@@ -15,16 +15,14 @@ use Rattle.tw_copies.specs.declared.check.CopyInsertion.{CopyInsertion}
 use Rattle.tw_determinism.specs.OneResult.{IsOnlyResult, IsWholeRun}
 use Rattle.tw_in_turn.specs.declared.run.StoppableResult.{StoppableResult}
 use Rattle.tw_pool.specs.declared.answer.Closing.{Closing}
-use Rattle.tw_pool.specs.declared.answer.Closing.TheVariants.{Quiet, Stuck, Stopped, Limit}
+use Rattle.tw_pool.specs.declared.answer.Closing.TheVariants.{Quiet, Stuck}
 use Rattle.tw_pool.specs.Ends.{IsLeftOf}
 use Rattle.tw_handles.specs.Asking.{Fails}
-use Rattle.tw_handles.specs.Codes.{done, no_order, no_report}
-use Rattle.tw_handles.specs.Loading.{finished_in}
+use Rattle.tw_handles.specs.Codes.{done, no_order}
 use Rattle.tw_handles.specs.Numbers.{filled}
 use Rattle.tw_handles.specs.Reading.{final_of, history_of}
 use Rattle.tw_handles.specs.declared.certificate.Certificate.{Certificate}
 use Rattle.tw_handles.specs.declared.certificate.Certificate.TheVariants.{Contested, Cut, Same}
-use Rattle.tw_handles.specs.declared.held.Held.{Held}
 
 -- ---- which certificates a run may have
 
@@ -71,9 +69,6 @@ certificate_numbers Cut = 2 ∷ 0 ∷ 0 ∷ []
 -- holds if these are the certificate's numbers, or there is none
 abbrev pub IsNumbered : Option Certificate → List ℕ → List ℕ → ℕ → Type 0
 IsNumbered made old new code = MatchOption made (Fails no_order old new code) (λ certificate. (new ≡ filled (certificate_numbers certificate) old) × (code ≡ done))
-
-abbrev pub IsRunOrder : Option Held → List ℕ → List ℕ → ℕ → Type 0
-IsRunOrder held old new code = MatchOption (finished_in held) (Fails no_report old new code) (λ run. IsNumbered run.certificate old new code)
 
 -- ---- for private functions
 

@@ -1,5 +1,5 @@
 -- Containers that are to be inputs, and calls on them.
-use Rattle.std.specs.Prelude.{◌≡◌, ◌⊎◌, ◌++◌, ◌∷◌, ◌==◌, [], ℕ, ℤ, List, IsUtf8, Option, Some, None, MatchOption, Result, Ok, Err, if◌then◌else◌}
+use Rattle.std.specs.Prelude.{◌≡◌, ◌⊎◌, ◌++◌, ◌∷◌, ◌==◌, [], ℕ, List, IsUtf8, Option, Some, None, MatchOption, Result, Ok, Err, if◌then◌else◌}
 use Rattle.tw_types.specs.declared.input.Input.{Input}
 use Rattle.tw_types.specs.declared.input.Input.TheVariants as input
 use Rattle.tw_handles.specs.Asking.{Fails}

@@ -1,14 +1,12 @@
 -- Whether the order of events may show in the outputs of a loaded program.
-use Rattle.std.specs.Prelude.{◌≡◌, ◌⊎◌, ◌∷◌, [], ℕ, List, Option, Some, None, MatchOption}
+use Rattle.std.specs.Prelude.{◌≡◌, ◌⊎◌, ◌∷◌, [], ℕ, List, Option, Some, None}
 use Rattle.tw_copies.specs.Copies.{IsFirstCopyInsertion}
 use Rattle.tw_copies.specs.declared.check.CopyInsertion.{CopyInsertion}
 use Rattle.tw_determinism.specs.OneResult.{IsDeterministic}
 use Rattle.tw_verify.specs.Typed.{TypedProgram}
 use Rattle.tw_handles.specs.Asking.{Fails}
-use Rattle.tw_handles.specs.Codes.{done, no_memory, no_program}
-use Rattle.tw_handles.specs.Loading.{program_in}
+use Rattle.tw_handles.specs.Codes.{done, no_memory}
 use Rattle.tw_handles.specs.Numbers.{filled}
-use Rattle.tw_handles.specs.declared.held.Held.{Held}
 
 -- returns 1, the procedure and the place of the insertion, or zeros if there is none
 abbrev pub order_of : Option CopyInsertion → List ℕ
@@ -20,6 +18,3 @@ order_of (Some at) = 1 ∷ at.procedure ∷ at.place ∷ []
 abbrev pub IsOrderFound : TypedProgram → List ℕ → List ℕ → ℕ → Type 0
 IsOrderFound verified old new code =
     ((found : Option CopyInsertion) × IsFirstCopyInsertion verified.program found × (found ≡ None → IsDeterministic verified.program) × (new ≡ filled (order_of found) old) × (code ≡ done)) ⊎ Fails no_memory old new code
-
-abbrev pub IsOrder : Option Held → List ℕ → List ℕ → ℕ → Type 0
-IsOrder held old new code = MatchOption (program_in held) (Fails no_program old new code) (λ verified. IsOrderFound verified old new code)

@@ -50,7 +50,7 @@ IsPlaceIn final index subscript old new code =
     (IsThere final index subscript new × (code ≡ done)) ⊎ (IsNowhere final index subscript × Fails no_index old new code)
 
 abbrev pub IsPlace : Option Held → ℕ → Subscript → ℕ → ℕ → ℕ → Type 0
-IsPlace held index subscript old new code = WithOutputs held (λ final. IsPlaceIn final index subscript old new code) old new code
+IsPlace held index subscript old new code = WithOutputs (λ final. IsPlaceIn final index subscript) held old new code
 
 abbrev pub IsTextPlace : List ℕ → Option Held → ℕ → ℕ → ℕ → ℕ → Type 0
 IsTextPlace bytes held index old new code =

@@ -4,9 +4,7 @@ use Rattle.tw_pool.specs.Ends.{FinalView}
 use Rattle.tw_handles.specs.Asking.{Fails}
 use Rattle.tw_handles.specs.Codes.{done, no_index}
 use Rattle.tw_handles.specs.Members.{member_by}
-use Rattle.tw_handles.specs.Reading.{WithOutputs}
 use Rattle.tw_handles.specs.Shown.{AtSubscript, shown_by}
-use Rattle.tw_handles.specs.declared.held.Held.{Held}
 use Rattle.tw_handles.specs.declared.members.Member.{Member}
 
 -- holds if this is the member
@@ -28,6 +26,3 @@ AreRead es first old new code =
 abbrev pub AreReadIn : FinalView → ℕ → ℕ → List Member → List Member → ℕ → Type 0
 AreReadIn final index first old new code =
     ((index < length final.outputs) × AreRead (shown_by final index) first old new code) ⊎ ((length final.outputs ≤ index) × Fails no_index old new code)
-
-abbrev pub AreMembers : Option Held → ℕ → ℕ → List Member → List Member → ℕ → Type 0
-AreMembers held index first old new code = WithOutputs held (λ final. AreReadIn final index first old new code) old new code

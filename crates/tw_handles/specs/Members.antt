@@ -3,9 +3,8 @@ use Rattle.std.specs.Prelude.{◌≡◌, ℕ, List, Option, Some, MatchOption, s
 use Rattle.tw_pool.specs.Ends.{FinalView}
 use Rattle.tw_handles.specs.Asking.{Fails}
 use Rattle.tw_handles.specs.Codes.{done, no_index}
-use Rattle.tw_handles.specs.Reading.{IsWritten, WithOutputs, value_item}
+use Rattle.tw_handles.specs.Reading.{IsWritten, value_item}
 use Rattle.tw_handles.specs.Shown.{AtSubscript, shown_by}
-use Rattle.tw_handles.specs.declared.held.Held.{Held}
 use Rattle.tw_handles.specs.declared.members.Member.{Member}
 
 -- returns what an output has at the place with so many smaller subscripts
@@ -19,19 +18,10 @@ abbrev pub IsMemberIn : FinalView → ℕ → ℕ → Member → Member → ℕ 
 IsMemberIn final index place old new code =
     MatchOption (entry_at final index place) (Fails no_index old new code) (λ e. (new ≡ member_by e) × (code ≡ done))
 
-abbrev pub IsMember : Option Held → ℕ → ℕ → Member → Member → ℕ → Type 0
-IsMember held index place old new code = WithOutputs held (λ final. IsMemberIn final index place old new code) old new code
-
 abbrev pub IsMemberTextIn : FinalView → ℕ → ℕ → List ℕ → List ℕ → ℕ → Type 0
 IsMemberTextIn final index place old new code =
     MatchOption (entry_at final index place) (Fails no_index old new code) (λ e. IsWritten e.value old new code)
 
-abbrev pub IsMemberText : Option Held → ℕ → ℕ → List ℕ → List ℕ → ℕ → Type 0
-IsMemberText held index place old new code = WithOutputs held (λ final. IsMemberTextIn final index place old new code) old new code
-
 abbrev pub IsSubscriptTextIn : FinalView → ℕ → ℕ → List ℕ → List ℕ → ℕ → Type 0
 IsSubscriptTextIn final index place old new code =
     MatchOption (entry_at final index place) (Fails no_index old new code) (λ e. IsWritten (Some e.subscript) old new code)
-
-abbrev pub IsSubscriptText : Option Held → ℕ → ℕ → List ℕ → List ℕ → ℕ → Type 0
-IsSubscriptText held index place old new code = WithOutputs held (λ final. IsSubscriptTextIn final index place old new code) old new code

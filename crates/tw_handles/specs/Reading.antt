@@ -21,7 +21,6 @@ use Rattle.tw_types.specs.declared.value.Value.TheVariants as value
 use Rattle.tw_handles.specs.Asking.{Fails}
 use Rattle.tw_handles.specs.Codes.{done, no_index, no_report, no_room, no_text, unfinished}
 use Rattle.tw_handles.specs.Loading.{finished_in}
-use Rattle.tw_handles.specs.Numbers.{filled}
 use Rattle.tw_handles.specs.declared.finished.Finished.{Finished}
 use Rattle.tw_handles.specs.declared.held.Held.{Held}
 use Rattle.tw_handles.specs.declared.item.Item.{Item}
@@ -54,9 +53,6 @@ end_status (stoppable.Stopped final history cut) = 8
 abbrev pub ending_of : StoppableResult → List ℕ
 ending_of left = length (history_of left).events ∷ length (final_of left).outputs ∷ end_status left ∷ []
 
-abbrev pub IsEnding : Option Held → List ℕ → List ℕ → ℕ → Type 0
-IsEnding held old new code = MatchOption (finished_in held) (Fails no_report old new code) (λ run. (new ≡ filled (ending_of run.left) old) × (code ≡ done))
-
 -- returns the outputs and the store of a report: those of a run that ended by itself, quiet, or whose options ask for what is there
 abbrev pub readable_of : Option Finished → Result FinalView ℕ
 readable_of None = Err no_report
@@ -65,9 +61,13 @@ readable_of (Some run) = if run.partial || (end_status run.left == 0) then Ok (f
 abbrev pub readable : Option Held → Result FinalView ℕ
 readable held = readable_of (finished_in held)
 
--- what holds of outputs that are read; or the code says why they aren't, and nothing is written
-abbrev pub WithOutputs : {A : Type 0} → Option Held → (FinalView → Type 0) → A → A → ℕ → Type 0
-WithOutputs held Then old new code = MatchResult (readable held) Then (λ why. Fails why old new code)
+-- what a call does with a handle's report; or the handle holds none
+abbrev pub WithReport : {A : Type 0} → (Finished → A → A → ℕ → Type 0) → Option Held → A → A → ℕ → Type 0
+WithReport Does held old new code = MatchOption (finished_in held) (Fails no_report old new code) (λ run. Does run old new code)
+
+-- what a call does with outputs that are read; or the code says why they aren't, and nothing is written
+abbrev pub WithOutputs : {A : Type 0} → (FinalView → A → A → ℕ → Type 0) → Option Held → A → A → ℕ → Type 0
+WithOutputs Does held old new code = MatchResult (readable held) (λ final. Does final old new code) (λ why. Fails why old new code)
 
 -- ---- a datum
 
@@ -120,9 +120,6 @@ abbrev pub IsOutputIn : FinalView → ℕ → Item → Item → ℕ → Type 0
 IsOutputIn final index old new code =
     MatchOption (slice_get final.outputs index) (Fails no_index old new code) (λ id. (new ≡ item_of (get final.store.store.live id)) × (code ≡ done))
 
-abbrev pub IsOutput : Option Held → ℕ → Item → Item → ℕ → Type 0
-IsOutput held index old new code = WithOutputs held (λ final. IsOutputIn final index old new code) old new code
-
 abbrev pub text_of : Option Value → Option (List ℕ)
 text_of None = None
 text_of (Some (value.Int n)) = None
@@ -142,6 +139,3 @@ value_of datum = option_and_then (λ x. value_in x.content) datum
 abbrev pub IsOutputTextIn : FinalView → ℕ → List ℕ → List ℕ → ℕ → Type 0
 IsOutputTextIn final index old new code =
     MatchOption (slice_get final.outputs index) (Fails no_index old new code) (λ id. IsWritten (value_of (get final.store.store.live id)) old new code)
-
-abbrev pub IsOutputText : Option Held → ℕ → List ℕ → List ℕ → ℕ → Type 0
-IsOutputText held index old new code = WithOutputs held (λ final. IsOutputTextIn final index old new code) old new code

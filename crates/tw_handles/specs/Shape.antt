@@ -14,8 +14,7 @@ use Rattle.tw_types.specs.declared.param.Mode.TheVariants.{Val, Closed, Ref, Wri
 use Rattle.tw_types.specs.declared.param.Param.{Param}
 use Rattle.tw_verify.specs.Typed.{TypedProgram}
 use Rattle.tw_handles.specs.Asking.{Fails}
-use Rattle.tw_handles.specs.Codes.{done, no_index, no_program, no_utf8}
-use Rattle.tw_handles.specs.Loading.{program_in}
+use Rattle.tw_handles.specs.Codes.{done, no_index, no_utf8}
 use Rattle.tw_handles.specs.Numbers.{filled}
 use Rattle.tw_handles.specs.Reading.{leaf_letter, letter_of}
 use Rattle.tw_handles.specs.Texts.{IsTextMade}
@@ -34,10 +33,6 @@ section_of p = length p.params ∷ kind_letter p.kind ∷ []
 abbrev pub IsSectionIn : TypedProgram → ℕ → List ℕ → List ℕ → ℕ → Type 0
 IsSectionIn verified procedure old new code =
     MatchOption (slice_get verified.program procedure) (Fails no_index old new code) (λ p. (new ≡ filled (section_of p) old) × (code ≡ done))
-
-abbrev pub IsSection : Option Held → ℕ → List ℕ → List ℕ → ℕ → Type 0
-IsSection held procedure old new code =
-    MatchOption (program_in held) (Fails no_program old new code) (λ verified. IsSectionIn verified procedure old new code)
 
 -- returns v, c, r or w
 abbrev pub mode_letter : Mode → ℕ
@@ -75,17 +70,9 @@ abbrev pub IsParameterIn : TypedProgram → ℕ → ℕ → List ℕ → List �
 IsParameterIn verified procedure index old new code =
     MatchOption (parameter_at verified procedure index) (Fails no_index old new code) (λ p. (new ≡ filled (parameter_of p) old) × (code ≡ done))
 
-abbrev pub IsParameter : Option Held → ℕ → ℕ → List ℕ → List ℕ → ℕ → Type 0
-IsParameter held procedure index old new code =
-    MatchOption (program_in held) (Fails no_program old new code) (λ verified. IsParameterIn verified procedure index old new code)
-
 -- returns how many engines and workers a run needs
 abbrev pub needs_of : TypedProgram → List ℕ
 needs_of verified = needed Control verified.program ∷ needed Leaf verified.program ∷ []
-
-abbrev pub AreNeeds : Option Held → List ℕ → List ℕ → ℕ → Type 0
-AreNeeds held old new code =
-    MatchOption (program_in held) (Fails no_program old new code) (λ verified. (new ≡ filled (needs_of verified) old) × (code ≡ done))
 
 -- holds for the name that a text gives the procedure of this number, empty if it gives none
 abbrev pub IsNameIn : List ℕ → ℕ → List ℕ → Type 0

@@ -7,8 +7,7 @@ use Rattle.tw_run_output.specs.Json.{IsEndLine}
 use Rattle.tw_run_output.specs.Run.{trace_text}
 use Rattle.tw_visible.specs.Visible.{HidesNothing}
 use Rattle.tw_handles.specs.Asking.{Fails}
-use Rattle.tw_handles.specs.Codes.{done, no_end, no_memory, no_report, no_string}
-use Rattle.tw_handles.specs.Loading.{finished_in}
+use Rattle.tw_handles.specs.Codes.{done, no_end, no_memory, no_string}
 use Rattle.tw_handles.specs.Reading.{IsFilled, final_of, history_of}
 use Rattle.tw_handles.specs.declared.held.Held.{Held}
 use Rattle.tw_handles.specs.declared.held.Held.TheVariants.{Text}
@@ -32,30 +31,23 @@ MayBeTold old new = (new ≡ old) ⊎ ((text : List ℕ) × (text_in new ≡ Som
 
 -- ---- texts of a report
 
-abbrev pub IsReportPrinted : Option Held → Option Held → Option Held → ℕ → Type 0
-IsReportPrinted held old new code = MatchOption (finished_in held) (Fails no_report old new code) (λ run. IsTextMade (IsEndReport (final_of run.left)) old new code)
+abbrev pub IsReportOf : StoppableResult → List ℕ → Type 0
+IsReportOf left text = IsEndReport (final_of left) text
 
 abbrev pub IsTrace : StoppableResult → List ℕ → Type 0
 IsTrace left text = text ≡ trace_text true (history_of left).events
-
-abbrev pub IsTracePrinted : Option Held → Option Held → Option Held → ℕ → Type 0
-IsTracePrinted held old new code = MatchOption (finished_in held) (Fails no_report old new code) (λ run. IsTextMade (IsTrace run.left) old new code)
 
 -- a run that was broken off has no JSON line
 abbrev pub IsJsonIn : StoppableResult → Option Held → Option Held → ℕ → Type 0
 IsJsonIn left old new code =
     MatchOption (final_of left).closing (Fails no_end old new code) (λ closing. IsTextMade (IsEndLine (final_of left) (history_of left).events (cut_of left) closing) old new code)
 
-abbrev pub IsJsonPrinted : Option Held → Option Held → Option Held → ℕ → Type 0
-IsJsonPrinted held old new code = MatchOption (finished_in held) (Fails no_report old new code) (λ run. IsJsonIn run.left old new code)
-
 -- returns the greatest number of 64 bits for a larger one
 abbrev pub capped : ℕ → ℕ
 capped number = min number 18446744073709551615
 
-abbrev pub IsInstructionCount : Option Held → ℕ → ℕ → ℕ → Type 0
-IsInstructionCount held old new code =
-    MatchOption (finished_in held) (Fails no_report old new code) (λ run. (new ≡ capped (executed_in run.left)) × (code ≡ done))
+abbrev pub executed : StoppableResult → ℕ
+executed left = capped (executed_in left)
 
 -- ---- reading a text
 

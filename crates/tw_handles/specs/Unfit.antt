@@ -5,8 +5,8 @@ use Rattle.tw_code.specs.machine.Inputs.{has_fitting_inputs, has_input_count}
 use Rattle.tw_types.specs.declared.input.Input.{Input}
 use Rattle.tw_verify.specs.Typed.{TypedProgram}
 use Rattle.tw_handles.specs.Asking.{Fails}
-use Rattle.tw_handles.specs.Codes.{done, input_count, no_index, no_inputs, no_program}
-use Rattle.tw_handles.specs.Loading.{inputs_in, program_in}
+use Rattle.tw_handles.specs.Codes.{done, input_count, no_index, no_inputs}
+use Rattle.tw_handles.specs.Loading.{inputs_in}
 use Rattle.tw_handles.specs.declared.held.Held.{Held}
 
 -- the inputs before this one fit their parameters, and this one doesn't
@@ -24,6 +24,3 @@ IsUnfitIn program inputs old new code =
 -- likewise for the inputs of a handle
 abbrev pub IsUnfitBy : TypedProgram → Option Held → ℕ → ℕ → ℕ → Type 0
 IsUnfitBy verified given old new code = MatchOption (inputs_in given) (Fails no_inputs old new code) (λ inputs. IsUnfitIn verified.program inputs old new code)
-
-abbrev pub IsUnfit : Option Held → Option Held → ℕ → ℕ → ℕ → Type 0
-IsUnfit held given old new code = MatchOption (program_in held) (Fails no_program old new code) (λ verified. IsUnfitBy verified given old new code)
