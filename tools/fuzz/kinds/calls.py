@@ -6,6 +6,7 @@ from concurrent.futures import ThreadPoolExecutor
 from dataclasses import dataclass, replace
 from typing import Iterator
 
+from tools import ROOT
 from tools.fuzz import make
 from tools.fuzz.oracle.bounds import needs
 from tools.fuzz.oracle.code import encode, program_text
@@ -14,9 +15,11 @@ from tools.fuzz.kinds.texts import damaged_text
 from tools.fuzz.common import Corpus, RunTest, FuzzTest, case_word, difference, input_lines, without_parts
 
 COMMANDS = ["asm", "disasm", "check", "run", "replay", "picture", "explain", "help", "--help", "-h", "--version", "-V", ""]
-FLAGS = ["--text", "--names", "--plain", "--places", "--bounds", "--trace", "--stats", "--picture", "--quiet", "--in-turn", "--inputs", "--inputs-json", "--help", "-h", "--", "-",
-         "--inputs=x", "--each=-", "[1,2]", '["a", "b]"]',
-         "--json", "--each", "--bounds=all", "--order", "--seed=7", "--seed=0", "--seconds=0", "--seconds=0.0001", "--seconds=1000.125", "--seconds=1000", "--seconds=4294967295", "--seconds=4294967296"]
+ROWS = (ROOT / "crates/tw_cli/src/command_rows.rt").read_text(encoding="utf-8")
+# The options that need no value, as the program's rows name them, and other words that begin so.
+FLAGS = [*sorted({f"--{name}" for name in re.findall(r'form: ArgumentForm::(?:Flag|Inputs|ValueOrMain), name: "([a-z-]+)"', ROWS)}), "--help", "-h", "--", "-",
+         "--inputs=x", "--each=-", "[1,2]", '["a", "b"]', "--bounds=all", "--seed=7", "--seed=0", "--seconds=0", "--seconds=0.0001", "--seconds=1000.125",
+         "--seconds=1000", "--seconds=4294967295", "--seconds=4294967296"]
 NUMBERED = ["--engines", "--servers", "--workers", "--limit", "--from", "--to", "--jobs", "--most-tasks", "--most-instructions", "--most-data", "--most-bytes", "--most-budget", "--most-members"]
 VALUED = (*NUMBERED, "--seed", "--seconds")
 NAMING = ("--inputs", "--inputs-json", "--each", "--events")
