@@ -1,16 +1,10 @@
 -- Runs of a program whose bounds are within the caps stay within them.
-use Rattle.std.proofs.Common.{◌≡◌, ◌<◌, ◌≤◌, ◌+◌, ◌&&◌, ◌||◌, ◌∙◌, ℕ, Bool, true, false, List, Some, refl, sym, arith}
-use Rattle.std.proofs.lemmas.Bool.{leb-true, lt-ltb}
-use Rattle.std.proofs.lemmas.Option.{slice_get_within}
-use Rattle.tw_code.specs.declared.procedure.Procedure.{Procedure}
-use Rattle.tw_code.specs.machine.Opening.{opening}
+use Rattle.tw_handles.proofs.Names.{Bool, LeastRuns, List, Procedure, Some, arith, false, instructions_in, leb-true, lt-ltb, opening, refl, slice_get_within, sym, tasks_in, true, ℕ, ◌&&◌, ◌+◌, ◌<◌, ◌||◌, ◌∙◌, ◌≡◌, ◌≤◌}
 use Rattle.tw_bounds.specs.declared.bound.Bound.{Bound}
 use Rattle.tw_bounds.specs.declared.bound.Bound.TheVariants.{AtMost, Over, Endless}
 use Rattle.tw_bounds.specs.declared.limited.LimitedBounds.{LimitedBounds}
 use Rattle.tw_bounds.specs.Contents.{bytes_held, members_held}
-use Rattle.tw_bounds.specs.Least.{LeastRuns}
 use Rattle.tw_bounds.specs.Limited.{IsLargestBudget}
-use Rattle.tw_bounds.specs.Runs.{instructions_in, tasks_in}
 use Rattle.tw_order.specs.Orders.{greatest_cap}
 use Rattle.tw_program_output.specs.Admission.{is_within}
 use Rattle.tw_handles.specs.Caps.{StaysWithin, are_within, has_cap, is_cap}

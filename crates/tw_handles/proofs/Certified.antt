@@ -1,33 +1,20 @@
 -- The facts about a finished run, and its certificate.
-use Rattle.std.proofs.Common.{◌≡◌, ◌≤◌, ◌==◌, ◌∙◌, ℕ, Bool, true, false, List, length, Option, Some, None, Result, Ok, ap, arith, refl, subst, sym}
-use Rattle.std.specs.Prelude.{if◌then◌else◌}
-use Rattle.std.specs.Option.{option_map, option_or}
+use Rattle.tw_handles.proofs.Names.{ActorCounts, Bool, Event, Input, IsCertificate, IsLeftAfter, IsLeftBy, IsLeftOf, IsOfRun, List, None, Ok, Option, Procedure, Result, Some, StoppableResult, TypedProgram, Went, ap, arith, calm, certificate_of, false, final_of, history_of, if◌then◌else◌, length, option_or, own_end, reached, refl, subst, sym, true, ℕ, ◌==◌, ◌∙◌, ◌≡◌, ◌≤◌}
+use Rattle.std.specs.Option.{option_map}
 use Rattle.tw_types.specs.declared.ending.Ending.{Ending}
 use Rattle.tw_types.specs.declared.ending.Ending.TheVariants as ending
-use Rattle.tw_types.specs.declared.event.Event.{Event}
-use Rattle.tw_types.specs.declared.input.Input.{Input}
-use Rattle.tw_types.specs.Layout.{ActorCounts}
-use Rattle.tw_types.specs.Outcome.{Went}
-use Rattle.tw_code.specs.declared.procedure.Procedure.{Procedure}
 use Rattle.tw_code.specs.machine.Ending.{ending as ending_of}
-use Rattle.tw_code.specs.machine.Opening.{reached}
 use Rattle.tw_code.specs.machine.State.{State}
 use Rattle.tw_certificate.specs.FirstContest.{IsFirstContest}
 use Rattle.tw_copies.specs.declared.check.CopyInsertion.{CopyInsertion}
 use Rattle.tw_determinism.specs.OneResult.{IsOnlyResult, IsWholeRun}
 use Rattle.tw_in_turn.specs.InTurn.{IsLeftIn}
-use Rattle.tw_in_turn.specs.Stopping.{IsLeftAfter, IsLeftBy}
 use Rattle.tw_in_turn.specs.declared.run.InTurnResult.TheVariants as left
-use Rattle.tw_in_turn.specs.declared.run.StoppableResult.{StoppableResult}
 use Rattle.tw_in_turn.specs.declared.run.StoppableResult.TheVariants as stoppable
 use Rattle.tw_pool.specs.declared.answer.Closing.TheVariants.{Stopped, Limit}
-use Rattle.tw_pool.specs.Ends.{IsLeftOf}
 use Rattle.tw_pool.specs.Openings.{MayOpen, opened}
 use Rattle.tw_pool.specs.PoolView.{HasState, PoolView}
 use Rattle.tw_pool.specs.Turns.{closing_of}
-use Rattle.tw_verify.specs.Typed.{TypedProgram}
-use Rattle.tw_handles.specs.Certificates.{IsCertificate, IsOfRun, calm, certificate_of, own_end}
-use Rattle.tw_handles.specs.Reading.{final_of, history_of}
 
 -- ---- the end of a run
 

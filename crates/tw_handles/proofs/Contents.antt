@@ -1,14 +1,7 @@
 -- Facts about what a container or a map has at its subscripts.
-use Rattle.std.proofs.Common.{◌≡◌, ◌∙◌, ℕ, [], true, false, ap, refl, sym, slice_get, length, map as each, option_map}
-use Rattle.std.specs.FinMap.{entries, len-entries}
-use Rattle.std.proofs.lemmas.List.{length-map}
-use Rattle.std.proofs.lemmas.Option.{slice_get-map}
+use Rattle.tw_handles.proofs.Names.{Contains, Content, FinalView, Maps, Set, Unset, [], ap, at_member, at_value, count_in, entries, entries_in, false, has_entries, len-entries, length, length-map, members_in, option_map, refl, shown_of, slice_get, slice_get-map, sym, true, ℕ, ◌∙◌, ◌≡◌}
+use Rattle.std.proofs.Common.{map as each}
 use Rattle.tw_datum.proofs.Members.{no_entries}
-use Rattle.tw_datum.specs.Kept.{has_entries}
-use Rattle.tw_pool.specs.Ends.{FinalView}
-use Rattle.tw_types.specs.Store.{Content, Unset, Set, Contains, Maps}
-use Rattle.tw_types.specs.StoreCalls.{count_in, entries_in, members_in}
-use Rattle.tw_handles.specs.Shown.{at_member, at_value, shown_of}
 
 module _ (final : FinalView) where
   none_shown : [] ≡ each (at_member final) (entries (members_in Unset))

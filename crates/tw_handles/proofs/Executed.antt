@@ -1,13 +1,7 @@
 -- The instructions that a run executed, with those of a task that was cut off.
-use Rattle.std.proofs.Common.{◌≡◌, ◌+◌, ◌∙◌, ℕ, List, ap, arith, min, refl, sym}
-use Rattle.tw_types.specs.declared.event.Event.{Event}
-use Rattle.tw_bounds.specs.Runs.{instructions_in}
-use Rattle.tw_in_turn.specs.Stopping.{cut_of, events_of, executed_in}
+use Rattle.tw_handles.proofs.Names.{Event, List, StoppableResult, ap, arith, capped, cut_of, events_of, executed_in, history_of, instructions_in, min, refl, sym, ℕ, ◌+◌, ◌∙◌, ◌≡◌}
 use Rattle.tw_in_turn.specs.declared.run.InTurnResult.TheVariants as result
-use Rattle.tw_in_turn.specs.declared.run.StoppableResult.{StoppableResult}
 use Rattle.tw_in_turn.specs.declared.run.StoppableResult.TheVariants.{Ended, Stopped}
-use Rattle.tw_handles.specs.Reading.{history_of}
-use Rattle.tw_handles.specs.Texts.{capped}
 
 events_are : (left : StoppableResult) → (history_of left).events ≡ events_of left
 events_are (Ended (result.Over final history)) = refl

@@ -1,11 +1,5 @@
 -- Members and values that are read one after another.
-use Rattle.std.proofs.Common.{◌≡◌, ◌<◌, ◌≤◌, ◌+◌, ◌⊎◌, inl, inr, ℕ, List, Option, Some, length, set, sym, subst, arith}
-use Rattle.std.specs.Prelude.{slice_get}
-use Rattle.std.proofs.lemmas.Bool.{cases_lt}
-use Rattle.tw_types.proofs.Elements.{get_set_same, get_set_other}
-use Rattle.tw_handles.specs.Many.{AreReadTo, IsReadAt}
-use Rattle.tw_handles.specs.Shown.{AtSubscript}
-use Rattle.tw_handles.specs.declared.members.Member.{Member}
+use Rattle.tw_handles.proofs.Names.{AreReadTo, AtSubscript, IsReadAt, List, Member, Option, Some, arith, cases_lt, get_set_other, get_set_same, inl, inr, length, set, slice_get, subst, sym, ℕ, ◌+◌, ◌<◌, ◌≡◌, ◌≤◌, ◌⊎◌}
 
 -- one more
 pub read_more : (es : List AtSubscript) (first k : ℕ) (room : List Member) (m : Member) → k < length room → AreReadTo es first k room → IsReadAt (slice_get es (first + k)) (Some m) → AreReadTo es first (k + 1) (set room k m)

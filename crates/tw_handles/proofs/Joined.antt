@@ -1,11 +1,5 @@
 -- An input that is made of lists, and then appended.
-use Rattle.std.proofs.Common.{◌≡◌, inl, inr, ℕ, Err, Ok, subst, sym}
-use Rattle.std.specs.Prelude.{MatchResult, Option, Result}
-use Rattle.tw_types.specs.declared.input.Input.{Input}
-use Rattle.tw_handles.specs.Asking.{Fails}
-use Rattle.tw_handles.specs.Lists.{IsListAdded, IsWhy}
-use Rattle.tw_handles.specs.Running.{IsAdded}
-use Rattle.tw_handles.specs.declared.held.Held.{Held}
+use Rattle.tw_handles.proofs.Names.{Err, Fails, Held, Input, IsAdded, IsListAdded, IsWhy, MatchResult, Ok, Option, Result, inl, inr, subst, sym, ℕ, ◌≡◌}
 
 pub joined : (Fit : Type 0) (given : Input) (old new : Option Held) (code : ℕ) (made : Result Input ℕ) → MatchResult made (λ input. Fit × (input ≡ given)) (IsWhy Fit)
     → MatchResult made (λ input. IsAdded input old new code) (λ why. Fails why old new code) → IsListAdded Fit given old new code

@@ -1,9 +1,6 @@
 -- Lists of members that are read one after another.
-use Rattle.std.proofs.Common.{◌≡◌, ◌∙◌, ◌<◌, ◌≤◌, ◌+◌, ◌⊎◌, inl, inr, ℕ, List, [], ◌∷◌, ◌++◌, ap, arith, length, map, subst, sym}
-use Rattle.std.proofs.lemmas.Bool.{cases_lt}
+use Rattle.tw_handles.proofs.Names.{AreTexts, AreTextsTo, IsTextAt, IsWhy, List, [], ap, arith, cases_lt, inl, inr, length, map, range_with_len, subst, sym, ℕ, ◌++◌, ◌+◌, ◌<◌, ◌∙◌, ◌∷◌, ◌≡◌, ◌≤◌, ◌⊎◌}
 use Rattle.std.proofs.lemmas.List.FromFn.{map-range_with_len_more}
-use Rattle.std.specs.List.{range_with_len}
-use Rattle.tw_handles.specs.Lists.{AreTexts, AreTextsTo, IsTextAt, IsWhy}
 
 -- one more
 pub listed_more : {X : Type 0} (f : ℕ → X) (before after : List X) (k : ℕ) (x : X) → before ≡ map f (range_with_len 0 k) → after ≡ before ++ x ∷ [] → x ≡ f k → after ≡ map f (range_with_len 0 (k + 1))

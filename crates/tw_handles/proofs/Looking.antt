@@ -1,17 +1,8 @@
 -- A run that was opened has looked at its signal.
-use Rattle.std.proofs.Common.{◌≡◌, ◌≢◌, ◌∙◌, ◌⊎◌, inl, inr, ℕ, Bool, List, [], ◌∷◌, Option, Some, None, MatchOption, refl, sym, ap}
+use Rattle.tw_handles.proofs.Names.{Bool, Fails, Held, Input, InputCount, InputType, IsRunBy, IsRunIn, IsRunWith, IsSeen, LimitRange, List, Looked, Looks, MatchOption, MissingTarget, NoMemory, None, Option, Some, TypedProgram, [], ap, counts_of, inl, inputs_in, inr, program_in, refl, sym, ℕ, ◌∙◌, ◌∷◌, ◌≡◌, ◌≢◌, ◌⊎◌}
 use Rattle.tw_flags.specs.declared.flag.FlagSignal.{FlagSignal}
-use Rattle.tw_flags.specs.Flags.{IsSeen}
 use Rattle.tw_pool.specs.declared.open.OpenError.{OpenError}
-use Rattle.tw_pool.specs.declared.open.OpenError.TheVariants.{InputCount, InputType, MissingTarget, LimitRange, NoMemory}
-use Rattle.tw_stop.specs.Looks.{Looked}
-use Rattle.tw_types.specs.declared.input.Input.{Input}
-use Rattle.tw_verify.specs.Typed.{TypedProgram}
-use Rattle.tw_handles.specs.Asking.{Fails}
 use Rattle.tw_handles.specs.Codes.{done, no_inputs, no_program, open_code}
-use Rattle.tw_handles.specs.Loading.{inputs_in, program_in}
-use Rattle.tw_handles.specs.Running.{IsRunBy, IsRunIn, IsRunWith, Looks, counts_of}
-use Rattle.tw_handles.specs.declared.held.Held.{Held}
 use Rattle.tw_handles.specs.declared.running.RunOrder.{RunOrder}
 
 -- looks are all at one flag

@@ -1,21 +1,12 @@
 -- A binary search among subscripts that rise.
-use Rattle.std.proofs.Common.{◌≡◌, ◌<◌, ◌≤◌, ◌+◌, ◌∙◌, ℕ, zero, suc, List, [], ◌∷◌, T, Option, Some, None, ap, refl, sym, subst, slice_get, length, map as each, arith, ◌⊎◌, inl, inr}
+use Rattle.tw_handles.proofs.Names.{Contains, Content, Datum, FinalView, List, Maps, MatchOption, None, Option, Set, Some, Subscript, T, Unset, [], ap, arith, count_in, entries, entries_sorted, get, inl, inr, is_sorted, len-entries, length, length-map, none_past, option_and_then, refl, same_Some, slice_get, slice_get_within, subscripts_of, subst, suc, sym, value_cmp, zero, ℕ, ◌+◌, ◌<◌, ◌∙◌, ◌∷◌, ◌≡◌, ◌≤◌, ◌⊎◌}
+use Rattle.std.proofs.Common.{map as each}
 use Rattle.std.specs.declared.cmp.Ordering.TheVariants.{Less, Equal, Greater}
-use Rattle.std.specs.FinMap.{entries, entries_sorted, get, is_sorted, len-entries}
 use Rattle.std.specs.FinMap.Entries.{below_all}
-use Rattle.std.specs.Option.{option_and_then}
 use Rattle.std.specs.Ordering.{ordering_reverse}
-use Rattle.std.specs.Prelude.{MatchOption}
 use Rattle.std.proofs.Math.Nat.{eq-or-lt_of_le}
-use Rattle.std.proofs.lemmas.List.{length-map}
-use Rattle.std.proofs.lemmas.Option.{same_Some, slice_get_within}
-use Rattle.tw_pool.specs.Ends.{FinalView}
-use Rattle.tw_types.proofs.Elements.{none_past}
 use Rattle.tw_types.proofs.Rising.{first, less, second}
 use Rattle.tw_types.proofs.ValueOrder.{value_cmp_total, value_cmp-IsAntisymmetric}
-use Rattle.tw_types.specs.Store.{Content, Unset, Set, Contains, Maps, Datum}
-use Rattle.tw_types.specs.StoreCalls.{count_in, subscripts_of}
-use Rattle.tw_types.specs.ValueOrder.{Subscript, value_cmp}
 use Rattle.tw_handles.specs.Finding.{HasNone, HasSubscript, IsNowhere, IsThere, order_at, order_with, subscripts_at, subscripts_if}
 
 -- ---- the subscripts of a datum

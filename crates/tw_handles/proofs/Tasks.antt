@@ -1,12 +1,7 @@
 -- The tasks of one event more.
-use Rattle.std.proofs.Common.{◌≡◌, ◌≤◌, ◌+◌, ◌∙◌, ℕ, List, length, take, Some, sym, ap, arith}
-use Rattle.std.specs.Prelude.{slice_get}
-use Rattle.std.proofs.lemmas.List.{take_all}
+use Rattle.tw_handles.proofs.Names.{Event, List, Some, ap, arith, get_or_from_slice_get, length, slice_get, slice_get_within, sym, take, take_all, tasks_by, tasks_in, ℕ, ◌+◌, ◌∙◌, ◌≡◌, ◌≤◌}
 use Rattle.std.proofs.lemmas.List.Sums.{sum_by_more}
-use Rattle.std.proofs.lemmas.Option.{get_or_from_slice_get, slice_get_within}
-use Rattle.tw_types.specs.declared.event.Event.{Event}
 use Rattle.tw_types.specs.declared.event.Event.TheVariants.{Take, Local, Call, End, Ask, Deliver, Release}
-use Rattle.tw_bounds.specs.Runs.{tasks_by, tasks_in}
 
 pub at_most_one : (e : Event) → tasks_by e ≤ 1
 at_most_one (Take actor) = omega arith

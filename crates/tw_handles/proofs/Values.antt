@@ -1,5 +1,5 @@
 -- The machine values of a `Loose` and of a `Handle`. Assumes `Logic`.
-use Rattle.std.proofs.Common.{◌≡◌, ℕ, List, [], ◌∷◌, ◌++◌, refl, subst}
+use Rattle.tw_handles.proofs.Names.{Al, Global, Good, List, None, Option, Some, [], and_tt, ghosts, handle_tells, refl, slot_owns, subst, ℕ, ◌++◌, ◌∷◌, ◌≡◌}
 use mathlib.Core.Bool.{Bool, true, false, ◌&&◌}
 use lib.Dec.{T}
 use seplogic.Ra.Ura.{Ura}
@@ -19,19 +19,12 @@ use denote.Param.Laws.{Laws}
 use denote.Struct.Struct.{within}
 use denote.Struct.Owning.{shape}
 use Rattle.core.specs.declared.alloc.Allocator.{Ghosts}
-use Rattle.core.proofs.alloc.Calls.{Al, handle_tells}
-use Rattle.core.proofs.cell.Inside.{Good}
 use Rattle.std_alloc.specs.Box.Ownership.{box_owns}
-use Rattle.std_alloc.proofs.ResultValues.{and_tt}
 use Rattle.tw_handles.specs.contracts.loose.Loose as loose
-use Rattle.std.specs.Prelude.{Option, Some, None}
-use Rattle.tw_handles.specs.Slot.{slot_owns}
 use Rattle.std.specs.contracts.alloc.Global as heap
 use Rattle.std.proofs.alloc.Global.TheLaws as heap_laws
-use Rattle.std.specs.contracts.impls.GlobalAllocator.TheImpl.{ghosts}
 use Rattle.tw_handles.specs.contracts.handle.Handle as slot
 use Rattle.tw_handles.specs.contracts.held.Held.{the_row as R}
-use Rattle.std.specs.declared.alloc.Global.{Global}
 use Rattle.std.proofs.GlobalToken.{dealloc_token-Testable}
 use denote.RawPtr.{Testable, lies_at}
 use base.Fraction.{full_share}

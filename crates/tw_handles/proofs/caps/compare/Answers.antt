@@ -1,5 +1,4 @@
-use Rattle.std.proofs.Common.{ℕ, Some, sym, subst, ◌∙◌}
-use Rattle.tw_bounds.specs.Least.{AreLeastBounds, LeastRuns}
+use Rattle.tw_handles.proofs.Names.{AreLeastBounds, LeastRuns, Some, subst, sym, ℕ, ◌∙◌}
 use Rattle.tw_handles.proofs.Admitted.{stays_within}
 use Rattle.tw_handles.proofs.caps.compare.Goals as goal
 

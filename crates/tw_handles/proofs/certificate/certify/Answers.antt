@@ -1,11 +1,4 @@
-use Rattle.std.proofs.Common.{◌∙◌, ◌≡◌, List, ap, subst, sym}
-use Rattle.tw_code.specs.machine.Opening.{reached}
-use Rattle.tw_pool.specs.Ends.{FinalView}
-use Rattle.tw_pool.specs.History.{HistoryView}
-use Rattle.tw_types.specs.Outcome.{Went}
-use Rattle.tw_types.specs.declared.event.Event.{Event}
-use Rattle.tw_handles.specs.Certificates.{IsCertificate, certificate_of}
-use Rattle.tw_handles.specs.Reading.{history_of}
+use Rattle.tw_handles.proofs.Names.{Event, FinalView, HistoryView, IsCertificate, List, Went, ap, certificate_of, history_of, reached, subst, sym, ◌∙◌, ◌≡◌}
 use Rattle.tw_handles.specs.declared.certificate.Certificate.{Certificate}
 use Rattle.tw_handles.proofs.Certified.{certified}
 use Rattle.tw_handles.proofs.certificate.certify.Goals as goal

@@ -1,6 +1,4 @@
-use Rattle.std.proofs.Common.{◌+◌, ◌-◌, ◌/◌, arith, refl}
-use Rattle.tw_types.specs.StoreCalls.{subscripts_of}
-use Rattle.tw_types.specs.ValueOrder.{named}
+use Rattle.tw_handles.proofs.Names.{arith, named, refl, subscripts_of, ◌+◌, ◌-◌, ◌/◌}
 use Rattle.tw_handles.proofs.Search.{count_of, found_at, found_none, narrowed_from, narrowed_to, rising_in, whole}
 use Rattle.tw_handles.proofs.finding.place_in.Goals as goal
 

@@ -1,6 +1,4 @@
-use Rattle.std.specs.Prelude.{◌-◌}
-use Rattle.tw_types.specs.StoreCalls.{subscripts_of}
-use Rattle.tw_types.specs.ValueOrder.{named}
+use Rattle.tw_handles.proofs.Names.{named, subscripts_of, ◌-◌}
 use Rattle.tw_handles.proofs.Search.{IsSearched}
 use Rattle.tw_handles.proofs.finding.place_in.Given as goal
 

@@ -1,6 +1,4 @@
-use Rattle.std.proofs.Common.{◌≡◌, ◌∙◌, ℕ, List, Some, ap, arith, length, refl, slice_get, sym}
-use Rattle.std.proofs.lemmas.Option.{slice_get_past, slice_get_read}
-use Rattle.tw_types.specs.ValueOrder.{named}
+use Rattle.tw_handles.proofs.Names.{List, Some, ap, arith, length, named, refl, slice_get, slice_get_past, slice_get_read, sym, ℕ, ◌∙◌, ◌≡◌}
 use Rattle.tw_handles.proofs.Search.{nowhere_freed, nowhere_past, there_in}
 use Rattle.tw_handles.proofs.finding.place_of.Goals as goal
 

@@ -1,5 +1,4 @@
-use Rattle.std.proofs.Common.{◌≡◌, map, pos}
-use Rattle.std.specs.List.{range_with_len}
+use Rattle.tw_handles.proofs.Names.{map, pos, range_with_len, ◌≡◌}
 use Rattle.tw_handles.proofs.lists.counted.Given as goal
 
 abbrev pub invariant-loop-index : goal.invariant-loop-index

@@ -1,6 +1,4 @@
-use Rattle.std.proofs.Common.{◌≡◌, ℕ, arith, length, map, subst}
-use Rattle.std.specs.List.{range_with_len}
-use Rattle.tw_handles.specs.Lists.{AreTextsTo, begin_of, text_in}
+use Rattle.tw_handles.proofs.Names.{AreTextsTo, arith, begin_of, length, map, range_with_len, subst, text_in, ℕ, ◌≡◌}
 use Rattle.tw_handles.proofs.Listed.{listed_more, texts_more, why_all}
 use Rattle.tw_handles.proofs.lists.read_texts.Goals as goal
 

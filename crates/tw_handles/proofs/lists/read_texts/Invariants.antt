@@ -1,6 +1,4 @@
-use Rattle.std.proofs.Common.{◌≡◌, map}
-use Rattle.std.specs.List.{range_with_len}
-use Rattle.tw_handles.specs.Lists.{AreTextsTo, text_in}
+use Rattle.tw_handles.proofs.Names.{AreTextsTo, map, range_with_len, text_in, ◌≡◌}
 use Rattle.tw_handles.proofs.lists.read_texts.Given as goal
 
 -- those before this one are texts, and are read

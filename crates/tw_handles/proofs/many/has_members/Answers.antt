@@ -1,5 +1,4 @@
-use Rattle.std.proofs.Common.{◌∙◌, ◌+◌, ◌≤◌, ℕ, subst, sym}
-use Rattle.std.specs.Prelude.{◌↔◌, IsTrue}
+use Rattle.tw_handles.proofs.Names.{IsTrue, subst, sym, ℕ, ◌+◌, ◌↔◌, ◌∙◌, ◌≤◌}
 use Rattle.tw_handles.proofs.Contents.{count_shown}
 use Rattle.tw_handles.proofs.many.has_members.Goals as goal
 

@@ -1,10 +1,4 @@
-use Rattle.std.proofs.Common.{◌∙◌, ◌+◌, ◌<◌, Option, Some, ap, arith, inr, length, refl, slice_get, subst, sym}
-use Rattle.std.proofs.lemmas.List.{length-set}
-use Rattle.tw_types.proofs.Elements.{none_past}
-use Rattle.tw_handles.specs.Many.{IsReadAt}
-use Rattle.tw_handles.specs.Shown.{AtSubscript, shown_of}
-use Rattle.tw_handles.specs.declared.item.Item.{Item}
-use Rattle.tw_handles.specs.declared.members.Member.{Member}
+use Rattle.tw_handles.proofs.Names.{AtSubscript, IsReadAt, Item, Member, Option, Some, ap, arith, inr, length, length-set, none_past, refl, shown_of, slice_get, subst, sym, ◌+◌, ◌<◌, ◌∙◌}
 use Rattle.tw_handles.proofs.Filling.{read_more}
 use Rattle.tw_handles.proofs.many.read_members.Goals as goal
 

@@ -1,6 +1,4 @@
-use Rattle.std.proofs.Common.{◌≡◌, length}
-use Rattle.tw_handles.specs.Many.{AreReadTo}
-use Rattle.tw_handles.specs.Shown.{shown_of}
+use Rattle.tw_handles.proofs.Names.{AreReadTo, length, shown_of, ◌≡◌}
 use Rattle.tw_handles.proofs.many.read_members.Given as goal
 
 -- those before this one are read

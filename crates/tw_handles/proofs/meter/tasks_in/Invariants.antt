@@ -1,5 +1,4 @@
-use Rattle.std.proofs.Common.{◌≡◌, ◌≤◌, take}
-use Rattle.tw_bounds.specs.Runs.{tasks_in}
+use Rattle.tw_handles.proofs.Names.{take, tasks_in, ◌≡◌, ◌≤◌}
 use Rattle.tw_handles.proofs.meter.tasks_in.Given as goal
 
 abbrev pub invariant-loop-index : goal.invariant-loop-index

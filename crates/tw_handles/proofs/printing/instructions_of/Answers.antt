@@ -1,7 +1,4 @@
-use Rattle.std.proofs.Common.{◌∙◌, ap}
-use Rattle.tw_bounds.specs.Runs.{instructions_in}
-use Rattle.tw_pool.specs.History.{HistoryView}
-use Rattle.tw_handles.specs.Texts.{capped}
+use Rattle.tw_handles.proofs.Names.{HistoryView, ap, capped, instructions_in, ◌∙◌}
 use Rattle.tw_handles.proofs.Executed.{all_executed}
 use Rattle.tw_handles.proofs.printing.instructions_of.Goals as goal
 

@@ -1,9 +1,4 @@
-use Rattle.std.proofs.Common.{IfOk, ℕ, string_bytes, subst}
-use Rattle.tw_in_turn.specs.Stopping.{cut_of}
-use Rattle.tw_pool.specs.Ends.{FinalView}
-use Rattle.tw_pool.specs.History.{HistoryView}
-use Rattle.tw_run_output.specs.Json.{IsEndLine}
-use Rattle.tw_handles.specs.Reading.{history_of}
+use Rattle.tw_handles.proofs.Names.{FinalView, HistoryView, IfOk, IsEndLine, cut_of, history_of, string_bytes, subst, ℕ}
 use Rattle.tw_handles.proofs.printing.line_of.Goals as goal
 
 pub returns : goal.returns

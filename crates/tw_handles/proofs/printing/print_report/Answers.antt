@@ -1,5 +1,4 @@
-use Rattle.tw_run_output.specs.Ends.{IsEndReport}
-use Rattle.tw_handles.specs.Reading.{final_of}
+use Rattle.tw_handles.proofs.Names.{IsEndReport, final_of}
 use Rattle.tw_handles.proofs.MadeTexts.{made_text}
 use Rattle.tw_handles.proofs.printing.print_report.Goals as goal
 

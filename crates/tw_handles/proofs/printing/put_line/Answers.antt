@@ -1,7 +1,5 @@
-use Rattle.std.proofs.Common.{Global, Vec, ap, subst, sym, ℕ}
-use Rattle.tw_in_turn.specs.Stopping.{cut_of}
-use Rattle.tw_run_output.specs.Json.{IsEndLine}
-use Rattle.tw_handles.specs.Reading.{final_of, history_of}
+use Rattle.tw_handles.proofs.Names.{IsEndLine, Vec, ap, cut_of, final_of, history_of, subst, sym, ℕ}
+use Rattle.std.proofs.Common.{Global}
 use Rattle.tw_handles.proofs.MadeTexts.{made_text}
 use Rattle.tw_handles.proofs.printing.put_line.Goals as goal
 

@@ -1,6 +1,4 @@
-use Rattle.std.proofs.Common.{IfOk, subst}
-use Rattle.tw_pool.specs.Ends.{FinalView}
-use Rattle.tw_run_output.specs.Ends.{IsEndReport}
+use Rattle.tw_handles.proofs.Names.{FinalView, IfOk, IsEndReport, subst}
 use Rattle.tw_handles.proofs.printing.report_of.Goals as goal
 
 pub returns : goal.returns

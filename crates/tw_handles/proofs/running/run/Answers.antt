@@ -1,5 +1,4 @@
-use Rattle.std.proofs.Common.{inl, subst}
-use Rattle.tw_handles.specs.Running.{IsRunUntil}
+use Rattle.tw_handles.proofs.Names.{IsRunUntil, inl, subst}
 use Rattle.tw_handles.proofs.running.run.Goals as goal
 
 pub returns-clause-is : goal.returns-clause-is

@@ -1,6 +1,4 @@
-use Rattle.std.proofs.Common.{◌∙◌, inl, inr, refl, sym}
-use Rattle.tw_flags.specs.Flags.{IsSeen}
-use Rattle.tw_stop.specs.Looks.{Looked}
+use Rattle.tw_handles.proofs.Names.{IsSeen, Looked, inl, inr, refl, sym, ◌∙◌}
 use Rattle.tw_handles.proofs.Looking.{has_looked, one_book}
 use Rattle.tw_handles.proofs.running.run_by_flag.Goals as goal
 

@@ -1,7 +1,4 @@
-use Rattle.std.proofs.Common.{inl, refl, subst}
-use Rattle.tw_types.specs.Layout.{ActorCounts}
-use Rattle.tw_stop.specs.Looks.{Looked}
-use Rattle.tw_handles.specs.Running.{IsRunIfWithin}
+use Rattle.tw_handles.proofs.Names.{ActorCounts, IsRunIfWithin, Looked, inl, refl, subst}
 use Rattle.tw_handles.proofs.running.run_in.Goals as goal
 
 pub returns-in-Ok : goal.returns-in-Ok

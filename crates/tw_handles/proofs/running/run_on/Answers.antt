@@ -1,6 +1,4 @@
-use Rattle.std.proofs.Common.{ap, inl, inr, refl}
-use Rattle.tw_pool.specs.declared.open.OpenError.TheVariants.{NoMemory}
-use Rattle.tw_handles.specs.Loading.{finished_in}
+use Rattle.tw_handles.proofs.Names.{NoMemory, ap, finished_in, inl, inr, refl}
 use Rattle.tw_handles.proofs.Certified.{of_run}
 use Rattle.tw_handles.proofs.running.run_on.Goals as goal
 

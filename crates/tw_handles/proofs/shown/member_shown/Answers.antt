@@ -1,10 +1,5 @@
-use Rattle.std.proofs.Common.{◌∙◌, Some, Option, ap, option_copied, option_map, sym}
-use Rattle.tw_datum.specs.Kept.{datum_if}
-use Rattle.tw_types.specs.Store.{Datum}
+use Rattle.tw_handles.proofs.Names.{AtSubscript, Datum, Item, Option, Some, ap, at_member, datum_if, item_of, option_copied, option_map, sym, value_of, ◌∙◌}
 use Rattle.tw_types.specs.declared.value.Value.{Value}
-use Rattle.tw_handles.specs.Reading.{item_of, value_of}
-use Rattle.tw_handles.specs.Shown.{AtSubscript, at_member}
-use Rattle.tw_handles.specs.declared.item.Item.{Item}
 use Rattle.tw_handles.proofs.Contents.{member_shown_at}
 use Rattle.tw_handles.proofs.shown.member_shown.Goals as goal
 

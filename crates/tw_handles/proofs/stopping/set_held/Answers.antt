@@ -1,6 +1,5 @@
-use Rattle.std.proofs.Common.{Some, refl, subst, sym}
+use Rattle.tw_handles.proofs.Names.{Held, Some, refl, subst, sym}
 use Rattle.tw_handles.specs.Stops.{IsStopSet}
-use Rattle.tw_handles.specs.declared.held.Held.{Held}
 use Rattle.tw_handles.specs.declared.held.Held.TheVariants.{Stop}
 use Rattle.tw_handles.proofs.stopping.set_held.Goals as goal
 

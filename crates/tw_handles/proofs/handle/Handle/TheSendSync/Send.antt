@@ -7,12 +7,10 @@ use denote.Builtin.{RawPtr}
 use denote.Struct.Struct.{exits_of}
 use denote.Struct.Owning.{shape, fields, to}
 use denote.Param.Send.{IsSend, owning_send, struct_send, sendable}
-use Rattle.std.specs.Prelude.{Option, Some, None}
+use Rattle.tw_handles.proofs.Names.{Global, None, Option, Some, ghosts, slot_owns}
 use Rattle.std_alloc.proofs.SendSync.{quiet, lies}
 use Rattle.std.proofs.Crossing.{Arc-send, Vec-send, crosses, frees}
 use Rattle.std.specs.contracts.alloc.Global as heap
-use Rattle.std.specs.contracts.impls.GlobalAllocator.TheImpl.{ghosts}
-use Rattle.std.specs.declared.alloc.Global.{Global}
 use Rattle.std_alloc.specs.contracts.arc.Arc
 use Rattle.std_alloc.specs.contracts.vec.Vec
 use Rattle.tw_types.specs.contracts.input.Input
@@ -27,7 +25,6 @@ use Rattle.tw_pool.specs.contracts.ends.Final
 use Rattle.tw_pool.proofs.history.History.TheSendSync as OfHistory
 use Rattle.tw_flags.proofs.Crossing.{flag_send}
 use Rattle.tw_handles.specs.contracts.container.Container
-use Rattle.tw_handles.specs.Slot.{slot_owns}
 use Rattle.tw_handles.specs.contracts.held.Held.{the_row as R}
 use Rattle.tw_handles.specs.contracts.handle.Handle.{the_row, the_type}
 

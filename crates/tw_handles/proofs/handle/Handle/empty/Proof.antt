@@ -1,5 +1,5 @@
 -- `empty` makes a slot that is null.
-use Rattle.std.proofs.Common.{◌≡◌, List, [], ◌∷◌, ◌++◌, refl, sym, subst}
+use Rattle.tw_handles.proofs.Names.{List, Option, [], handle_tells, leaves, proved_at, refl, subst, sym, ◌++◌, ◌∷◌, ◌≡◌}
 use mir.Val.{Val, vnull}
 use base.Logic.{SProp, ent, emp, id⊢}
 use base.Fml.{ftrue}
@@ -17,15 +17,12 @@ use denote.RawPtr.{null_ptr}
 use denote.Steps.{nothing}
 use denote.Triple.Walked.{Stays, stay_dropped, walk_of, Goes-dropped}
 use Rattle.core.specs.declared.option.Option.TheVariants.{None}
-use Rattle.std.proofs.raw_atomic.Walks.{proved_at, leaves}
 use Rattle.tw_handles.proofs.Values.{both, Z, slot_in_none}
 use Rattle.tw_handles.specs.contracts.held.Held.{the_row as R}
 use Rattle.tw_handles.specs.contracts.handle.Handle.empty.{ended, clauses}
 use Rattle.tw_handles.specs.contracts.handle.Handle.empty.Key.{name as #self}
 use Rattle.tw_handles.proofs.handle.Handle.empty.Statement.{statement}
 use Rattle.tw_handles.proofs.handle.Handle.empty.Code as code
-use Rattle.core.proofs.alloc.Calls.{handle_tells}
-use Rattle.std.specs.Prelude.{Option}
 use Rattle.tw_handles.proofs.Values.{heap_al, nowhere_good}
 
 pub empty_spec : {M : Type 1} → statement M

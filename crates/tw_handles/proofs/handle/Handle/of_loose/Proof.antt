@@ -1,5 +1,5 @@
 -- `of_loose` moves the ownership of the box.
-use Rattle.std.proofs.Common.{◌≡◌, List, [], ◌∷◌, ◌++◌, refl, sym, subst}
+use Rattle.tw_handles.proofs.Names.{List, [], ghosts, leaves, proved_at, refl, subst, sym, ◌++◌, ◌∷◌, ◌≡◌}
 use mir.Val.{Val, vptr}
 use base.Logic.{SProp, ent, emp, id⊢}
 use base.Fml.{ftrue}
@@ -18,8 +18,6 @@ use denote.Steps.{nothing}
 use denote.Triple.Walked.{Stays, stay_dropped, walk_of, Goes-dropped}
 use Rattle.core.specs.declared.option.Option.TheVariants.{Some}
 use Rattle.std.proofs.alloc.Global.TheLaws as heap_laws
-use Rattle.std.specs.contracts.impls.GlobalAllocator.TheImpl.{ghosts}
-use Rattle.std.proofs.raw_atomic.Walks.{proved_at, leaves}
 use Rattle.tw_handles.proofs.Values.{both, Loose, loose_good, loose_out, Z, slot_in_some}
 use Rattle.tw_handles.specs.contracts.held.Held.{the_row as R}
 use Rattle.tw_handles.specs.contracts.handle.Handle.of_loose.{ended, clauses}
