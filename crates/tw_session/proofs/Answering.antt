@@ -1,12 +1,7 @@
 -- A session's end after a reply is written.
-use Rattle.std.proofs.Common.{◌≡◌, ◌≢◌, ℕ, List, codes, Option, Some, None, IfOk, IfSome, Result, Ok, Err, OnErr, refl, sym, subst}
-use Rattle.std.specs.Io.KnownBytes.{Appends}
-use Rattle.tw_source.specs.Reply.{Reply, reply}
-use Rattle.tw_session.specs.Status.{EndsWithReply}
+use Rattle.tw_session.proofs.SessionNames.{Appends, Ended, EndsWithReply, Err, IfOk, IfSome, List, NoMemory, None, Ok, OnErr, Option, ReadFailed, Reply, Result, Some, Status, WriteFailed, codes, refl, reply, subst, sym, ℕ, ◌≡◌, ◌≢◌}
 use Rattle.tw_source.specs.declared.reply.Reply.{Reply as MadeReply}
 use Rattle.tw_source.specs.declared.close.Close.{Close}
-use Rattle.tw_session.specs.declared.status.Status.{Status}
-use Rattle.tw_session.specs.declared.status.Status.TheVariants.{Ended, NoMemory, ReadFailed, WriteFailed}
 
 -- a reply that was written, unless the write failed
 pub replied : (Answers : Reply → Type 0) (text : List ℕ) (close : Close) (status : Status) (old new : Option (List ℕ)) → Answers (reply text close)

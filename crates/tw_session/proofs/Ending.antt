@@ -1,17 +1,10 @@
 -- The end of a session whose program is run on lines.
-use Rattle.std.proofs.Common.{◌≡◌, ℕ, List, Option, None, Some, Ok, Err, ◌++◌, ◌∙◌, ap, inl, inr, refl, subst, sym}
-use Rattle.std.specs.Io.KnownBytes.{Appends, Keeps}
+use Rattle.tw_session.proofs.SessionNames.{Appends, Ended, EndsEach, EndsWithReply, Err, IsRejection, Keeps, List, NoMemory, None, Ok, Option, ReadFailed, Reply, Some, Status, Streams, WriteFailed, ap, inl, inr, refl, reply, subst, sym, ℕ, ◌++◌, ◌∙◌, ◌≡◌}
 use Rattle.tw_order.specs.declared.order.Source.{Source}
 use Rattle.tw_order.specs.declared.runs.EachOrder.{EachOrder}
-use Rattle.tw_each.specs.Stream.{IsRejection, Streams}
 use Rattle.tw_each.specs.declared.stream.StreamError.TheVariants as stream
 use Rattle.tw_each.specs.declared.streamed.Streamed.TheVariants.{Rejected}
-use Rattle.tw_source.specs.Reply.{Reply, reply}
 use Rattle.tw_source.specs.declared.reply.Reply.{Reply as MadeReply}
-use Rattle.tw_session.specs.Each.{EndsEach}
-use Rattle.tw_session.specs.Status.{EndsWithReply}
-use Rattle.tw_session.specs.declared.status.Status.{Status}
-use Rattle.tw_session.specs.declared.status.Status.TheVariants.{Ended, NoMemory, ReadFailed, WriteFailed}
 
 appended_after : (old mid new : Option (List ℕ)) (text : List ℕ) → Keeps old mid → Appends mid new text → Appends old new text
 appended_after None mid new text p q = tt

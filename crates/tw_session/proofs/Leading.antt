@@ -1,7 +1,5 @@
 -- Weakening: what awaits replies with a condition awaits replies with a weaker condition.
-use Rattle.std.proofs.Common.{IfOk, Result, Ok, Err, subst, sym}
-use Rattle.tw_session.proofs.SessionNames.{Awaits, Prepared, Reply, reply}
-use Rattle.tw_session.specs.ProgramAction.{IsFinishedBy}
+use Rattle.tw_session.proofs.SessionNames.{Awaits, Err, IfOk, IsFinishedBy, Ok, Prepared, Reply, Result, reply, subst, sym}
 use Rattle.tw_session.specs.declared.programs.Prepared.TheVariants as left
 
 pub awaits : {E : Type 0} (made : Result Prepared E) (P Q : Reply → Type 0) → ((r : Reply) → P r → Q r) → IfOk made (Awaits P) → IfOk made (Awaits Q)

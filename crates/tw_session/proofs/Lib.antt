@@ -5,3 +5,4 @@ pub mod Replies
 mod Clockless
 mod SessionNames
 pub mod Ending
+pub mod SessionNames

@@ -1,6 +1,4 @@
-use Rattle.std.proofs.Common.{subst, sym}
-use Rattle.std.specs.Prelude.{IfOk}
-use Rattle.tw_session.proofs.SessionNames.{Action, Awaits, RepliesByAction, reply, text_of}
+use Rattle.tw_session.proofs.SessionNames.{Action, Awaits, IfOk, RepliesByAction, reply, subst, sym, text_of}
 use Rattle.tw_session.proofs.action.act.Goals as goal
 
 pub returns-in-Run : goal.returns-in-Run

@@ -1,5 +1,4 @@
-use Rattle.std.proofs.Common.{List, subst, sym}
-use Rattle.tw_types.specs.declared.input.Input.{Input}
+use Rattle.tw_session.proofs.SessionNames.{Input, List, subst, sym}
 use Rattle.tw_inputs.specs.JsonInputs.{AreInputsIn, HasFault}
 use Rattle.tw_inputs.specs.declared.json_inputs.NoInputs.{NoInputs}
 use Rattle.tw_session.proofs.action.inputs_in.Goals as goal

@@ -1,11 +1,5 @@
-use Rattle.std.proofs.Common.{◌≡◌, ◌∙◌, List, ap, inl, inr, subst}
-use Rattle.tw_session.proofs.SessionNames.{text_of}
+use Rattle.tw_session.proofs.SessionNames.{AreGiven, GivenInputs, List, Procedure, RepliesByJsonRun, RepliesIfRun, ap, inl, inr, main_params, run_with, subst, text_of, ◌∙◌, ◌≡◌}
 use Rattle.tw_types.specs.declared.param.Param.{Param}
-use Rattle.tw_code.specs.declared.procedure.Procedure.{Procedure}
-use Rattle.tw_code.specs.machine.Opening.{main_params}
-use Rattle.tw_session.specs.ProgramAction.{AreGiven}
-use Rattle.tw_session.specs.Session.{RepliesByJsonRun, RepliesIfRun, run_with}
-use Rattle.tw_session.specs.declared.action.GivenInputs.{GivenInputs}
 use Rattle.tw_session.specs.declared.action.GivenInputs.TheVariants as given
 use Rattle.tw_session.proofs.Leading.{awaits}
 use Rattle.tw_session.proofs.action.prepare_json_run.Goals as goal

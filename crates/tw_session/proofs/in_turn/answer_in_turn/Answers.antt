@@ -1,8 +1,5 @@
-use Rattle.std.proofs.Common.{map, string_bytes, subst}
-use Rattle.std.specs.Prelude.{Err, IfOk, Ok}
-use Rattle.tw_session.proofs.SessionNames.{Given, IfOk-weaker, Order, alone, reply}
+use Rattle.tw_session.proofs.SessionNames.{AnswersWords, Err, Given, IfOk, IfOk-weaker, MayReplyClockless, Ok, Order, alone, map, reply, string_bytes, subst}
 use Rattle.tw_source.specs.declared.reply.Reply.{Reply as MadeReply}
-use Rattle.tw_session.specs.Clockless.{AnswersWords, MayReplyClockless}
 use Rattle.tw_session.proofs.in_turn.answer_in_turn.Goals as goal
 
 pub returns-in-Ok : goal.returns-in-Ok

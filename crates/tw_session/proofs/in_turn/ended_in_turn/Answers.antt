@@ -1,9 +1,6 @@
-use Rattle.std.proofs.Common.{◌∙◌, ap, inl, refl, subst, sym}
-use Rattle.tw_host.specs.Run.{run_of}
+use Rattle.tw_session.proofs.SessionNames.{ap, inl, opened, refl, run_of, subst, sym, text_of, ◌∙◌}
 use Rattle.tw_in_turn.specs.InTurn.{HasEnded, IsLeft}
 use Rattle.tw_in_turn.specs.declared.run.InTurnResult.{InTurnResult}
-use Rattle.tw_pool.specs.Openings.{opened}
-use Rattle.tw_source.specs.Source.{text_of}
 use Rattle.tw_session.proofs.Ran.{in_turn, over, replied, replied_run}
 use Rattle.tw_session.proofs.in_turn.ended_in_turn.Goals as goal
 

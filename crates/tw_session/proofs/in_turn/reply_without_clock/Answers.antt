@@ -1,8 +1,5 @@
-use Rattle.std.proofs.Common.{◌∙◌, sym}
-use Rattle.std.proofs.lemmas.Result.{IfOk-weaker}
-use Rattle.tw_source.specs.Reply.{reply}
+use Rattle.tw_session.proofs.SessionNames.{IfOk-weaker, reply, seen_given, sym, ◌∙◌}
 use Rattle.tw_source.specs.declared.reply.Reply.{Reply as MadeReply}
-use Rattle.tw_session.specs.Parts.{seen_given}
 use Rattle.tw_session.proofs.Clockless.{timed, untimed}
 use Rattle.tw_session.proofs.in_turn.reply_without_clock.Goals as goal
 

@@ -1,7 +1,4 @@
-use Rattle.std.proofs.Common.{Result, subst}
-use Rattle.tw_each.specs.Stream.{Streams}
-use Rattle.tw_each.specs.declared.stream.StreamError.{StreamError}
-use Rattle.tw_each.specs.declared.streamed.Streamed.{Streamed}
+use Rattle.tw_session.proofs.SessionNames.{Result, StreamError, Streamed, Streams, subst}
 use Rattle.tw_session.proofs.line_session.answer_lines.Goals as goal
 
 pub returns-in-Ok : goal.returns-in-Ok

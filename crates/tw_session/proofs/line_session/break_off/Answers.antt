@@ -1,8 +1,4 @@
-use Rattle.std.proofs.Common.{◌≡◌, Err, subst}
-use Rattle.tw_each.specs.Stream.{Streams}
-use Rattle.tw_each.specs.declared.stream.StreamError.{StreamError}
-use Rattle.tw_source.specs.Reply.{Reply}
-use Rattle.tw_session.proofs.SessionNames.{NoMemory, WriteFailed}
+use Rattle.tw_session.proofs.SessionNames.{Err, NoMemory, Reply, StreamError, Streams, WriteFailed, subst, ◌≡◌}
 use Rattle.tw_session.proofs.Answering.{no_reply}
 use Rattle.tw_session.proofs.Ending.{out_of_memory, unread}
 use Rattle.tw_session.proofs.line_session.break_off.Goals as goal

@@ -1,7 +1,5 @@
-use Rattle.std.proofs.Common.{ℕ, List, IfOk, inl, inr, subst}
-use Rattle.tw_session.specs.Each.{EndsEach}
+use Rattle.tw_session.proofs.SessionNames.{EndsEach, Given, IfOk, List, MayReply, MayReplyTo, inl, inr, reply, subst, ℕ}
 use Rattle.tw_session.proofs.Answering.{ends_with_reply}
-use Rattle.tw_session.proofs.SessionNames.{Given, MayReply, MayReplyTo, reply}
 use Rattle.tw_session.proofs.line_session.each_session.Goals as goal
 
 pub returns-in-Each : goal.returns-in-Each

@@ -1,8 +1,5 @@
-use Rattle.std.proofs.Common.{◌≡◌, Ok, inl, refl, subst}
+use Rattle.tw_session.proofs.SessionNames.{Ok, Reply, Streamed, Streams, inl, refl, reply, subst, ◌≡◌}
 use Rattle.std.specs.declared.alloc.AllocError.{AllocError}
-use Rattle.tw_each.specs.Stream.{Streams}
-use Rattle.tw_each.specs.declared.streamed.Streamed.{Streamed}
-use Rattle.tw_source.specs.Reply.{Reply, reply}
 use Rattle.tw_session.proofs.Answering.{ends_with_reply}
 use Rattle.tw_session.proofs.Ending.{rejected}
 use Rattle.tw_session.proofs.line_session.finish.Goals as goal

@@ -1,5 +1,4 @@
-use Rattle.std.proofs.Common.{rules, subst}
-use Rattle.tw_session.proofs.SessionNames.{Awaits, IfOk-weaker, MayReplyOn, Prepared, reply, seen}
+use Rattle.tw_session.proofs.SessionNames.{Awaits, IfOk-weaker, MayReplyOn, Prepared, reply, rules, seen, subst}
 use Rattle.tw_source.specs.declared.reply.Reply.{Reply}
 use Rattle.tw_session.proofs.order.text_reply.Goals as goal
 

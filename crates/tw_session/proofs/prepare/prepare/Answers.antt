@@ -1,5 +1,4 @@
-use Rattle.tw_session.proofs.SessionNames.{MayReplyOn, RepliesByParts, seen}
-use Rattle.tw_session.specs.Session.{IsExcessive}
+use Rattle.tw_session.proofs.SessionNames.{IsExcessive, MayReplyOn, RepliesByParts, seen}
 use Rattle.tw_session.proofs.Leading.{awaits}
 use Rattle.tw_session.proofs.Replies.{beyond, within}
 use Rattle.tw_session.proofs.prepare.prepare.Goals as goal

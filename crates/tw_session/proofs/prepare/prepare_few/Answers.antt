@@ -1,6 +1,4 @@
-use Rattle.std.proofs.Common.{subst, sym}
-use Rattle.std.specs.Prelude.{IfOk}
-use Rattle.tw_session.proofs.SessionNames.{Awaits, Order, RepliesByParts, seen}
+use Rattle.tw_session.proofs.SessionNames.{Awaits, IfOk, Order, RepliesByParts, seen, subst, sym}
 use Rattle.tw_session.proofs.prepare.prepare_few.Goals as goal
 
 pub returns-in-Disassemble : goal.returns-in-Disassemble

@@ -1,13 +1,6 @@
-use Rattle.std.proofs.Common.{List, Option, inl, inr, refl, subst, sym}
-use Rattle.std.specs.Prelude.{IfOk}
-use Rattle.std.specs.Str.Lines.{lines}
-use Rattle.tw_types.specs.declared.input.Input.{Input}
-use Rattle.tw_source.specs.Failure.{coded, failed}
-use Rattle.tw_source.specs.Inputs.{RepliesByWords, words_in}
+use Rattle.tw_session.proofs.SessionNames.{Awaits, IfOk, Input, List, Option, RepliesByReplay, RepliesByTexts, RepliesByTrace, RepliesByWords, Reply, coded, failed, inl, inr, lines, refl, replay_with, seen, subst, sym, words_in}
 use Rattle.tw_source.specs.Text.{RepliesByUtf8}
 use Rattle.tw_source.specs.declared.failure.Position.TheVariants as position
-use Rattle.tw_session.proofs.SessionNames.{Awaits, Reply, seen}
-use Rattle.tw_session.specs.Session.{RepliesByReplay, RepliesByTexts, RepliesByTrace, replay_with}
 use Rattle.tw_session.proofs.Leading.{awaits, finished}
 use Rattle.tw_session.proofs.prepare.prepare_replay.Goals as goal
 

@@ -1,12 +1,6 @@
-use Rattle.std.proofs.Common.{List, ℕ, inl, inr, refl, subst, sym}
-use Rattle.std.specs.Prelude.{IfOk}
-use Rattle.std.specs.Str.Lines.{lines}
+use Rattle.tw_session.proofs.SessionNames.{Awaits, IfOk, List, RepliesByInputs, RepliesByJsonRun, RepliesByProgram, RepliesBySource, RepliesByTexts, RepliesByWords, Reply, coded, failed, inl, inr, lines, refl, run_with, seen, source_text, subst, sym, words_in, ℕ}
 use Rattle.tw_order.specs.declared.runs.RunInputs.{RunInputs}
-use Rattle.tw_source.specs.Failure.{coded, failed}
-use Rattle.tw_source.specs.Inputs.{RepliesByWords, words_in}
 use Rattle.tw_source.specs.declared.failure.Position.TheVariants as position
-use Rattle.tw_session.proofs.SessionNames.{Awaits, RepliesBySource, Reply, seen, source_text}
-use Rattle.tw_session.specs.Session.{RepliesByInputs, RepliesByJsonRun, RepliesByProgram, RepliesByTexts, run_with}
 use Rattle.tw_session.proofs.Leading.{awaits, finished}
 use Rattle.tw_session.proofs.prepare.prepare_run_with.Goals as goal
 

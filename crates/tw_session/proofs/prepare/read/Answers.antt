@@ -1,5 +1,4 @@
-use Rattle.std.proofs.Common.{List, ℕ, Option, inl, subst}
-use Rattle.tw_session.proofs.SessionNames.{RepliesByAction, RepliesBySource, reply, source_text, text_of}
+use Rattle.tw_session.proofs.SessionNames.{List, Option, RepliesByAction, RepliesBySource, inl, reply, source_text, subst, text_of, ℕ}
 use Rattle.tw_source.proofs.Nones.{none_printed}
 use Rattle.tw_session.proofs.Leading.{awaits}
 use Rattle.tw_session.proofs.prepare.read.Goals as goal

@@ -1,11 +1,4 @@
-use Rattle.std.proofs.Common.{List, ℕ, inl, inr, subst}
-use Rattle.std.specs.Str.Lines.{lines}
-use Rattle.tw_types.specs.declared.input.Input.{Input}
-use Rattle.tw_source.specs.Inputs.{RepliesByWords, words_in}
-use Rattle.tw_session.proofs.SessionNames.{Reply, seen}
-use Rattle.tw_session.specs.ProgramAction.{AreEncodedWords}
-use Rattle.tw_session.specs.Session.{RepliesByTrace, replay_with}
-use Rattle.tw_session.specs.declared.action.GivenInputs.{GivenInputs}
+use Rattle.tw_session.proofs.SessionNames.{AreEncodedWords, GivenInputs, Input, List, RepliesByTrace, RepliesByWords, Reply, inl, inr, lines, replay_with, seen, subst, words_in, ℕ}
 use Rattle.tw_session.specs.declared.action.GivenInputs.TheVariants as given
 use Rattle.tw_session.proofs.Leading.{awaits}
 use Rattle.tw_session.proofs.prepare.replay_on_words.Goals as goal

@@ -1,9 +1,6 @@
-use Rattle.std.proofs.Common.{◌≡◌, ◌∙◌, Bor, List, ℕ, ap, map, subst}
-use Rattle.std.specs.Str.Lines.{lines}
+use Rattle.tw_session.proofs.SessionNames.{AreEncoded, Bor, List, ap, lines, map, subst, words_in, ℕ, ◌∙◌, ◌≡◌}
 use Rattle.clap.specs.Words.{Text}
-use Rattle.tw_inputs.specs.InputWords.{AreEncoded}
 use Rattle.tw_inputs.specs.WordErrors.{IsInputReason}
-use Rattle.tw_source.specs.Inputs.{words_in}
 use Rattle.tw_session.proofs.prepare.words_given.Goals as goal
 
 pub returns-in-Ok : goal.returns-in-Ok

@@ -1,11 +1,7 @@
-use Rattle.std.proofs.Common.{List, Some, inl, inr, subst, sym}
-use Rattle.tw_code.specs.declared.procedure.Procedure.{Procedure}
+use Rattle.tw_session.proofs.SessionNames.{List, MayBeSource, Procedure, RepliesByOpening, Some, inl, inr, run_with, subst, sym, text_of}
 use Rattle.tw_order.specs.declared.form.Places.TheVariants.{Hidden}
 use Rattle.tw_program_output.specs.Admission.{IsAdmittedOr}
 use Rattle.tw_program_output.specs.declared.acceptance.Admitted.{Admitted}
-use Rattle.tw_source.specs.Source.{MayBeSource, text_of}
-use Rattle.tw_session.specs.Run.{RepliesByOpening}
-use Rattle.tw_session.specs.Session.{run_with}
 use Rattle.tw_session.proofs.programs.prepare_run.Goals as goal
 
 pub returns-in-Run : goal.returns-in-Run

@@ -1,10 +1,6 @@
-use Rattle.std.proofs.Common.{ℕ, List, subst, sym}
-use Rattle.tw_inputs.specs.InputWords.{refused_word}
+use Rattle.tw_session.proofs.SessionNames.{IfOk-weaker, List, PrintsInputWord, RepliesByReason, refused_word, reply, subst, sym, ℕ}
 use Rattle.tw_cli.specs.declared.command.NoOrder.{NoOrder}
-use Rattle.tw_source.specs.Inputs.{PrintsInputWord}
 use Rattle.tw_source.specs.declared.reply.Reply.{Reply as MadeReply}
-use Rattle.tw_session.specs.Session.{RepliesByReason}
-use Rattle.tw_session.proofs.SessionNames.{IfOk-weaker, reply}
 use Rattle.tw_session.proofs.shell.unordered_reply.Goals as goal
 
 pub returns-in-InputWord : goal.returns-in-InputWord
