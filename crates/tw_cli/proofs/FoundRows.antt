@@ -1,9 +1,5 @@
 -- The values that are found among rows.
-use Rattle.std.proofs.Common.{◌≡◌, ◌==◌, ℕ, Bool, true, false, List, [], ◌∷◌, length, Result, Ok, Err, IfOk, IfSome, refl, sym, subst}
-use Rattle.std.specs.Prelude.{is_some, MatchOption, Option, Some, None}
-use Rattle.clap.specs.Words.{Text}
-use Rattle.tw_cli.specs.Explanations.{IsExplanation, IsMeaningOf, IsExplainedBy, is_number, meant, names_code}
-use Rattle.std.specs.List.{find, list_any}
+use Rattle.tw_cli.proofs.Names.{Bool, Err, IfOk, IfSome, IsExplainedBy, IsExplanation, IsMeaningOf, List, MatchOption, None, Ok, Option, Result, Some, Text, [], false, find, is_number, is_some, length, list_any, meant, names_code, refl, subst, sym, true, ℕ, ◌==◌, ◌∷◌, ◌≡◌}
 
 pub some_found : {X : Type 0} (p : X → Bool) (xs : List X) → is_some (find p xs) ≡ list_any p xs
 some_found p [] = refl

@@ -1,3 +1,4 @@
 pub mod FoundRows
 pub mod Tables
 pub mod Words
+pub mod Names

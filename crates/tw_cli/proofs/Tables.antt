@@ -1,9 +1,6 @@
 -- One more row of a table.
-use Rattle.std.proofs.Common.{◌≡◌, ◌<◌, ◌∙◌, ◌+◌, ℕ, List, [], ◌∷◌, length, take, get_or, sym, ap}
-use Rattle.std.specs.List.{fold}
-use Rattle.std.proofs.lemmas.List.{take_more}
+use Rattle.tw_cli.proofs.Names.{App, List, [], ap, fold, get_or, length, sym, take, take_more, ℕ, ◌+◌, ◌<◌, ◌∙◌, ◌∷◌, ◌≡◌}
 use Rattle.std.proofs.lemmas.List.Sums.{fold-append}
-use Rattle.clap.specs.Words.{App}
 
 pub one_row_more : {R : Type 0} (with_row : App → R → App) (line old new : App) (rows : List R) (row : R) (i : ℕ) → i < length rows → old ≡ fold with_row line (take i rows)
     → new ≡ with_row old (get_or rows i row) → new ≡ fold with_row line (take (i + 1) rows)

@@ -1,10 +1,8 @@
 -- The rows that clap finds after the command.
-use Rattle.std.proofs.Common.{◌≡◌, true, List, Option, Some, None, refl, ap, ap₂, ◌∙◌}
+use Rattle.tw_cli.proofs.Names.{App, HasMatchesOf, List, None, Option, Row, Some, Text, ap, ap₂, found_after, is_simple, refl, subcommand_of, subcommand_rows_of, true, ◌∙◌, ◌≡◌}
 use Rattle.std.specs.Option.{option_map}
-use Rattle.clap.specs.Words.{App, HasMatchesOf, Row, Text, is_simple, subcommand_of, subcommand_rows_of}
 use Rattle.clap.specs.declared.ArgMatches.{ArgMatches}
 use Rattle.clap.proofs.OnLiterals.{clap_on_literals}
-use Rattle.tw_cli.specs.Order.{found_after}
 use Rattle.tw_cli.specs.Rows.{command_line}
 
 simple : is_simple command_line ≡ true

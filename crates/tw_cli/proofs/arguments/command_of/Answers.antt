@@ -1,9 +1,4 @@
-use Rattle.std.proofs.Common.{◌∙◌, ap, ap₂, refl}
-use Rattle.std.specs.List.{fold}
-use Rattle.std.specs.Prelude.{◌||◌}
-use Rattle.std.proofs.lemmas.List.{take_all}
-use Rattle.clap.specs.Words.{new_app, with_rule}
-use Rattle.tw_cli.specs.reading.Rows.{with_argument}
+use Rattle.tw_cli.proofs.Names.{ap, ap₂, fold, new_app, refl, take_all, with_argument, with_rule, ◌||◌, ◌∙◌}
 use Rattle.tw_cli.proofs.Tables.{one_row_more}
 use Rattle.tw_cli.proofs.arguments.command_of.Goals as goal
 

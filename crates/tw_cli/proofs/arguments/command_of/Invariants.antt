@@ -1,8 +1,5 @@
-use Rattle.std.proofs.Common.{◌≡◌, false, take}
-use Rattle.std.specs.List.{fold}
-use Rattle.clap.specs.Words.{app_of, new_app}
+use Rattle.tw_cli.proofs.Names.{app_of, false, fold, new_app, take, with_argument, ◌≡◌}
 use Rattle.clap.specs.declared.Command.TheViews.{out-Command}
-use Rattle.tw_cli.specs.reading.Rows.{with_argument}
 use Rattle.tw_cli.proofs.arguments.command_of.Given as goal
 
 abbrev pub invariant-loop-argument_row : goal.invariant-loop-argument_row

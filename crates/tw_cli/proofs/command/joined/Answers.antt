@@ -1,6 +1,5 @@
-use Rattle.std.proofs.Common.{◌∙◌, ap}
+use Rattle.tw_cli.proofs.Names.{AddsSubcommand, App, ap, app_of, with_subcommand, ◌∙◌}
 use Rattle.std.proofs.lemmas.Result.{IfOk-weaker}
-use Rattle.clap.specs.Words.{AddsSubcommand, App, app_of, with_subcommand}
 use Rattle.clap.specs.declared.Command.{Command}
 use Rattle.tw_cli.proofs.command.joined.Goals as goal
 

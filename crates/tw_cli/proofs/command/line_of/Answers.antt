@@ -1,8 +1,4 @@
-use Rattle.std.proofs.Common.{◌∙◌, ap}
-use Rattle.std.specs.List.{fold}
-use Rattle.std.proofs.lemmas.List.{take_all}
-use Rattle.tw_cli.specs.Rows.{bare_line}
-use Rattle.tw_cli.specs.reading.Rows.{with_row}
+use Rattle.tw_cli.proofs.Names.{ap, bare_line, fold, take_all, with_row, ◌∙◌}
 use Rattle.tw_cli.proofs.Tables.{one_row_more}
 use Rattle.tw_cli.proofs.command.line_of.Goals as goal
 

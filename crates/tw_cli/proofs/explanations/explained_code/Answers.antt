@@ -1,7 +1,5 @@
-use Rattle.std.proofs.Common.{◌≡◌, ◌∙◌, ◌==◌, ℕ, Bool, List, IfOk, false, true, length, refl, subst, sym}
-use Rattle.std.specs.Prelude.{MatchOption}
+use Rattle.tw_cli.proofs.Names.{Bool, IfOk, IsExplainedBy, IsExplanation, List, MatchOption, false, is_number, length, meant, refl, subst, sym, true, ℕ, ◌==◌, ◌∙◌, ◌≡◌}
 use Rattle.tw_cli.specs.declared.explanations.Explained.{Explained}
-use Rattle.tw_cli.specs.Explanations.{IsExplainedBy, IsExplanation, is_number, meant}
 use Rattle.tw_cli.proofs.FoundRows.{explained_word}
 use Rattle.tw_cli.proofs.explanations.explained_code.Goals as goal
 

@@ -1,5 +1,4 @@
-use Rattle.std.proofs.Common.{◌≡◌, ◌∙◌, true, IfSome, ap, sym, subst}
-use Rattle.std.specs.Prelude.{is_some, Option, Some, None}
+use Rattle.tw_cli.proofs.Names.{IfSome, None, Option, Some, ap, is_some, subst, sym, true, ◌∙◌, ◌≡◌}
 use Rattle.std.specs.Str.{bytes_eq}
 use Rattle.std.proofs.lemmas.Slice.Eq.{bytes_eq-Decides}
 use Rattle.tw_cli.specs.declared.explanations.Explanation.{Explanation}

@@ -1,6 +1,4 @@
-use Rattle.std.proofs.Common.{◌≡◌, ◌∙◌, [], ap, sym, codes, Option, Some, None, unwrap_or}
-use Rattle.clap.specs.Words.{Text, first_of, found_of, rows_of}
-use Rattle.clap.proofs.WalkLemmas.{first_value-rows}
+use Rattle.tw_cli.proofs.Names.{None, Option, Some, Text, [], ap, codes, first_of, first_value-rows, found_of, rows_of, sym, unwrap_or, ◌∙◌, ◌≡◌}
 use Rattle.tw_cli.proofs.orders.explanation_given.Goals as goal
 
 pub returns-in-Some : goal.returns-in-Some

@@ -1,6 +1,4 @@
-use Rattle.std.proofs.Common.{◌≡◌, ◌∙◌, sym, map, codes, Some, None}
-use Rattle.clap.specs.Words.{all_of, found_of, rows_of}
-use Rattle.clap.proofs.WalkLemmas.{raw_values-rows}
+use Rattle.tw_cli.proofs.Names.{None, Some, all_of, codes, found_of, map, raw_values-rows, rows_of, sym, ◌∙◌, ◌≡◌}
 use Rattle.tw_cli.proofs.orders.inputs_in_words.Goals as goal
 
 pub returns-in-Some : goal.returns-in-Some

@@ -1,7 +1,4 @@
-use Rattle.std.proofs.Common.{◌≡◌, ◌∙◌, List, ap, map, string_bytes, subst, sym}
-use Rattle.clap.specs.Words.{Row, subcommand_of}
-use Rattle.tw_cli.specs.Order.{Gives, found_after}
-use Rattle.tw_cli.specs.Rows.{command_line}
+use Rattle.tw_cli.proofs.Names.{Gives, List, Row, ap, command_line, found_after, map, string_bytes, subcommand_of, subst, sym, ◌∙◌, ◌≡◌}
 use Rattle.tw_cli.proofs.Words.{found_in, found_is}
 use Rattle.tw_cli.proofs.orders.read_order.Goals as goal
 
