@@ -1,9 +1,7 @@
 -- Whether there are lines of bounds above their caps, and that a run is within the caps if there are none.
-use Rattle.std.proofs.Common.{◌≡◌, ◌≢◌, ◌==◌, ◌<◌, ◌≤◌, ◌+◌, ◌++◌, ◌||◌, ℕ, Bool, true, false, List, [], ◌∷◌, length, refl, ap, sym, ◌∙◌, subst, arith, codes, Option}
-use Rattle.std.specs.Prelude.{nat_lt}
+use Rattle.tw_program_output.proofs.ReplyNames.{Bool, IsLargestBudget, LeastRuns, List, Option, Procedure, StaysWithinCaps, [], ap, arith, codes, excess, excess_lines, false, has_cap, is_within, length, nat_lt, refl, subst, sym, true, ℕ, ◌++◌, ◌+◌, ◌<◌, ◌==◌, ◌||◌, ◌∙◌, ◌∷◌, ◌≡◌, ◌≢◌, ◌≤◌}
 use Rattle.std.proofs.lemmas.Bool.{eq-eqb, eqb-true, leb-true, lt-ltb}
 use Rattle.std.proofs.lemmas.Option.{slice_get_within}
-use Rattle.tw_code.specs.declared.procedure.Procedure.{Procedure}
 use Rattle.tw_code.specs.machine.Opening.{opening}
 use Rattle.tw_order.specs.declared.caps.Caps.{Caps}
 use Rattle.tw_order.specs.Orders.{greatest_cap}
@@ -11,10 +9,7 @@ use Rattle.tw_bounds.specs.declared.bound.Bound.{Bound}
 use Rattle.tw_bounds.specs.declared.bound.Bound.TheVariants.{AtMost, Over, Endless}
 use Rattle.tw_bounds.specs.declared.limited.LimitedBounds.{LimitedBounds}
 use Rattle.tw_bounds.specs.Contents.{bytes_held, members_held}
-use Rattle.tw_bounds.specs.Least.{LeastRuns}
-use Rattle.tw_bounds.specs.Limited.{IsLargestBudget}
 use Rattle.tw_bounds.specs.Runs.{instructions_in, tasks_in}
-use Rattle.tw_program_output.specs.Admission.{StaysWithinCaps, excess, excess_lines, has_cap, is_within}
 
 pub no_lines : (lines : List ℕ) (b : Bool) → b ≡ (length lines == 0) → b ≡ true → lines ≡ []
 no_lines [] b is e = refl

@@ -1,15 +1,12 @@
 -- A circle of calls that was found; and the member about the order of events, which has no float.
-use Rattle.std.proofs.Common.{◌≡◌, false, List, refl, Option, Some, None, IfSome, codes}
+use Rattle.tw_program_output.proofs.ReplyNames.{CopyInsertion, IfSome, IsCircleOf, List, None, Option, Procedure, Some, codes, false, refl, ◌≡◌}
 use Rattle.serde_json.specs.Data as json
 use Rattle.serde_json.specs.Written.{members_have_float}
 use Rattle.tw_bounds.specs.Bounds.{CallsEnd}
 use Rattle.tw_bounds.specs.Circles.{IsCircle}
 use Rattle.tw_bounds.specs.declared.circles.Circle.{Circle}
-use Rattle.tw_copies.specs.declared.check.CopyInsertion.{CopyInsertion}
 use Rattle.tw_json_output.proofs.Floats.{one_more}
-use Rattle.tw_program_output.specs.Answer.{IsCircleOf}
 use Rattle.tw_program_output.specs.EventOrder.{order_json}
-use Rattle.tw_program_output.proofs.ReplyNames.{Procedure}
 
 pub circle_of : (program : List Procedure) (found : Option Circle) → IfSome found (IsCircle program) → (found ≡ None → CallsEnd program 0) → IsCircleOf program found
 circle_of program None is none = none refl

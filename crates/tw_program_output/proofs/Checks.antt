@@ -1,10 +1,6 @@
 -- The rows of procedures, one more.
-use Rattle.std.proofs.Common.{◌≡◌, ◌<◌, ◌+◌, ℕ, suc, List, [], ◌∷◌, ◌++◌, length, take, get_or, sym, ap, subst, ◌∙◌, arith, length-take, Option, Some, IsSomeAnd, refl}
-use Rattle.tw_program_output.proofs.ReplyNames.{Procedure, slice_get, slice_get-get_or, take_more}
-use Rattle.tw_code.specs.accepting.Flow.{flows}
+use Rattle.tw_program_output.proofs.ReplyNames.{AreRows, IsSomeAnd, List, Option, Procedure, ProcedureRow, Some, [], ap, arith, flows, get_or, length, length-take, refl, slice_get, slice_get-get_or, subst, suc, sym, take, take_more, ℕ, ◌++◌, ◌+◌, ◌<◌, ◌∙◌, ◌∷◌, ◌≡◌}
 use Rattle.tw_code.specs.accepting.Walk.{IsBudget}
-use Rattle.tw_program_output.specs.Answer.{AreRows}
-use Rattle.tw_program_output.specs.declared.answer.ProcedureRow.{ProcedureRow}
 
 abbrev row_of : ℕ → Procedure → ℕ → ProcedureRow
 row_of number p budget = record { number = number; kind = p.kind; budget = budget }

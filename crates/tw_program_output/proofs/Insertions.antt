@@ -1,14 +1,8 @@
 -- The line of an insertion.
-use Rattle.std.proofs.Common.{◌≡◌, ◌∙◌, ℕ, List, Option, Some, None, ap, sym}
-use Rattle.std.specs.Option.{option_and_then}
+use Rattle.tw_program_output.proofs.ReplyNames.{CopyInsertion, List, MayBeSource, MayBeSourceAt, None, Option, Procedure, Some, SourceText, ap, instr_at, option_and_then, sym, ℕ, ◌∙◌, ◌≡◌}
 use Rattle.std.specs.Prelude.{slice_get}
-use Rattle.tw_asm.specs.Origins.{instr_at}
 use Rattle.tw_code.specs.declared.instr.Instr.{Instr}
-use Rattle.tw_code.specs.declared.procedure.Procedure.{Procedure}
 use Rattle.tw_copies.specs.Copies.{IsAt}
-use Rattle.tw_copies.specs.declared.check.CopyInsertion.{CopyInsertion}
-use Rattle.tw_source.specs.Source.{MayBeSource, MayBeSourceAt}
-use Rattle.tw_source.specs.declared.source.SourceText.{SourceText}
 
 some_there : (program : List Procedure) (k place : ℕ) (p : Procedure) (i : Instr) → slice_get program k ≡ Some p → slice_get p.code place ≡ Some i → instr_at program k place ≡ None → ⊥
 some_there program k place p i here there none =

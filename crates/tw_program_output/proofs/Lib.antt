@@ -4,3 +4,4 @@ mod ReplyNames
 pub mod Admissions
 mod Insertions
 pub mod CheckObjects
+pub mod ReplyNames

@@ -1,14 +1,9 @@
 -- A rejected place is one of the program's.
-use Rattle.std.proofs.Common.{◌≡◌, ℕ, List, [], ◌∷◌, Option, Some, None, inl, inr, sym, subst, ap, ◌∙◌, arith}
+use Rattle.tw_program_output.proofs.ReplyNames.{IsFirstRejection, IsProcedure, IsProcedureRejection, IsProgram, List, MayBeSource, MayBeSourceAt, None, Option, Procedure, Some, SourceText, [], ap, arith, flow_of, flows, inl, inr, instr_at, option_and_then, option_map, slice_get-map, subst, sym, ℕ, ◌∙◌, ◌∷◌, ◌≡◌}
 use Rattle.tw_soundness.proofs.Accepted.{all_found}
 use Rattle.tw_verify.proofs.Lists.{get_none}
-use Rattle.tw_program_output.proofs.ReplyNames.{IsProcedure, IsProgram, MayBeSource, MayBeSourceAt, Procedure, instr_at, slice_get-map}
 use Rattle.std.specs.List.{slice_get}
-use Rattle.std.specs.Option.{option_and_then, option_map}
-use Rattle.tw_code.specs.accepting.Flow.{flow_of, flows}
 use Rattle.tw_code.specs.accepting.Structure.{structure_rejection}
-use Rattle.tw_code.specs.accepting.WellTyped.{IsFirstRejection, IsProcedureRejection}
-use Rattle.tw_source.specs.declared.source.SourceText.{SourceText}
 
 none_some : {X Z : Type 0} {x : X} → None ≡ Some x → Z
 none_some e = absurd cc

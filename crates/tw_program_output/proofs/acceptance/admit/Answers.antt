@@ -1,9 +1,5 @@
-use Rattle.std.proofs.Common.{IfOk, List, inr, subst, sym}
-use Rattle.tw_code.specs.accepting.WellTyped.{IsAccepted, IsFirstRejection}
+use Rattle.tw_program_output.proofs.ReplyNames.{IfOk, IsAccepted, IsAdmittedOr, IsFirstRejection, List, MayBeSource, Procedure, RepliesByRejection, inr, reply, subst, sym, text_of, verify_error_code}
 use Rattle.tw_code.specs.format.Program.{Versioned}
-use Rattle.tw_program_output.specs.Admission.{IsAdmittedOr}
-use Rattle.tw_program_output.specs.Rejection.{RepliesByRejection}
-use Rattle.tw_program_output.proofs.ReplyNames.{MayBeSource, Procedure, reply, text_of, verify_error_code}
 use Rattle.tw_program_output.proofs.acceptance.admit.Goals as goal
 
 pub within_caps-requires : goal.within_caps-requires

@@ -1,8 +1,6 @@
-use Rattle.std.proofs.Common.{◌==◌, ◌∙◌, ℕ, ap, inl, refl, subst}
+use Rattle.tw_program_output.proofs.ReplyNames.{AreExcessLines, ap, coded, failed_with, has_cap, inl, refl, subst, ℕ, ◌==◌, ◌∙◌}
 use Rattle.tw_source.specs.declared.failure.Position.TheVariants as position
-use Rattle.tw_program_output.specs.Admission.{AreExcessLines, has_cap}
 use Rattle.tw_program_output.proofs.Admissions.{no_lines, some_lines}
-use Rattle.tw_program_output.proofs.ReplyNames.{coded, failed_with}
 use Rattle.tw_program_output.proofs.acceptance.within_caps.Goals as goal
 
 pub returns-then-is_empty : goal.returns-then-is_empty

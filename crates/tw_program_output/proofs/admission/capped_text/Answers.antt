@@ -1,9 +1,5 @@
-use Rattle.std.proofs.Common.{List, Option, [], subst, sym, ◌≡◌, ◌∙◌, ℕ}
-use Rattle.std.specs.Prelude.{true}
-use Rattle.tw_bounds.specs.Least.{AreLeastBounds, LeastRuns}
-use Rattle.tw_program_output.specs.Admission.{AreExcessLines, StaysWithinCaps, excess_lines}
+use Rattle.tw_program_output.proofs.ReplyNames.{AreExcessLines, AreLeastBounds, LeastRuns, List, Option, StaysWithinCaps, [], excess_lines, finished, from_empty, subst, sym, true, ℕ, ◌∙◌, ◌≡◌}
 use Rattle.tw_program_output.proofs.Admissions.{stays_within}
-use Rattle.tw_writer.proofs.Pieces.{finished, from_empty}
 use Rattle.tw_program_output.proofs.admission.capped_text.Goals as goal
 
 pub returns-clause-lines : goal.returns-clause-lines

@@ -1,5 +1,4 @@
-use Rattle.std.proofs.Common.{ℕ, refl, subst}
-use Rattle.tw_bounds.specs.Limited.{AreLimitedBounds}
+use Rattle.tw_program_output.proofs.ReplyNames.{AreLimitedBounds, refl, subst, ℕ}
 use Rattle.tw_program_output.proofs.answer.limited_by.Goals as goal
 
 pub returns-in-Some : goal.returns-in-Some

@@ -1,5 +1,4 @@
-use Rattle.std.proofs.Common.{take}
-use Rattle.tw_program_output.specs.Answer.{AreRows}
+use Rattle.tw_program_output.proofs.ReplyNames.{AreRows, take}
 use Rattle.tw_program_output.proofs.answer.procedure_rows.Given as goal
 
 abbrev pub invariant-loop-number : goal.invariant-loop-number

@@ -1,7 +1,4 @@
-use Rattle.std.proofs.Common.{◌∙◌, ap}
-use Rattle.tw_program_output.specs.Assembled.{IsFaultReply}
-use Rattle.tw_program_output.proofs.ReplyNames.{Failure, IfOk-weaker, Reply, reply}
-use Rattle.tw_source.specs.Failure.{failed}
+use Rattle.tw_program_output.proofs.ReplyNames.{Failure, IfOk-weaker, IsFaultReply, Reply, ap, failed, reply, ◌∙◌}
 use Rattle.tw_program_output.proofs.assembled.fault_reply.Goals as goal
 
 pub returns : goal.returns

@@ -1,6 +1,4 @@
-use Rattle.std.proofs.Common.{◌≢◌, inl}
-use Rattle.tw_program_output.specs.Assembled.{IsWritten}
-use Rattle.tw_program_output.proofs.ReplyNames.{Assembly, IfOk-weaker, RepliesBySource, Reply, reply}
+use Rattle.tw_program_output.proofs.ReplyNames.{Assembly, IfOk-weaker, IsWritten, RepliesBySource, Reply, inl, reply, ◌≢◌}
 use Rattle.tw_source.proofs.Nones.{none_printed}
 use Rattle.tw_source.specs.Program.{PrintsNone}
 use Rattle.tw_source.specs.declared.program.NoProgram.TheVariants.{NoMemory}

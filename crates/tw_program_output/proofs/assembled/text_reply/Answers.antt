@@ -1,5 +1,4 @@
-use Rattle.std.proofs.Common.{inl, inr}
-use Rattle.tw_program_output.proofs.ReplyNames.{IfOk-weaker, Reply}
+use Rattle.tw_program_output.proofs.ReplyNames.{IfOk-weaker, Reply, inl, inr}
 use Rattle.tw_source.proofs.Faults.{fault_has}
 use Rattle.tw_program_output.proofs.assembled.text_reply.Goals as goal
 

@@ -1,6 +1,4 @@
-use Rattle.std.proofs.Common.{List, ℕ, inr, subst}
-use Rattle.tw_program_output.specs.Assembled.{IsWritten, RepliesByText}
-use Rattle.tw_program_output.proofs.ReplyNames.{IfOk-weaker, Reply, reply}
+use Rattle.tw_program_output.proofs.ReplyNames.{IfOk-weaker, IsWritten, List, RepliesByText, Reply, inr, reply, subst, ℕ}
 use Rattle.tw_program_output.proofs.assembled.written_reply.Goals as goal
 
 pub returns-in-Ok : goal.returns-in-Ok

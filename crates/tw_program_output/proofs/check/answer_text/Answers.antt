@@ -1,6 +1,4 @@
-use Rattle.std.proofs.Common.{List, ◌≡◌, ℕ}
-use Rattle.tw_program_output.specs.Check.{check_text}
-use Rattle.tw_writer.proofs.Pieces.{both_added, finished, from_empty}
+use Rattle.tw_program_output.proofs.ReplyNames.{List, both_added, check_text, finished, from_empty, ℕ, ◌≡◌}
 use Rattle.tw_program_output.proofs.check.answer_text.Goals as goal
 
 pub returns : goal.returns

@@ -1,6 +1,4 @@
-use Rattle.std.proofs.Common.{◌∙◌, Global, Vec, ap, ℕ}
-use Rattle.tw_program_output.specs.Check.{IsCheckText, check_text}
-use Rattle.tw_program_output.proofs.ReplyNames.{IfOk-weaker}
+use Rattle.tw_program_output.proofs.ReplyNames.{Global, IfOk-weaker, IsCheckText, Vec, ap, check_text, ℕ, ◌∙◌}
 use Rattle.tw_program_output.proofs.check.check_text.Goals as goal
 
 pub returns : goal.returns

@@ -1,7 +1,4 @@
-use Rattle.std.proofs.Common.{List, inl, refl, subst}
-use Rattle.tw_program_output.specs.Admission.{IsAdmittedOr}
-use Rattle.tw_program_output.specs.Check.{IsPrinted}
-use Rattle.tw_program_output.proofs.ReplyNames.{Procedure, text_of}
+use Rattle.tw_program_output.proofs.ReplyNames.{IsAdmittedOr, IsPrinted, List, Procedure, inl, refl, subst, text_of}
 use Rattle.tw_program_output.proofs.check.checked_reply.Goals as goal
 
 pub returns-in_ok-requested_text-in-Run : goal.returns-in_ok-requested_text-in-Run

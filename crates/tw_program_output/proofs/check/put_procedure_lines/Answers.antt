@@ -1,8 +1,5 @@
-use Rattle.std.proofs.Common.{List, length, subst, ◌≤◌}
-use Rattle.tw_program_output.specs.Check.{procedure_line}
-use Rattle.tw_program_output.specs.declared.answer.ProcedureRow.{ProcedureRow}
+use Rattle.tw_program_output.proofs.ReplyNames.{List, ProcedureRow, all_of, length, procedure_line, subst, ◌≤◌}
 use Rattle.tw_symbols.specs.Symbols.{name_at}
-use Rattle.tw_writer.proofs.Pieces.{all_of}
 use Rattle.tw_program_output.proofs.check.put_procedure_lines.Goals as goal
 
 pub returns : goal.returns

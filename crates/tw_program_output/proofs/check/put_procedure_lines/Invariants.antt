@@ -1,6 +1,4 @@
-use Rattle.std.proofs.Common.{take}
-use Rattle.tw_program_output.specs.Check.{procedure_lines}
-use Rattle.tw_writer.specs.Appended.{IsAppended}
+use Rattle.tw_program_output.proofs.ReplyNames.{IsAppended, procedure_lines, take}
 use Rattle.tw_program_output.proofs.check.put_procedure_lines.Given as goal
 
 abbrev pub invariant-loop-row : goal.invariant-loop-row

@@ -1,7 +1,4 @@
-use Rattle.std.proofs.Common.{◌≡◌, ◌∙◌, ◌++◌, ℕ, List, ap, append_assoc}
-use Rattle.tw_program_output.specs.Rejection.{RepliesByRejection, rejection}
-use Rattle.tw_source.specs.Failure.{after}
-use Rattle.tw_program_output.proofs.ReplyNames.{Failure, IfOk-weaker, Refused, Reply, failure_line, reply, text_of, verify_error_code}
+use Rattle.tw_program_output.proofs.ReplyNames.{Failure, IfOk-weaker, List, Refused, RepliesByRejection, Reply, after, ap, append_assoc, failure_line, rejection, reply, text_of, verify_error_code, ℕ, ◌++◌, ◌∙◌, ◌≡◌}
 use Rattle.tw_program_output.proofs.Places.{placed}
 use Rattle.tw_program_output.proofs.check.rejection_reply.Goals as goal
 

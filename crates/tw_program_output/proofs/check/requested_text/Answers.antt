@@ -1,6 +1,4 @@
-use Rattle.std.proofs.Common.{Global, Vec, ℕ}
-use Rattle.tw_program_output.specs.Check.{IsPrinted}
-use Rattle.tw_program_output.proofs.ReplyNames.{IfOk-weaker}
+use Rattle.tw_program_output.proofs.ReplyNames.{Global, IfOk-weaker, IsPrinted, Vec, ℕ}
 use Rattle.tw_program_output.proofs.check.requested_text.Goals as goal
 
 pub returns : goal.returns

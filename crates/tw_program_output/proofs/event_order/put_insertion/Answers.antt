@@ -1,6 +1,5 @@
-use Rattle.std.proofs.Common.{◌∙◌}
+use Rattle.tw_program_output.proofs.ReplyNames.{on_ok_weaker, ◌∙◌}
 use Rattle.tw_binary.proofs.Types.{appended}
-use Rattle.tw_program_output.proofs.ReplyNames.{on_ok_weaker}
 use Rattle.tw_program_output.proofs.event_order.put_insertion.Goals as goal
 
 pub returns : goal.returns

@@ -1,7 +1,5 @@
-use Rattle.std.proofs.Common.{◌++◌, ◌∙◌, List, ap, ℕ}
+use Rattle.tw_program_output.proofs.ReplyNames.{List, ap, finished, from_empty, text_of, ℕ, ◌++◌, ◌∙◌}
 use Rattle.tw_program_output.specs.Place.{IsPlaced, placed_line}
-use Rattle.tw_program_output.proofs.ReplyNames.{text_of}
-use Rattle.tw_writer.proofs.Pieces.{finished, from_empty}
 use Rattle.tw_program_output.proofs.place.placed_text.Goals as goal
 
 pub returns : goal.returns

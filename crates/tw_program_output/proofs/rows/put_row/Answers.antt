@@ -1,8 +1,6 @@
-use Rattle.std.proofs.Common.{◌++◌, List, sym, ℕ}
+use Rattle.tw_program_output.proofs.ReplyNames.{List, Value, all_of, cell_of, same_added, sym, value_text, ℕ, ◌++◌}
 use Rattle.std.proofs.lemmas.List.Folds.{flat_map-map}
-use Rattle.tw_program_output.specs.Rows.{Value, cell_of, value_text}
 use Rattle.tw_program_output.specs.declared.rows.Cell.{Cell}
-use Rattle.tw_writer.proofs.Pieces.{all_of, same_added}
 use Rattle.tw_program_output.proofs.rows.put_row.Goals as goal
 
 abbrev text : List ℕ × Value → List ℕ

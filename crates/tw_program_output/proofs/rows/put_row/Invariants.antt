@@ -1,7 +1,5 @@
-use Rattle.std.proofs.Common.{◌++◌, take}
+use Rattle.tw_program_output.proofs.ReplyNames.{IsAppended, cell_of, take, value_text, ◌++◌}
 use Rattle.std.specs.List.{flat_map}
-use Rattle.tw_program_output.specs.Rows.{cell_of, value_text}
-use Rattle.tw_writer.specs.Appended.{IsAppended}
 use Rattle.tw_program_output.proofs.rows.put_row.Given as goal
 
 abbrev pub invariant-loop-cell : goal.invariant-loop-cell
