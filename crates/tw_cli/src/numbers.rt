@@ -108,6 +108,7 @@ fn caps_given(matches: &ArgMatches<'_>) -> Result<Caps, &'static str> {
         bytes: cap_given(matches, "most-bytes")?,
         budget: cap_given(matches, "most-budget")?,
         members: cap_given(matches, "most-members")?,
+        rules: u64::MAX,
     })
 }
 

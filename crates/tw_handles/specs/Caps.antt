@@ -1,29 +1,17 @@
 -- Caps on the runs of a loaded program, and the bounds of its runs.
-use Rattle.std.specs.Prelude.{◌≡◌, ◌⊎◌, ◌&&◌, ◌||◌, ◌+◌, ◌<◌, ◌≤◌, ◌∷◌, [], ℕ, Bool, true, false, List, Option, Some, None, nat_le, nat_lt, length, slice_get, unwrap_or}
-use Rattle.tw_types.specs.declared.event.Event.{Event}
-use Rattle.tw_types.specs.declared.input.Input.{Input}
-use Rattle.tw_types.specs.Layout.{ActorCounts}
-use Rattle.tw_types.specs.Outcome.{Went}
-use Rattle.tw_code.specs.accepting.Flow.{flows}
-use Rattle.tw_code.specs.accepting.Walk.{IsBudget}
+use Rattle.std.specs.Prelude.{◌≡◌, ◌⊎◌, ◌<◌, ◌≤◌, ◌∷◌, [], ℕ, Bool, true, List, Option, Some, None, slice_get, unwrap_or}
 use Rattle.tw_code.specs.declared.procedure.Procedure.{Procedure}
-use Rattle.tw_code.specs.machine.Inputs.{AreInputsOf}
-use Rattle.tw_code.specs.machine.Opening.{opening, reached}
-use Rattle.tw_code.specs.machine.State.{State}
-use Rattle.tw_bounds.specs.Contents.{bytes_held, members_held}
 use Rattle.tw_bounds.specs.Least.{AreLeastBounds, LeastRuns}
-use Rattle.tw_bounds.specs.Limited.{IsLargestBudget}
-use Rattle.tw_bounds.specs.Runs.{instructions_in, tasks_in}
 use Rattle.tw_bounds.specs.declared.bound.Bound.{Bound}
 use Rattle.tw_bounds.specs.declared.bound.Bound.TheVariants.{AtMost, Over, Endless}
 use Rattle.tw_bounds.specs.declared.limited.LimitedBounds.{LimitedBounds}
 use Rattle.tw_order.specs.Orders.{greatest_cap}
-use Rattle.tw_program_output.specs.Admission.{is_within}
+use Rattle.tw_order.specs.declared.caps.Caps.{Caps}
+use Rattle.tw_program_output.specs.Admission.{IsJudged}
 use Rattle.tw_verify.specs.Typed.{TypedProgram}
 use Rattle.tw_handles.specs.Asking.{Fails}
 use Rattle.tw_handles.specs.Codes.{done, no_limit, no_memory}
 use Rattle.tw_handles.specs.Numbers.{filled}
-use Rattle.tw_handles.specs.declared.caps.AllCaps.{AllCaps}
 
 -- ---- caps
 
@@ -32,7 +20,7 @@ abbrev pub listed_cap : List ℕ → ℕ → ℕ
 listed_cap numbers index = unwrap_or (slice_get numbers index) greatest_cap
 
 -- the caps of a list, in this order; it has none for those that it lacks
-abbrev pub listed_caps : List ℕ → AllCaps
+abbrev pub listed_caps : List ℕ → Caps
 listed_caps numbers = record {
   tasks = listed_cap numbers 0;
   instructions = listed_cap numbers 1;
@@ -43,50 +31,13 @@ listed_caps numbers = record {
   rules = listed_cap numbers 6;
 }
 
-abbrev pub is_cap : ℕ → Bool
-is_cap most = nat_lt most greatest_cap
-
-abbrev pub has_cap : AllCaps → Bool
-has_cap caps = is_cap caps.tasks || (is_cap caps.instructions || (is_cap caps.«data» || (is_cap caps.bytes || (is_cap caps.budget || (is_cap caps.members || is_cap caps.rules)))))
-
--- holds if no bound is above its cap
-abbrev pub are_within : AllCaps → LimitedBounds → ℕ → Bool
-are_within caps bounds budget =
-    is_within bounds.tasks caps.tasks && (is_within bounds.instructions caps.instructions && (is_within bounds.«data» caps.«data» && (is_within bounds.bytes caps.bytes
-    && (nat_le budget caps.budget && (is_within bounds.members caps.members && is_within bounds.rules caps.rules)))))
-
 -- holds for a limit from 1 to 1,000,000
 abbrev pub IsLimit : ℕ → Type 0
 IsLimit limit = (1 ≤ limit) × (limit ≤ 1000000)
 
--- a run with these events, which led to this state, is within the caps
-pub record IsRunWithinCaps (program : List Procedure) (caps : AllCaps) (inputs : List Input) (events : List Event) (s : State) : Type 0 where
-  pub tasks : caps.tasks < greatest_cap → tasks_in events ≤ caps.tasks
-  pub instructions : caps.instructions < greatest_cap → instructions_in events ≤ caps.instructions
-  pub new_data : caps.«data» < greatest_cap → s.store.next ≤ (opening program inputs).store.next + caps.«data»
-  pub bytes : caps.bytes < greatest_cap → bytes_held s ≤ bytes_held (opening program inputs) + caps.bytes
-  pub members : caps.members < greatest_cap → members_held s.store ≤ members_held (opening program inputs).store + caps.members
-  pub rules : caps.rules < greatest_cap → s.next_rule ≤ (opening program inputs).next_rule + caps.rules
-
--- with any inputs and layout, each run of at most so many events is within the caps, and so is each budget
-pub record StaysWithin (program : List Procedure) (limit : ℕ) (caps : AllCaps) : Type 0 where
-  pub runs : (inputs : List Input) (layout : ActorCounts) (events : List Event) (s : State) → AreInputsOf program inputs → length events ≤ limit → reached program inputs layout events ≡ Went s
-      → IsRunWithinCaps program caps inputs events s
-  pub budgets : caps.budget < greatest_cap → (k : ℕ) (p : Procedure) (budget : ℕ) → slice_get program k ≡ Some p → IsBudget (flows p.code) budget → budget ≤ caps.budget
-
--- whether the bounds of runs with so many events, and the greatest budget, are within the caps
-abbrev pub AreCompared : TypedProgram → ℕ → AllCaps → Bool → Type 0
-AreCompared verified limit caps within =
-    (bounds : LimitedBounds) × (budget : ℕ) × AreLeastBounds verified.program (Some limit) bounds × IsLargestBudget verified.program budget × (within ≡ are_within caps bounds budget)
-
-abbrev pub AreComparedIf : Bool → TypedProgram → ℕ → AllCaps → Bool → Type 0
-AreComparedIf false verified limit caps within = within ≡ true
-AreComparedIf true verified limit caps within = AreCompared verified limit caps within
-
--- Whether the program is within the caps, and then its runs stay so. With a limit out of its range it is, since no run is opened.
-abbrev pub IsDecided : TypedProgram → ℕ → AllCaps → Bool → Type 0
-IsDecided verified limit caps within =
-    (IsLimit limit × AreComparedIf (has_cap caps) verified limit caps within × (within ≡ true → StaysWithin verified.program limit caps)) ⊎ ((IsLimit limit → ⊥) × (within ≡ true))
+-- Whether no bound of the program is above its cap. With a limit out of its range none is, since no run is opened.
+abbrev pub IsDecided : List Procedure → ℕ → Caps → Bool → Type 0
+IsDecided program limit caps within = (IsLimit limit × IsJudged program (Some limit) caps within) ⊎ ((IsLimit limit → ⊥) × (within ≡ true))
 
 -- ---- bounds
 

@@ -46,7 +46,7 @@ IsRunOn Saw verified inputs counts order old new code =
 -- holds if this is the result of a run, of a program that stays within the caps; or a bound is above its cap; or an allocation failed
 abbrev pub IsRunIfWithin : Looks → TypedProgram → List Input → ActorCounts → RunOrder → Option Held → Option Held → ℕ → Type 0
 IsRunIfWithin Saw verified inputs counts order old new code =
-    ((within : Bool) × IsDecided verified order.limit order.caps within × (((within ≡ true) × IsRunOn Saw verified inputs counts order old new code) ⊎ ((within ≡ false) × Fails above_cap old new code)))
+    ((within : Bool) × IsDecided verified.program order.limit order.caps within × (((within ≡ true) × IsRunOn Saw verified inputs counts order old new code) ⊎ ((within ≡ false) × Fails above_cap old new code)))
     ⊎ Fails no_memory old new code
 
 abbrev pub counts_of : RunOrder → ActorCounts

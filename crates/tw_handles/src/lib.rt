@@ -34,7 +34,6 @@ mod unfit;
 mod view;
 
 pub use bounds::program_bounds;
-pub use caps::AllCaps;
 pub use certificate::Certificate;
 pub use codes::NO_UTF8;
 pub use containers::{

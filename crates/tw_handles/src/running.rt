@@ -4,7 +4,7 @@ ghost use Rattle.std.specs.Prelude.{◌≡◌, Some};
 ghost use Rattle.tw_stop.specs.Looks.{Looked};
 ghost use Rattle.tw_handles.specs.Running.{IsRun, IsRunBy, IsRunByFlag, IsRunIfWithin, IsRunIn, IsRunOn, IsRunUntil, IsRunWith, actors_at as actors_at_is, option_at as option_at_is, order_of as order_of_is, seed_of as seed_of_is};
 
-use crate::caps::{AllCaps, is_admitted};
+use crate::caps::{CAPS, caps_of, is_admitted};
 use crate::certificate::{asks, certify_if};
 use crate::finished::Finished;
 use crate::handle::Handle;
@@ -14,6 +14,7 @@ use crate::{codes, reading};
 use std::alloc::Global;
 use tw_flags::StopFlag;
 use tw_in_turn::run_until;
+use tw_order::Caps;
 use tw_stop::{Never, StopSignal};
 use tw_types::{Input, Layout};
 use tw_verify::Verified;
@@ -33,7 +34,7 @@ pub struct RunOrder {
     pub certify: bool,
     /// Whether outputs are read if the run doesn't end by itself.
     pub partial: bool,
-    pub caps: AllCaps,
+    pub caps: Caps,
 }
 
 /// How many options there are.
@@ -75,7 +76,7 @@ fn order_of(options: &[u64], caps: &[u64]) -> RunOrder
         seed: seed_of(option_at(options, 4, 0)),
         certify: asks(option_at(options, 5, 0)),
         partial: asks(option_at(options, 6, 1)),
-        caps: AllCaps::listed(caps),
+        caps: caps_of(caps),
     }
 }
 
@@ -246,7 +247,7 @@ fn run_until_stopped(
 /// Runs a loaded program in this thread, its actors in turn, until the run ends or the flag of `stop` is raised. `options` are the limit, the
 /// numbers of engines, servers and workers, and the seed that decides the order of the turns, or 0. Two more are 0 or not: whether the report is to have
 /// the run's certificate, and whether its outputs are read if it doesn't end by itself. `caps` are the most that the run may do, in the order of
-/// `AllCaps`. What they lack is as usual, and no cap. If the run is opened, `report` holds its result, and the former contents of `report` are freed.
+/// `Caps`. What they lack is as usual, and no cap. If the run is opened, `report` holds its result, and the former contents of `report` are freed.
 /// Otherwise returns `NO_OPTIONS`, `NO_STOP`, `NO_PROGRAM`, `NO_INPUTS`, `NO_LAYOUT`, the code of an `OpenError`, or `ABOVE_CAP` if a bound of the
 /// program's runs is above its cap. Each run that is opened is within the caps.
 pub fn run(
@@ -262,7 +263,7 @@ pub fn run(
     ensures inputs { inputs.new.held ≡ inputs.old.held }
     ensures is { IsRun program.old.held inputs.old.held options.now caps.now stop.old.held stop.new.held report.old.held report.new.held result }
 {
-    if options.len() > OPTIONS || caps.len() > AllCaps::COUNT {
+    if options.len() > OPTIONS || caps.len() > CAPS {
         return codes::NO_OPTIONS;
     }
     run_until_stopped(

@@ -15,6 +15,8 @@ pub struct Caps {
     pub budget: u64,
     /// Members and values of maps that the store holds at any time, beyond those of the inputs.
     pub members: u64,
+    /// Rules made by RULE.
+    pub rules: u64,
 }
 
 impl Caps {
@@ -26,5 +28,6 @@ impl Caps {
         bytes: u64::MAX,
         budget: u64::MAX,
         members: u64::MAX,
+        rules: u64::MAX,
     };
 }

@@ -1,5 +1,5 @@
 -- Whether there are lines of bounds above their caps, and that a run is within the caps if there are none.
-use Rattle.tw_program_output.proofs.ReplyNames.{Bool, IsLargestBudget, LeastRuns, List, Option, Procedure, StaysWithinCaps, [], ap, arith, codes, excess, excess_lines, false, has_cap, is_within, length, nat_lt, refl, subst, sym, true, ℕ, ◌++◌, ◌+◌, ◌<◌, ◌==◌, ◌||◌, ◌∙◌, ◌∷◌, ◌≡◌, ◌≢◌, ◌≤◌}
+use Rattle.tw_program_output.proofs.ReplyNames.{AreExcessLines, Bool, IsJudged, IsLargestBudget, LeastRuns, List, Option, Procedure, StaysWithinCaps, [], ap, arith, codes, excess, excess_lines, false, has_cap, is_within, length, nat_lt, refl, subst, sym, true, ℕ, ◌++◌, ◌+◌, ◌<◌, ◌==◌, ◌||◌, ◌∙◌, ◌∷◌, ◌≡◌, ◌≢◌, ◌≤◌}
 use Rattle.std.proofs.lemmas.Bool.{eq-eqb, eqb-true, leb-true, lt-ltb}
 use Rattle.std.proofs.lemmas.Option.{slice_get_within}
 use Rattle.tw_code.specs.machine.Opening.{opening}
@@ -80,8 +80,11 @@ module _ (program : List Procedure) (limit : Option ℕ) (caps : Caps) where
       let end = second_none d _ last in
       let no_y = first_none y _ end in
       let others = second_none y _ end in
-      let no_b = first_none b m others in
-      let no_m = second_none b m others in
+      let r = excess (codes "rules") bounds.rules caps.rules in
+      let no_b = first_none b _ others in
+      let both = second_none b _ others in
+      let no_m = first_none m r both in
+      let no_r = second_none m r both in
       record {
         runs = λ inputs layout events s given short e.
             let w = least.within inputs layout events s given short e in
@@ -91,11 +94,16 @@ module _ (program : List Procedure) (limit : Option ℕ) (caps : Caps) where
               new_data = within_cap (λ m. s.store.next ≤ (opening program inputs).store.next + m) (λ n m le h. omega arith) (codes "data") bounds.«data» caps.«data» no_d w.new_data;
               bytes = within_cap (λ m. bytes_held s ≤ bytes_held (opening program inputs) + m) (λ n m le h. omega arith) (codes "bytes") bounds.bytes caps.bytes no_y w.bytes;
               members = within_cap (λ x. members_held s.store ≤ members_held (opening program inputs).store + x) (λ n x le h. omega arith) (codes "members") bounds.members caps.members no_m w.members;
+              rules = within_cap (λ x. s.next_rule ≤ (opening program inputs).next_rule + x) (λ n x le h. omega arith) (codes "rules") bounds.rules caps.rules no_r w.rules;
             };
         budgets = λ given k p n here is.
             let most : n ≤ budget = largest.each k p n (slice_get_within program k p here) here is in
             within_cap (λ m. n ≤ m) (λ x y le h. omega arith) (codes "budget") (AtMost budget) caps.budget no_b (λ m e. subst (λ x. n ≤ x) (number_of e) most) given;
       }
+
+  pub judged : (lines : List ℕ) (b : Bool) → b ≡ (length lines == 0) → AreExcessLines (has_cap caps) program limit caps lines → (lines ≡ [] → StaysWithinCaps program limit caps) → IsJudged program limit caps b
+  judged lines true is text stays = let none = no_lines lines true is refl in (subst (AreExcessLines (has_cap caps) program limit caps) none text, stays none)
+  judged lines false is text stays = (lines, text, some_lines lines false is refl)
 
   pub uncapped_stays : has_cap caps ≡ false → StaysWithinCaps program limit caps
   uncapped_stays none =
@@ -104,13 +112,15 @@ module _ (program : List Procedure) (limit : Option ℕ) (caps : Caps) where
       let new_data = both_false _ _ instructions.1 in
       let bytes = both_false _ _ new_data.1 in
       let others = both_false _ _ bytes.1 in
+      let last = both_false _ _ others.1 in
       record {
         runs = λ inputs layout events s given short e. record {
           tasks = λ is. absurd (isnt_given caps.tasks tasks.0 is);
           instructions = λ is. absurd (isnt_given caps.instructions instructions.0 is);
           new_data = λ is. absurd (isnt_given caps.«data» new_data.0 is);
           bytes = λ is. absurd (isnt_given caps.bytes bytes.0 is);
-          members = λ is. absurd (isnt_given caps.members others.1 is);
+          members = λ is. absurd (isnt_given caps.members last.0 is);
+          rules = λ is. absurd (isnt_given caps.rules last.1 is);
         };
         budgets = λ is k p n here b. absurd (isnt_given caps.budget others.0 is);
       }

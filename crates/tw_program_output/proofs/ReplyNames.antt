@@ -14,7 +14,7 @@ pub use Rattle.tw_code.specs.declared.procedure.Procedure.{Procedure}
 pub use Rattle.tw_code.specs.format.Program.{IsProcedure, IsProgram}
 pub use Rattle.tw_copies.specs.declared.check.CopyInsertion.{CopyInsertion}
 pub use Rattle.tw_order.specs.declared.order.Source.TheVariants.{Assembly}
-pub use Rattle.tw_program_output.specs.Admission.{AreExcessLines, IsAdmittedOr, StaysWithinCaps, excess, excess_lines, has_cap, is_within}
+pub use Rattle.tw_program_output.specs.Admission.{AreExcessLines, IsAdmittedOr, IsJudged, StaysWithinCaps, excess, excess_lines, has_cap, is_within}
 pub use Rattle.tw_program_output.specs.Answer.{AreRows, IsCircleOf}
 pub use Rattle.tw_program_output.specs.Assembled.{IsFaultReply, IsWritten, RepliesByText}
 pub use Rattle.tw_program_output.specs.Check.{IsCheckText, IsPrinted, check_text, procedure_line, procedure_lines}

@@ -54,12 +54,13 @@ excess_lines caps bounds budget =
     ++ (excess (codes "data") bounds.«data» caps.«data»
     ++ (excess (codes "bytes") bounds.bytes caps.bytes
     ++ (excess (codes "budget") (AtMost budget) caps.budget
-    ++ excess (codes "members") bounds.members caps.members))))
+    ++ (excess (codes "members") bounds.members caps.members
+    ++ excess (codes "rules") bounds.rules caps.rules)))))
 
 abbrev pub has_cap : Caps → Bool
 has_cap caps =
     nat_lt caps.tasks greatest_cap || (nat_lt caps.instructions greatest_cap || (nat_lt caps.«data» greatest_cap || (nat_lt caps.bytes greatest_cap
-    || (nat_lt caps.budget greatest_cap || nat_lt caps.members greatest_cap))))
+    || (nat_lt caps.budget greatest_cap || (nat_lt caps.members greatest_cap || nat_lt caps.rules greatest_cap)))))
 
 -- holds for the lines for the program's bounds above the caps, if there is a cap
 abbrev pub AreExcessLines : Bool → List Procedure → Option ℕ → Caps → List ℕ → Type 0
@@ -76,6 +77,7 @@ pub record IsRunWithinCaps (program : List Procedure) (caps : Caps) (inputs : Li
   pub new_data : caps.«data» < greatest_cap → s.store.next ≤ (opening program inputs).store.next + caps.«data»
   pub bytes : caps.bytes < greatest_cap → bytes_held s ≤ bytes_held (opening program inputs) + caps.bytes
   pub members : caps.members < greatest_cap → members_held s.store ≤ members_held (opening program inputs).store + caps.members
+  pub rules : caps.rules < greatest_cap → s.next_rule ≤ (opening program inputs).next_rule + caps.rules
 
 -- with any inputs and layout, each run that the limit allows is within the caps, and so is each budget
 pub record StaysWithinCaps (program : List Procedure) (limit : Option ℕ) (caps : Caps) : Type 0 where
@@ -83,9 +85,13 @@ pub record StaysWithinCaps (program : List Procedure) (limit : Option ℕ) (caps
       → IsRunWithinCaps program caps inputs events s
   pub budgets : caps.budget < greatest_cap → (k : ℕ) (p : Procedure) (budget : ℕ) → slice_get program k ≡ Some p → IsBudget (flows p.code) budget → budget ≤ caps.budget
 
--- holds for an accepted program no bound of which is above its cap, so that it stays within the caps
+-- holds for whether no bound of the program is above its cap, so that it stays within the caps
+abbrev pub IsJudged : List Procedure → Option ℕ → Caps → Bool → Type 0
+IsJudged program limit caps true = AreExcessLines (has_cap caps) program limit caps [] × StaysWithinCaps program limit caps
+IsJudged program limit caps false = (lines : List ℕ) × AreExcessLines (has_cap caps) program limit caps lines × (lines ≢ [])
+
 abbrev pub IsAdmitted : List Procedure → Option ℕ → Caps → Type 0
-IsAdmitted program limit caps = IsAccepted program × AreExcessLines (has_cap caps) program limit caps [] × StaysWithinCaps program limit caps
+IsAdmitted program limit caps = IsAccepted program × IsJudged program limit caps true
 
 -- holds for the reply to any other program: the lines for the bounds above their caps, or the verifier's error
 abbrev pub IsRejected : Places → Option (List ℕ) → List Procedure → Option ℕ → Caps → Reply → Type 0

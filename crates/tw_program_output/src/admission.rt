@@ -1,7 +1,7 @@
 //! Rejects programs whose bounds are above a cap.
 
 ghost use Rattle.std.specs.Prelude.{◌≡◌, [], true, IfOk};
-ghost use Rattle.tw_program_output.specs.Admission.{AreExcessLines, StaysWithinCaps, excess, excess_bound, excess_line, excess_lines, has_cap, is_within};
+ghost use Rattle.tw_program_output.specs.Admission.{AreExcessLines, IsJudged, StaysWithinCaps, excess, excess_bound, excess_line, excess_lines, has_cap, is_within};
 ghost use Rattle.tw_source.specs.Failure.{coded, failed_with};
 ghost use Rattle.tw_source.specs.Reply.{reply};
 ghost use Rattle.tw_source.specs.declared.failure.Position.TheVariants as position;
@@ -67,6 +67,7 @@ fn put_excess_lines(out: &mut Writer, caps: Caps, bounds: LimitedBounds, budget:
     put_excess(out, "bytes", bounds.bytes, caps.bytes);
     put_excess(out, "budget", Bound::AtMost(budget), caps.budget);
     put_excess(out, "members", bounds.members, caps.members);
+    put_excess(out, "rules", bounds.rules, caps.rules);
 }
 
 /// Returns whether a cap is given.
@@ -79,6 +80,7 @@ fn has_cap(caps: Caps) -> bool
         || caps.bytes < u64::MAX
         || caps.budget < u64::MAX
         || caps.members < u64::MAX
+        || caps.rules < u64::MAX
 }
 
 /// Returns the limit as a number of events.
@@ -123,6 +125,19 @@ pub(crate) fn excess_text(
     } else {
         Ok(Vec::new(alloc))
     }
+}
+
+/// Returns whether no bound of the program is above its cap.
+pub fn is_within_caps(
+    alloc: Global,
+    verified: &Verified,
+    limit: Option<EventLimit>,
+    caps: Caps,
+) -> Result<bool, AllocError>
+    ensures { IfOk result (IsJudged verified.now.program limit caps) }
+{
+    let lines = excess_text(alloc, verified, limit, caps)?;
+    Ok(lines.is_empty())
 }
 
 /// Returns the reply to a program that isn't admitted, with these lines.

@@ -17,6 +17,7 @@ mod rows;
 mod text_listing;
 
 pub use acceptance::{Admitted, admit};
+pub use admission::is_within_caps;
 pub use assembled::assembled_reply;
 pub use check::checked_reply;
 pub use error_json::{error_line, failure_in, listed_error_line};
