@@ -3,8 +3,8 @@ pub use Rattle.core.proofs.alloc.Calls.{Al, Goes-blank, handle_tells}
 pub use Rattle.core.proofs.atomic.Steps.{Ptr-Good, fm}
 pub use Rattle.core.proofs.cell.Inside.{Good}
 pub use Rattle.std.proofs.BoxSteps.Steps.{box_in, box_out}
-pub use Rattle.std.proofs.Common.{Bool, Err, IfOk, IsTrue, List, MatchOption, MatchResult, None, Ok, Option, Result, Some, T, Vec, [], ap, arith, false, if◌then◌else◌, inl, inr, length, lit<, map, min, option_copied, option_map, pos, refl, set, slice_get, string_bytes, subst, suc, sym, take, true, zero, ℕ, ◌&&◌, ◌++◌, ◌+◌, ◌-◌, ◌/◌, ◌<◌, ◌==◌, ◌||◌, ◌↔◌, ◌∙◌, ◌∷◌, ◌≡◌, ◌≢◌, ◌≤◌, ◌⊎◌}
-pub use Rattle.std.proofs.lemmas.Bool.{cases_lt, leb-true, lt-ltb}
+pub use Rattle.std.proofs.Common.{Bool, Err, IfOk, IsTrue, List, MatchOption, MatchResult, None, Ok, Option, Result, Some, T, Vec, [], ap, arith, false, if◌then◌else◌, inl, inr, length, lit<, map, min, option_copied, option_map, pos, refl, set, slice_get, string_bytes, subst, suc, sym, take, true, zero, ℕ, ◌++◌, ◌+◌, ◌-◌, ◌/◌, ◌<◌, ◌==◌, ◌↔◌, ◌∙◌, ◌∷◌, ◌≡◌, ◌≢◌, ◌≤◌, ◌⊎◌}
+pub use Rattle.std.proofs.lemmas.Bool.{cases_lt}
 pub use Rattle.std.proofs.lemmas.List.{length-map, length-set, take_all}
 pub use Rattle.std.proofs.lemmas.Option.{get_or_from_slice_get, same_Some, slice_get-map, slice_get_past, slice_get_read, slice_get_within}
 pub use Rattle.std.proofs.raw_atomic.Walks.{leaves, proved_at}
@@ -14,10 +14,9 @@ pub use Rattle.std.specs.Option.{option_and_then, option_or}
 pub use Rattle.std.specs.contracts.impls.GlobalAllocator.TheImpl.{ghosts}
 pub use Rattle.std.specs.declared.alloc.Global.{Global}
 pub use Rattle.std_alloc.proofs.ResultValues.{and_tt}
-pub use Rattle.tw_bounds.specs.Least.{AreLeastBounds, LeastRuns}
 pub use Rattle.tw_bounds.specs.Runs.{instructions_in, tasks_by, tasks_in}
 pub use Rattle.tw_code.specs.declared.procedure.Procedure.{Procedure}
-pub use Rattle.tw_code.specs.machine.Opening.{opening, reached}
+pub use Rattle.tw_code.specs.machine.Opening.{reached}
 pub use Rattle.tw_datum.specs.Kept.{datum_if, has_entries}
 pub use Rattle.tw_flags.specs.Flags.{IsSeen}
 pub use Rattle.tw_handles.specs.Asking.{Fails}
