@@ -1,6 +1,7 @@
 -- The end of a run is as its definition says.
-use Rattle.tw_session.proofs.SessionNames.{Bool, Closed, Closes, EndsSo, Err, IfOk, IsAtEnd, IsOrdered, IsRun, Limit, List, None, Ok, Option, Procedure, RepliesByClose, RepliesByEnd, RepliesByRun, Result, Run, SeatEvents, Some, Stopped, ap, eqb-true, false, if◌then◌else◌, inl, inr, is_some, length, opened, reached, refl, reply, run_as, run_of, subst, sym, true, unwrap_or, ℕ, ◌++◌, ◌==◌, ◌∙◌, ◌≡◌, ◌≤◌, ◌⊎◌}
+use Rattle.tw_session.proofs.SessionNames.{Bool, Closed, Closes, EndsSo, Err, IfOk, Input, IsAtEnd, IsLeftIf, IsOrdered, IsRun, Limit, List, MayOpen, None, Ok, Option, Procedure, RepliesByClose, RepliesByEnd, RepliesByRun, Result, Run, SeatEvents, Some, StoppableResult, Stopped, ap, eqb-true, false, if◌then◌else◌, inl, inr, length, opened, reached, refl, reply, run_as, run_of, subst, sym, true, unwrap_or, ℕ, ◌++◌, ◌==◌, ◌∙◌, ◌≡◌, ◌≤◌, ◌⊎◌}
 use Rattle.std.specs.Option.{option_map, option_or}
+use Rattle.std.specs.Result.{IfErr}
 use Rattle.tw_types.specs.declared.ending.Ending.{Ending}
 use Rattle.tw_types.specs.declared.ending.Ending.TheVariants as ending
 use Rattle.tw_types.specs.declared.event.Event.{Event}
@@ -12,13 +13,17 @@ use Rattle.tw_pool.specs.declared.answer.Closing.{Closing}
 use Rattle.tw_pool.specs.Ends.{FinalView, IsClosedPool}
 use Rattle.tw_pool.specs.History.{HistoryView}
 use Rattle.tw_pool.specs.Turns.{closing_of}
+use Rattle.tw_pool.specs.Openings.{IsRejection}
+use Rattle.tw_pool.specs.declared.open.OpenError.{OpenError}
 use Rattle.tw_pool.specs.PoolView.{PoolView}
+use Rattle.tw_order.specs.Orders.{may_be_stopped}
 use Rattle.tw_order.specs.declared.runs.RunOrder.{RunOrder}
 use Rattle.tw_run_output.specs.Ends.{IsReportAs, end_report}
 use Rattle.tw_run_output.specs.Json.{IsEndLine, members_of, run_line}
 use Rattle.tw_run_output.specs.Over.{IsRunOver}
 use Rattle.tw_run_output.specs.Run.{AreRunDetails, IsRunText, close_of, trace_text}
 use Rattle.tw_source.specs.declared.reply.Reply.{Reply as MadeReply}
+use Rattle.tw_session.specs.Run.{IsRunWatched}
 
 -- from how the run has ended by itself, whether it was stopped, and whether the number of events is at its limit
 abbrev closing_by : Option Ending → (stopped full : Bool) → Option Closing
@@ -27,18 +32,18 @@ closing_by e stopped full = option_or (option_map closing_of e) (if stopped then
 same : {a b : Closing} → Some a ≡ Some b → a ≡ b
 same e = cc
 
--- holds if a run ended so, from how its results say that it did; only one whose time is limited was stopped
+-- holds if a run ended so, from how its results say that it did; only one that may be stopped was
 abbrev pub IsEndOf : RunOrder → Option Closing → Closing → Type 0
 IsEndOf order over closing =
-    ((over ≡ Some closing) × (closing ≡ Stopped → is_some order.options.seconds ≡ true)) ⊎ ((over ≡ None) × (closing ≡ Stopped) × (is_some order.options.seconds ≡ true))
+    ((over ≡ Some closing) × (closing ≡ Stopped → may_be_stopped order.options ≡ true)) ⊎ ((over ≡ None) × (closing ≡ Stopped) × (may_be_stopped order.options ≡ true))
 
 -- of one that was stopped, though it may have ended before
-pub stopped_end : (order : RunOrder) (over : Option Closing) → is_some order.options.seconds ≡ true → IsEndOf order over (unwrap_or over Stopped)
-stopped_end order None limited = inr (refl, refl, limited)
-stopped_end order (Some closing) limited = inl (refl, λ stopped. limited)
+pub stopped_end : (order : RunOrder) (over : Option Closing) → may_be_stopped order.options ≡ true → IsEndOf order over (unwrap_or over Stopped)
+stopped_end order None may = inr (refl, refl, may)
+stopped_end order (Some closing) may = inl (refl, λ stopped. may)
 
 ends_so : (order : RunOrder) (history : List Event) (s : State) (e : Option Ending) (stopped full : Bool) (closing : Closing)
-    → ending s ≡ e → (full ≡ true → length history ≡ order.options.limit) → closing_by e stopped full ≡ Some closing → (closing ≡ Stopped → is_some order.options.seconds ≡ true) → EndsSo order history s closing
+    → ending s ≡ e → (full ≡ true → length history ≡ order.options.limit) → closing_by e stopped full ≡ Some closing → (closing ≡ Stopped → may_be_stopped order.options ≡ true) → EndsSo order history s closing
 ends_so order history s (Some ending.Quiet) stopped full closing is at printed may = subst (EndsSo order history s) (same printed) is
 ends_so order history s (Some (ending.Stuck rules)) stopped full closing is at printed may = subst (EndsSo order history s) (same printed) is
 ends_so order history s None true full closing is at printed may = subst (EndsSo order history s) (same printed) (may (sym (same printed)), is)
@@ -62,7 +67,7 @@ no_ending (Some (ending.Stuck rules)) stopped full none = absurd (some none)
 ends_as : (order : RunOrder) (history : List Event) (s : State) (stopped full : Bool) (closing : Closing)
     → (full ≡ true → length history ≡ order.options.limit) → IsEndOf order (closing_by (ending s) stopped full) closing → EndsSo order history s closing
 ends_as order history s stopped full closing at (inl (is, may)) = ends_so order history s (ending s) stopped full closing refl at is may
-ends_as order history s stopped full closing at (inr (none, cut, limited)) = subst (EndsSo order history s) (sym cut) (limited, no_ending (ending s) stopped full none)
+ends_as order history s stopped full closing at (inr (none, cut, may)) = subst (EndsSo order history s) (sym cut) (may, no_ending (ending s) stopped full none)
 
 -- for a run that ended so
 pub over : (verified : TypedProgram) (order : RunOrder) (p : PoolView) (final : FinalView) (history : HistoryView) (cut : ℕ) (closing : Closing)
@@ -124,3 +129,13 @@ in_turn verified order p cut comes = by order.options.in_turn
     by : (turns : Bool) → IsOrdered turns verified.program order p.history cut
     by true = record { verified = verified; is = refl; last = p; comes = comes; made = refl }
     by false = tt
+
+-- what a run leaves that looks at a signal, with the inputs and the limit that are ordered
+pub watched : (made : Result StoppableResult OpenError) (verified : TypedProgram) (order : RunOrder) (inputs : List Input) (limit : ℕ) → inputs ≡ order.inputs → limit ≡ order.options.limit
+    → IfOk made (λ left. MayOpen verified.program inputs order.options.layout limit) → IfOk made (IsLeftIf true order.options.seed (opened verified inputs order.options.layout limit))
+    → IfErr made (IsRejection verified.program inputs order.options.layout limit) → IsRunWatched verified order made
+watched (Ok left) verified order inputs limit same most allowed is refused =
+    let runs : List Input → ℕ → Type 0 = λ i l. MayOpen verified.program i order.options.layout l × IsLeftIf true order.options.seed (opened verified i order.options.layout l) left in
+    (subst (λ (l : ℕ). runs order.inputs l) most (subst (λ (i : List Input). runs i limit) same (allowed, is)), tt)
+watched (Err why) verified order inputs limit same most allowed is refused =
+    (tt, subst (λ (l : ℕ). IsRejection verified.program order.inputs order.options.layout l why) most (subst (λ (i : List Input). IsRejection verified.program i order.options.layout limit why) same refused))
