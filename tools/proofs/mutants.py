@@ -131,7 +131,6 @@ MUTANTS = (
     Mutant("missing_files_have_no_reason", "main", MAIN + "hints.rt", "        ErrorKind::NotFound =>", "        ErrorKind::NotFound if !@missing_files_have_no_reason@ =>"),
     Mutant("folders_have_no_reason", "main", MAIN + "hints.rt", "        ErrorKind::IsADirectory =>", "        ErrorKind::IsADirectory if !@folders_have_no_reason@ =>"),
     Mutant("terminals_are_read_silently", "main", MAIN + "tool.rt", "if stdin.is_terminal() {", "if stdin.is_terminal() && !@terminals_are_read_silently@ {"),
-    Mutant("help_reads_a_terminal", "main", MAIN + "hints.rt", "    if requests_help(words) {", "    if requests_help(words) && !@help_reads_a_terminal@ {"),
     Mutant("errors_have_no_hint", "main", MAIN + "hints.rt", "            print_error_hint(alloc, stderr, answered, &failure)\n", "            if @errors_have_no_hint@ { Ok(()) } else { print_error_hint(alloc, stderr, answered, &failure) }\n"),
     Mutant("hex_text_has_no_hint", "main", MAIN + "hints.rt", "if answered.reads_input && ", "if answered.reads_input && !@hex_text_has_no_hint@ && "),
     Mutant("files_are_standard_input", "main", MAIN + "tool.rt", "is_each, misnamed, false, &writer)", "is_each, misnamed, @files_are_standard_input@, &writer)"),

@@ -1,6 +1,7 @@
 -- How a file's format is known.
-use Rattle.std.specs.Prelude.{◌==◌, ◌||◌, ℕ, Bool, not, true, false, List, codes, filter, take, if◌then◌else◌, nat_eq}
+use Rattle.std.specs.Prelude.{◌==◌, ◌||◌, ℕ, Bool, not, true, false, List, Option, codes, filter, take, if◌then◌else◌, nat_eq}
 use Rattle.std.specs.List.{ends_with, starts_with}
+use Rattle.std.specs.Option.{option_map_or}
 
 abbrev pub is_gap : ℕ → Bool
 is_gap byte = (byte == 32) || (byte == 9) || (byte == 13) || (byte == 10)
@@ -18,3 +19,7 @@ is_text path bytes =
     if ends_with nat_eq path (codes ".tw") || ends_with nat_eq path (codes ".twn") then true else
     if ends_with nat_eq path (codes ".hex") || ends_with nat_eq path (codes ".history") then false else
     not (begins_as_hex bytes)
+
+-- returns whether the program's file holds assembly text, if it is named
+abbrev pub may_be_text : Option (List ℕ) → List ℕ → Bool
+may_be_text path bytes = option_map_or (λ name. is_text name bytes) path false

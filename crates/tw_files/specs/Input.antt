@@ -1,10 +1,10 @@
--- The arguments of a session and what it is given, if files are named.
-use Rattle.std.specs.Prelude.{◌≡◌, ◌≢◌, ◌⊎◌, ◌==◌, ◌++◌, ◌||◌, ◌&&◌, ℕ, Bool, true, false, not, List, [], ◌∷◌, Option, Some, None, codes, is_some, length, unwrap_or, if◌then◌else◌}
+-- What a session is given, if files are named.
+use Rattle.std.specs.Prelude.{◌≡◌, ◌≢◌, ◌⊎◌, ◌==◌, ◌||◌, ◌&&◌, ℕ, Bool, true, false, not, List, [], ◌∷◌, Option, Some, None, codes, is_some, length, unwrap_or, if◌then◌else◌}
 use Rattle.std.specs.List.{list_any}
 use Rattle.std.specs.Option.{option_map_or}
 use Rattle.std.specs.Str.{bytes_eq}
 use Rattle.tw_report.specs.History.{AreParts, lines_in}
-use Rattle.tw_files.specs.Format.{is_text}
+use Rattle.tw_files.specs.Format.{may_be_text}
 use Rattle.tw_files.specs.Naming.{Naming}
 use Rattle.tw_files.specs.declared.opening.Misfit.{Misfit}
 use Rattle.tw_files.specs.declared.opening.Misfit.TheVariants.{EventsTwice, InputsTwice, NoEvents}
@@ -32,35 +32,9 @@ is_untraced command program before = not (reads_trace command) || length before 
 abbrev pub has_word : List ℕ → List (List ℕ) → Bool
 has_word word words = list_any (λ other. bytes_eq other word) words
 
--- returns the command; `picture` of a program without a trace draws a run
-abbrev pub command_words : List ℕ → Bool → List (List ℕ)
-command_words command draws_run = if draws_run then codes "run" ∷ codes "--picture" ∷ [] else command ∷ []
-
--- returns the option by which a command reads a file
-abbrev pub option_of : List ℕ → Bool → Option (List ℕ)
-option_of command text = if text then Some (if bytes_eq command (codes "asm") then codes "--names" else codes "--text") else None
-
-abbrev pub option_words : Option (List ℕ) → List (List ℕ)
-option_words None = []
-option_words (Some option) = option ∷ []
-
--- returns whether the arguments say themselves how the program is read
-abbrev pub has_format : List (List ℕ) → Bool
-has_format words = has_word (codes "--text") words || has_word (codes "--names") words
-
 -- returns whether help is requested
 abbrev pub requests_help : List (List ℕ) → Bool
 requests_help words = has_word (codes "--help") words || has_word (codes "-h") words
-
--- returns whether a run is drawn in place of a trace, which is neither in the program's file nor in one of its own
-abbrev pub draws_run : List ℕ → Bool → Option (List ℕ) → Bool
-draws_run command untraced events = bytes_eq command (codes "picture") && (untraced && not (is_some events))
-
--- returns the arguments of a session whose program is in a file, or in standard input; `drawn` is whether a run is drawn
-abbrev pub session_words : List ℕ → Option (List ℕ) → Bool → List ℕ → List (List ℕ) → List (List ℕ)
-session_words command None drawn program others = command ∷ others
-session_words command (Some path) drawn program others =
-    command_words command drawn ++ (option_words (option_of command (is_text path program && not (has_format others))) ++ others)
 
 -- ---- files of their own
 
@@ -113,6 +87,11 @@ events_name command untraced n =
 -- returns the file of the trace, unless it follows the program or the inputs
 abbrev pub separate_events : List ℕ → Bool → Naming → Option (List ℕ)
 separate_events command untraced n = file_beside (takes_input n) (events_name command untraced n)
+
+-- returns whether a run is drawn in place of a trace, which is neither in the program's file nor in one of its own
+abbrev pub draws_run : List ℕ → Bool → Naming → Bool
+draws_run command untraced n =
+    is_some n.program && (bytes_eq command (codes "picture") && (untraced && not (is_some (separate_events command untraced n))))
 
 -- returns whether the trace follows the inputs in their file
 abbrev pub follows_inputs : List ℕ → Bool → Naming → Bool
@@ -173,11 +152,12 @@ IsTraceless Holds trace InputsTwice = ⊥
 IsTraceless Holds trace EventsTwice = ⊥
 IsTraceless Holds trace NoEvents = (path : List ℕ) × (bytes : List ℕ) × (trace ≡ Some path) × Holds path bytes × HasNoEvents bytes
 
--- holds for the arguments of a session and what it is given, by the program and whether its file has no trace
-abbrev pub IsRead : (List ℕ → List ℕ → Type 0) → List ℕ → Bool → Naming → List ℕ → List (List ℕ) → Option Contents → Type 0
-IsRead Holds command untraced n program words None = ⊥
-IsRead Holds command untraced n program words (Some contents) =
-    (words ≡ session_words command n.program (draws_run command untraced (separate_events command untraced n)) program n.others)
+-- holds for what a session is given, by the program and whether its file has no trace; `text` and `drawn` are whether the program is assembly text by
+-- its file, and whether a run is drawn
+abbrev pub IsRead : (List ℕ → List ℕ → Type 0) → List ℕ → Bool → Naming → List ℕ → Bool → Bool → Option Contents → Type 0
+IsRead Holds command untraced n program text drawn None = ⊥
+IsRead Holds command untraced n program text drawn (Some contents) =
+    (text ≡ may_be_text n.program program) × (drawn ≡ draws_run command untraced n)
     × (contents.program ≡ program) × AreHeld Holds (joined_inputs n) contents.inputs × IsTraceHeld Holds (separate_events command untraced n) contents.trace
     × (contents.follows ≡ follows_inputs command untraced n)
 
@@ -186,14 +166,14 @@ abbrev pub IsProgram : (List ℕ → List ℕ → Type 0) → List ℕ → Namin
 IsProgram Holds command n program untraced =
     Holds (program_path n) program × ((before after : List ℕ) × AreParts program before after × (untraced ≡ is_untraced command program before))
 
--- Holds for what a session gets, by what the arguments after the command name: its arguments, and what its files hold, if it doesn't read standard
--- input. `Holds` says what is in a file.
-abbrev pub IsSessionInput : (List ℕ → List ℕ → Type 0) → List ℕ → Naming → List (List ℕ) → Option Contents → Type 0
-IsSessionInput Holds command n words None = (opens_files command n ≡ Bool.false) × (words ≡ command ∷ n.others)
-IsSessionInput Holds command n words (Some contents) =
+-- Holds for what a session gets, by what the arguments after the command name: what its files hold, if it doesn't read standard input. `Holds` says
+-- what is in a file.
+abbrev pub IsSessionInput : (List ℕ → List ℕ → Type 0) → List ℕ → Naming → Bool → Bool → Option Contents → Type 0
+IsSessionInput Holds command n text drawn None = (opens_files command n ≡ Bool.false) × (text ≡ Bool.false) × (drawn ≡ Bool.false)
+IsSessionInput Holds command n text drawn (Some contents) =
     (opens_files command n ≡ Bool.true)
     × ((program : List ℕ) × (untraced : Bool) × IsProgram Holds command n program untraced
-    × (HasInputsTwice n program → ⊥) × (HasEventsTwice command untraced n → ⊥) × IsRead Holds command untraced n program words (Some contents))
+    × (HasInputsTwice n program → ⊥) × (HasEventsTwice command untraced n → ⊥) × IsRead Holds command untraced n program text drawn (Some contents))
 
 -- holds if the files that the arguments name don't fit each other, for this reason
 abbrev pub AreMisfits : (List ℕ → List ℕ → Type 0) → List ℕ → Naming → Misfit → Type 0

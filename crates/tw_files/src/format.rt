@@ -1,7 +1,8 @@
 //! Finds the format of a file.
 
 ghost use Rattle.std.specs.Prelude.{◌≡◌, IfOk};
-ghost use Rattle.tw_files.specs.Format.{begins_as_hex as begins_as_hex_is, is_gap as is_gap_is, is_text as is_text_is, without_gaps as without_gaps_is};
+ghost use Rattle.std.specs.Option.{option_map};
+ghost use Rattle.tw_files.specs.Format.{begins_as_hex as begins_as_hex_is, is_gap as is_gap_is, is_text as is_text_is, may_be_text, without_gaps as without_gaps_is};
 
 use std::alloc::{AllocError, Global};
 
@@ -32,7 +33,7 @@ fn begins_as_hex(alloc: Global, bytes: &[u8]) -> Result<bool, AllocError>
 }
 
 /// Returns whether a file holds assembly text, and no program as hex text.
-pub fn is_text(alloc: Global, path: &str, bytes: &[u8]) -> Result<bool, AllocError>
+fn is_text(alloc: Global, path: &str, bytes: &[u8]) -> Result<bool, AllocError>
     ensures { IfOk result (λ text. text ≡ is_text_is path.now bytes.now) }
 {
     let name = path.as_bytes();
@@ -44,4 +45,14 @@ pub fn is_text(alloc: Global, path: &str, bytes: &[u8]) -> Result<bool, AllocErr
     }
     let is_hex = begins_as_hex(alloc, bytes)?;
     Ok(!is_hex)
+}
+
+/// Returns whether the file of a program holds assembly text, if it is named.
+pub fn is_named_text(alloc: Global, path: Option<&str>, bytes: &[u8]) -> Result<bool, AllocError>
+    ensures { IfOk result (λ text. text ≡ may_be_text (option_map (λ path. path.now) path.entry) bytes.now) }
+{
+    match path {
+        Some(path) => is_text(alloc, path, bytes),
+        None => Ok(false),
+    }
 }

@@ -1,5 +1,4 @@
-//! The files of a command line. `session_input` finds the arguments that name files, and reads these. It returns the arguments of
-//! a session, and what the files hold.
+//! The files of a command line. `naming_of` finds the arguments that name files, once, and `session_input` reads these.
 #![tactic(auto)]
 
 mod arguments;
@@ -9,9 +8,6 @@ mod naming;
 mod opening;
 mod sections;
 
-pub use arguments::requests_help;
-pub use naming::may_name;
-pub use opening::{
-    Contents, InputFiles, Misfit, NoInput, SessionInput, session_input, words_without_files,
-};
+pub use naming::{Naming, may_name, naming_of};
+pub use opening::{Contents, InputFiles, Misfit, NoInput, SessionInput, session_input};
 pub use sections::followed;

@@ -128,10 +128,11 @@ impl<'a> Naming<'a> {
 
     /// Returns whether the arguments that name files say that a run is drawn in place of a trace.
     pub fn draws_run(&self, command: &str, is_untraced: bool) -> bool
-        ensures { result ≡ draws_run_is command.now is_untraced (separate_events_is command.now is_untraced (seen self.now)) }
+        ensures { result ≡ draws_run_is command.now is_untraced (seen self.now) }
     {
-        command == "picture"
-            && (is_untraced && self.separate_events(command, is_untraced).is_none())
+        self.program.is_some()
+            && (command == "picture"
+                && (is_untraced && self.separate_events(command, is_untraced).is_none()))
     }
 
     /// Returns whether the arguments name any file that is to be opened.

@@ -1,15 +1,14 @@
 //! Opens the files of a command.
 
-ghost use Rattle.std.specs.Prelude.{◌≡◌, ◌++◌, ℕ, List, ⊤, true, IfOk, IfErr, IfSome, OnErr, map, string_bytes};
+ghost use Rattle.std.specs.Prelude.{◌≡◌, ℕ, List, ⊤, true, IfOk, IfErr, IfSome, OnErr};
 ghost use Rattle.std.specs.Option.{option_map};
-ghost use Rattle.tw_files.specs.Input.{AreHeld, AreMisfits, IsRead, IsSessionInput, IsTraceHeld, IsTraceless, command_words, opens_files as opens_files_is, separate_events as separate_events_is, separate_lines as separate_lines_is};
-ghost use Rattle.tw_files.specs.Naming.{naming_of as naming_of_is};
+ghost use Rattle.tw_files.specs.Input.{AreHeld, AreMisfits, IsRead, IsSessionInput, IsTraceHeld, IsTraceless, opens_files as opens_files_is, separate_events as separate_events_is, separate_lines as separate_lines_is};
 ghost use Rattle.tw_files.specs.Opening.{IsReason};
 ghost use Rattle.tw_files.specs.Seen.{seen, seen_contents};
 ghost use Rattle.tw_files.specs.declared.opening.NoInput.TheVariants.{NoMemory};
 
-use crate::arguments::{plain_words, session_words};
-use crate::naming::{Naming, naming_of};
+use crate::format::is_named_text;
+use crate::naming::Naming;
 use crate::sections::{events_in, has_no_trace};
 use std::alloc::{AllocError, Global};
 use std::io;
@@ -41,11 +40,13 @@ pub struct Contents {
     pub trace_follows: bool,
 }
 
-/// The arguments and the input of a session.
+/// The input of a session.
 #[derive(Drop)]
 pub struct SessionInput<'a> {
-    /// Its arguments.
-    pub words: Vec<String>,
+    /// Whether the program is assembly text, by its file.
+    pub is_text: bool,
+    /// Whether a run is drawn in place of a trace, by `picture`.
+    pub draws_run: bool,
     /// The contents of its files; without any, it reads standard input.
     pub contents: Option<Contents>,
     /// The file of the lines of `--each`, which isn't read.
@@ -139,37 +140,26 @@ fn fitting_input<'a, F: InputFiles>(
     alloc: Global,
     command: &str,
     is_untraced: bool,
-    named: Naming<'a>,
+    named: &Naming<'a>,
     program: Vec<u8>,
 ) -> Result<SessionInput<'a>, NoInput<'a>>
-    ensures made { IfOk result (λ made. IsRead (F.Holds files.now) command.now is_untraced (seen named.entry) program.items (map string_bytes made.words.items) (option_map seen_contents made.contents)) }
-    ensures lines { IfOk result (λ made. option_map (λ path. path.now) made.lines ≡ separate_lines_is (seen named.entry)) }
-    ensures failed { IfErr result (IsReason (F.Fails files.now) (IsTraceless (F.Holds files.now) (separate_events_is command.now is_untraced (seen named.entry)))) }
+    ensures made { IfOk result (λ made. IsRead (F.Holds files.now) command.now is_untraced (seen named.now) program.items made.is_text made.draws_run (option_map seen_contents made.contents)) }
+    ensures lines { IfOk result (λ made. option_map (λ path. path.now) made.lines ≡ separate_lines_is (seen named.now)) }
+    ensures failed { IfErr result (IsReason (F.Fails files.now) (IsTraceless (F.Holds files.now) (separate_events_is command.now is_untraced (seen named.now)))) }
 {
-    let draws_run = named.draws_run(command, is_untraced);
-    let inputs = named.joined_inputs();
-    let trace = named.separate_events(command, is_untraced);
-    let lines = named.separate_lines();
-    let trace_follows = named.follows_inputs(command, is_untraced);
-    let words = session_words(
-        alloc,
-        command,
-        draws_run,
-        named.program,
-        &program,
-        named.others,
-    )?;
-    let inputs = inputs_of(files, alloc, inputs)?;
-    let trace = trace_of(files, alloc, trace)?;
+    let is_text = is_named_text(alloc, named.program, &program)?;
+    let inputs = inputs_of(files, alloc, named.joined_inputs())?;
+    let trace = trace_of(files, alloc, named.separate_events(command, is_untraced))?;
     Ok(SessionInput {
-        words,
+        is_text,
+        draws_run: named.draws_run(command, is_untraced),
         contents: Some(Contents {
             program,
             inputs,
             trace,
-            trace_follows,
+            trace_follows: named.follows_inputs(command, is_untraced),
         }),
-        lines,
+        lines: named.separate_lines(),
     })
 }
 
@@ -178,12 +168,12 @@ fn opened<'a, F: InputFiles>(
     files: &F,
     alloc: Global,
     command: &str,
-    named: Naming<'a>,
+    named: &Naming<'a>,
 ) -> Result<SessionInput<'a>, NoInput<'a>>
-    requires { opens_files_is command.now (seen named) ≡ true }
-    ensures made { IfOk result (λ made. IsSessionInput (F.Holds files.now) command.now (seen named.entry) (map string_bytes made.words.items) (option_map seen_contents made.contents)) }
-    ensures lines { IfOk result (λ made. option_map (λ path. path.now) made.lines ≡ separate_lines_is (seen named.entry)) }
-    ensures failed { IfErr result (IsReason (F.Fails files.now) (AreMisfits (F.Holds files.now) command.now (seen named.entry))) }
+    requires { opens_files_is command.now (seen named.now) ≡ true }
+    ensures made { IfOk result (λ made. IsSessionInput (F.Holds files.now) command.now (seen named.now) made.is_text made.draws_run (option_map seen_contents made.contents)) }
+    ensures lines { IfOk result (λ made. option_map (λ path. path.now) made.lines ≡ separate_lines_is (seen named.now)) }
+    ensures failed { IfErr result (IsReason (F.Fails files.now) (AreMisfits (F.Holds files.now) command.now (seen named.now))) }
 {
     let program = read(files, alloc, named.program_path())?;
     let is_untraced = has_no_trace(command, &program);
@@ -193,38 +183,24 @@ fn opened<'a, F: InputFiles>(
     }
 }
 
-/// Returns the arguments of a command without the files that they name, to be judged before any is opened. `draws_run` is whether a run is drawn.
-pub fn words_without_files(
-    alloc: Global,
-    command: &str,
-    draws_run: bool,
-    words: &[String],
-) -> Result<Vec<String>, AllocError>
-    ensures { IfOk result (λ made. map string_bytes made.items ≡ command_words command.now draws_run ++ (naming_of_is (map string_bytes words.now)).others) }
-{
-    let named = naming_of(alloc, words)?;
-    plain_words(alloc, command, draws_run, named.others)
-}
-
 /// Opens the files that the arguments of a command name, and returns what a session gets. Nothing is read if they name none, or request help.
 pub fn session_input<'a, F: InputFiles>(
     files: &F,
     alloc: Global,
     command: &str,
-    words: &'a [String],
+    named: &Naming<'a>,
 ) -> Result<SessionInput<'a>, NoInput<'a>>
-    ensures made { IfOk result (λ made. IsSessionInput (F.Holds files.now) command.now (naming_of_is (map string_bytes words.entry.now)) (map string_bytes made.words.items) (option_map seen_contents made.contents)) }
-    ensures lines { IfOk result (λ made. IfSome made.contents (λ contents. option_map (λ path. path.now) made.lines ≡ separate_lines_is (naming_of_is (map string_bytes words.entry.now)))) }
+    ensures made { IfOk result (λ made. IsSessionInput (F.Holds files.now) command.now (seen named.now) made.is_text made.draws_run (option_map seen_contents made.contents)) }
+    ensures lines { IfOk result (λ made. IfSome made.contents (λ contents. option_map (λ path. path.now) made.lines ≡ separate_lines_is (seen named.now))) }
     // It fails only if an allocation fails, a file can't be read, or files don't fit each other.
-    ensures failed { IfErr result (IsReason (F.Fails files.now) (AreMisfits (F.Holds files.now) command.now (naming_of_is (map string_bytes words.entry.now)))) }
+    ensures failed { IfErr result (IsReason (F.Fails files.now) (AreMisfits (F.Holds files.now) command.now (seen named.now))) }
 {
-    let named = naming_of(alloc, words)?;
     if named.opens_files(command) {
         return opened(files, alloc, command, named);
     }
-    let words = plain_words(alloc, command, false, named.others)?;
     Ok(SessionInput {
-        words,
+        is_text: false,
+        draws_run: false,
         contents: None,
         lines: None,
     })

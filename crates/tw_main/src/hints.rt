@@ -5,7 +5,7 @@ use std::alloc::{AllocError, Global};
 use std::io;
 use std::io::ErrorKind;
 use std::rt::Stderr;
-use tw_files::{Misfit, requests_help};
+use tw_files::Misfit;
 use tw_session::{Close, ErrorCode, Failure, Position, Status};
 use tw_visible::{Kind, visible};
 
@@ -88,11 +88,8 @@ pub fn print_reading(stderr: &Stderr) -> io::Result<()> {
     eprintln!(stderr; "tw: reading standard input, which Ctrl-D ends")
 }
 
-/// Prints that a terminal is read, unless help is requested.
-pub fn print_notice(stderr: &Stderr, words: &[String]) -> io::Result<()> {
-    if requests_help(words) {
-        return Ok(());
-    }
+/// Prints that a terminal is read.
+pub fn print_notice(stderr: &Stderr) -> io::Result<()> {
     eprintln!(stderr;
         "tw: reading standard input, which Ctrl-D ends; a FILE after the command is read instead"
     )

@@ -1,6 +1,7 @@
 //! The command `tw`.
 #![tactic(auto)]
 
+mod asked;
 mod bare_input;
 mod colours;
 mod exit;

@@ -1,5 +1,6 @@
 //! Answers the arguments of the command.
 
+use crate::asked::Asked;
 use crate::exit::Exit;
 use crate::file_parts::inputs_and_trace;
 use crate::hints::{
@@ -11,16 +12,16 @@ use crate::progress_printer::ProgressPrinter;
 use crate::symbolic::{Misnamed, find_misnamed};
 use crate::system_files::SystemFiles;
 use crate::typed::{CommandWords, rewritten, takes_file, takes_inputs};
-use std::alloc::{AllocError, Global};
+use std::alloc::AllocError;
 use std::io::{ErrorKind, IsTerminal, Read, Write};
 use std::rt::{Files, Stderr, Stdin, Stdout};
 use std::sync::Wait;
 use std::thread::Threads;
-use std::time::Clock;
+use std::time::{Clock, Duration};
 use std::{fs, io};
-use tw_cli::{Complaint, NoOrder, read_order, reads_program};
-use tw_files::{Contents, NoInput, SessionInput, session_input, words_without_files};
-use tw_order::Order;
+use tw_cli::{Complaint, NoOrder, reads_program};
+use tw_files::{Contents, Naming, NoInput, SessionInput, naming_of, session_input};
+use tw_order::{Order, RunOptions};
 use tw_session::{
     Given, InStream, Status, each_session, given_session, session, unordered_session, without_words,
 };
@@ -47,15 +48,8 @@ pub struct Settings<'a> {
     pub has_colours: bool,
 }
 
-/// Returns the command and the arguments of a session.
-fn words_of(alloc: Global, command: &str, others: &[String]) -> Result<Vec<String>, AllocError> {
-    let mut words = Vec::new(alloc);
-    words.push(String::from_str(alloc, command)?)?;
-    for word in others {
-        words.push(word.clone()?)?;
-    }
-    Ok(words)
-}
+/// The longest time of a run, in seconds.
+const LONGEST: u64 = 4_294_967_295;
 
 /// Returns whether a word is among the arguments of a session.
 fn has_word(words: &[String], sought: &str) -> bool {
@@ -144,10 +138,7 @@ impl<'a, H: AllocGlobal + Files + Threads + Wait + Clock + Sync> Tool<'a, H> {
     ) -> Exit {
         match output.failure {
             Some(ErrorKind::BrokenPipe) => Exit::Abandoned,
-            Some(ErrorKind::OutOfMemory) => {
-                let mut stdout = self.streams.stdout;
-                Exit::Session(without_words(ErrorKind::OutOfMemory, &mut stdout))
-            }
+            Some(ErrorKind::OutOfMemory) => self.without_memory(),
             _ => {
                 self.advise(words, status, is_each, misnamed, reads_input);
                 Exit::Session(status)
@@ -166,13 +157,24 @@ impl<'a, H: AllocGlobal + Files + Threads + Wait + Clock + Sync> Tool<'a, H> {
         )
     }
 
-    /// Returns an order whose run is watched if the observer can stop it, or shows its turns.
+    /// Returns the options of a run that the observer can stop, or whose progress it shows: its time is limited.
+    fn watched_options(
+        &self,
+        mut options: RunOptions,
+        reporter: &ProgressPrinter<'a>,
+    ) -> RunOptions {
+        if self.settings.stop.is_some() || (options.in_turn && reporter.shows()) {
+            let longest = Duration::from_secs(LONGEST);
+            options.seconds = Some(options.seconds.unwrap_or(longest));
+        }
+        options
+    }
+
+    /// Returns an order whose run is watched so.
     fn watched(&self, order: Order, reporter: &ProgressPrinter<'a>) -> Order {
         match order {
-            Order::Run(source, mut options, inputs) => {
-                let shows_turns = options.in_turn && reporter.shows();
-                options.is_watched = self.settings.stop.is_some() || shows_turns;
-                Order::Run(source, options, inputs)
+            Order::Run(source, options, inputs) => {
+                Order::Run(source, self.watched_options(options, reporter), inputs)
             }
             other => other,
         }
@@ -200,34 +202,42 @@ impl<'a, H: AllocGlobal + Files + Threads + Wait + Clock + Sync> Tool<'a, H> {
         self.ended(words, status, false, None, false, &writer)
     }
 
+    /// Ends the command, since an allocation failed.
+    fn without_memory(&self) -> Exit {
+        let mut stdout = self.streams.stdout;
+        Exit::Session(without_words(ErrorKind::OutOfMemory, &mut stdout))
+    }
+
     /// Holds a session of the command `tw`, and prints hints about its answer.
-    fn hold<R: InStream>(&self, words: &[String], reader: &mut R, reads_input: bool) -> Exit {
-        let order = match read_order(self.rt.alloc(), words) {
+    fn hold<R: InStream>(&self, asked: Asked, reader: &mut R, reads_input: bool) -> Exit {
+        let Asked { words, order } = asked;
+        let order = match order {
             Ok(order) => order,
-            Err(why) => return self.answer_unordered(words, why),
+            Err(why) => return self.answer_unordered(&words, why),
         };
         let is_each = matches!(order, Order::Each(..));
-        let mut writer = self.output(words);
-        let reporter = self.reporter(words);
+        let mut writer = self.output(&words);
+        let reporter = self.reporter(&words);
         let order = self.watched(order, &reporter);
         let status = session(self.rt, &reporter, order, reader, &mut writer);
-        self.ended(words, status, is_each, None, reads_input, &writer)
+        self.ended(&words, status, is_each, None, reads_input, &writer)
     }
 
     /// Holds a session over standard input, and says so if that is a terminal.
-    fn hold_over_input(&self, words: &[String]) -> Exit {
+    fn hold_over_input(&self, asked: Asked) -> Exit {
         let mut stdin = self.streams.stdin;
         if stdin.is_terminal() {
-            let _printed = print_notice(&self.streams.stderr, words);
+            let _printed = print_notice(&self.streams.stderr);
         }
-        self.hold(words, &mut stdin, true)
+        self.hold(asked, &mut stdin, true)
     }
 
     /// Holds a session over what files hold.
-    fn hold_over_files(&self, typed: &CommandWords, words: &[String], files: &Contents) -> Exit {
-        let order = match read_order(self.rt.alloc(), words) {
+    fn hold_over_files(&self, typed: &CommandWords, asked: Asked, files: &Contents) -> Exit {
+        let Asked { words, order } = asked;
+        let order = match order {
             Ok(order) => order,
-            Err(why) => return self.answer_unordered(words, why),
+            Err(why) => return self.answer_unordered(&words, why),
         };
         let is_each = matches!(order, Order::Each(..));
         let (inputs, trace) = inputs_and_trace(files);
@@ -237,34 +247,35 @@ impl<'a, H: AllocGlobal + Files + Threads + Wait + Clock + Sync> Tool<'a, H> {
             trace,
         };
         let misnamed = find_misnamed(typed.program_path(), given.program);
-        let mut writer = self.output(words);
-        let reporter = self.reporter(words);
+        let mut writer = self.output(&words);
+        let reporter = self.reporter(&words);
         let order = self.watched(order, &reporter);
         let status = given_session(self.rt, &reporter, order, given, &mut writer);
-        self.ended(words, status, is_each, misnamed, false, &writer)
+        self.ended(&words, status, is_each, misnamed, false, &writer)
     }
 
     /// Holds a session over a program and lines of this file, which are read one after the other.
     fn answer_lines<R: Read + Drop>(
         &self,
         typed: &CommandWords,
-        words: &[String],
+        asked: Asked,
         program: Vec<u8>,
         path: &str,
         lines: R,
     ) -> Exit {
-        let order = match read_order(self.rt.alloc(), words) {
+        let Asked { words, order } = asked;
+        let order = match order {
             Ok(order) => order,
-            Err(why) => return self.answer_unordered(words, why),
+            Err(why) => return self.answer_unordered(&words, why),
         };
         let misnamed = find_misnamed(typed.program_path(), &program);
         let mut reader = NotedReader::new(lines);
-        let mut writer = self.output(words);
-        let reporter = self.reporter(words);
+        let mut writer = self.output(&words);
+        let reporter = self.reporter(&words);
         let status = each_session(self.rt, &reporter, order, program, &mut reader, &mut writer);
         match &reader.error {
             Some(error) if path != "-" => self.unread(path, error),
-            _ => self.ended(words, status, true, misnamed, false, &writer),
+            _ => self.ended(&words, status, true, misnamed, false, &writer),
         }
     }
 
@@ -272,26 +283,26 @@ impl<'a, H: AllocGlobal + Files + Threads + Wait + Clock + Sync> Tool<'a, H> {
     fn hold_over_lines(
         &self,
         typed: &CommandWords,
-        words: &[String],
+        asked: Asked,
         program: Vec<u8>,
         path: &str,
     ) -> Exit {
         if path == "-" {
-            return self.answer_lines(typed, words, program, path, self.streams.stdin);
+            return self.answer_lines(typed, asked, program, path, self.streams.stdin);
         }
         match fs::open(self.rt, path) {
-            Ok(file) => self.answer_lines(typed, words, program, path, file),
+            Ok(file) => self.answer_lines(typed, asked, program, path, file),
             Err(error) => self.unread(path, &error),
         }
     }
 
     /// Holds a session over what `session_input` returned for the arguments after a command.
-    fn hold_over(&self, typed: &CommandWords, made: SessionInput<'_>) -> Exit {
-        let words = made.words;
+    fn hold_over(&self, typed: &CommandWords, asked: Asked, made: SessionInput<'_>) -> Exit {
+        let asked = asked.of_format(made.is_text);
         match (made.contents, made.lines) {
-            (None, _) => self.hold_over_input(&words),
-            (Some(files), Some(path)) => self.hold_over_lines(typed, &words, files.program, path),
-            (Some(files), None) => self.hold_over_files(typed, &words, &files),
+            (None, _) => self.hold_over_input(asked),
+            (Some(files), Some(path)) => self.hold_over_lines(typed, asked, files.program, path),
+            (Some(files), None) => self.hold_over_files(typed, asked, &files),
         }
     }
 
@@ -306,75 +317,75 @@ impl<'a, H: AllocGlobal + Files + Threads + Wait + Clock + Sync> Tool<'a, H> {
         if error.kind() != ErrorKind::NotFound || !is_bare_word(command, others, path) {
             return self.unread(path, error);
         }
-        let Ok(words) = words_of(self.rt.alloc(), command, others) else {
-            let mut stdout = self.streams.stdout;
-            return Exit::Session(without_words(ErrorKind::OutOfMemory, &mut stdout));
+        let Ok(asked) = Asked::new(self.rt.alloc(), &[command], others) else {
+            return self.without_memory();
         };
         let _printed = complain_missing(self.rt.alloc(), &self.streams.stderr, path);
-        self.hold(&words, &mut { self.streams.stdin }, false)
+        self.hold(asked, &mut { self.streams.stdin }, false)
     }
 
-    /// Answers a command that reads a program, if its arguments may be accepted.
-    fn answer_command(&self, command: &str, typed: &CommandWords) -> Exit {
-        let mut stdout = self.streams.stdout;
-        let others = typed.others.as_slice();
+    /// Answers a command that reads a program. Without a trace `picture` draws a run, for which the arguments are read as `drawn`.
+    fn answer_command(
+        &self,
+        command: &str,
+        typed: &CommandWords,
+        named: &Naming<'_>,
+        asked: Asked,
+        drawn: Option<Asked>,
+    ) -> Exit {
         let files = SystemFiles::new(self.rt, self.streams.stdin, self.streams.stderr);
-        match session_input(&files, self.rt.alloc(), command, others) {
-            Ok(made) => self.hold_over(typed, made),
-            Err(NoInput::Unread(path, error)) => self.answer_unread(command, others, path, &error),
+        match session_input(&files, self.rt.alloc(), command, named) {
+            Ok(made) => match drawn {
+                Some(drawn) if made.draws_run => self.hold_over(typed, drawn, made),
+                _ => self.hold_over(typed, asked, made),
+            },
+            Err(NoInput::Unread(path, error)) => {
+                self.answer_unread(command, &typed.others, path, &error)
+            }
             Err(NoInput::Misfit(path, why)) => {
+                let mut stdout = self.streams.stdout;
                 let _printed = complain_misfit(self.rt.alloc(), &self.streams.stderr, path, why);
                 Exit::Session(without_words(ErrorKind::InvalidInput, &mut stdout))
             }
-            Err(NoInput::NoMemory) => {
-                Exit::Session(without_words(ErrorKind::OutOfMemory, &mut stdout))
-            }
+            Err(NoInput::NoMemory) => self.without_memory(),
         }
     }
 
-    /// Returns why arguments are rejected, whatever the files hold that they name, if they are. `draws_run` is whether a run is drawn.
-    fn rejection(&self, command: &str, draws_run: bool, others: &[String]) -> Option<NoOrder> {
+    /// Reads the arguments of a command that reads a program, and answers it. Rejected arguments are answered before a file is opened.
+    fn read_command(&self, command: &str, others: &[String]) -> Result<Exit, AllocError> {
         let alloc = self.rt.alloc();
-        let Ok(words) = words_without_files(alloc, command, draws_run, others) else {
-            return Some(NoOrder::NoMemory);
+        let typed = rewritten(alloc, command, others)?;
+        let named = naming_of(alloc, &typed.others)?;
+        let asked = Asked::new(alloc, &[command], &named.others)?;
+        let drawn = match command {
+            "picture" => Some(Asked::new(alloc, &["run", "--picture"], &named.others)?),
+            _ => None,
         };
-        match read_order(alloc, &words) {
-            Ok(_) | Err(NoOrder::Help(_) | NoOrder::Explanation(_)) => None,
-            Err(why) => Some(why),
+        let may_draw = drawn.as_ref().is_some_and(|drawn| drawn.order.is_ok());
+        if asked.order.is_err() && !may_draw {
+            return Ok(self.hold(asked, &mut { self.streams.stdin }, false));
         }
+        Ok(self.answer_command(command, &typed, &named, asked, drawn))
     }
 
-    /// Answers a command that reads a program. Rejected arguments are answered before a file is opened. Without a trace `picture` draws a run, which takes
-    /// other options.
-    fn judge_command(&self, words: &[String], command: &str, typed: &CommandWords) -> Exit {
-        let others = typed.others.as_slice();
-        match self.rejection(command, false, others) {
-            Some(_) if command == "picture" && self.rejection(command, true, others).is_none() => {
-                self.answer_command(command, typed)
+    /// Answers arguments, without the program's own name, unless an allocation fails.
+    fn try_answer(&self, words: &[String]) -> Result<Exit, AllocError> {
+        match words {
+            [command, others @ ..] if reads_program(command.as_str()) => {
+                self.read_command(command.as_str(), others)
             }
-            Some(why) => self.answer_unordered(words, why),
-            None => self.answer_command(command, typed),
-        }
-    }
-
-    /// Answers a command that reads a program, whose arguments are as people type them.
-    fn read_command(&self, words: &[String], command: &str, others: &[String]) -> Exit {
-        match rewritten(self.rt.alloc(), command, others) {
-            Ok(typed) => self.judge_command(words, command, &typed),
-            Err(_) => {
-                let mut stdout = self.streams.stdout;
-                Exit::Session(without_words(ErrorKind::OutOfMemory, &mut stdout))
+            _ => {
+                let asked = Asked::new(self.rt.alloc(), &[], words)?;
+                Ok(self.hold(asked, &mut { self.streams.stdin }, false))
             }
         }
     }
 
     /// Answers the arguments of the command `tw`, without the program's own name.
     pub fn answer(&self, words: &[String]) -> Exit {
-        match words {
-            [command, others @ ..] if reads_program(command.as_str()) => {
-                self.read_command(words, command.as_str(), others)
-            }
-            _ => self.hold(words, &mut { self.streams.stdin }, false),
+        match self.try_answer(words) {
+            Ok(exit) => exit,
+            Err(_) => self.without_memory(),
         }
     }
 }

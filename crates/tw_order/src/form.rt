@@ -1,5 +1,8 @@
 //! The form of a command's output, and the orders that have little more.
 
+ghost use Rattle.std.specs.Prelude.{◌≡◌};
+ghost use Rattle.tw_order.specs.Orders.{with_names};
+
 /// The form of a command's output.
 #[derive(Clone, Copy, PartialEq, Eq)]
 pub enum Form {
@@ -25,6 +28,19 @@ pub struct AssembleOrder {
     /// The texts that are read and written.
     pub what: Assembling,
     pub form: Form,
+}
+
+impl AssembleOrder {
+    /// Returns the order for a text that may be symbolic.
+    pub fn with_names(self) -> AssembleOrder
+        ensures { result ≡ with_names self }
+    {
+        let what = match self.what {
+            Assembling::Text => Assembling::Names,
+            other => other,
+        };
+        AssembleOrder { what, ..self }
+    }
 }
 
 /// Whether a program's instructions are listed by their places.

@@ -1,7 +1,7 @@
 //! Orders: what is done with the program that is read.
 
 ghost use Rattle.std.specs.Prelude.{◌≡◌};
-ghost use Rattle.tw_order.specs.Orders.{order_in_turn};
+ghost use Rattle.tw_order.specs.Orders.{order_in_turn, order_of_text};
 
 use crate::check::CheckOrder;
 use crate::form::{AssembleOrder, DisassembleOrder};
@@ -50,6 +50,23 @@ impl Order {
             Order::Check(source, order) => Order::Check(source, order),
             Order::Each(source, order) => Order::Each(source, order),
             Order::Replay(source, answer, layout, inputs) => {
+                Order::Replay(source, answer, layout, inputs)
+            }
+        }
+    }
+
+    /// Returns the same order for a program in assembly text, which `asm` takes for symbolic if it says so.
+    pub fn of_text(self) -> Order
+        ensures { result ≡ order_of_text self }
+    {
+        let source = Source::Assembly;
+        match self {
+            Order::Assemble(order) => Order::Assemble(order.with_names()),
+            Order::Disassemble(_, order) => Order::Disassemble(source, order),
+            Order::Check(_, order) => Order::Check(source, order),
+            Order::Run(_, options, inputs) => Order::Run(source, options, inputs),
+            Order::Each(_, order) => Order::Each(source, order),
+            Order::Replay(_, answer, layout, inputs) => {
                 Order::Replay(source, answer, layout, inputs)
             }
         }
