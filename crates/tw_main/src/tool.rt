@@ -17,11 +17,11 @@ use std::io::{ErrorKind, IsTerminal, Read, Write};
 use std::rt::{Files, Stderr, Stdin, Stdout};
 use std::sync::Wait;
 use std::thread::Threads;
-use std::time::{Clock, Duration};
+use std::time::Clock;
 use std::{fs, io};
 use tw_cli::{Complaint, NoOrder, reads_program};
 use tw_files::{Contents, Naming, NoInput, SessionInput, naming_of, session_input};
-use tw_order::{Order, RunOptions};
+use tw_order::Order;
 use tw_session::{
     Given, InStream, Status, each_session, given_session, session, unordered_session, without_words,
 };
@@ -47,9 +47,6 @@ pub struct Settings<'a> {
     /// Whether lines on a terminal have colours.
     pub has_colours: bool,
 }
-
-/// The longest time of a run, in seconds.
-const LONGEST: u64 = 4_294_967_295;
 
 /// Returns whether a word is among the arguments of a session.
 fn has_word(words: &[String], sought: &str) -> bool {
@@ -157,24 +154,13 @@ impl<'a, H: AllocGlobal + Files + Threads + Wait + Clock + Sync> Tool<'a, H> {
         )
     }
 
-    /// Returns the options of a run that the observer can stop, or whose progress it shows: its time is limited.
-    fn watched_options(
-        &self,
-        mut options: RunOptions,
-        reporter: &ProgressPrinter<'a>,
-    ) -> RunOptions {
-        if self.settings.stop.is_some() || (options.in_turn && reporter.shows()) {
-            let longest = Duration::from_secs(LONGEST);
-            options.seconds = Some(options.seconds.unwrap_or(longest));
-        }
-        options
-    }
-
-    /// Returns an order whose run is watched so.
+    /// Returns an order whose run is watched if the observer can stop it, or shows its turns.
     fn watched(&self, order: Order, reporter: &ProgressPrinter<'a>) -> Order {
         match order {
-            Order::Run(source, options, inputs) => {
-                Order::Run(source, self.watched_options(options, reporter), inputs)
+            Order::Run(source, mut options, inputs) => {
+                let shows_turns = options.in_turn && reporter.shows();
+                options.is_watched = self.settings.stop.is_some() || shows_turns;
+                Order::Run(source, options, inputs)
             }
             other => other,
         }

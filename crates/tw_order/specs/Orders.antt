@@ -1,19 +1,24 @@
--- The greatest cap, orders whose runs are single-threaded, and those that read assembly text.
-use Rattle.std.specs.Prelude.{ℕ, true}
+-- The greatest cap, runs that may be stopped, orders whose runs are single-threaded, and those that read assembly text.
+use Rattle.std.specs.Prelude.{◌||◌, ℕ, Bool, false, true, is_some}
 use Rattle.tw_order.specs.declared.form.AssembleOrder.{AssembleOrder}
 use Rattle.tw_order.specs.declared.form.Assembling.{Assembling}
 use Rattle.tw_order.specs.declared.form.Assembling.TheVariants as assembling
 use Rattle.tw_order.specs.declared.order.Order.{Order}
 use Rattle.tw_order.specs.declared.order.Order.TheVariants.{Assemble, Check, Disassemble, Each, Replay, Run}
 use Rattle.tw_order.specs.declared.order.Source.TheVariants.{Assembly}
+use Rattle.tw_order.specs.declared.runs.RunOptions.{RunOptions}
 
 -- the cap that admits every program
 abbrev pub greatest_cap : ℕ
 greatest_cap = 18446744073709551615
 
--- returns the order with its run single-threaded, if it has one
+-- returns whether a run may be stopped: its time is limited, or an observer watches it
+abbrev pub may_be_stopped : RunOptions → Bool
+may_be_stopped options = options.is_watched || is_some options.seconds
+
+-- returns the order with its run single-threaded and without an observer, if it has one
 abbrev pub order_in_turn : Order → Order
-order_in_turn (Run source options inputs) = Run source (record options { in_turn = true }) inputs
+order_in_turn (Run source options inputs) = Run source (record options { in_turn = true; is_watched = false }) inputs
 order_in_turn (Assemble order) = Assemble order
 order_in_turn (Disassemble source order) = Disassemble source order
 order_in_turn (Check source order) = Check source order
