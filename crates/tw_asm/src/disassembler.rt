@@ -44,7 +44,7 @@ fn put_label_at(lines: &mut Lines, places: &IndexSet<usize>, place: usize) -> Re
     ensures { OnOk result (lines.new.out.items ≡ lines.old.out.items ++ label_line (label_at places.now.keys place)) }
 {
     match label_at(places, place) {
-        Some(number) => put_label(lines.alloc, &mut lines.out, number),
+        Some(number) => put_label(&mut lines.out, number),
         None => Ok(()),
     }
 }
@@ -119,7 +119,7 @@ fn lines_of(
     ensures { IfOk result (λ out. out.items ≡ version_line version ++ flat_map procedure_lines procedures.now) }
 {
     let mut lines = Lines::new(alloc);
-    put_version(alloc, &mut lines.out, version)?;
+    put_version(&mut lines.out, version)?;
     put_procedures(&mut lines, procedures)?;
     Ok(lines.out)
 }

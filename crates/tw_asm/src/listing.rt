@@ -42,7 +42,7 @@ impl LabelPlaces {
         ensures { OnOk result (out.new.items ≡ out.old.items ++ label_line (label_at self.now place)) }
     {
         match self.places.get_index_of(&place) {
-            Some(number) => put_label(alloc, out, number),
+            Some(number) => put_label(out, number),
             None => Ok(()),
         }
     }
@@ -75,14 +75,9 @@ pub fn put_head_lines(out: &mut Vec<u8>, procedure: &Procedure) -> Result<(), Al
 }
 
 /// Adds a right register and what it holds, written like a parameter.
-pub fn put_right(
-    alloc: Global,
-    out: &mut Vec<u8>,
-    register: u8,
-    held: Param,
-) -> Result<(), AllocError>
+pub fn put_right(out: &mut Vec<u8>, register: u8, held: Param) -> Result<(), AllocError>
     ensures { OnOk result (out.new.items ≡ out.old.items ++ right_text register held) }
 {
-    put_numbered(alloc, out, "d", usize::from(register))?;
+    put_numbered(out, "d", usize::from(register))?;
     put_param(out, held)
 }

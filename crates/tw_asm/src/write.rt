@@ -155,27 +155,22 @@ pub fn put_param(out: &mut Vec<u8>, param: Param) -> Result<(), AllocError>
 }
 
 /// Writes a target: the number of an actor, or `any`.
-fn put_target(alloc: Global, out: &mut Vec<u8>, target: Option<u8>) -> Result<(), AllocError>
+fn put_target(out: &mut Vec<u8>, target: Option<u8>) -> Result<(), AllocError>
     ensures { OnOk result (out.new.items ≡ out.old.items ++ spaced_all (part_words (goal_word None) (target_part target))) }
 {
     match target {
-        Some(number) => put_numbered(alloc, out, " ", usize::from(number)),
+        Some(number) => put_numbered(out, " ", usize::from(number)),
         None => put(out, " any"),
     }
 }
 
 /// Writes a skip: as a label if there is one, else as a number.
-fn put_goal(
-    alloc: Global,
-    out: &mut Vec<u8>,
-    label: Option<usize>,
-    skip: u16,
-) -> Result<(), AllocError>
+fn put_goal(out: &mut Vec<u8>, label: Option<usize>, skip: u16) -> Result<(), AllocError>
     ensures { OnOk result (out.new.items ≡ out.old.items ++ spaced_all (goal_word label skip ∷ [])) }
 {
     match label {
-        Some(label) => put_numbered(alloc, out, " L", label),
-        None => put_numbered(alloc, out, " +", usize::from(skip)),
+        Some(label) => put_numbered(out, " L", label),
+        None => put_numbered(out, " +", usize::from(skip)),
     }
 }
 
@@ -188,18 +183,18 @@ fn put_literal(out: &mut Vec<u8>, text: &str) -> Result<(), AllocError>
 }
 
 /// Writes the register of an argument.
-fn put_argument(alloc: Global, out: &mut Vec<u8>, register: u8) -> Result<(), AllocError>
+fn put_argument(out: &mut Vec<u8>, register: u8) -> Result<(), AllocError>
     ensures { OnOk result (out.new.items ≡ out.old.items ++ spaced_all (decimal register ∷ [])) }
 {
-    put_numbered(alloc, out, " ", usize::from(register))
+    put_numbered(out, " ", usize::from(register))
 }
 
 /// Writes the registers of arguments.
-fn put_args(alloc: Global, out: &mut Vec<u8>, args: &[u8]) -> Result<(), AllocError>
+fn put_args(out: &mut Vec<u8>, args: &[u8]) -> Result<(), AllocError>
     ensures { OnOk result (out.new.items ≡ out.old.items ++ spaced_all (flat_map (λ arg. decimal arg ∷ []) args.now)) }
 {
     for arg in args {
-        put_argument(alloc, out, *arg)?;
+        put_argument(out, *arg)?;
     }
     Ok(())
 }
@@ -215,16 +210,16 @@ fn put_operand(
     ensures { OnOk result (out.new.items ≡ out.old.items ++ spaced_all (operand_words (goal_word label) (seen operand.now))) }
 {
     match operand {
-        Operand::Value(register) => put_numbered(alloc, out, " v", usize::from(*register)),
-        Operand::Right(register) => put_numbered(alloc, out, " d", usize::from(*register)),
+        Operand::Value(register) => put_numbered(out, " v", usize::from(*register)),
+        Operand::Right(register) => put_numbered(out, " d", usize::from(*register)),
         Operand::Number(number) => put_number(alloc, out, *number),
-        Operand::Iterations(iterations) => put_numbered(alloc, out, " ", usize::from(*iterations)),
+        Operand::Iterations(iterations) => put_numbered(out, " ", usize::from(*iterations)),
         Operand::Literal(text) => put_literal(out, text),
         Operand::TypeOf(ty) => put_type(out, *ty),
-        Operand::Skip(skip) => put_goal(alloc, out, label, *skip),
-        Operand::Callee(procedure) => put_numbered(alloc, out, " ", usize::from(*procedure)),
-        Operand::Target(target) => put_target(alloc, out, *target),
-        Operand::Args(args) => put_args(alloc, out, args),
+        Operand::Skip(skip) => put_goal(out, label, *skip),
+        Operand::Callee(procedure) => put_numbered(out, " ", usize::from(*procedure)),
+        Operand::Target(target) => put_target(out, *target),
+        Operand::Args(args) => put_args(out, args),
     }
 }
 
@@ -315,21 +310,21 @@ pub fn put_registers(out: &mut Vec<u8>, registers: &[Scalar]) -> Result<(), Allo
 }
 
 /// Adds the line of the label with this number.
-pub fn put_label(alloc: Global, out: &mut Vec<u8>, number: usize) -> Result<(), AllocError>
+pub fn put_label(out: &mut Vec<u8>, number: usize) -> Result<(), AllocError>
     ensures { OnOk result (out.new.items ≡ out.old.items ++ line_of (goal_word None) (Label (codes "L" ++ decimal number))) }
 {
-    put_numbered(alloc, out, "L", number)?;
+    put_numbered(out, "L", number)?;
     put(out, ":\n")
 }
 
 /// Adds the line of the version. The first version has none.
-pub fn put_version(alloc: Global, out: &mut Vec<u8>, version: Version) -> Result<(), AllocError>
+pub fn put_version(out: &mut Vec<u8>, version: Version) -> Result<(), AllocError>
     ensures { OnOk result (out.new.items ≡ out.old.items ++ version_line version) }
 {
     match version {
         Version::One => Ok(()),
         _ => {
-            put_numbered(alloc, out, "version ", usize::from(version.number()))?;
+            put_numbered(out, "version ", usize::from(version.number()))?;
             put(out, "\n")
         }
     }

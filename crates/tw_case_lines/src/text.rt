@@ -47,7 +47,7 @@ impl Text {
 
     /// Adds words to a case's output, followed by a number.
     pub fn number(&mut self, words: &str, number: u64) {
-        self.is_whole &= put_numbered(self.alloc, &mut self.bytes, words, number as usize).is_ok();
+        self.is_whole &= put_numbered(&mut self.bytes, words, number as usize).is_ok();
     }
 
     /// Adds words to a case's output, followed by `true` or `false`.
@@ -65,7 +65,7 @@ impl Text {
 
     /// Adds the line of an event to a case's output.
     pub fn event(&mut self, event: &Event) {
-        self.is_whole &= put_event_line(self.alloc, &mut self.bytes, event).is_ok();
+        self.is_whole &= put_event_line(&mut self.bytes, event).is_ok();
     }
 
     /// Adds a value to a case's output in the form for users.

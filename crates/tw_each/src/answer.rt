@@ -203,7 +203,7 @@ pub fn put_answer<L: RunsLine>(
 {
     let InputLine { id, inputs } = read_line(alloc, params_of(run), text, scratch)?;
     let answer = line_answer(alloc, runner, run, number, text, inputs, scratch)?;
-    put_labelled_line(alloc, out, number, &id, answer.line.as_bytes())?;
+    put_labelled_line(out, number, &id, answer.line.as_bytes())?;
     Ok(answer.end)
 }
 
@@ -218,6 +218,6 @@ pub fn put_unread(
 {
     let error = failed_reply(alloc, failure)?;
     let line = error_line(alloc, &error)?;
-    put_labelled_line(alloc, out, number, &None, line.as_bytes())?;
+    put_labelled_line(out, number, &None, line.as_bytes())?;
     Ok(WorstEnd::Refused)
 }

@@ -3,7 +3,7 @@
 ghost use Rattle.std.specs.Prelude.{◌≡◌, ◌++◌, OnOk, option_map};
 ghost use Rattle.tw_each.specs.Answers.{id_member, labelled};
 
-use std::alloc::{AllocError, Global};
+use std::alloc::AllocError;
 use tw_lexer::put_numbered;
 
 /// Appends the member of an id, if there is one.
@@ -21,7 +21,6 @@ fn put_id(out: &mut Vec<u8>, id: &Option<Vec<u8>>) -> Result<(), AllocError>
 
 /// Appends an object's line with a number as its first member, then any id.
 pub fn put_labelled_line(
-    alloc: Global,
     out: &mut Vec<u8>,
     number: usize,
     id: &Option<Vec<u8>>,
@@ -29,7 +28,7 @@ pub fn put_labelled_line(
 ) -> Result<(), AllocError>
     ensures { OnOk result (out.new.items ≡ out.old.items ++ labelled number (option_map (λ id. id.items) id.now) line.now) }
 {
-    put_numbered(alloc, out, "{\"line\":", number)?;
+    put_numbered(out, "{\"line\":", number)?;
     put_id(out, id)?;
     out.extend_from_slice(b",")?;
     out.extend_from_slice(&line[1.min(line.len())..])

@@ -49,7 +49,7 @@ impl Code {
 
     /// Appends a number to the text of a random program.
     fn number(&mut self, number: usize) {
-        self.is_whole &= put_numbered(self.alloc, &mut self.text, "", number).is_ok();
+        self.is_whole &= put_numbered(&mut self.text, "", number).is_ok();
     }
 
     /// Appends words to a random program. Replaces each `#` by the number of the next register, and each `@` by that of the next

@@ -62,8 +62,8 @@ fn wanted(alloc: Global) -> Result<Vec<u8>, AllocError> {
     let mut text = Vec::new(alloc);
     put(&mut text, "out 0 cont int closed 6400\n")?;
     for number in 0..6_400_usize {
-        put_numbered(alloc, &mut text, "  at ", number.wrapping_mul(number))?;
-        put_numbered(alloc, &mut text, " int ", number.wrapping_mul(number))?;
+        put_numbered(&mut text, "  at ", number.wrapping_mul(number))?;
+        put_numbered(&mut text, " int ", number.wrapping_mul(number))?;
         put(&mut text, "\n")?;
     }
     put(&mut text, "quiet\n")?;

@@ -53,7 +53,7 @@ fn text_of(alloc: Global, plain: &Plain, closing: Closing) -> Result<Vec<u8>, Al
         return report_state(alloc, plain);
     }
     let mut text = Vec::new(alloc);
-    put_report(alloc, &mut text, plain.state(), "limit\n".as_bytes())?;
+    put_report(&mut text, plain.state(), "limit\n".as_bytes())?;
     Ok(text)
 }
 

@@ -111,26 +111,20 @@ fn reason(params: &[Param], place: Place, begins: Option<u8>) -> &'static str {
 }
 
 /// Appends the first line of an error: which input is at fault, or that all are.
-fn put_first_line(alloc: Global, out: &mut Vec<u8>, place: Place) -> Result<(), AllocError>
+fn put_first_line(out: &mut Vec<u8>, place: Place) -> Result<(), AllocError>
     ensures { OnOk result (out.new.items ≡ out.old.items ++ first_line place) }
 {
     match place {
         Place::Text | Place::Array => put(out, "inputs refused\n"),
         Place::Item(number) => {
-            put_numbered(alloc, out, "input ", number)?;
+            put_numbered(out, "input ", number)?;
             put(out, " refused\n")
         }
     }
 }
 
 /// Appends the line and the column of an offset, which count from 1. The text's first line has the number `first`.
-fn put_place(
-    alloc: Global,
-    out: &mut Vec<u8>,
-    text: &[u8],
-    offset: usize,
-    first: usize,
-) -> Result<(), AllocError>
+fn put_place(out: &mut Vec<u8>, text: &[u8], offset: usize, first: usize) -> Result<(), AllocError>
     ensures { OnOk result ((more : List ℕ) × (out.new.items ≡ out.old.items ++ more)) }
 {
     let (mut line, mut column) = (first, 1_usize);
@@ -142,8 +136,8 @@ fn put_place(
             column = column.saturating_add(1);
         }
     }
-    put_numbered(alloc, out, "line ", line)?;
-    put_numbered(alloc, out, ", column ", column)
+    put_numbered(out, "line ", line)?;
+    put_numbered(out, ", column ", column)
 }
 
 /// Returns the lines of an error at an offset. The text's first line has the number `first`.
@@ -158,8 +152,8 @@ fn lines_at(
     ensures { IfOk result (λ out. IsFaultText place out.items) }
 {
     let mut out = Vec::new(alloc);
-    put_first_line(alloc, &mut out, place)?;
-    put_place(alloc, &mut out, text, offset, first)?;
+    put_first_line(&mut out, place)?;
+    put_place(&mut out, text, offset, first)?;
     put(&mut out, ": ")?;
     put(&mut out, why)?;
     put(&mut out, "\n")?;

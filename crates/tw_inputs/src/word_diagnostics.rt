@@ -66,7 +66,7 @@ fn put_diagnostic(out: &mut Vec<u8>, word: &[u8]) -> Result<(), AllocError> {
 /// Returns the line on a word that encodes no input.
 fn diagnostic_line(alloc: Global, number: usize, word: &[u8]) -> Result<Vec<u8>, AllocError> {
     let mut line = Vec::new(alloc);
-    put_numbered(alloc, &mut line, "input ", number)?;
+    put_numbered(&mut line, "input ", number)?;
     put(&mut line, ": ")?;
     put_shortened_quoted(&mut line, word)?;
     put(&mut line, ": ")?;

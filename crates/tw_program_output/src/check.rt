@@ -235,7 +235,7 @@ pub(crate) fn rejection_reply(
     let before = text.len();
     let line = rejection_line(alloc, source, refused)?;
     let failure = failure_at(refused, line, before);
-    put_failure_line(alloc, &mut text, failure)?;
+    put_failure_line(&mut text, failure)?;
     let details = rejection_errors(alloc, source, refused, line)?;
     details.reply_after(text, failure)
 }

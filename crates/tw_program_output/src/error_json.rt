@@ -39,7 +39,7 @@ fn failure_of(close: Close) -> Failure {
 /// Adds a code.
 fn put_code_member(alloc: Global, object: &mut ObjectWriter, code: ErrorCode) {
     let mut text = Vec::new(alloc);
-    match put_code(alloc, &mut text, code) {
+    match put_code(&mut text, code) {
         Ok(()) => object.put_bytes("code", &text),
         Err(_) => object.fail(),
     }

@@ -41,7 +41,7 @@ fn put_right_column(out: &mut Writer, name: &[u8], register: u8, right: RightTyp
         ty: right.ty(),
     };
     let mut text = Vec::new(out.alloc);
-    let written = put_right(out.alloc, &mut text, register, held);
+    let written = put_right(&mut text, register, held);
     out.note(written);
     out.put("  ");
     let named = put_named(&mut out.bytes, &text, name);

@@ -31,14 +31,9 @@ fn put_such(out: &mut Vec<u8>, params: &[Param]) -> Result<(), AllocError> {
 }
 
 /// Adds how many inputs are given, how many these parameters require, and which.
-fn put_counts(
-    alloc: Global,
-    out: &mut Vec<u8>,
-    given: usize,
-    params: &[Param],
-) -> Result<(), AllocError> {
-    put_numbered(alloc, out, "inputs given: ", given)?;
-    put_numbered(alloc, out, ", required: ", input_count(params))?;
+fn put_counts(out: &mut Vec<u8>, given: usize, params: &[Param]) -> Result<(), AllocError> {
+    put_numbered(out, "inputs given: ", given)?;
+    put_numbered(out, ", required: ", input_count(params))?;
     put_such(out, params)?;
     put(out, "\n")
 }
@@ -152,7 +147,6 @@ pub fn first_unfit(program: &[Procedure], inputs: &[Input]) -> Option<usize>
 
 /// Adds how many inputs are given and required; or why the one at a position doesn't fit its parameter.
 fn put_reason(
-    alloc: Global,
     out: &mut Vec<u8>,
     program: &[Procedure],
     inputs: &[Input],
@@ -160,7 +154,7 @@ fn put_reason(
 ) -> Result<(), AllocError> {
     let params = main_params(program);
     if !has_input_count(program, inputs) {
-        return put_counts(alloc, out, inputs.len(), params);
+        return put_counts(out, inputs.len(), params);
     }
     let Position::Input(number) = at else {
         return Ok(());
@@ -172,7 +166,7 @@ fn put_reason(
     let Some(input) = inputs.get(index) else {
         return Ok(());
     };
-    put_numbered(alloc, out, "input ", number)?;
+    put_numbered(out, "input ", number)?;
     put_unfit_text(out, param.ty, input)
 }
 
@@ -210,7 +204,7 @@ fn put_inputs_diagnostic(
 {
     let at = wrong_input(program, inputs);
     let mut reason = Vec::new(alloc);
-    put_reason(alloc, &mut reason, program, inputs, at)?;
+    put_reason(&mut reason, program, inputs, at)?;
     put_visible(alloc, out, &reason)?;
     Ok(at)
 }
@@ -250,7 +244,7 @@ pub fn inputs_refused_reply(
         × (reply r.text.items r.close ≡ failed_with (coded 79 number at) more)) }
 {
     let mut text = Vec::new(alloc);
-    put_failure_line(alloc, &mut text, opening_failure(number, Position::Nowhere))?;
+    put_failure_line(&mut text, opening_failure(number, Position::Nowhere))?;
     let position = put_opening_details(alloc, &mut text, source, program, inputs)?;
     Ok(refused_by(text, opening_failure(number, position)))
 }

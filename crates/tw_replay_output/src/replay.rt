@@ -61,7 +61,7 @@ fn not_enabled_reply(alloc: Global, event: usize) -> Result<Reply, AllocError>
     ensures { IfOk result (λ r. reply r.text.items r.close ≡ reply (not_enabled_line event) (Close.Refused (uncoded (position.Event event)))) }
 {
     let mut text = Vec::new(alloc);
-    put_not_enabled_line(alloc, &mut text, event)?;
+    put_not_enabled_line(&mut text, event)?;
     Ok(refused_by(text, Failure::uncoded(Position::Event(event))))
 }
 
@@ -71,7 +71,7 @@ fn trap_reply(alloc: Global, cause: Cause, event: usize) -> Result<Reply, AllocE
 {
     let failure = Failure::coded(b'C', cause.number(), Position::Event(event));
     let mut text = Vec::new(alloc);
-    put_trap_line(alloc, &mut text, cause.number(), event)?;
+    put_trap_line(&mut text, cause.number(), event)?;
     Ok(Reply {
         text,
         close: Close::Trapped(failure),
@@ -190,7 +190,7 @@ fn line_reply(alloc: Global, line: usize) -> Result<Reply, AllocError>
     ensures { IfOk result (λ r. reply r.text.items r.close ≡ reply (history_line line) (Close.Refused (coded 69 1 (position.Line line 0 0)))) }
 {
     let mut text = Vec::new(alloc);
-    put_history_line(alloc, &mut text, line)?;
+    put_history_line(&mut text, line)?;
     Ok(refused_by(text, Failure::coded(b'E', 1, Position::in_line(line))))
 }
 

@@ -28,7 +28,6 @@ fn made_of(made: &[Made], rule: RuleNo) -> Option<Made>
 
 /// Adds which rule it is, and the procedure that it runs.
 fn put_rule_text(
-    alloc: Global,
     out: &mut Vec<u8>,
     names: &Symbols,
     rule: RuleNo,
@@ -36,8 +35,8 @@ fn put_rule_text(
 ) -> Result<(), AllocError>
     ensures { OnOk result (out.new.items ≡ out.old.items ++ rule_text rule procedure (name_at names.now procedure)) }
 {
-    put_numbered(alloc, out, "rule ", rule.number() as usize)?;
-    put_numbered(alloc, out, " runs procedure ", procedure)?;
+    put_numbered(out, "rule ", rule.number() as usize)?;
+    put_numbered(out, " runs procedure ", procedure)?;
     names.put(out, procedure)?;
     put(out, ", made ")
 }
@@ -54,7 +53,7 @@ fn put_rule_line(
 ) -> Result<(), AllocError>
     ensures { OnOk result (out.new.items ≡ out.old.items ++ rule_line rule procedure (name_at names.now procedure) number line.now) }
 {
-    put_rule_text(alloc, out, names, rule, procedure)?;
+    put_rule_text(out, names, rule, procedure)?;
     put_text_line(alloc, out, number, line)
 }
 

@@ -8,21 +8,21 @@ use std::alloc::{AllocError, Global};
 use tw_types::{Ending, Link};
 
 /// Adds the line of a link of the circle.
-fn put_link_line(alloc: Global, out: &mut Vec<u8>, link: &Link) -> Result<(), AllocError>
+fn put_link_line(out: &mut Vec<u8>, link: &Link) -> Result<(), AllocError>
     ensures { OnOk result (out.new.items ≡ out.old.items ++ link_line link.now) }
 {
-    put_numbered(alloc, out, "waits ", link.rule.number() as usize)?;
-    put_numbered(alloc, out, " ", link.datum.number() as usize)?;
-    put_numbered(alloc, out, " ", link.next.number() as usize)?;
+    put_numbered(out, "waits ", link.rule.number() as usize)?;
+    put_numbered(out, " ", link.datum.number() as usize)?;
+    put_numbered(out, " ", link.next.number() as usize)?;
     put(out, "\n")
 }
 
 /// Adds the lines of the links of the circle.
-fn put_link_lines(alloc: Global, out: &mut Vec<u8>, links: &[Link]) -> Result<(), AllocError>
+fn put_link_lines(out: &mut Vec<u8>, links: &[Link]) -> Result<(), AllocError>
     ensures { OnOk result (out.new.items ≡ out.old.items ++ link_lines links.now) }
 {
     for link in links {
-        put_link_line(alloc, out, link)?;
+        put_link_line(out, link)?;
     }
     Ok(())
 }
@@ -32,10 +32,10 @@ fn stuck_text(alloc: Global, rules: u64, found: Option<Vec<Link>>) -> Result<Vec
     ensures { IfOk result (λ text. text.items ≡ stuck_lines rules (option_map (λ v. v.items) found)) }
 {
     let mut text = Vec::new(alloc);
-    put_numbered(alloc, &mut text, "stuck ", rules as usize)?;
+    put_numbered(&mut text, "stuck ", rules as usize)?;
     put(&mut text, "\n")?;
     match found {
-        Some(links) => put_link_lines(alloc, &mut text, &links)?,
+        Some(links) => put_link_lines(&mut text, &links)?,
         None => {}
     }
     Ok(text)

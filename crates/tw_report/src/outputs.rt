@@ -9,7 +9,7 @@ ghost use Rattle.tw_report.specs.Report.{closed_text, container_head, container_
 
 use crate::lines::{put, put_numbered, put_value};
 use crate::report_source::ReportSource;
-use std::alloc::{AllocError, Global};
+use std::alloc::AllocError;
 use tw_datum::{Datum, Member};
 use tw_lexer::{put_decimal, put_quoted, put_signed};
 use tw_types::{DataType, DatumId, Scalar, Value};
@@ -95,54 +95,48 @@ fn put_head<M: Member>(out: &mut Vec<u8>, datum: &Datum<M>) -> Result<(), AllocE
 }
 
 /// Appends the content of a datum, or `gone` if it was freed.
-fn put_datum<M: Member>(
-    alloc: Global,
-    out: &mut Vec<u8>,
-    datum: Option<&Datum<M>>,
-) -> Result<(), AllocError>
+fn put_datum<M: Member>(out: &mut Vec<u8>, datum: Option<&Datum<M>>) -> Result<(), AllocError>
     ensures { OnOk result (out.new.items ≡ out.old.items ++ datum_text (option_map (λ d. d.datum) (option_copied datum.entry))) }
 {
     let Some(datum) = datum else {
         return put(out, "gone");
     };
     if let Some(value) = datum.value() {
-        return put_value(alloc, out, value);
+        return put_value(out, value);
     }
     if datum.is_unset() {
         return put(out, "unset");
     }
     put_head(out, datum)?;
-    put_decimal(alloc, out, datum.count())
+    put_decimal(out, datum.count())
 }
 
 /// Appends the line of an output: its number, and its datum or `gone`.
 fn put_output_line<M: Member>(
-    alloc: Global,
     out: &mut Vec<u8>,
     number: usize,
     datum: Option<&Datum<M>>,
 ) -> Result<(), AllocError>
     ensures { OnOk result (out.new.items ≡ out.old.items ++ output_line number (option_map (λ d. d.datum) (option_copied datum.entry))) }
 {
-    put_numbered(alloc, out, "out ", number)?;
+    put_numbered(out, "out ", number)?;
     put(out, " ")?;
-    put_datum(alloc, out, datum)?;
+    put_datum(out, datum)?;
     put(out, "\n")
 }
 
 /// Appends a subscript; a text is quoted.
-fn put_subscript(alloc: Global, out: &mut Vec<u8>, subscript: &Value) -> Result<(), AllocError>
+fn put_subscript(out: &mut Vec<u8>, subscript: &Value) -> Result<(), AllocError>
     ensures { OnOk result (out.new.items ≡ out.old.items ++ subscript_text subscript.now) }
 {
     match subscript {
-        Value::Int(number) => put_signed(alloc, out, *number),
+        Value::Int(number) => put_signed(out, *number),
         Value::Text(text) => put_quoted(out, text.as_str()),
     }
 }
 
 /// Appends the line of a container's member: its subscript, and its datum or `gone`.
 fn put_member_line<M: Member>(
-    alloc: Global,
     out: &mut Vec<u8>,
     member: (&Value, Option<&Datum<M>>),
 ) -> Result<(), AllocError>
@@ -150,15 +144,14 @@ fn put_member_line<M: Member>(
 {
     let (subscript, datum) = member;
     put(out, "  at ")?;
-    put_subscript(alloc, out, subscript)?;
+    put_subscript(out, subscript)?;
     put(out, " ")?;
-    put_datum(alloc, out, datum)?;
+    put_datum(out, datum)?;
     put(out, "\n")
 }
 
 /// Appends the lines of a container's members, in the order of their subscripts: `index` counts the smaller ones.
 fn put_member_lines<T: ReportSource>(
-    alloc: Global,
     out: &mut Vec<u8>,
     source: &T,
     container: &Datum<T::Kept>,
@@ -171,32 +164,24 @@ fn put_member_lines<T: ReportSource>(
         let Some(member) = source.member(container, index) else {
             unreachable!();
         };
-        put_member_line(alloc, out, member)?;
+        put_member_line(out, member)?;
     }
     Ok(())
 }
 
 /// Appends the line of a map's value.
-fn put_value_line(
-    alloc: Global,
-    out: &mut Vec<u8>,
-    entry: &(Value, Value),
-) -> Result<(), AllocError>
+fn put_value_line(out: &mut Vec<u8>, entry: &(Value, Value)) -> Result<(), AllocError>
     ensures { OnOk result (out.new.items ≡ out.old.items ++ value_line entry.now) }
 {
     put(out, "  at ")?;
-    put_subscript(alloc, out, &entry.0)?;
+    put_subscript(out, &entry.0)?;
     put(out, " ")?;
-    put_value(alloc, out, &entry.1)?;
+    put_value(out, &entry.1)?;
     put(out, "\n")
 }
 
 /// Appends the lines of a map's values, in the order of their subscripts: `index` counts the smaller ones.
-fn put_value_lines<M: Member>(
-    alloc: Global,
-    out: &mut Vec<u8>,
-    map: &Datum<M>,
-) -> Result<(), AllocError>
+fn put_value_lines<M: Member>(out: &mut Vec<u8>, map: &Datum<M>) -> Result<(), AllocError>
     ensures { OnOk result (out.new.items ≡ out.old.items ++ value_lines (entries (entries_in map.now.datum.content))) }
 {
     if !map.is_map() {
@@ -206,14 +191,13 @@ fn put_value_lines<M: Member>(
         let Some(entry) = map.nth_value(index) else {
             unreachable!();
         };
-        put_value_line(alloc, out, entry)?;
+        put_value_line(out, entry)?;
     }
     Ok(())
 }
 
 /// Appends the line of an output, and those of its members or values.
 fn put_output<T: ReportSource>(
-    alloc: Global,
     out: &mut Vec<u8>,
     source: &T,
     number: usize,
@@ -223,11 +207,11 @@ fn put_output<T: ReportSource>(
         ++ output_text (T.live source.now) number (get (T.live source.now) id)) }
 {
     let datum = source.datum(id);
-    put_output_line(alloc, out, number, datum)?;
+    put_output_line(out, number, datum)?;
     match datum {
         Some(datum) => {
-            put_member_lines(alloc, out, source, datum)?;
-            put_value_lines(alloc, out, datum)
+            put_member_lines(out, source, datum)?;
+            put_value_lines(out, datum)
         }
         None => Ok(()),
     }
@@ -235,7 +219,6 @@ fn put_output<T: ReportSource>(
 
 /// Appends a report: the outputs, and its last lines.
 pub fn put_report<T: ReportSource>(
-    alloc: Global,
     out: &mut Vec<u8>,
     source: &T,
     last_lines: &[u8],
@@ -243,7 +226,7 @@ pub fn put_report<T: ReportSource>(
     ensures { OnOk result (out.new.items ≡ out.old.items ++ report (T.live source.now) (T.ids source.now) last_lines.now) }
 {
     for (number, id) in source.outputs().iter().enumerate() {
-        put_output(alloc, out, source, number, *id)?;
+        put_output(out, source, number, *id)?;
     }
     out.extend_from_slice(last_lines)
 }

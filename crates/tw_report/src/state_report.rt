@@ -38,6 +38,6 @@ pub fn report_state(alloc: Global, plain: &Plain) -> Result<Vec<u8>, AllocError>
 {
     let mut text = Vec::new(alloc);
     let last_lines = ending_text(alloc, plain.ending(), circle_state(alloc, plain)?)?;
-    put_report(alloc, &mut text, plain.state(), &last_lines)?;
+    put_report(&mut text, plain.state(), &last_lines)?;
     Ok(text)
 }

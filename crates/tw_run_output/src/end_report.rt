@@ -37,7 +37,7 @@ pub fn report_as(alloc: Global, left: &Final, over: Option<Closing>) -> Result<V
 {
     let mut text = Vec::new(alloc);
     let closing = closing_text(alloc, over, circle(alloc, left)?)?;
-    put_report(alloc, &mut text, &FinishedRun { of: left }, &closing)?;
+    put_report(&mut text, &FinishedRun { of: left }, &closing)?;
     Ok(text)
 }
 

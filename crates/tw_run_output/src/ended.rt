@@ -57,12 +57,7 @@ pub fn events_of(alloc: Global, history: &History) -> Result<Vec<Event>, AllocEr
 }
 
 /// Adds the lines of the events, if they are requested.
-fn put_trace(
-    alloc: Global,
-    out: &mut Vec<u8>,
-    asked: bool,
-    history: &History,
-) -> Result<(), AllocError>
+fn put_trace(out: &mut Vec<u8>, asked: bool, history: &History) -> Result<(), AllocError>
     ensures { OnOk result (out.new.items ≡ out.old.items ++ trace_text asked history.now.events) }
 {
     if !asked {
@@ -70,7 +65,7 @@ fn put_trace(
     }
     put(out, "events\n")?;
     for index in 0..history.len() {
-        put_event_line(alloc, out, &history.event(index))?;
+        put_event_line(out, &history.event(index))?;
     }
     put(out, "end\n")
 }
@@ -80,21 +75,20 @@ pub fn trace(alloc: Global, history: &History) -> Result<Vec<u8>, AllocError>
     ensures { IfOk result (λ text. text.items ≡ trace_text true history.now.events) }
 {
     let mut text = Vec::new(alloc);
-    put_trace(alloc, &mut text, true, history)?;
+    put_trace(&mut text, true, history)?;
     Ok(text)
 }
 
 /// Adds the line that says the limit, and the greatest one.
-fn put_limit_line(alloc: Global, out: &mut Vec<u8>, events: usize) -> Result<(), AllocError>
+fn put_limit_line(out: &mut Vec<u8>, events: usize) -> Result<(), AllocError>
     ensures { OnOk result (out.new.items ≡ out.old.items ++ (codes "events " ++ (decimal events ++ codes "; --limit takes up to 1000000\n"))) }
 {
-    put_numbered(alloc, out, "events ", events)?;
+    put_numbered(out, "events ", events)?;
     put(out, "; --limit takes up to 1000000\n")
 }
 
 /// Adds the line after `limit`, if the program was read from a text.
 fn put_limit(
-    alloc: Global,
     out: &mut Vec<u8>,
     source: &Option<SourceText<'_>>,
     order: &RunOrder,
@@ -104,7 +98,7 @@ fn put_limit(
 {
     match source {
         Some(_) => match closing {
-            Closing::Limit => put_limit_line(alloc, out, order.options.limit.events()),
+            Closing::Limit => put_limit_line(out, order.options.limit.events()),
             Closing::Quiet | Closing::Stuck(_) | Closing::Stopped => Ok(()),
         },
         None => Ok(()),
@@ -226,7 +220,7 @@ fn put_run_report(
 {
     let printed = report_as(alloc, outcome, Some(closing))?;
     put_bytes(out, &printed)?;
-    put_limit(alloc, out, source, order, closing)
+    put_limit(out, source, order, closing)
 }
 
 /// Adds the run as a JSON line.
@@ -323,7 +317,7 @@ pub fn ended_reply(
         × (reply r.text.items r.close ≡ reply (trace_text order.now.options.trace history.now.events ++ (printed ++ more)) (close_of closing))) }
 {
     let mut text = Vec::new(alloc);
-    put_trace(alloc, &mut text, order.options.trace, history)?;
+    put_trace(&mut text, order.options.trace, history)?;
     put_outcome(
         alloc, &mut text, source, order, verified, outcome, history, cut, closing,
     )?;

@@ -62,7 +62,7 @@ impl Details {
             error.position = Position::Nowhere;
             put(&mut self.lines, "more than 20 errors\n")?;
         } else {
-            put_further_line(alloc, &mut self.lines, failure)?;
+            put_further_line(&mut self.lines, failure)?;
             self.lines.extend_from_slice(lines)?;
         }
         self.more.push(error)?;

@@ -4,7 +4,7 @@ ghost use Rattle.std.specs.Prelude.{◌≡◌, ◌++◌, OnOk};
 ghost use Rattle.tw_source.specs.Failure.{code_text, coded, failure_line, position_text, uncoded};
 ghost use Rattle.tw_source.specs.declared.failure.Position.TheVariants as position;
 
-use std::alloc::{AllocError, Global};
+use std::alloc::AllocError;
 use tw_lexer::{put, put_numbered};
 
 /// The code of an error or of a trap, as `V04`.
@@ -88,11 +88,11 @@ impl Failure {
 }
 
 /// Adds a code. Those of traps have as many digits as they need, others two.
-pub fn put_code(alloc: Global, out: &mut Vec<u8>, code: ErrorCode) -> Result<(), AllocError>
+pub fn put_code(out: &mut Vec<u8>, code: ErrorCode) -> Result<(), AllocError>
     ensures { OnOk result (out.new.items ≡ out.old.items ++ code_text code) }
 {
     if code.letter == b'C' {
-        return put_numbered(alloc, out, "C", usize::from(code.number));
+        return put_numbered(out, "C", usize::from(code.number));
     }
     out.extend_from_slice(&[
         code.letter,
@@ -102,52 +102,44 @@ pub fn put_code(alloc: Global, out: &mut Vec<u8>, code: ErrorCode) -> Result<(),
 }
 
 /// Adds where an error is, if its first line says so.
-fn put_position(alloc: Global, out: &mut Vec<u8>, position: Position) -> Result<(), AllocError>
+fn put_position(out: &mut Vec<u8>, position: Position) -> Result<(), AllocError>
     ensures { OnOk result (out.new.items ≡ out.old.items ++ position_text position) }
 {
     match position {
         Position::Nowhere | Position::Input(_) => Ok(()),
-        Position::Byte(offset) => put_numbered(alloc, out, " at byte ", offset),
-        Position::Line { line, .. } => put_numbered(alloc, out, " at line ", line),
-        Position::Event(event) => put_numbered(alloc, out, " at event ", event),
+        Position::Byte(offset) => put_numbered(out, " at byte ", offset),
+        Position::Line { line, .. } => put_numbered(out, " at line ", line),
+        Position::Event(event) => put_numbered(out, " at event ", event),
         Position::Place {
             procedure,
             place,
             ..
         } => {
-            put_numbered(alloc, out, " in procedure ", procedure)?;
-            put_numbered(alloc, out, " at place ", place)
+            put_numbered(out, " in procedure ", procedure)?;
+            put_numbered(out, " at place ", place)
         }
     }
 }
 
 /// Adds the first line of an error that isn't a text's first.
-pub(crate) fn put_further_line(
-    alloc: Global,
-    out: &mut Vec<u8>,
-    failure: Failure,
-) -> Result<(), AllocError> {
+pub(crate) fn put_further_line(out: &mut Vec<u8>, failure: Failure) -> Result<(), AllocError> {
     if let Some(code) = failure.code {
         put(out, "also ")?;
-        put_code(alloc, out, code)?;
-        put_position(alloc, out, failure.position)?;
+        put_code(out, code)?;
+        put_position(out, failure.position)?;
     }
     put(out, "\n")
 }
 
 /// Adds the first line of an error that has a code.
-pub fn put_failure_line(
-    alloc: Global,
-    out: &mut Vec<u8>,
-    failure: Failure,
-) -> Result<(), AllocError>
+pub fn put_failure_line(out: &mut Vec<u8>, failure: Failure) -> Result<(), AllocError>
     ensures { OnOk result (out.new.items ≡ out.old.items ++ failure_line failure) }
 {
     let Some(code) = failure.code else {
         return Ok(());
     };
     put(out, "refused ")?;
-    put_code(alloc, out, code)?;
-    put_position(alloc, out, failure.position)?;
+    put_code(out, code)?;
+    put_position(out, failure.position)?;
     put(out, "\n")
 }

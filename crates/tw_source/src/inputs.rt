@@ -71,10 +71,10 @@ pub fn words_in<'a>(alloc: Global, inputs: &'a str) -> Result<Vec<&'a str>, Allo
 }
 
 /// Adds the first line about an input word that can't be parsed; the words count from 1.
-fn put_input_word_line(alloc: Global, out: &mut Vec<u8>, number: usize) -> Result<(), AllocError>
+fn put_input_word_line(out: &mut Vec<u8>, number: usize) -> Result<(), AllocError>
     ensures { OnOk result (out.new.items ≡ out.old.items ++ input_word_line number) }
 {
-    put_numbered(alloc, out, "input word ", number)?;
+    put_numbered(out, "input word ", number)?;
     put(out, " refused\n")
 }
 
@@ -83,7 +83,7 @@ pub fn input_word_reply(alloc: Global, number: usize, reason: &[u8]) -> Result<R
     ensures { IfOk result (λ r. PrintsInputWord (refused_word number reason.now) (reply r.text.items r.close)) }
 {
     let mut text = Vec::new(alloc);
-    put_input_word_line(alloc, &mut text, number)?;
+    put_input_word_line(&mut text, number)?;
     put_visible(alloc, &mut text, reason)?;
     Ok(Reply {
         text,

@@ -30,15 +30,15 @@ pub fn rejection_failure(refused: &Refused, line: Option<usize>) -> Failure
 }
 
 /// Adds the registers in which these parameters are.
-fn put_arguments(alloc: Global, out: &mut Vec<u8>, params: &[Param]) -> Result<(), AllocError> {
+fn put_arguments(out: &mut Vec<u8>, params: &[Param]) -> Result<(), AllocError> {
     let mut values = 0usize;
     let mut rights = 0usize;
     for param in params {
         if param.mode.is_val() {
-            put_numbered(alloc, out, " ", values)?;
+            put_numbered(out, " ", values)?;
             values = values.saturating_add(1);
         } else {
-            put_numbered(alloc, out, " ", rights)?;
+            put_numbered(out, " ", rights)?;
             rights = rights.saturating_add(1);
         }
     }
@@ -46,12 +46,7 @@ fn put_arguments(alloc: Global, out: &mut Vec<u8>, params: &[Param]) -> Result<(
 }
 
 /// Adds the lines of a procedure that hands its parameters on to itself, which the verifier accepts.
-fn put_accepted(
-    alloc: Global,
-    out: &mut Vec<u8>,
-    number: usize,
-    params: &[Param],
-) -> Result<(), AllocError> {
+fn put_accepted(out: &mut Vec<u8>, number: usize, params: &[Param]) -> Result<(), AllocError> {
     put(out, "proc control")?;
     for param in params {
         put_param(out, *param)?;
@@ -62,9 +57,9 @@ fn put_accepted(
             put_type(out, param.ty)?;
         }
     }
-    put_numbered(alloc, out, "\nPUT ", number)?;
+    put_numbered(out, "\nPUT ", number)?;
     put(out, " 0 any")?;
-    put_arguments(alloc, out, params)?;
+    put_arguments(out, params)?;
     put(out, "\nRET\n")
 }
 
@@ -86,7 +81,7 @@ fn text_without(alloc: Global, text: &str, refused: &Refused) -> Result<String, 
         if line.starts_with("proc ") || line == "proc" {
             heads = heads.saturating_add(1);
             if heads == refused.procedure.saturating_add(1) {
-                put_accepted(alloc, &mut out, refused.procedure, kept_params(refused))?;
+                put_accepted(&mut out, refused.procedure, kept_params(refused))?;
             }
         }
         if heads != refused.procedure.saturating_add(1) {

@@ -220,6 +220,6 @@ pub fn parse_error_reply(alloc: Global, why: &NoProgram<'_>) -> Result<Reply, Al
     let failure = parse_failure(alloc, why)?;
     let details = all_details(alloc, why)?;
     let mut text = Vec::new(alloc);
-    put_failure_line(alloc, &mut text, failure)?;
+    put_failure_line(&mut text, failure)?;
     details.reply_after(text, failure)
 }

@@ -48,7 +48,7 @@ pub fn failed_reply(alloc: Global, failure: Failure) -> Result<Reply, AllocError
     ensures { IfOk result (λ r. reply r.text.items r.close ≡ failed failure) }
 {
     let mut text = Vec::new(alloc);
-    put_failure_line(alloc, &mut text, failure)?;
+    put_failure_line(&mut text, failure)?;
     Ok(refused_by(text, failure))
 }
 
@@ -57,7 +57,7 @@ pub fn detailed_reply(alloc: Global, failure: Failure, details: &[u8]) -> Result
     ensures { IfOk result (λ r. reply r.text.items r.close ≡ failed_with failure details.now) }
 {
     let mut text = Vec::new(alloc);
-    put_failure_line(alloc, &mut text, failure)?;
+    put_failure_line(&mut text, failure)?;
     text.extend_from_slice(details)?;
     Ok(refused_by(text, failure))
 }

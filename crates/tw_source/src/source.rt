@@ -129,7 +129,7 @@ fn put_line_in(
 ) -> Result<(), AllocError>
     ensures { OnOk result (out.new.items ≡ out.old.items ++ line_in_text name.now number line.now) }
 {
-    put_numbered(alloc, out, "at line ", number)?;
+    put_numbered(out, "at line ", number)?;
     put_in(out, name)?;
     put(out, ": ")?;
     put_visible_line(alloc, out, line)?;
@@ -145,7 +145,7 @@ pub fn put_text_line(
 ) -> Result<(), AllocError>
     ensures { OnOk result (out.new.items ≡ out.old.items ++ text_line number line.now) }
 {
-    put_numbered(alloc, out, "at line ", number)?;
+    put_numbered(out, "at line ", number)?;
     put(out, ": ")?;
     put_visible_line(alloc, out, line)?;
     put(out, "\n")

@@ -146,7 +146,6 @@ fn name_made<'a>(
 
 /// Adds the register that a word means, after naming the next one if the word has no meaning.
 fn put_made<'a>(
-    alloc: Global,
     procedures: &Procedures<'_>,
     names: &mut Names<'a>,
     out: &mut Vec<u8>,
@@ -155,13 +154,12 @@ fn put_made<'a>(
     ensures { IsExpanded result names.new out.new.items (made_word (seen_procedures procedures.now) (seen_names names.old) out.old.items word.now) }
 {
     name_made(procedures, names, word)?;
-    put_word(alloc, procedures, names, out, Expected::Right, word)?;
+    put_word(procedures, names, out, Expected::Right, word)?;
     Ok(())
 }
 
 /// Adds the right registers that these words fill, after naming those whose word has no meaning.
 fn put_all_made<'a>(
-    alloc: Global,
     procedures: &Procedures<'_>,
     names: &mut Names<'a>,
     out: &mut Vec<u8>,
@@ -170,7 +168,7 @@ fn put_all_made<'a>(
     ensures { IsExpanded result names.new out.new.items (expanded_results (seen_procedures procedures.now) (seen_names names.old) out.old.items (texts words.now)) }
 {
     for word in words {
-        put_made(alloc, procedures, names, out, word)?;
+        put_made(procedures, names, out, word)?;
     }
     Ok(())
 }
@@ -191,7 +189,6 @@ fn put_others<'a>(
     let asked = expected_in(alloc, banks_of(procedures, names, words), opcode.forms())?;
     let made = makes(opcode);
     put_words(
-        alloc,
         procedures,
         names,
         out,
@@ -211,13 +208,7 @@ pub fn put_instruction<'a>(
 ) -> Result<(), Rejection<'a>>
     ensures { IsExpanded result names.new out.new.items (expanded_instruction (seen_procedures procedures.now) (seen_names names.old) opcode out.old.items (texts words.now)) }
 {
-    put_all_made(
-        alloc,
-        procedures,
-        names,
-        out,
-        first_words(words, makes(opcode)),
-    )?;
+    put_all_made(procedures, names, out, first_words(words, makes(opcode)))?;
     put_others(alloc, procedures, names, out, opcode, words)?;
     Ok(())
 }

@@ -12,7 +12,7 @@ use crate::meaning::{Bank, Binding, Expected};
 use crate::names::{Names, is_name, known};
 use crate::procedures::Procedures;
 use crate::rejection::{NameNo, Rejection};
-use std::alloc::{AllocError, Global};
+use std::alloc::AllocError;
 use tw_lexer::{put_numbered, put_signed};
 
 /// The replacement of a name.
@@ -51,16 +51,12 @@ fn operand_text_of(asked: Expected, binding: Binding) -> Option<OperandText>
 }
 
 /// Adds the replacement of a name to the expansion: a letter and a number, or a constant's value.
-fn put_operand_text(
-    alloc: Global,
-    out: &mut Vec<u8>,
-    operand: OperandText,
-) -> Result<(), AllocError>
+fn put_operand_text(out: &mut Vec<u8>, operand: OperandText) -> Result<(), AllocError>
     ensures { OnOk result (out.new.items ≡ out.old.items ++ text_of_operand operand) }
 {
     match operand {
-        OperandText::Numbered(front, number) => put_numbered(alloc, out, front, number),
-        OperandText::Number(number) => put_signed(alloc, out, number),
+        OperandText::Numbered(front, number) => put_numbered(out, front, number),
+        OperandText::Number(number) => put_signed(out, number),
     }
 }
 
@@ -135,7 +131,6 @@ pub fn put_all(out: &mut Vec<u8>, words: &[&[u8]]) -> Result<(), AllocError>
 
 /// Adds a space and the replacement of a name by what it means.
 fn put_named<'a>(
-    alloc: Global,
     out: &mut Vec<u8>,
     asked: Expected,
     word: &'a [u8],
@@ -150,13 +145,12 @@ fn put_named<'a>(
         return Err(Rejection::Flawed(NameNo::Kind(binding, asked), word));
     };
     out.extend_from_slice(b" ")?;
-    put_operand_text(alloc, out, operand)?;
+    put_operand_text(out, operand)?;
     Ok(())
 }
 
 /// Adds a space and the expansion of an operand: a name's replacement, or the word itself.
 pub fn put_word<'a>(
-    alloc: Global,
     procedures: &Procedures<'_>,
     names: &Names<'_>,
     out: &mut Vec<u8>,
@@ -169,7 +163,7 @@ pub fn put_word<'a>(
         put_plain(out, word)?;
         return Ok(());
     }
-    put_named(alloc, out, asked, word, known(procedures, names, word))
+    put_named(out, asked, word, known(procedures, names, word))
 }
 
 /// Returns what the first of these operands has to be.
@@ -194,7 +188,6 @@ fn after_first(asked: &[Expected]) -> &[Expected]
 
 /// Adds the expansion of operands. Each word after the last expected one is added as it is.
 pub fn put_words<'a>(
-    alloc: Global,
     procedures: &Procedures<'_>,
     names: &Names<'_>,
     out: &mut Vec<u8>,
@@ -205,7 +198,7 @@ pub fn put_words<'a>(
 {
     let mut left = asked;
     for word in words {
-        put_word(alloc, procedures, names, out, first_expected(left), word)?;
+        put_word(procedures, names, out, first_expected(left), word)?;
         left = after_first(left);
     }
     Ok(())

@@ -24,7 +24,7 @@ fn put_mark(out: &mut Page, layout: Layout, view: View, mark: &Mark) {
             Piece::Text(": "),
         ],
     );
-    let done = put_event_line(out.alloc, &mut title.bytes, &mark.event);
+    let done = put_event_line(&mut title.bytes, &mark.event);
     title.note(done);
     let left = view.across(mark.number as usize) + view.mark_inset();
     let top = lane_top(layout, actor_of(&mark.event)) + 19;
