@@ -20,7 +20,7 @@ pub enum EventOrder {
     Checked,
 }
 
-/// What a check says after the budgets and the needs.
+/// The lines of a check after the budgets and the needs.
 #[derive(Clone, Copy, PartialEq, Eq)]
 pub struct CheckLines {
     /// Whose bounds are printed.

@@ -1,4 +1,4 @@
-//! What a check says after the budgets and the needs, if it is requested: each thing as lines of text and as members of an object.
+//! Prints what is requested of a check, after the budgets and the needs: as lines of text, and as members of an object.
 
 ghost use Rattle.std.specs.Prelude.{IfOk};
 ghost use Rattle.tw_program_output.specs.Check.{MayHaveMore};
