@@ -4,4 +4,3 @@ mod ReplyNames
 pub mod Admissions
 mod Insertions
 pub mod CheckObjects
-pub mod ReplyNames

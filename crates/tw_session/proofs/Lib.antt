@@ -5,4 +5,3 @@ pub mod Replies
 mod Clockless
 mod SessionNames
 pub mod Ending
-pub mod SessionNames

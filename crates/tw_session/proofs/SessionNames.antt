@@ -13,9 +13,11 @@ pub use Rattle.tw_host.specs.Ends.{Closes}
 pub use Rattle.tw_host.specs.Run.{Run, run_of}
 pub use Rattle.tw_host.specs.Seats.{SeatEvents}
 pub use Rattle.tw_host.specs.declared.close.Closed.{Closed}
+pub use Rattle.tw_in_turn.specs.Stopping.{IsLeftIf}
+pub use Rattle.tw_in_turn.specs.declared.run.StoppableResult.{StoppableResult}
 pub use Rattle.tw_inputs.specs.InputWords.{AreEncoded, refused_word}
 pub use Rattle.tw_order.specs.declared.order.Order.{Order}
-pub use Rattle.tw_pool.specs.Openings.{opened}
+pub use Rattle.tw_pool.specs.Openings.{MayOpen, opened}
 pub use Rattle.tw_pool.specs.declared.answer.Closing.TheVariants.{Limit, Stopped}
 pub use Rattle.tw_session.specs.Clockless.{AnswersWords, MayReplyClockless, clockless_reply, limits_time}
 pub use Rattle.tw_session.specs.Each.{EndsEach}
