@@ -1,44 +1,23 @@
 -- Rounds: each actor makes a step by its index, and some event is due while the run isn't over.
-use Rattle.tw_in_turn.proofs.Names.{Actor, ActorCounts, AreIdle, AreKept, Bool, Continues, DoneView, Ending, Engine, Frame, Idle, IsAfter, IsDueFor, IsDueFree, IsGrown, IsIdle, IsLayout, IsMove, IsReachedAfter, Keeps, List, MayTurn, None, Option, PoolView, Server, Some, State, Turn, Worker, actor_after, actor_at, actor_count, add-one, ap, arith, cases_eq, cases_lt, closing_of, ending, false, get, get_or, get_or-set_other, get_or-set_same, if◌then◌else◌, index_of, inl, inr, is_in, is_quiet, length, length-set, ltb-false, ltb-true, nat_lt, nat_tests, refl, same_went, set, subst, suc, suc-mul, sym, true, zero, ℕ, ◌*◌, ◌+◌, ◌-◌, ◌<◌, ◌==◌, ◌∙◌, ◌≡◌, ◌≢◌, ◌≤◌, ◌⊎◌}
+use Rattle.tw_in_turn.proofs.Names.{Actor, ActorCounts, AreIdle, AreKept, Bool, Continues, DoneView, Ending, Engine, Frame, Idle, IsAfter, IsDueFor, IsDueFree, IsGrown, IsIdle, IsLayout, IsMove, IsReachedAfter, Keeps, List, MayTurn, None, Option, PoolView, Server, Some, State, Turn, Worker, actor_after, actor_at, actor_count, add-one, ap, arith, cases_eq, cases_lt, closing_of, ending, false, get, get_or, get_or-set_other, get_or-set_same, if◌then◌else◌, index_of, inl, inr, is_in, is_quiet, length, length-set, ltb-true, refl, same_went, set, subst, suc, suc-mul, sym, true, zero, ℕ, ◌*◌, ◌+◌, ◌-◌, ◌<◌, ◌==◌, ◌∙◌, ◌≡◌, ◌≢◌, ◌≤◌, ◌⊎◌}
 use Rattle.std.proofs.lemmas.Nat.{mod-mul-add}
 use Rattle.std.specs.Option.{option_map, option_or}
 use Rattle.tw_code.specs.accepting.Needs.{HasTargets}
 use Rattle.tw_code.proofs.Next.{SomeDue, some_due}
 use Rattle.tw_pool.specs.declared.answer.Closing.TheVariants.{Limit, Stopped}
+use Rattle.tw_pool.proofs.Idling.{engine_at, index_at, server_at, worker_at}
 use Rattle.tw_in_turn.proofs.Moving.{idle_move}
 
 -- ---- actors by their index
-
-abbrev at_by : ℕ → ℕ → Bool → Bool → ℕ → Actor
-at_by e s in_e in_s n = if in_e then Engine n else (if in_s then Server (n - e) else Worker (n - (e + s)))
-
-index_by : (layout : ActorCounts) (n : ℕ) (a b : Bool) → nat_lt n layout.engines ≡ a → nat_lt n (layout.engines + layout.servers) ≡ b → index_of layout (at_by layout.engines layout.servers a b n) ≡ n
-index_by layout n true b is_a is_b = refl
-index_by layout n false true is_a is_b = let low = ltb-false n layout.engines is_a in omega (arith, low)
-index_by layout n false false is_a is_b = let low = ltb-false n (layout.engines + layout.servers) is_b in omega (arith, low)
-
--- the index of the actor at an index
-pub index_at : (layout : ActorCounts) (n : ℕ) → index_of layout (actor_at layout n) ≡ n
-index_at layout n = index_by layout n (nat_lt n layout.engines) (nat_lt n (layout.engines + layout.servers)) refl refl
 
 pub at_apart : (layout : ActorCounts) (m n : ℕ) → m ≢ n → actor_at layout m ≢ actor_at layout n
 at_apart layout m n apart same = apart (sym (index_at layout m) ∙ (ap (index_of layout) same ∙ index_at layout n))
 
 -- an actor of the layout is at its index
 pub at_index : (layout : ActorCounts) (actor : Actor) → is_in layout actor ≡ true → (index_of layout actor < actor_count layout) × (actor_at layout (index_of layout actor) ≡ actor)
-at_index layout (Engine n) there = let low = ltb-true n layout.engines there in (omega (arith, low), rw there refl)
-at_index layout (Server n) there =
-    let low = ltb-true n layout.servers there in
-    let not_first : nat_lt (layout.engines + n) layout.engines ≡ false = grind (arith, nat_tests) in
-    let second : nat_lt (layout.engines + n) (layout.engines + layout.servers) ≡ true = grind (arith, nat_tests, low) in
-    let back : layout.engines + n - layout.engines ≡ n = omega arith in
-    (omega (arith, low), rw (not_first, second) (ap Server back))
-at_index layout (Worker n) there =
-    let low = ltb-true n layout.workers there in
-    let not_first : nat_lt (layout.engines + layout.servers + n) layout.engines ≡ false = grind (arith, nat_tests) in
-    let not_second : nat_lt (layout.engines + layout.servers + n) (layout.engines + layout.servers) ≡ false = grind (arith, nat_tests) in
-    let back : layout.engines + layout.servers + n - (layout.engines + layout.servers) ≡ n = omega arith in
-    (omega (arith, low), rw (not_first, not_second) (ap Worker back))
+at_index layout (Engine n) there = let low = ltb-true n layout.engines there in (omega (arith, low), engine_at layout n low)
+at_index layout (Server n) there = let low = ltb-true n layout.servers there in (omega (arith, low), server_at layout n low)
+at_index layout (Worker n) there = let low = ltb-true n layout.workers there in (omega (arith, low), worker_at layout n)
 
 -- ---- the results that actors keep
 

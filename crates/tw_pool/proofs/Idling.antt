@@ -1,5 +1,5 @@
 -- Actors that have nothing to do, from the parts of a pool.
-use Rattle.tw_pool.proofs.Names.{Actor, ActorCounts, AreIdle, Bool, Engine, Event, HasNoneDue, HasState, HistoryView, Input, IsDueFree, IsFree, IsIdle, IsKept, List, None, Parts, PoolView, RunsOn, Server, Some, State, TypedProgram, Worker, [], actor_at, ap, arith, bare_arg, bare_task, best_mapped, cases_eq, cases_lt, entry_by, false, first_of, get, inl, inr, nat_lt, nat_tests, next_ask, next_ask_mapped, next_release, next_release_mapped, not, option_map, queue_at, refl, subst, sym, take_of, true, ℕ, ◌+◌, ◌-◌, ◌<◌, ◌∙◌, ◌≡◌, ◌≤◌}
+use Rattle.tw_pool.proofs.Names.{Actor, ActorCounts, AreIdle, Bool, Engine, Event, HasNoneDue, HasState, HistoryView, Input, IsDueFree, IsFree, IsIdle, IsKept, IsNextBusy, List, None, Option, Parts, PoolView, RunsOn, Server, Some, State, TypedProgram, Worker, [], actor_at, ap, arith, bare_arg, bare_task, best_mapped, cases_eq, cases_lt, entry_by, false, first_of, get, if◌then◌else◌, index_of, inl, inr, ltb-false, nat_lt, nat_tests, next_ask, next_ask_mapped, next_release, next_release_mapped, not, option_map, queue_at, refl, subst, sym, take_of, true, ℕ, ◌+◌, ◌-◌, ◌<◌, ◌∙◌, ◌≡◌, ◌≤◌}
 use Rattle.tw_types.specs.Task.{best}
 use Rattle.tw_pool.proofs.Freely.{deliver_none, state, viewed}
 use Rattle.tw_pool.proofs.Turning as turning
@@ -56,13 +56,18 @@ one_more p from index idle own k low high = elim (cases_eq k index) as (λ _. Is
 pub shorter : (p : PoolView) (from end far : ℕ) → end ≤ far → AreIdle p from far → AreIdle p from end
 shorter p from end far near idle index low high = idle index low (omega (arith, near, high))
 
--- the first of a group of actors after some that are idle
-pub group_begins : (p : PoolView) (from first : ℕ) → AreIdle p from first → AreIdle p from (first + (from - first))
-group_begins p from first idle index low high = idle index low (omega (arith, low, high))
-
--- one more of the group
+-- one more of a group of actors
 pub group_goes_on : (p : PoolView) (from first number : ℕ) (actor : Actor) → actor_at p.layout (first + number) ≡ actor → AreIdle p from (first + number) → IsIdle p actor → AreIdle p from (first + (number + 1))
 group_goes_on p from first number actor at idle own = shorter p from (first + (number + 1)) (first + number + 1) (omega arith) (one_more p from (first + number) idle (subst (IsIdle p) (sym at) own))
+
+-- the first that may be busy is one after them
+pub goes_on : (p : PoolView) (from middle far end : ℕ) (result : Option ℕ) → from ≤ middle → middle ≤ far → AreIdle p from far → IsNextBusy p middle end result → IsNextBusy p from end result
+goes_on p from middle far end None low near idle rest = joined p from middle end (shorter p from middle far near idle) rest
+goes_on p from middle far end (Some index) low near idle rest = (omega (arith, low, rest.0), rest.1, joined p from middle index (shorter p from middle far near idle) rest.2)
+
+-- it is the first of them
+pub found : (p : PoolView) (from index end result : ℕ) → index ≡ result → from ≤ index → index < end → AreIdle p from index → IsNextBusy p from end (Some result)
+found p from index end result is low high idle = subst (λ n. IsNextBusy p from end (Some n)) is (low, high, idle)
 
 pub engine_at : (layout : ActorCounts) (engine : ℕ) → engine < layout.engines → actor_at layout engine ≡ Engine engine
 engine_at layout engine low = let inside : nat_lt engine layout.engines ≡ true = grind (arith, nat_tests, low) in rw inside refl
@@ -80,3 +85,21 @@ worker_at layout worker =
     let not_second : nat_lt (layout.engines + layout.servers + worker) (layout.engines + layout.servers) ≡ false = grind (arith, nat_tests) in
     let number : layout.engines + layout.servers + worker - (layout.engines + layout.servers) ≡ worker = omega arith in
     rw (not_first, not_second, number) refl
+
+-- ---- actors by their index
+
+abbrev at_by : ℕ → ℕ → Bool → Bool → ℕ → Actor
+at_by e s in_e in_s n = if in_e then Engine n else (if in_s then Server (n - e) else Worker (n - (e + s)))
+
+index_by : (layout : ActorCounts) (n : ℕ) (a b : Bool) → nat_lt n layout.engines ≡ a → nat_lt n (layout.engines + layout.servers) ≡ b → index_of layout (at_by layout.engines layout.servers a b n) ≡ n
+index_by layout n true b is_a is_b = refl
+index_by layout n false true is_a is_b = let low = ltb-false n layout.engines is_a in omega (arith, low)
+index_by layout n false false is_a is_b = let low = ltb-false n (layout.engines + layout.servers) is_b in omega (arith, low)
+
+-- the index of the actor at an index
+pub index_at : (layout : ActorCounts) (n : ℕ) → index_of layout (actor_at layout n) ≡ n
+index_at layout n = index_by layout n (nat_lt n layout.engines) (nat_lt n (layout.engines + layout.servers)) refl refl
+
+-- the same search, from an actor's index
+pub from_index : (p : PoolView) (from end : ℕ) (actor : Actor) (result : Option ℕ) → actor ≡ actor_at p.layout from → IsNextBusy p (index_of p.layout actor) end result → IsNextBusy p from end result
+from_index p from end actor result at = subst (λ n. IsNextBusy p n end result) (ap (index_of p.layout) at ∙ index_at p.layout from)

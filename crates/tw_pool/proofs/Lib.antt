@@ -11,4 +11,4 @@ mod Freely
 mod Handing
 mod Turning
 mod Working
-mod Idling
+pub mod Idling

@@ -1,6 +1,6 @@
 -- Passes on what the files here use of other crates and of the definitions.
 pub use Rattle.std.proofs.Common.{Bool, IsSome, List, None, Option, Some, [], add-one, ap, append-nil, append_assoc, arith, cond, drop, drop-cons, false, get_or, if◌then◌else◌, inl, inr, length, length-append, map, nat_lt, not, option_map, option_to_list, refl, replicate, set, slice_get, subst, suc, sym, take, true, zero, ℕ, ◌%◌, ◌&&◌, ◌*◌, ◌++◌, ◌+◌, ◌-◌, ◌/◌, ◌<◌, ◌==◌, ◌^◌, ◌||◌, ◌∙◌, ◌∷◌, ◌≡◌, ◌≢◌, ◌≤◌, ◌⊎◌}
-pub use Rattle.std.proofs.lemmas.Bool.{and_parts, cases_eq, cases_lt, eq-eqb, eqb-true, ltb-true}
+pub use Rattle.std.proofs.lemmas.Bool.{and_parts, cases_eq, cases_lt, eq-eqb, eqb-true, ltb-false, ltb-true}
 pub use Rattle.std.proofs.lemmas.Bool.Decides.{nat_tests}
 pub use Rattle.std.proofs.lemmas.List.{get_or-set_other, get_or-set_same, map-append}
 pub use Rattle.std.proofs.lemmas.Option.{same_Some, slice_get_within}
@@ -29,7 +29,7 @@ pub use Rattle.tw_pool.specs.Pendings.{pending_with_data, waited_at, waits_in, w
 pub use Rattle.tw_pool.specs.PoolView.{HasState, PoolView, oldest_notice, with_events}
 pub use Rattle.tw_pool.specs.Turns.{Answers, AreOwn, IsTurn, IsTurnBy, Issues, Line, Makes, OrNoMemory, Submits, TakesBack, TakesMemory, Turns, TurnsFree, TurnsUnless, closing_at, closing_of, instr_after, is_last, issued_to, steps_of}
 pub use Rattle.tw_pool.specs.Words.{FitsWord, IsPlaced, events_in, unpack, word_of}
-pub use Rattle.tw_pool.specs.Work.{AreIdle, AreTargeted, HasNoWork, HasNoneDue, IsIdle, LacksWork, RunsOn}
+pub use Rattle.tw_pool.specs.Work.{AreIdle, AreTargeted, HasNoWork, HasNoneDue, IsIdle, IsNextBusy, LacksWork, RunsOn}
 pub use Rattle.tw_pool.specs.declared.answer.Closing.{Closing}
 pub use Rattle.tw_pool.specs.declared.answer.Closing.TheVariants.{Limit, Stopped}
 pub use Rattle.tw_pool.specs.declared.answer.Turn.{Turn}
@@ -52,7 +52,7 @@ pub use Rattle.tw_store.specs.Served.{KnowsPlaces, Served}
 pub use Rattle.tw_types.proofs.Chosen.{best_mapped, next_ask_mapped, next_release_mapped}
 pub use Rattle.tw_types.proofs.Mapped.{entries_mapped, get_mapped}
 pub use Rattle.tw_types.proofs.Outcomes.{same_went, went_after, went_first, went_of, went_only}
-pub use Rattle.tw_types.specs.Actor.{actor_at, actor_cmp, actor_count, is_in, may_take}
+pub use Rattle.tw_types.specs.Actor.{actor_at, actor_cmp, actor_count, index_of, is_in, may_take}
 pub use Rattle.tw_types.specs.Layout.{ActorCounts, IsLayout}
 pub use Rattle.tw_types.specs.Mapped.{entry_by, mapped}
 pub use Rattle.tw_types.specs.Notices.{Notices, notice_cmp}

@@ -1,9 +1,9 @@
 //! Which actors have nothing to do.
 
-ghost use Rattle.std.specs.Prelude.{◌≡◌, ◌<◌, ◌+◌, true};
+ghost use Rattle.std.specs.Prelude.{◌≡◌, ◌<◌, ◌≤◌, ◌+◌, true};
 ghost use Rattle.tw_types.specs.Actor.{actor_count, is_in};
 ghost use Rattle.tw_types.specs.declared.actor.Actor.TheVariants.{Engine, Server, Worker};
-ghost use Rattle.tw_pool.specs.Work.{AreIdle, IsIdle, IsNextBusy, RunsOn};
+ghost use Rattle.tw_pool.specs.Work.{IsIdle, IsNextBusy, RunsOn};
 
 use crate::pool::Pool;
 use crate::turn::has_task;
@@ -83,6 +83,7 @@ impl<'a> Pool<'a> {
     /// Returns the index of the first server of the pool from this one on that may not rest, or else of such a worker.
     #[inline(always)]
     fn next_server(&self, from: u8) -> Option<usize>
+        requires server { from ≤ self.now.layout.servers }
         requires runs_on { RunsOn self.now }
         ensures { IsNextBusy self.now (self.now.layout.engines + from) (actor_count self.now.layout) result }
     {
@@ -97,6 +98,7 @@ impl<'a> Pool<'a> {
 
     /// Returns the index of the first engine of the pool from this one on that may not rest, or else of such a server or worker.
     fn next_engine(&self, from: u8) -> Option<usize>
+        requires engine { from ≤ self.now.layout.engines }
         requires runs_on { RunsOn self.now }
         ensures { IsNextBusy self.now from (actor_count self.now.layout) result }
     {
