@@ -7,7 +7,7 @@ pub returns-then-is_empty : goal.returns-then-is_empty
 returns-then-is_empty c = λ places text.
     let lines = c.in_ok-lines.lines.items in
     let none = no_lines lines c.is_empty.result (c.is_empty.ensures ∙ ap (λ (n : ℕ). n == 0) c.in_ok-lines.lines.ok.0) c.if-is_empty.true in
-    (refl, (c.requires, subst (AreExcessLines (has_cap c.args.caps) c.args.verified.program c.args.limit c.args.caps) none c.in_ok-lines.ensures.lines, c.in_ok-lines.ensures.admitted none))
+    (refl, (c.requires, (subst (AreExcessLines (has_cap c.args.caps) c.args.verified.program c.args.limit c.args.caps) none c.in_ok-lines.ensures.lines, c.in_ok-lines.ensures.admitted none)))
 
 pub returns : goal.returns
 returns c = λ places text.
