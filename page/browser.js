@@ -16,9 +16,9 @@ export class Browser {
         this.home = fs.mkdtempSync(path.join(os.tmpdir(), "browser-"));
         this.child = spawn(command, options(this.home), {stdio: ["ignore", "ignore", "ignore", "pipe", "pipe"]});
         process.on("exit", () => this.child.kill("SIGKILL"));
-        this.gone = new Promise(go => this.child.once("exit", () => go(this.end(`${command} has ended`))));
+        this.gone = new Promise(go => this.child.once("exit", (status, signal) => go(this.end(`${command} has ended, by ${signal ?? status}`))));
         this.write = () => {};
-        this.ended = "";
+        this.ended = this.lost = "";
         this.count = 0;
         this.waiting = new Map();
     }
@@ -38,7 +38,9 @@ export class Browser {
         this.waiting.delete(it.id);
     }
 
-    end(why) {
+    // Notes that the browser has ended; it is lost, unless the page is to blame.
+    end(why, lost = true) {
+        if (lost && !this.ended) this.lost = why;
         this.ended ||= why;
         for (const id of [...this.waiting.keys()]) this.answer({id, error: {}, message: why});
     }
@@ -89,7 +91,7 @@ export const open = (address, width = 1300, height = 1000) => driven(begin(width
         for (let end; (end = rest.indexOf("\0")) >= 0; rest = rest.slice(end + 1)) {
             const it = JSON.parse(rest.slice(0, end));
             if (it.id) browser.answer(it);
-            else if (it.method === "Inspector.targetCrashed") browser.end("the page has crashed");
+            else if (it.method === "Inspector.targetCrashed") browser.end("the page has crashed", false);
             else if (heard.has(it.method)) heard.get(it.method)(it.params);
             else if (it.method === "Runtime.exceptionThrown") messages.push(it.params.exceptionDetails.exception?.description || it.params.exceptionDetails.text);
             else if (it.method === "Runtime.consoleAPICalled") messages.push(it.params.args.map(arg => arg.value ?? arg.description).join(" "));
@@ -106,5 +108,5 @@ export const open = (address, width = 1300, height = 1000) => driven(begin(width
         if (it.exceptionDetails) throw new Error(it.exceptionDetails.exception?.description || it.exceptionDetails.text);
         return it.result.value;
     };
-    return {ask, evaluate, messages, on: (method, act) => heard.set(method, act), until: (text, most = 30000) => browser.until(evaluate, text, most), computed: () => browser.computed(), close: () => browser.close()};
+    return {ask, evaluate, messages, on: (method, act) => heard.set(method, act), until: (text, most = 30000) => browser.until(evaluate, text, most), computed: () => browser.computed(), lost: () => browser.lost, close: () => browser.close()};
 });

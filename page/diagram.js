@@ -2,7 +2,7 @@
 // SPDX-License-Identifier: Apache-2.0
 // Draws a small state: tasks and rules at the left, data as boxes at the right, and rights as arrows from the one to the other.
 import {h, s} from "./dom.js";
-import {isClosed} from "./machine.js";
+import {isClosed, rising} from "./machine.js";
 import {argumentName, content, dataName} from "./model.js";
 import {callName} from "./source.js";
 
@@ -22,11 +22,11 @@ export function diagramOf(run, state) {
     const {data, rules, tasks, frames} = state;
     if (!data.size || data.size > MOST || rules.size + tasks.size + frames.size > MOST) return null;
     /** @type {Arrow[]} */
-    const arrows = [...data.values()].flatMap(it => [...it.members?.values() ?? []].map(member => /** @type {Arrow} */ ({from: `d${it.id}`, to: `d${member}`, look: "holds"})));
-    const holders = [...frames].map(([actor, frame]) => running(run, actor, frame, arrows));
-    for (const rule of rules.values()) holders.push(waiting(run, rule, `rule ${rule.number}`, "rule", arrows));
-    for (const task of tasks.values()) holders.push(waiting(run, task, `task ${task.number}`, "task", arrows));
-    const boxes = [...data.values()].map(it => ({key: `d${it.id}`, datum: it.id, title: `${dataName(run, it.id)}: ${it.type}`, words: content(it), look: isClosed(it) ? "closed" : "open"}));
+    const arrows = rising(data).flatMap(it => [...it.members?.values() ?? []].map(member => /** @type {Arrow} */ ({from: `d${it.id}`, to: `d${member}`, look: "holds"})));
+    const holders = run.actors.flatMap(actor => { const frame = frames.get(actor); return frame ? [running(run, actor, frame, arrows)] : []; });
+    for (const rule of rising(rules)) holders.push(waiting(run, rule, `rule ${rule.number}`, "rule", arrows));
+    for (const task of rising(tasks)) holders.push(waiting(run, task, `task ${task.number}`, "task", arrows));
+    const boxes = rising(data).map(it => ({key: `d${it.id}`, datum: it.id, title: `${dataName(run, it.id)}: ${it.type}`, words: content(it), look: isClosed(it) ? "closed" : "open"}));
     return {holders, data: boxes, arrows: arrows.filter(it => boxes.some(({key}) => key === it.to))};
 }
 

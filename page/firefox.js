@@ -1,16 +1,21 @@
 // SPDX-License-Identifier: Apache-2.0
 // Drives a Firefox without a screen over WebDriver BiDi, which the browser itself speaks, by the calls of Chromium's protocol that test.js makes.
+import fs from "node:fs";
 import {Browser, driven, PATIENCE, pause} from "./browser.js";
 
 const KEYS = {Tab: "\uE004", Enter: "\uE006", Escape: "\uE00C", ArrowLeft: "\uE012", ArrowUp: "\uE013", ArrowRight: "\uE014", ArrowDown: "\uE015", Home: "\uE011", End: "\uE010", Shift: "\uE008"};
 const CONTROL = "\uE009";
-let port = 9333 + process.pid % 500;
 /** The parts of test.js that ask for what BiDi hasn't: media, accessibility trees, the browser's own evaluation. */
 export const LACKS = ["policy", "looks", "everywhere", "screens"];
 
+// Returns the port that a browser has taken, once it listens: one that no other browser has.
+function portOf({home}) { try { return JSON.parse(fs.readFileSync(`${home}/WebDriverBiDiServer.json`, "utf8")).ws_port; } catch { return 0; } }
+
 // Connects to the browser once it listens.
-async function connect() {
-    for (const from = Date.now(); Date.now() - from < 120000 * PATIENCE; await pause(200)) {
+async function connect(browser) {
+    for (const from = Date.now(); !browser.ended && Date.now() - from < 120000 * PATIENCE; await pause(200)) {
+        const port = portOf(browser);
+        if (!port) continue;
         const socket = new WebSocket(`ws://127.0.0.1:${port}/session`);
         if (await new Promise(done => { socket.onopen = () => done(true); socket.onerror = () => done(false); })) return socket;
     }
@@ -25,12 +30,14 @@ function valueOf({type, value}) {
     return value ?? (type === "undefined" ? undefined : null);
 }
 
-const begin = () => new Browser("firefox-esr", home => ["--headless", "--no-remote", "--profile", home, `--remote-debugging-port=${++port}`]);
+const begin = () => new Browser("firefox-esr", home => ["--headless", "--no-remote", "--profile", home, "--remote-debugging-port=0"]);
 export const open = (address, width = 1300, height = 1000) => driven(begin(), async browser => {
     const messages = [], heard = new Map();
-    const socket = await connect(), send = (method, params) => browser.ask(method, params);
+    const socket = await connect(browser), send = (method, params) => browser.ask(method, params);
     browser.write = text => socket.send(text);
-    socket.onclose = () => browser.end("Firefox has closed its connection");
+    let why = "";
+    socket.onerror = ({message, error}) => { why = error?.message ?? message; };
+    socket.onclose = ({code, reason}) => setTimeout(() => browser.end(`Firefox has closed its connection, by ${code} ${reason} ${why}`), 500); // If Firefox has ended, that is said.
     socket.onmessage = ({data}) => {
         const it = JSON.parse(data);
         if (it.id) browser.answer(it);
@@ -77,7 +84,7 @@ export const open = (address, width = 1300, height = 1000) => driven(begin(), as
     return {
         ask, evaluate, messages, on: (method, act) => heard.set(method, act),
         until: (text, most = 30000) => browser.until(evaluate, text, most),
-        computed: () => browser.computed(),
+        computed: () => browser.computed(), lost: () => browser.lost,
         close: () => browser.close(),
     };
 });

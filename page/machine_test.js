@@ -3,8 +3,10 @@
 // others, and every prefix of its events must lead to the report that the library's replay writes. It ends with `N passed, 0 failed`.
 import fs from "node:fs";
 import {dearestWalk, mostEvents} from "./bounds.js";
+import {diagramOf} from "./diagram.js";
 import {followInParts} from "./follower.js";
 import {open, report, step} from "./machine.js";
+import {viewOf} from "./model.js";
 import {begin} from "./module.js";
 import {decode} from "./program.js";
 import {readPlaces, readTrace, readVerdict} from "./replies.js";
@@ -30,13 +32,15 @@ async function compare(name, text, words, [engines, servers, workers]) {
     const setting = {program, source, names, inputs: words.map(readInput), engines, servers, workers}, run = new Run(setting).follow(trace);
     const state = open(program, setting.inputs, servers);
     sameInParts(name, setting, run, trace);
+    const views = [], viewed = k => JSON.stringify([viewOf(run, run.at(k), k, new Map()), diagramOf(run, run.at(k))]);
     for (let k = 0; k <= events.length; k++) {
         if (k) delivered(name, state, events[k - 1]);
         if (k) step(state, program, events[k - 1]);
         const wanted = session(["replay", "--text", ...options, ...words], `${text}\nevents\n${events.slice(0, k).join("\n")}\nend\n`).text;
         say(report(state) === plain(wanted), name, "event", k, JSON.stringify(report(state)), JSON.stringify(wanted));
-        if (k % 7 === 0) say(report(run.at(k)) === report(state), name, "another state at", k);
+        if (k % 7 === 0) { say(report(run.at(k)) === report(state), name, "another state at", k); views.push(viewed(k)); }
     }
+    for (let k = events.length; k >= 0; k--) say(k % 7 ? run.at(k) : viewed(k) === views[k / 7], name, "another view by a step back to", k);
     const places = readPlaces(session(["check", "--text", "--places"], text).text, source), verdict = readVerdict(session(["check", "--text", "--order"], text).text, source);
     say(verdict.order && (verdict.order.same || /\b(T?INS|MINS)\b/.test(source.text[verdict.order.line])), name, "another order", verdict.order);
     say(verdict.accepted && verdict.budgets.length === program.length, name, "verdict", verdict);
@@ -82,7 +86,7 @@ function heldRights(name, run, places) {
 function delivered(name, state, event) {
     const [kind, actor, ...numbers] = event.split(" "), [datum, rule, param] = numbers.map(Number);
     if (kind !== "deliver") return;
-    const notice = state.notices.get(`${rule} ${param}`);
+    const notice = state.notices.get(16 * rule + param);
     say(notice && notice.datum === datum && `s${notice.server}` === actor, name, event, "is a notice of another server", notice);
 }
 

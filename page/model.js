@@ -1,7 +1,7 @@
 // @ts-check
 // SPDX-License-Identifier: Apache-2.0
 // Describes a step: its event in a sentence, and the state after it in rows.
-import {count, isBetter, isClosed, jumps, lines, standing, subscripts} from "./machine.js";
+import {count, firstTasks, isClosed, jumps, lines, rising, standing, subscripts} from "./machine.js";
 import {callName, nameAt, uncommented} from "./source.js";
 import {shown} from "./values.js";
 
@@ -25,16 +25,9 @@ const MADE = 160;
 /** The members of a container, or the values of a map, that are shown. */
 const MEMBERS = 12;
 
-/** Returns the first of many things, as rows.
- * @template T @param {Iterable<T>} things @param {number} all @param {(it: T) => Row} row @returns {Table} */
-function firstRows(things, all, row) {
-    const rows = [];
-    for (const it of things) {
-        if (rows.length === MADE) break;
-        rows.push(row(it));
-    }
-    return {rows, all};
-}
+/** Returns the first of a state's things, as rows.
+ * @template T @param {Map<number, T>} things @param {(it: T) => Row} row @returns {Table} */
+const firstRows = (things, row) => ({rows: rising(things, MADE).map(row), all: things.size});
 
 const KINDS = /** @type {Record<string, string>} */ ({e: "engine", s: "server", w: "worker"});
 /** Returns an actor in words, as `worker 1`.
@@ -160,20 +153,8 @@ function ruleRow(run, rule) {
 /** Returns the rows of the tasks that wait for one kind of actor, the best first.
  * @param {Run} run @param {State} state @param {string} kind @returns {Table} */
 function queueRows(run, state, kind) {
-    /** @type {Task[]} */
-    const best = [];
-    let all = 0;
-    for (const task of state.tasks.values()) {
-        if (run.setting.program[task.procedure].kind !== kind) continue;
-        all++;
-        if (best.length === MADE && !isBetter(task, best[MADE - 1])) continue;
-        if (best.length === MADE) best.pop();
-        let at = best.length;
-        while (at > 0 && isBetter(task, best[at - 1])) at--;
-        best.splice(at, 0, task);
-    }
-    const actor = kind === "control" ? "engine" : "worker";
-    return firstRows(best, all, task => ({key: `task ${task.number}`, cells: [`task ${task.number}`, callOf(run, task), `priority ${task.priority}`, task.target === null ? `any ${actor}` : `${actor} ${task.target} alone`]}));
+    const {tasks, all} = firstTasks(state, kind, MADE), actor = kind === "control" ? "engine" : "worker";
+    return {all, rows: tasks.map(task => ({key: `task ${task.number}`, cells: [`task ${task.number}`, callOf(run, task), `priority ${task.priority}`, task.target === null ? `any ${actor}` : `${actor} ${task.target} alone`]}))};
 }
 
 /** Returns the row of a datum.
@@ -186,7 +167,7 @@ function dataRow(run, datum) {
 /** Returns the last insertions that were refused up to an event, in words.
  * @param {Run} run @param {number} event */
 function refusedInsertions(run, event) {
-    const {program} = run.setting, all = [...run.track.refusedUpTo(event)].slice(-500);
+    const {program} = run.setting, all = run.track.refusedUpTo(event, 500);
     const named = all.filter(it => /^(T?INS|MINS)$/.test(program[run.track.procedureOf(it)].code[run.track.placesOf(it)[0]].name));
     return named.slice(-8).map(it => `event ${it}: ${sentence(run, run.event(it))}`);
 }
@@ -198,9 +179,9 @@ export function viewOf(run, state, event, places) {
     return {
         running: actors.flatMap(actor => { const frame = state.frames.get(actor); return frame ? [runningOf(run, actor, frame, places)] : []; }),
         idle: actors.filter(actor => actor[0] !== "s" && !state.frames.has(actor)),
-        rules: firstRows(state.rules.values(), state.rules.size, it => ruleRow(run, it)), control: queueRows(run, state, "control"), leaf: queueRows(run, state, "leaf"),
-        notices: firstRows(state.notices.values(), state.notices.size, it => ({key: `notice ${it.datum} ${it.rule} ${it.param}`, cells: [`server ${it.server}`, `${dataName(run, it.datum)} is closed`, `for rule ${it.rule}`]})),
-        data: firstRows(state.data.values(), state.data.size, it => dataRow(run, it)), outputs: outputsOf(run, state),
+        rules: firstRows(state.rules, it => ruleRow(run, it)), control: queueRows(run, state, "control"), leaf: queueRows(run, state, "leaf"),
+        notices: firstRows(state.notices, it => ({key: `notice ${it.datum} ${it.rule} ${it.param}`, cells: [`server ${it.server}`, `${dataName(run, it.datum)} is closed`, `for rule ${it.rule}`]})),
+        data: firstRows(state.data, it => dataRow(run, it)), outputs: outputsOf(run, state),
         refused: refusedInsertions(run, event),
     };
 }

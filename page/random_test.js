@@ -1,17 +1,20 @@
 // SPDX-License-Identifier: Apache-2.0
 // Compares the page's machine with the library on traces of random programs (tools/fuzz makes them), in turn and in other orders:
-// random_test.js MODULE.wasm COUNT [SEED]. After a trace, and after a part of it, both have to report the same. Ends with `N passed, 0 failed`.
+// random_test.js MODULE.wasm COUNT [SEED]. After a trace, and after a part of it, both have to report the same; steps back have to lead to the states
+// that are reached from the start. Ends with `N passed, 0 failed`.
 import {spawn} from "node:child_process";
 import path from "node:path";
 import readline from "node:readline";
-import {open, report, step} from "./machine.js";
+import {isDeepStrictEqual} from "node:util";
+import {copyOf, open, report, step} from "./machine.js";
 import {begin} from "./module.js";
 import {decode} from "./program.js";
 import {readTrace} from "./replies.js";
+import {Run} from "./run.js";
 import {readInput} from "./values.js";
 
 const [module, count, seed = "1"] = process.argv.slice(2), session = await begin(module), folder = path.dirname(new URL(import.meta.url).pathname);
-let passed = 0, failed = 0, events = 0;
+let passed = 0, failed = 0, events = 0, walked = 0;
 const kinds = new Map(), plain = text => text.replace(/^(waits|rule) .*\n/gm, "");
 
 // Compares the machines after some events of a trace.
@@ -21,6 +24,18 @@ function compare(what, {hex, words, layout}, lines, options) {
     if (report(state) === wanted) { passed++; return; }
     failed++;
     console.log("FAILED", what, JSON.stringify(report(state)), JSON.stringify(wanted));
+}
+
+// Goes through a run by steps back, and now and then by one on or by a jump, and compares each state with the one that is reached from the start.
+function walk(what, {number, hex, words, layout: [engines, servers, workers]}, lines) {
+    const setting = {program: decode(hex), source: {heads: [0]}, names: [], inputs: words.map(readInput), engines, servers, workers};
+    const run = new Run(setting, 9).follow(lines.map(it => `${it}\n`).join("")), state = open(setting.program, setting.inputs, servers), states = [copyOf(state)];
+    for (const line of lines) { step(state, setting.program, line); states.push(copyOf(state)); }
+    for (let k = 1, at = lines.length; k < 40; k++) {
+        if (!isDeepStrictEqual({...run.at(at), undo: null}, states[at])) { failed++; console.log("FAILED", what, "another state by a step back to event", at); return; }
+        at = k % 16 ? Math.max(0, Math.min(lines.length, at + (k % 5 ? -1 : 1))) : (number * 7919 + k * 31) % states.length;
+    }
+    walked++;
 }
 
 // Makes runs of a program, in turn and in two orders, and compares the machines.
@@ -34,6 +49,7 @@ function tryRun(it) {
         events += lines.length;
         compare(`program ${it.number} ${order.join(" ")}`, it, lines, options);
         compare(`program ${it.number} ${order.join(" ")} in part`, it, lines.slice(0, (it.number * 7919) % (lines.length + 1)), options);
+        walk(`program ${it.number} ${order.join(" ")}`, it, lines);
         if (!/^(quiet|stuck \d+|limit)$/m.test(end)) { failed++; console.log("FAILED", it.number, "has no end", end); }
     }
 }
@@ -42,6 +58,6 @@ const maker = spawn("python3", ["-B", `${folder}/random_runs.py`, seed, count], 
 let made = 0;
 for await (const line of readline.createInterface({input: maker.stdout})) { tryRun(JSON.parse(line)); made++; }
 if (made !== +count) { failed++; console.log("FAILED", made, "programs of", count); }
-console.log(`${made} programs, ${passed / 2} traces of ${events} events: ${[...kinds].map(([kind, times]) => `${kind} ${times}`).join(", ")}`);
+console.log(`${made} programs, ${passed / 2} traces of ${events} events, ${walked} walked back: ${[...kinds].map(([kind, times]) => `${kind} ${times}`).join(", ")}`);
 console.log(`${passed} passed, ${failed} failed`);
 process.exitCode = failed ? 1 : 0;

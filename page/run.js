@@ -1,9 +1,10 @@
 // @ts-check
 // SPDX-License-Identifier: Apache-2.0
-// A run: its events with their effects, and the state after each. Some states are kept; the others are computed from the nearest one before.
+// A run: its events with their effects, and the state after each. Some states are kept; the others are computed from the nearest one before. From the
+// state that was asked for last, events are taken back.
 import {copyOf, open, sizeOf, step, TooLong} from "./machine.js";
 import {nameAt} from "./source.js";
-import {Track} from "./track.js";
+import {firstOf, Track} from "./track.js";
 
 /** @typedef {import("./machine.js").State} State */
 /** @typedef {import("./machine.js").Fact} Fact */
@@ -20,9 +21,9 @@ import {Track} from "./track.js";
 /** A state after so many events, with the number of things in it.
  * @typedef {{count: number, state: State, size: number}} Kept */
 
-/** Local instructions that are followed in all, and between two kept states; events between two kept states; things in all kept states; and how
- * far before an event a state is kept once a reader steps back to it. */
-const FOLLOWED = 20000000, WORK = 300000, SPACING = 50, THINGS = 80000, NEAR = 100;
+/** Local instructions that are followed in all, and between two kept states; events between two kept states; things in all kept states; and the last
+ * events that can be taken back. */
+const FOLLOWED = 20000000, WORK = 300000, SPACING = 50, THINGS = 80000, BACK = 5000;
 
 /** Returns all actors of a layout, in their order.
  * @param {Opening} opening */
@@ -58,14 +59,7 @@ export class Keeper {
 
     /** Returns the last kept state of at most so many events.
      * @param {number} count */
-    before(count) {
-        let low = 0, high = this.kept.length - 1;
-        while (low < high) {
-            const middle = low + high + 1 >> 1;
-            if (this.kept[middle].count <= count) low = middle; else high = middle - 1;
-        }
-        return this.kept[low];
-    }
+    before(count) { return this.kept[firstOf(this.kept.length, k => this.kept[k].count > count) - 1]; }
 }
 
 /** Executes the events of a trace, one after the other. */
@@ -114,9 +108,10 @@ export class Follower {
 
 export class Run {
     /** Begins with the opening; `follow` computes the rest.
-     * @param {Setting} setting */
-    constructor(setting) {
+     * @param {Setting} setting @param {number} back how many events can be taken back */
+    constructor(setting, back = BACK) {
         this.setting = setting;
+        this.back = back;
         this.actors = actorsOf(setting);
         this.track = new Track(this.actors);
         /** A message, if an event is too long to be followed.
@@ -124,11 +119,10 @@ export class Run {
         this.cut = "";
         const first = open(setting.program, setting.inputs, setting.servers);
         this.keeper = new Keeper(first);
-        /** The state that was asked for last, and one kept before it.
-         * @type {Kept} */
-        this.now = {count: 0, state: copyOf(first), size: 0};
-        /** @type {Kept | null} */
-        this.near = null;
+        /** The state that was asked for last, and what takes back each of the last events before it. */
+        this.now = {count: 0, state: copyOf(first)};
+        /** @type {(() => void)[][]} */
+        this.undos = [];
         /** The names of main's data, by id, and of the data that the program makes, by place.
          * @type {Map<number, string>} */
         this.given = new Map();
@@ -227,20 +221,20 @@ export class Run {
     /** Returns the state after so many events. It is changed by the next call.
      * @param {number} count @returns {State} */
     at(count) {
-        const kept = this.keeper.before(count), from = this.near && this.near.count <= count && this.near.count > kept.count ? this.near : kept;
-        const back = this.now.count > count;
-        if (back || this.now.count < from.count) this.now = {...from, state: copyOf(from.state)};
-        if (back && count - from.count > 2 * NEAR) {
-            this.stepTo(count - NEAR);
-            this.near = {...this.now, state: copyOf(this.now.state)};
-        }
-        return this.stepTo(count);
+        const kept = this.keeper.before(count), {now} = this;
+        if (count < now.count - this.undos.length || kept.count > now.count + this.back) { this.now = {count: kept.count, state: copyOf(kept.state)}; this.undos = []; }
+        for (; this.now.count > count; this.now.count--) for (const back of this.undos.pop()?.reverse() ?? []) back();
+        for (; this.now.count < count; this.now.count++) this.next(count - this.now.count <= this.back);
+        return this.now.state;
     }
 
-    /** @param {number} count */
-    stepTo(count) {
-        for (; this.now.count < count; this.now.count++) step(this.now.state, this.setting.program, this.track.line(this.now.count + 1));
-        return this.now.state;
+    /** Executes the next event.
+     * @param {boolean} noted whether it can be taken back */
+    next(noted) {
+        const {count, state} = this.now, undo = state.undo = noted ? /** @type {(() => void)[]} */ ([]) : null;
+        step(state, this.setting.program, this.track.line(count + 1));
+        if (!undo) this.undos = [];
+        else if (this.undos.push(undo) > this.back) this.undos.shift();
     }
 
     /** Returns the nearest event before or after one that meets a test; 0 if there is none.

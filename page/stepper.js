@@ -30,9 +30,9 @@ export class Stepper {
         /** @type {Map<number, [string, string][]>} */
         this.places = new Map();
         this.at = 0;
-        /** What is shown of the event: its run, its number and the view of its state.
-         * @type {{run: Run, event: number, view: import("./model.js").View} | null} */
-        this.viewed = null;
+        /** The views of the states that were looked at last, by the number of events.
+         * @type {Map<number, import("./model.js").View>} */
+        this.views = new Map();
         this.grew = 0;
         this.timer = 0;
         this.stale = false;
@@ -74,7 +74,7 @@ export class Stepper {
      * @param {Run} run @param {Map<number, [string, string][]>} places @param {number} event */
     take(run, places, event) {
         this.stop();
-        Object.assign(this, {run, places, stale: false, viewed: null});
+        Object.assign(this, {run, places, stale: false, views: new Map()});
         this.fresh();
         this.timeline?.show(run);
         this.grown(false);
@@ -143,10 +143,10 @@ export class Stepper {
     /** Returns the view of the state before an event, what its actor's value registers are there, and which local instructions it then executes.
      * @param {Run} run @param {number} event */
     before(run, event) {
-        const known = this.viewed?.run === run && this.viewed.event === event - 1 ? this.viewed.view : null, state = run.at(event - 1);
+        const state = run.at(event - 1);
         const frame = state.frames.get(run.track.actorOf(event)), {kind, count, procedure} = run.track.fact(event);
         const counts = frame && kind === "local" && count > 1 && count <= COUNTED ? tally(run.setting.program[procedure], frame, count) : null;
-        return {view: known ?? viewOf(run, state, event - 1, this.places), values: [...frame?.values ?? []], counts};
+        return {view: this.views.get(event - 1) ?? viewOf(run, state, event - 1, this.places), values: [...frame?.values ?? []], counts};
     }
 
     /** Shows an event, and the state after it.
@@ -157,8 +157,8 @@ export class Stepper {
         this.at = event;
         this.slider.value = String(event);
         const before = event ? this.before(run, event) : null, state = run.at(event), happened = event ? run.event(event) : null;
-        const now = viewOf(run, state, event, this.places);
-        this.viewed = {run, event, view: now};
+        const now = this.views.get(event) ?? viewOf(run, state, event, this.places);
+        this.views = new Map([[event - 1, before?.view ?? now], [event, now]]);
         $("at").textContent = this.position;
         $("what").replaceChildren(...happened && before ? this.told(run, happened, before, state) : ["Nothing has happened yet: main waits for an engine."]);
         this.slider.setAttribute("aria-valuetext", `${$("at").textContent}: ${$("what").textContent}`);

@@ -502,7 +502,7 @@ async function millions(reader) {
     say((await reader.seen("#data")).includes("running"), "another end", await reader.seen("#data"));
     const step = button => took(reader.page, () => reader.js(`(() => { const from = performance.now(); document.getElementById("${button}").click(); document.body.offsetHeight; return performance.now() - from; })()`));
     await reader.event(800000);
-    for (const button of ["on", "back"]) { const times = []; for (let k = 0; k < 9; k++) times.push(await step(button)); console.log(`a step ${button} at event 800,000: ${times.join(", ")} ms`); say(Math.min(...times) < 100, "at 800,000", button, "takes", times); }
+    for (const button of ["on", "back"]) { const times = []; for (let k = 0; k < 9; k++) times.push(await step(button)); console.log(`a step ${button} at event 800,000: ${times.join(", ")} ms`); say(times[0] < 200 && [...times].sort((one, other) => one - other)[4] < 100, "at 800,000", button, "takes", times); }
     await reader.write("limit", "100000");
     await reader.click("#run"); await reader.key("Shift");
     await reader.event(50000);
@@ -1048,19 +1048,27 @@ async function end() {
     await page.close();
 }
 
-// Does a part, for LIMIT ms at most. If it fails by more than what it compares, the next one gets a new browser.
+/** How often a browser may be lost, by its connection or its end, so that a part is done once more in a new one. */
+const LOSSES = 3;
+let losses = 0;
+
+// Does a part, for LIMIT ms at most. If it fails by more than what it compares, the next one gets a new browser. So does the part itself if its browser
+// was lost.
 async function within(part) {
-    let late = 0;
+    let late = 0, lost = "";
     const limit = new Promise((_, fail) => { late = setTimeout(() => fail(new Error(`it isn't done in ${LIMIT / 1000} s`)), LIMIT); });
     try {
         await Promise.race([part(reader, page), limit]);
     } catch (error) {
-        say(false, part.name, error.stack);
+        lost = page.lost();
+        if (lost && losses++ < LOSSES) console.log(`${part.name}: ${lost}; it is done once more`);
+        else { lost = ""; say(false, part.name, error.stack); }
         await end();
         await begin();
     } finally {
         clearTimeout(late);
     }
+    if (lost) await within(part);
 }
 
 let page, reader;
@@ -1072,6 +1080,7 @@ for (const part of [firstSight, steps, typing, errors, large, kept, mistakes, to
     console.log(`${part.name}: ${failed === failures ? "well" : "FAILED"}, ${((Date.now() - from) / 1000).toFixed(1)} s`);
 }
 await end();
+if (losses) console.log(`the browser was lost ${losses} times`);
 if (LACKS.length) console.log(`left out in this browser: ${LACKS.join(", ")}`);
 console.log(`${passed} passed, ${failed} failed`);
 process.exitCode = failed ? 1 : 0;

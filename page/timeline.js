@@ -41,6 +41,9 @@ export class Timeline {
         /** The width of a column that the reader chose; 0 if none. */
         this.chosen = 0;
         this.drawn = "";
+        /** The mark of the event below the tasks, and its task's lines above them. */
+        this.under = s("g");
+        this.over = s("g");
         this.bind();
     }
 
@@ -112,7 +115,6 @@ export class Timeline {
         const y = event && this.run ? this.y(this.run.track.actorOf(event)) : 0;
         if (event && (y < outer.scrollTop + HEAD || y + LANE > outer.scrollTop + outer.clientHeight)) outer.scrollTop = y - outer.clientHeight / 2;
         this.draw();
-        this.window();
     }
 
     /** The middle of an event's column.
@@ -122,18 +124,26 @@ export class Timeline {
      * @param {string} actor */
     y(actor) { return HEAD + (this.lanes.get(actor) ?? 0) * LANE; }
 
+    /** Draws what is in sight, unless that is drawn; then the marked event alone is drawn anew. */
     draw() {
-        const {run, box, wide} = this, state = `${this.now} ${box.scrollLeft} ${box.clientWidth}`;
-        if (!run || state === this.drawn) return;
+        const {run, box, wide} = this, state = `${box.scrollLeft} ${box.clientWidth}`, height = HEAD + this.lanes.size * LANE;
+        if (!run) return;
+        if (state !== this.drawn) this.sheet(run, height);
         this.drawn = state;
-        const first = Math.max(1, Math.floor(box.scrollLeft / wide) - 2), last = Math.min(run.length, Math.ceil((box.scrollLeft + box.clientWidth) / wide) + 2);
-        const height = HEAD + this.lanes.size * LANE, width = Math.max(box.clientWidth, run.length * wide + 20);
+        this.under.replaceChildren(...this.now ? [s("rect.now", {x: this.x(this.now) - wide / 2, y: 0, width: Math.max(wide, 2), height})] : []);
+        this.over.replaceChildren(...this.threads());
+        this.window();
+    }
+
+    /** Draws what is in sight, without the marked event.
+     * @param {Run} run @param {number} height */
+    sheet(run, height) {
+        const {box, wide} = this, first = Math.max(1, Math.floor(box.scrollLeft / wide) - 2), last = Math.min(run.length, Math.ceil((box.scrollLeft + box.clientWidth) / wide) + 2);
+        const width = Math.max(box.clientWidth, run.length * wide + 20);
         const seen = run.actors.flatMap((_, k) => run.track.tasksOf(k, first, last).slice(0, DRAWN));
         box.replaceChildren(s("svg", {width, height, role: "img", "aria-label": `${run.length} events in ${this.lanes.size} lanes`},
             ...run.actors.map((actor, k) => s(`rect.lane${k % 2 ? ".odd" : ""}`, {x: 0, y: this.y(actor), width, height: LANE})),
-            ...this.now ? [s("rect.now", {x: this.x(this.now) - wide / 2, y: 0, width: Math.max(wide, 2), height})] : [],
-            ...this.ticks(first, last), ...seen.flatMap(task => this.bar(task)), ...this.threads(), ...this.marks(run, first, last)));
-        this.window();
+            this.under, ...this.ticks(first, last), ...seen.flatMap(task => this.bar(task)), this.over, ...this.marks(run, first, last)));
     }
 
     /** @param {number} first @param {number} last */

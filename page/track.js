@@ -9,6 +9,17 @@
 export const KINDS = ["take", "local", "call", "end", "ask", "deliver", "release"], MAKES = ["", "datum", "rule", "task"];
 const NOWHERE = 255, SMALL = 5, LARGE = 5;
 
+/** Returns the first place of a list for which a test holds, as it does for all after it; the list's length if there is none.
+ * @param {number} length @param {(place: number) => boolean} meets */
+export function firstOf(length, meets) {
+    let low = 0;
+    for (let high = length; low < high;) {
+        const middle = low + high >> 1;
+        if (meets(middle)) high = middle; else low = middle + 1;
+    }
+    return low;
+}
+
 /** A list of numbers that grows, without a gap in memory for each.
  * @template {Uint8Array | Uint32Array} T */
 class Column {
@@ -178,9 +189,12 @@ export class Track extends Columns {
     /** Returns the event that made a datum, a rule or a task; 0 if it was there at the start.
      * @param {"datum" | "rule" | "task"} what @param {number} number */
     makerOf(what, number) { return number < this.makers[what].length ? this.makers[what].all[number] : 0; }
-    /** Returns the refused calls up to an event.
-     * @param {number} event */
-    refusedUpTo(event) { const all = this.refused.whole(), end = all.findIndex(it => it > event); return end < 0 ? all : all.subarray(0, end); }
+    /** Returns the last refused calls up to an event.
+     * @param {number} event @param {number} most */
+    refusedUpTo(event, most) {
+        const {all, length} = this.refused, end = firstOf(length, k => all[k] > event);
+        return [...all.subarray(Math.max(0, end - most), end)];
+    }
     /** @param {number} task */
     takenAt(task) { return task < this.taken.length ? this.taken.all[task] : 0; }
     /** @param {number} task */
@@ -190,12 +204,7 @@ export class Track extends Columns {
      * @param {number} actor @param {number} first @param {number} last */
     tasksOf(actor, first, last) {
         const {all, length} = this.tasks[actor], found = [];
-        let low = 0, high = length;
-        while (low < high) {
-            const middle = low + high >> 1;
-            if (this.endOf(all[middle]) < first) low = middle + 1; else high = middle;
-        }
-        for (let k = low; k < length && this.takenAt(all[k]) <= last; k++) found.push(all[k]);
+        for (let k = firstOf(length, k => this.endOf(all[k]) >= first); k < length && this.takenAt(all[k]) <= last; k++) found.push(all[k]);
         return found;
     }
 }
