@@ -2,7 +2,7 @@
 // SPDX-License-Identifier: Apache-2.0
 // Draws a small state: tasks and rules at the left, data as boxes at the right, and rights as arrows from the one to the other.
 import {h, s} from "./dom.js";
-import {isClosed, rising} from "./machine.js";
+import {firstTasks, isClosed, rising, waiting} from "./machine.js";
 import {argumentName, content, dataName} from "./model.js";
 import {callName} from "./source.js";
 
@@ -19,13 +19,13 @@ const MOST = 20, HIGH = 38, GAP = 8, LEFT = 250, RIGHT = 380, WIDE = 640;
 /** Returns the diagram of a state; null if it has no data, or too many things.
  * @param {Run} run @param {State} state @returns {Diagram | null} */
 export function diagramOf(run, state) {
-    const {data, rules, tasks, frames} = state;
-    if (!data.size || data.size > MOST || rules.size + tasks.size + frames.size > MOST) return null;
+    const {data, rules, frames} = state;
+    if (!data.size || data.size > MOST || rules.size + waiting(state) + frames.size > MOST) return null;
     /** @type {Arrow[]} */
     const arrows = rising(data).flatMap(it => [...it.members?.values() ?? []].map(member => /** @type {Arrow} */ ({from: `d${it.id}`, to: `d${member}`, look: "holds"})));
     const holders = run.actors.flatMap(actor => { const frame = frames.get(actor); return frame ? [running(run, actor, frame, arrows)] : []; });
-    for (const rule of rising(rules)) holders.push(waiting(run, rule, `rule ${rule.number}`, "rule", arrows));
-    for (const task of rising(tasks)) holders.push(waiting(run, task, `task ${task.number}`, "task", arrows));
+    for (const rule of rising(rules)) holders.push(boxOf(run, rule, `rule ${rule.number}`, "rule", arrows));
+    for (const task of firstTasks(state, "", MOST)) holders.push(boxOf(run, task, `task ${task.number}`, "task", arrows));
     const boxes = rising(data).map(it => ({key: `d${it.id}`, datum: it.id, title: `${dataName(run, it.id)}: ${it.type}`, words: content(it), look: isClosed(it) ? "closed" : "open"}));
     return {holders, data: boxes, arrows: arrows.filter(it => boxes.some(({key}) => key === it.to))};
 }
@@ -40,7 +40,7 @@ function running(run, actor, frame, arrows) {
 
 /** Returns the box of a rule or a waiting task, and adds the arrows of its arguments.
  * @param {Run} run @param {import("./machine.js").Task & {stages?: string[]}} it @param {string} key @param {string} look @param {Arrow[]} arrows @returns {Box} */
-function waiting(run, it, key, look, arrows) {
+function boxOf(run, it, key, look, arrows) {
     const {program, source} = run.setting;
     it.args.forEach((argument, k) => {
         if (!("datum" in argument)) return;

@@ -1,7 +1,7 @@
 // @ts-check
 // SPDX-License-Identifier: Apache-2.0
 // Describes a step: its event in a sentence, and the state after it in rows.
-import {count, firstTasks, isClosed, jumps, lines, rising, standing, subscripts} from "./machine.js";
+import {count, firstTasks, isClosed, jumps, lines, rising, standing, subscripts, waiting} from "./machine.js";
 import {callName, nameAt, uncommented} from "./source.js";
 import {shown} from "./values.js";
 
@@ -153,8 +153,8 @@ function ruleRow(run, rule) {
 /** Returns the rows of the tasks that wait for one kind of actor, the best first.
  * @param {Run} run @param {State} state @param {string} kind @returns {Table} */
 function queueRows(run, state, kind) {
-    const {tasks, all} = firstTasks(state, kind, MADE), actor = kind === "control" ? "engine" : "worker";
-    return {all, rows: tasks.map(task => ({key: `task ${task.number}`, cells: [`task ${task.number}`, callOf(run, task), `priority ${task.priority}`, task.target === null ? `any ${actor}` : `${actor} ${task.target} alone`]}))};
+    const actor = kind === "control" ? "engine" : "worker";
+    return {all: waiting(state, kind), rows: firstTasks(state, kind, MADE).map(task => ({key: `task ${task.number}`, cells: [`task ${task.number}`, callOf(run, task), `priority ${task.priority}`, task.target === null ? `any ${actor}` : `${actor} ${task.target} alone`]}))};
 }
 
 /** Returns the row of a datum.

@@ -134,7 +134,7 @@ export class Run {
     /** Gives the data of main's parameters their names.
      * @param {State} state */
     nameInputs(state) {
-        const {source, names} = this.setting, head = source.heads[0], [task] = state.tasks.values();
+        const {source, names} = this.setting, head = source.heads[0], [[task]] = state.tasks.values();
         task.args.forEach((it, k) => {
             if (!("datum" in it)) return;
             const register = `d${k}`, name = nameAt(names, 0, head, register), datum = /** @type {import("./machine.js").Datum} */ (state.data.get(it.datum));

@@ -180,6 +180,11 @@ async function steps(reader) {
     say((await reader.seen("#at")).startsWith("event 2 "), "arrow keys don't step", await reader.seen("#at"));
     const names = await reader.js('(() => { const box = document.getElementById("lanes").getBoundingClientRect(); return [...document.querySelectorAll(".lane-name")].every(it => it.getBoundingClientRect().right <= box.left + 1); })()');
     say(names, "lane names lie in the picture");
+    for (const name of ["mapreduce", "word_count", "for_one_worker"]) {
+        await reader.go(`${address}?example=${name}`); await reader.key("Shift");
+        const [there, back] = await reader.js('(() => { const shown = () => ["at", "what", "state", "data"].map(id => document.getElementById(id).textContent).join("\\n"), all = +document.getElementById("step").max, walk = button => Array.from({length: all}, () => { document.getElementById(button).click(); return shown(); }); document.getElementById("first").click(); const start = shown(), there = walk("on"); return [[start, ...there], [...walk("back").reverse(), there[all - 1]]]; })()');
+        say(there.length > 5 && there.every((it, k) => it === back[k]), name, "a step back shows something else at", there.findIndex((it, k) => it !== back[k]));
+    }
 }
 
 // As one types: the fault is underlined with its message, the rights of the line are shown, and budgets are next to the heads.
