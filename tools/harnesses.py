@@ -137,7 +137,7 @@ TOOLS = (
     Tool("mutants", "proofs/mutants.py", "that tests notice edits of what no contract holds", None,
          Run("--table main script release cases python build cpp rust page", 100), BOTH, "node rt", limit=3600, shard=2, in_ci=False, is_beside=True),
     Tool("wakes", "proofs/mutants.py host", "that cases notice each place that doesn't wake", None, Run("", 20), "tw_host_cases", "rt", limit=3600, shard=2, in_ci=False),
-    Tool("must_fail", "proofs/must_fail.py", "that the mutants which CI leaves out are rejected", None, Run(), "tw_main", "rt", "proofs/must-fail", 10800, 6, False),
+    Tool("must_fail", "proofs/must_fail.py", "that the mutants which CI leaves out are rejected", None, Run("", 20), "tw_main", "rt", "proofs/must-fail", 10800, 6, False),
     Tool("planted", "night/planted.py", "that harnesses fail on a program that always rejects, on one that is always quiet, and on others", Run("", 40), tests=BOTH, needs="cc",
          depends="night harnesses.py", limit=1800, in_ci=False, is_beside=True),
     # These make or print something.

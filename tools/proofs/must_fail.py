@@ -2,9 +2,8 @@
 """Tries the mutants of tools/proofs/must-fail, which CI leaves out: the prover has to reject each.
 
 A mutant costs a proof of its crate, so CI tries those of crates/NAME/must-fail alone. This copies the others into a clone of what is committed, and
-runs `rt ci NAME..` there, which takes what CI has proved of the crates below and tries a crate's mutants. It notes each crate whose mutants were all
-rejected in release/REJECTED, with a sum of what that depends on: the toolchain, the sources of the crate and of those below it, and the mutants. A
-crate that is noted so isn't tried again.
+runs `rt must-fail NAME..` there, over what was proved here of these sources. A crate whose mutants were all rejected is noted in release/REJECTED, with
+a sum of the toolchain, the sources of the crate and of those below it, and the mutants. It isn't tried again, and its mutants count as rejected.
 
   ./dev must_fail [NAME..]          tries the mutants of these crates, or of all; some 45 minutes of processor time for all
   ./dev must_fail --anew [NAME..]   tries those of noted crates, too
@@ -55,9 +54,7 @@ def check(root: Path) -> int:
     """Prints the mutants that couldn't be tried; returns an exit status."""
     mutants = [(name, file) for name, files in mutants_in(root).items() for file in files]
     faults = {f"{name}/{file.name}": fault_of(root / "crates" / name, file) for name, file in mutants}
-    for mutant, fault in faults.items():
-        if fault:
-            print(f"must_fail: {mutant}: {fault}")
+    print("".join(f"must_fail: {mutant}: {fault}\n" for mutant, fault in faults.items() if fault), end="")
     return 1 if any(faults.values()) or not mutants else 0
 
 
@@ -101,7 +98,7 @@ def note(root: Path, kit: str, names: Iterable[str]) -> None:
 
 
 def rejected_in(output: str) -> set[str]:
-    """Returns the mutants that `rt ci` reports as rejected, as CRATE/FILE."""
+    """Returns the mutants that the toolchain reports as rejected, as CRATE/FILE."""
     return set(re.findall(r"(?m)^(?:rt: )?must-fail (\S+): refused, as it must be", output))
 
 
@@ -112,10 +109,12 @@ def output_of(tree: Path, *words: str) -> str:
 
 
 def copy_mutants(root: Path, tree: Path, names: Iterable[str]) -> None:
-    """Copies what is committed to a folder, with these crates' mutants in place of those that CI tries."""
+    """Copies what is committed to a folder, and the libraries, with these crates' mutants in place of those that CI tries."""
     subprocess.run(["git", "-C", str(root), "clone", "-q", "--no-hardlinks", "--depth", "1", f"file://{root}", str(tree)], check=True)
     for folder in tree.glob("crates/*/must-fail"):
         shutil.rmtree(folder)
+    for folder in root.glob("crates/*/out/rlib"):
+        shutil.copytree(folder, tree / folder.relative_to(root))
     for name in names:
         shutil.copytree(tree / "tools/proofs/must-fail" / name, tree / "crates" / name / "must-fail")
 
@@ -132,7 +131,7 @@ def attempt(root: Path, kit: str, names: list[str]) -> list[str]:
     with tempfile.TemporaryDirectory() as room:
         tree = Path(room) / "tree"
         copy_mutants(root, tree, names)
-        output = output_of(tree, "ci", *names)
+        output = output_of(tree, "must-fail", *names)
     print(output, end="", flush=True)
     rejected, mutants = rejected_in(output), mutants_in(root)
     left = {name: [it for it in (f"{name}/{file.name}" for file in mutants[name]) if it not in rejected] for name in names}
@@ -171,6 +170,6 @@ def main(words: list[str]) -> int:
     kit = kit_id()
     names = chosen(ROOT, kit, given.names, given.anew)
     left = attempt(ROOT, kit, names) if names else []
-    count = sum(len(mutants_in(ROOT)[name]) for name in names)
-    print(f"{count - len(left)} rejected, {len(left)} not{': ' + ', '.join(left) if left else ''}")
+    asked = [name for name, files in mutants_in(ROOT).items() for _ in files if name in given.names or not given.names]
+    print(f"{len(asked) - len(left)} rejected, {sum(name not in names for name in asked)} of them before, {len(left)} not{': ' * bool(left)}{', '.join(left)}")
     return 1 if left else 0

@@ -13,7 +13,7 @@ import unittest
 from pathlib import Path
 
 from tools import ROOT
-from tools.common.testing import folder_of, put, replace
+from tools.common.testing import folder_of, put, replace, said
 from tools.night import record
 from tools.proofs import must_fail
 from tools.release import package, release
@@ -117,6 +117,7 @@ class OfMutants(WithRepository):
         super().setUp()
         self.edit("tools/proofs/must-fail/low/three.edit", MUTANT.replace("2", "3"))
         self.printed = "must-fail low/two.edit: refused, as it must be: src/lib.rt:2\nmust-fail low/three.edit: refused, as it must be\n"
+        replace(self, must_fail, ROOT=self.root, kit_id=lambda: "kit", stop_on_changes=lambda *words: None)
         replace(self, must_fail, copy_mutants=lambda *words: None, output_of=lambda *words: self.printed)
 
     def attempt(self) -> list[str]:
@@ -125,9 +126,10 @@ class OfMutants(WithRepository):
             return must_fail.attempt(self.root, "kit", ["low"])
 
     def test_rejected_mutants_are_noted(self) -> None:
-        self.assertEqual(must_fail.untried(self.root, "kit"), ["low"])
-        self.assertEqual(self.attempt(), [])
-        self.assertEqual(must_fail.untried(self.root, "kit"), [])
+        for before in (0, 2):
+            self.assertEqual(must_fail.untried(self.root, "kit"), ["low"] * (before == 0))
+            status, text = said(must_fail.main, [])
+            self.assertEqual((status, text.splitlines()[-1]), (0, f"2 rejected, {before} of them before, 0 not"))
         self.assertRegex((self.root / "release/REJECTED").read_text(), r"\Alow [0-9a-f]{64} 2 rejected\n\Z")
 
     def test_a_mutant_that_is_proved_or_not_tried_is_not_noted(self) -> None:
