@@ -232,7 +232,8 @@ class RecordTest(unittest.TestCase):
             self.assertEqual(record.faults({"one": ROW._replace(version="0.1")}, {}, (one,)), [])
             self.assertEqual(record.faults({}, {}, (one,)), ["one has no row"])
             self.assertEqual(record.faults({"one": ROW._replace(version="0.0")}, {}, (one,)), ["one passed last with version 0.0"])
-            self.assertEqual(record.faults({"one": ROW}, {"one": ROW._replace(passed=6)}, (one,)), ["one passed 6 in the release before, and 5 now"])
+            for tool, found in ((one, ["one passed 6 in the release before, and 5 now"]), (one._replace(whole=Run("--seconds @seconds")), [])):
+                self.assertEqual(record.faults({"one": ROW}, {"one": ROW._replace(passed=6)}, (tool,)), found)
 
     def test_quick_runs_and_failures_are_no_rows(self) -> None:
         with tempfile.TemporaryDirectory() as name:
