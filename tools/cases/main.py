@@ -89,7 +89,7 @@ def stale_files(book: Book) -> list[str]:
 def check(book: Book) -> int:
     faults = faults_of(book) + [f"{name} isn't what cases/ gives; ./dev cases --make writes it" for name in stale_files(book)]
     counts = ", ".join(f"{len(cases_of(book, crate))} in crates/{crate}" for crate in CRATES)
-    print("\n".join(faults) or f"{len(book.cases)} cases: {counts}")
+    print("\n".join(faults) or f"{len(book.cases)} checked: {counts}")
     return 1 if faults else 0
 
 

@@ -31,6 +31,9 @@ class TableTest(unittest.TestCase):
             for path in (tool.file, *tool.depends.split()):
                 self.assertTrue(path_of(path).exists(), path)
 
+    def test_each_harness_has_to_count_something(self) -> None:
+        self.assertEqual([tool.name for tool in TOOLS for run in (tool.short, tool.whole) if run and not run.least], [])
+
     def test_each_tool_in_python_is_called_with_its_arguments(self) -> None:
         for file in dict.fromkeys(tool.file.split()[0] for tool in TOOLS):
             if file.endswith(".py") and not file.startswith("./"):

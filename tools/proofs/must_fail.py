@@ -54,7 +54,7 @@ def check(root: Path) -> int:
     """Prints the mutants that couldn't be tried; returns an exit status."""
     mutants = [(name, file) for name, files in mutants_in(root).items() for file in files]
     faults = {f"{name}/{file.name}": fault_of(root / "crates" / name, file) for name, file in mutants}
-    print("".join(f"must_fail: {mutant}: {fault}\n" for mutant, fault in faults.items() if fault), end="")
+    print("".join(f"must_fail: {mutant}: {fault}\n" for mutant, fault in faults.items() if fault) + f"{len(mutants)} checked")
     return 1 if any(faults.values()) or not mutants else 0
 
 

@@ -422,7 +422,7 @@ def times_of(parts: list[str], folder: Path) -> dict[str, float]:
 def main(words: list[str]) -> int:
     check_texts()
     if words == ["--list"]:
-        print("\n".join(f"{mutant.part:<8} {mutant.name}" for mutant in MUTANTS))
+        print("\n".join([*(f"{mutant.part:<8} {mutant.name}" for mutant in MUTANTS), f"{len(MUTANTS)} checked"]))
         return 0
     mutants = chosen([word for word in words if word != "--table"])
     parts = list(dict.fromkeys(mutant.part for mutant in mutants))

@@ -180,9 +180,7 @@ def main(words: list[str]) -> int:
     """Does what the arguments say; returns an exit status."""
     if words == ["--check"]:
         wrong = faults(ROOT)
-        for line in wrong:
-            print(line)
-        print(f"site: {len(site(ROOT))} files, {len(wrong)} faults")
+        print("\n".join([*wrong, f"{len(site(ROOT))} checked, {len(wrong)} faults"]))
         return 1 if wrong else 0
     if words[:1] == ["--archive"] and len(words) == 2:
         Path(words[1]).write_bytes(archive(ROOT))

@@ -255,5 +255,5 @@ def main(words: list[str]) -> int:
         print(f"crates/{path}: " + ("written" if words == ["--make"] else "other rows than the table's; run ./dev instruction_rows --make"))
         if words == ["--make"]:
             (ROOT / "crates" / path).write_text(text, encoding="utf-8")
-    print(f"instruction rows: {len({region.path for region in REGIONS})} files, {len(stale)} stale")
+    print(f"{len({region.path for region in REGIONS})} checked, {len(stale)} stale")
     return 1 if stale and words == ["--check"] else 0

@@ -154,10 +154,9 @@ def faults(root: Path) -> list[str]:
 def check(root: Path) -> int:
     """Prints what is wrong, and returns the exit status."""
     found = faults(root)
-    for fault in found:
-        print(fault)
-    counts = ", ".join(f"{len(names)} {kind}" for kind, names in instructions_of(root).items())
-    print(f"instructions: {counts}; {len({whole.path for whole in WHOLES})} files for each, {len(PARTS)} for some; {len(found)} faults")
+    count = sum(len(names) for names in instructions_of(root).values())
+    said = f"{count} checked, in {len({whole.path for whole in WHOLES})} files for each and {len(PARTS)} for some; {len(found)} faults"
+    print("\n".join([*found, said]))
     return 1 if found else 0
 
 

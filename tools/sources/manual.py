@@ -130,9 +130,8 @@ def check() -> int:
     top = printed(program(), "--help")
     helps = helps_of(top, {name: printed(program(), name, "--help") for name in commands(top)})
     wrong = list(differences(helps, PAGE.read_text(encoding="utf-8"), file_options()))
-    for line in wrong:
-        print(f"docs/tw.1: {line}")
-    print(f"manual: {len(helps.commands)} commands and {len(helps.options)} options, {len(wrong)} differences")
+    count = len(helps.commands) + len(helps.options)
+    print("\n".join([*(f"docs/tw.1: {line}" for line in wrong), f"{count} checked, {len(wrong)} differences"]))
     return 1 if wrong or not helps.options else 0
 
 

@@ -100,9 +100,9 @@ def main(words: list[str], root: Path = ROOT) -> int:
     new = made(document, below, root)
     if words == ["--make"]:
         path.write_text(new, encoding="utf-8")
-    elif words == ["--check"] and new != document:
-        print(f"{DOCUMENT}: the diagram or the table is stale: ./dev stacks --make writes them")
-        return 1
+    elif words == ["--check"]:
+        print(f"{len(below)} checked" if new == document else f"{DOCUMENT}: the diagram or the table is stale: ./dev stacks --make writes them")
+        return int(new != document)
     elif not words:
         print(diagram(below, groups_of(document)), end="")
     return 0

@@ -62,9 +62,8 @@ def stale_copies(root: Path) -> list[str]:
 def check(root: Path) -> int:
     """Names the stale files, and returns the exit status."""
     stale = [str(path.relative_to(root)) for path in stale_twins(Path(program()), root / "examples")] + stale_copies(root)
-    for path in stale:
-        print(f"{path} is stale; ./dev twins --make writes it")
-    print(f"twins: {len(twins_of(root / 'examples'))} expansions and {len(files_below(root / COPIES))} copies, {len(stale)} stale")
+    count = len(twins_of(root / "examples")) + len(files_below(root / COPIES))
+    print("\n".join([*(f"{path} is stale; ./dev twins --make writes it" for path in stale), f"{count} checked, {len(stale)} stale"]))
     return 1 if stale else 0
 
 

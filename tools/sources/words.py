@@ -469,9 +469,8 @@ def check() -> int:
     before: dict[str, int] = json.loads(COUNTS.read_text(encoding="utf-8"))
     comments, words = counts_of(sources_here()), senses.words_by_group(texts_here())
     rises = [*risen({**comments, **words}, before), *risen({"all documents: words": sum(words.values())}, {"all documents: words": senses.ALL_MOST})]
-    for line in rises:
-        print(line)
-    print(f"words: {sum(words.values())} in Markdown, with {len(wrong)} findings; {sum(comments.values())} in comments; {len(rises)} counts have risen")
+    said = f"{sum(words.values())} checked: words in Markdown, with {len(wrong)} findings; {sum(comments.values())} in comments; {len(rises)} counts have risen"
+    print("\n".join([*rises, said]))
     return 1 if wrong or rises else 0
 
 

@@ -231,6 +231,7 @@ def keep_table(is_made: bool) -> None:
         DOCUMENT.write_text(front + BEGIN + HEAD + lines + END + back, encoding="utf-8")
     elif found := stale(names, rows_of(lines)):
         fail(f"docs/PROOFS.md: {', '.join(found)}: stale; ./dev believe --make writes the table")
+    print(f"{len(names)} checked")
 
 
 def main(words: list[str]) -> int:
