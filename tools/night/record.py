@@ -60,9 +60,9 @@ def sources_of(crate: str) -> str:
 
 
 def own_files(tool: Tool) -> list[Path]:
-    """Returns the files of a harness, and those that it names."""
+    """Returns the files of a harness, and those that it names, without what was built there."""
     named = [path_of(name) for name in (tool.file, *tool.depends.split())]
-    return sorted(file for path in named for file in ([path] if path.is_file() else path.rglob("*")) if file.is_file() and "__pycache__" not in file.parts)
+    return sorted(file for path in named for file in ([path] if path.is_file() else path.rglob("*")) if file.is_file() and not {"__pycache__", "out", "target"} & {*file.relative_to(ROOT).parts})
 
 
 def sum_of(tool: Tool) -> str:
