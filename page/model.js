@@ -199,7 +199,7 @@ export function computed(run, event, before, after) {
     if (event.kind !== "local" || event.count > 1) return "";
     const {name, operands} = run.setting.program[event.procedure].code[event.places[0]], sign = SIGNS[name];
     const given = (/** @type {number} */ k) => shown(before[operands[k]]), result = shown(after[operands[0]] ?? "");
-    if (sign) return `${given(1)} ${sign} ${given(2)} ${event.refused ? "has no result" : `= ${result}`}`;
+    if (sign) return `${given(1)} ${sign} ${given(2)} ${event.refused ? "has no result" : `= ${result}`}${name[0] === "W" ? " modulo 2^64" : ""}`;
     if (/^J(EQ|LT|TLT)$/.test(name)) return `${given(0)} ${name === "JEQ" ? "=" : "<"} ${given(1)}? ${jumps(name, before[operands[0]], before[operands[1]]) ? "yes: it skips" : "no"}`;
     if (/^(COPY|LEN|SHOW|READI)$/.test(name)) return event.refused ? `${given(1)} is no number` : `${given(1)} gives ${result}`;
     if (/^(BYTE|SLICE|FIND|SPAN|UNTIL|MULDIV)$/.test(name)) return `${operands.slice(1, -1).map((_, k) => given(k + 1)).join(", ")} ${event.refused ? "have no result" : `give ${result}`}`;
