@@ -26,7 +26,7 @@ function compare(what, {hex, words, layout}, lines, options) {
     console.log("FAILED", what, JSON.stringify(report(state)), JSON.stringify(wanted));
 }
 
-// Goes through a run by steps back, and now and then by one on or by a jump, and compares each state with the one that is reached from the start.
+// Makes steps back in a run, and now and then by one on or by a jump, and compares each state with the one that is reached from the start.
 function walk(what, {number, hex, words, layout: [engines, servers, workers]}, lines) {
     const setting = {program: decode(hex), source: {heads: [0]}, names: [], inputs: words.map(readInput), engines, servers, workers};
     const run = new Run(setting, 9).follow(lines.map(it => `${it}\n`).join("")), state = open(setting.program, setting.inputs, servers), states = [copyOf(state)];

@@ -1,7 +1,7 @@
 // @ts-check
 // SPDX-License-Identifier: Apache-2.0
 // A run: its events with their effects, and the state after each. Some states are kept; the others are computed from the nearest one before. From the
-// state that was asked for last, events are taken back.
+// state that was asked for last, events are undone.
 import {copyOf, open, sizeOf, step, TooLong} from "./machine.js";
 import {nameAt} from "./source.js";
 import {firstOf, Track} from "./track.js";
@@ -22,7 +22,7 @@ import {firstOf, Track} from "./track.js";
  * @typedef {{count: number, state: State, size: number}} Kept */
 
 /** Local instructions that are followed in all, and between two kept states; events between two kept states; things in all kept states; and the last
- * events that can be taken back. */
+ * events that can be undone. */
 const FOLLOWED = 20000000, WORK = 300000, SPACING = 50, THINGS = 80000, BACK = 5000;
 
 /** Returns all actors of a layout, in their order.
@@ -108,7 +108,7 @@ export class Follower {
 
 export class Run {
     /** Begins with the opening; `follow` computes the rest.
-     * @param {Setting} setting @param {number} back how many events can be taken back */
+     * @param {Setting} setting @param {number} back how many events can be undone */
     constructor(setting, back = BACK) {
         this.setting = setting;
         this.back = back;
@@ -229,7 +229,7 @@ export class Run {
     }
 
     /** Executes the next event.
-     * @param {boolean} noted whether it can be taken back */
+     * @param {boolean} noted whether it can be undone */
     next(noted) {
         const {count, state} = this.now, undo = state.undo = noted ? /** @type {(() => void)[]} */ ([]) : null;
         step(state, this.setting.program, this.track.line(count + 1));
