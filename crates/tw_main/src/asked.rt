@@ -37,3 +37,14 @@ impl Asked {
         }
     }
 }
+
+/// Returns how arguments are read if a run is drawn, if that is so and they can be; otherwise how they are read.
+pub fn asked_if(draws_run: bool, asked: Asked, drawn: Option<Asked>) -> Asked {
+    if !draws_run {
+        return asked;
+    }
+    match drawn {
+        Some(drawn) => drawn,
+        None => asked,
+    }
+}

@@ -1,6 +1,6 @@
 //! Answers the arguments of the command.
 
-use crate::asked::Asked;
+use crate::asked::{Asked, asked_if};
 use crate::exit::Exit;
 use crate::file_parts::inputs_and_trace;
 use crate::hints::{
@@ -321,10 +321,10 @@ impl<'a, H: AllocGlobal + Files + Threads + Wait + Clock + Sync> Tool<'a, H> {
     ) -> Exit {
         let files = SystemFiles::new(self.rt, self.streams.stdin, self.streams.stderr);
         match session_input(&files, self.rt.alloc(), command, named) {
-            Ok(made) => match drawn {
-                Some(drawn) if made.draws_run => self.hold_over(typed, drawn, made),
-                _ => self.hold_over(typed, asked, made),
-            },
+            Ok(made) => {
+                let asked = asked_if(made.draws_run, asked, drawn);
+                self.hold_over(typed, asked, made)
+            }
             Err(NoInput::Unread(path, error)) => {
                 self.answer_unread(command, &typed.others, path, &error)
             }
