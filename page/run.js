@@ -221,20 +221,16 @@ export class Run {
     /** Returns the state after so many events. It is changed by the next call.
      * @param {number} count @returns {State} */
     at(count) {
-        const kept = this.keeper.before(count), {now} = this;
-        if (count < now.count - this.undos.length || kept.count > now.count + this.back) { this.now = {count: kept.count, state: copyOf(kept.state)}; this.undos = []; }
-        for (; this.now.count > count; this.now.count--) for (const back of this.undos.pop()?.reverse() ?? []) back();
-        for (; this.now.count < count; this.now.count++) this.next(count - this.now.count <= this.back);
-        return this.now.state;
-    }
-
-    /** Executes the next event.
-     * @param {boolean} noted whether it can be undone */
-    next(noted) {
-        const {count, state} = this.now, undo = state.undo = noted ? /** @type {(() => void)[]} */ ([]) : null;
-        step(state, this.setting.program, this.track.line(count + 1));
-        if (!undo) this.undos = [];
-        else if (this.undos.push(undo) > this.back) this.undos.shift();
+        const kept = this.keeper.before(count), {back} = this;
+        if (count < this.now.count - this.undos.length || kept.count > this.now.count + back) { this.now = {count: kept.count, state: copyOf(kept.state)}; this.undos = []; }
+        const {now, undos} = this;
+        for (; now.count > count; now.count--) for (const undo of undos.pop()?.reverse() ?? []) undo();
+        for (; now.count < count; now.count++) {
+            const undo = now.state.undo = count - now.count <= back ? /** @type {(() => void)[]} */ ([]) : null;
+            step(now.state, this.setting.program, this.track.line(now.count + 1));
+            if (undo && undos.push(undo) > back) undos.shift();
+        }
+        return now.state;
     }
 
     /** Returns the nearest event before or after one that meets a test; 0 if there is none.

@@ -1,10 +1,11 @@
 #!/bin/sh
 # SPDX-License-Identifier: Apache-2.0
 # Tests the page: its types, if TypeScript's tsc is there; the 128-bit arithmetic against the machine's own. Then its machine against the library's
-# replay, for each prefix of the runs of all examples, and for traces of random programs (three each of RUNS, else 300). The page itself is used in
-# headless Chromium like by a reader, and compared with the program tw; then in Firefox, if firefox-esr is there. Each part ends with
-# `N passed, 0 failed`. On a busy machine PATIENCE=3 allows three times
-# as long for each answer. What has to be quick may take longer by the clock than by what the browser computes.
+# replay, for each prefix of the runs of all examples, and for traces of random programs (three each of RUNS, else 300); and its steps back against
+# its steps on. The page itself is used in headless Chromium like by a reader, and compared with the program tw; then in Firefox, if firefox-esr is
+# there. Each part ends with `N passed, 0 failed`. A part whose browser was lost, by its connection or its end, is done once more in a new one, at most
+# three times in a run; the test says so. On a busy machine PATIENCE=3 allows three times as long for each answer. What has to be quick may take
+# longer by the clock than by what the browser computes.
 #
 # The program is that of script/pick.sh. The page is the one that is built, else one with the release's module, which isn't compared with the
 # wide one. Screenshots are in `page/out/pictures`. Needs chromium, node 20 and a C compiler.
