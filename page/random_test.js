@@ -29,12 +29,14 @@ function compare(what, {hex, words, layout}, lines, options) {
 // Makes steps back in a run, and now and then by one on or by a jump, and compares each state with the one that is reached from the start.
 function walk(what, {number, hex, words, layout: [engines, servers, workers]}, lines) {
     const setting = {program: decode(hex), source: {heads: [0]}, names: [], inputs: words.map(readInput), engines, servers, workers};
-    const run = new Run(setting, 9).follow(lines.map(it => `${it}\n`).join("")), state = open(setting.program, setting.inputs, servers), states = [copyOf(state)];
-    for (const line of lines) { step(state, setting.program, line); states.push(copyOf(state)); }
-    for (let k = 1, at = lines.length; k < 40; k++) {
-        if (!isDeepStrictEqual({...run.at(at), undo: null}, states[at])) { failed++; console.log("FAILED", what, "another state by a step back to event", at); return; }
-        at = k % 16 ? Math.max(0, Math.min(lines.length, at + (k % 5 ? -1 : 1))) : (number * 7919 + k * 31) % states.length;
+    const run = new Run(setting, 4).follow(lines.map(it => `${it}\n`).join("")), state = open(setting.program, setting.inputs, servers), places = [lines.length], states = new Map();
+    for (let k = 1; k < 24; k++) places.push(k % 12 ? Math.max(0, Math.min(lines.length, places[k - 1] + (k % 5 ? -1 : 1))) : number * 7919 % (lines.length + 1));
+    for (let k = 0; k <= lines.length; k++) {
+        if (k) step(state, setting.program, lines[k - 1]);
+        if (places.includes(k)) states.set(k, copyOf(state));
     }
+    const wrong = places.find(it => !isDeepStrictEqual({...run.at(it), undo: null}, states.get(it)));
+    if (wrong !== undefined) { failed++; console.log("FAILED", what, "another state by a step back to event", wrong); return; }
     walked++;
 }
 

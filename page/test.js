@@ -154,7 +154,7 @@ async function steps(reader) {
         if (/computes: ADD/.test(shown)) say(lines[0].startsWith("ADD value value value"), "another line is lit", lines);
         if (/takes task/.test(shown)) say(/value/.test(await reader.seen("#state article table")), "no registers", k);
         if (/makes middle/.test(shown)) say(/middle.*int.*not yet written.*open.*1 \/ 1/s.test(await reader.seen("[aria-label='data that are alive'] tr.changed")), "no new datum", await reader.seen("#data"));
-        say((await reader.js('document.querySelectorAll("#lanes .now").length')) === 1, "the timeline doesn't follow", k);
+        say(await reader.js(`(() => { const now = document.querySelectorAll("#lanes .now"), {left, right} = now[0].getBoundingClientRect(), mark = [...document.querySelectorAll("#lanes .mark")].find(it => it.textContent.startsWith("${k}: ")).getBoundingClientRect(); return now.length === 1 && left <= mark.left && mark.right <= right; })()`), "the timeline doesn't follow", k);
     }
     for (const part of ["takes task 1: main", "makes rule 2", "not yet, so the rule waits", "turns rule 2 into task 2", "stores 6 in middle (datum 3), which closes it", "notifies rule 1 that middle (datum 3) is closed", "ends task 3"]) say(seen.some(it => it.includes(part)), "no event", part, seen);
     await reader.click("#back");
