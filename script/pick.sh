@@ -4,7 +4,7 @@
 #
 # As a command, script/pick.sh [--kind] NAME prints the path of what the tools test: of tw_main, tw_cases, tw_host_cases, tw_embed or
 # libyuglemit.a; --kind puts before it what it is. The folder that TW_OUT names has it, under the name that it has in release/; TW_OUT=release
-# takes the release's, whatever the sources are. Otherwise it is what ./tw answers by. No library is built for it.
+# takes the release's, whatever the sources are. Otherwise it is what is found for ./tw, which answers by TW_OUT's, too. No library is built for it.
 #
 # script/find.sh finds the program. What it found is noted in out/, with the names, sizes and times of all files that were read for it, so
 # that the next command only looks whether these are the same.

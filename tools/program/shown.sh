@@ -4,7 +4,6 @@
 # or use the shell, and compares its standard output with what is shown below it. After an error, standard error has to name its explanation. Also
 # compares the commands that `./tw --help` and the program list, and checks that the files for editors and shells are up to date. Prints each
 # difference, and fails if there is one.
-# The program is the one with which ./tw answers; standard error says so if it is an unverified build.
 root=$(readlink -f "$0") && root=${root%/tools/*}
 room=$(mktemp -d)
 trap 'rm -rf "$room"' EXIT

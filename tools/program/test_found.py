@@ -20,7 +20,7 @@ class Found(unittest.TestCase):
 
     def answer(self, *words: str, **variables: str) -> tuple[int, str, str]:
         """Returns the status of ./tw, what it printed, and its complaint."""
-        done = subprocess.run([self.top / "tw", *words], capture_output=True, text=True, check=False, env={**os.environ, "PATH": self.path, **variables})
+        done = subprocess.run([self.top / "tw", *words], capture_output=True, text=True, check=False, env={**os.environ, "TW_OUT": "", "PATH": self.path, **variables})
         return done.returncode, done.stdout, done.stderr
 
     def assert_fails(self, cause: str, *words: str, **variables: str) -> None:
@@ -39,6 +39,8 @@ class Found(unittest.TestCase):
     def test_other_sources(self) -> None:
         (self.top / "crates/tw_main/src/main.rt").write_text("fn other() {}\n", encoding="utf-8")
         self.assert_fails("the sources aren't the release's, and the command rt")
+        self.assertEqual(self.answer("run", TW_OUT="release"), (0, "answered run\n", ""))
+        self.assert_fails("TW_OUT has no tw", TW_OUT=str(self.tools))
 
     def test_a_build_answers_if_it_is_newer_than_its_sources(self) -> None:
         built = self.top / "crates/tw_main/out/tw_main"

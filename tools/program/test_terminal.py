@@ -50,7 +50,7 @@ class Terminal(unittest.TestCase):
             fcntl.ioctl(0, termios.TIOCSWINSZ, struct.pack("HHHH", 24, columns, 0, 0))
             os.dup2(os.open(self.top / "VERSION", os.O_RDONLY), 3)
             os.set_inheritable(3, True)
-            os.execve(self.command, ["tw", *words], {**os.environ, "TMPDIR": temporary or str(self.temporary)})
+            os.execve(self.command, ["tw", *words], {**os.environ, "TW_OUT": "", "TMPDIR": temporary or str(self.temporary)})
         shown, keys = "", list(typed)
         while select.select([ours], [], [], SECONDS)[0]:
             try:

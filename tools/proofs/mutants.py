@@ -346,7 +346,8 @@ def test(part: str, folder: Path, seconds: float = SECONDS) -> tuple[bool, str]:
     for word, path_in in (("@ARCHIVE@", archive_of), ("@MODULE@", module_of)):
         if word in command:
             command = command.replace(word, str(path_in(folder)))
-    run = subprocess.Popen(command, shell=True, cwd=folder, stdin=subprocess.DEVNULL, stdout=subprocess.PIPE, stderr=subprocess.STDOUT, start_new_session=True)
+    environment = {**os.environ, "TW_OUT": ""}
+    run = subprocess.Popen(command, shell=True, cwd=folder, env=environment, stdin=subprocess.DEVNULL, stdout=subprocess.PIPE, stderr=subprocess.STDOUT, start_new_session=True)
     try:
         said, _ = run.communicate(timeout=seconds)
     except subprocess.TimeoutExpired:
