@@ -200,7 +200,7 @@ def _divide_wide(body: Body, is_quotient: bool, operands: Tuple[str, str, str], 
     from .texts import VERSION
 
     left, right, divisor = operands
-    low, rest, one = body.new_label("low"), body.temporary(INT), body.temporary(INT)
+    low, rest, one = body.new_label("low"), body.temporary(INT), body.temporary(INT) if is_quotient else result
     body.unit.need(VERSION)
     body.code.put("MULDIV", rest, left, right, divisor, body.refused(_LEAVES))
     if is_quotient:
@@ -218,7 +218,8 @@ def _divide_wide(body: Body, is_quotient: bool, operands: Tuple[str, str, str], 
     body.code.label(low)
     body.code.put("ADD", result, result, one if is_quotient else divisor, body.refused(_LEAVES))
     for it in (rest, one):
-        body.values.release(it)
+        if it != result:
+            body.values.release(it)
 
 
 def _moved(body: Body, register: str, into: Optional[str]) -> str:
