@@ -320,10 +320,11 @@ def model_of(where: Code, impl: Impl, names: tuple[str, ...] = ("Value", "view")
 def declared(crate: str, parts: list[str], name: str) -> TypeItem:
     """The type, or the constant, that `specs.declared` has by this path."""
     parts = [part for part in parts if part != "TheVariants"]
-    if parts[-1:] == ["TheConstants"]:
-        where = code(crate, parts[:-1])
+    if "TheConstants" in parts:
+        cut = parts.index("TheConstants")
+        where, owners = code(crate, parts[:cut]), parts[cut + 1:]
         for owner, constant in where.constants if where else ():
-            if where and constant == name:
+            if where and constant == name and (not owners or owner in owners):
                 return constant_item(where, owner, name)
     for cut in range(len(parts), -1, -1):
         where = code(crate, parts[:cut])
