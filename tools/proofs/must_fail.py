@@ -13,6 +13,7 @@ a sum of the toolchain, the sources of the crate and of those below it, and the 
 
 import argparse
 import hashlib
+import os
 import re
 import shutil
 import subprocess
@@ -64,8 +65,7 @@ def check(root: Path) -> int:
 def sum_of(root: Path, kit: str, name: str, mutants: Iterable[Path]) -> str:
     """Returns the sum of all that the verdict on a crate's mutants depends on."""
     ran = subprocess.run([str(root / "script/sources.sh"), name], check=True, stdout=subprocess.PIPE, text=True)
-    parts = [kit, ran.stdout.split()[0]]
-    parts += [f"{hashlib.sha256(file.read_bytes()).hexdigest()} {file.name}" for file in mutants]
+    parts = [kit, ran.stdout.split()[0], *(f"{hashlib.sha256(file.read_bytes()).hexdigest()} {file.name}" for file in mutants)]
     return hashlib.sha256("\n".join(parts).encode()).hexdigest()
 
 
@@ -83,8 +83,7 @@ def noted_lines(root: Path) -> list[str]:
 
 def untried(root: Path, kit: str) -> list[str]:
     """Returns the crates whose mutants aren't noted as rejected on these sources."""
-    noted = noted_lines(root)
-    return [name for name, line in wanted_lines(root, kit).items() if line not in noted]
+    return [name for name, line in wanted_lines(root, kit).items() if line not in noted_lines(root)]
 
 
 def note(root: Path, kit: str, names: Iterable[str]) -> None:
@@ -104,17 +103,16 @@ def rejected_in(output: str) -> set[str]:
 
 def output_of(tree: Path, *words: str) -> str:
     """Runs a command of the toolchain in a folder, and returns what it prints."""
-    ran = subprocess.run(["rt", *words], cwd=tree, stdin=subprocess.DEVNULL, stdout=subprocess.PIPE, stderr=subprocess.STDOUT, text=True)
-    return ran.stdout
+    return subprocess.run(["rt", *words], cwd=tree, stdin=subprocess.DEVNULL, stdout=subprocess.PIPE, stderr=subprocess.STDOUT, text=True).stdout
 
 
 def copy_mutants(root: Path, tree: Path, names: Iterable[str]) -> None:
-    """Copies what is committed to a folder, and the libraries, with these crates' mutants in place of those that CI tries."""
+    """Copies what is committed to a folder, with these crates' mutants in place of those that CI tries. Links the libraries, which are large."""
     subprocess.run(["git", "-C", str(root), "clone", "-q", "--no-hardlinks", "--depth", "1", f"file://{root}", str(tree)], check=True)
     for folder in tree.glob("crates/*/must-fail"):
         shutil.rmtree(folder)
     for folder in root.glob("crates/*/out/rlib"):
-        shutil.copytree(folder, tree / folder.relative_to(root))
+        shutil.copytree(folder, tree / folder.relative_to(root), copy_function=os.link)
     for name in names:
         shutil.copytree(tree / "tools/proofs/must-fail" / name, tree / "crates" / name / "must-fail")
 
@@ -128,7 +126,8 @@ def stop_on_changes(root: Path, what: str, *paths: str) -> None:
 
 def attempt(root: Path, kit: str, names: list[str]) -> list[str]:
     """Tries these crates' mutants, notes which crates passed, and returns the mutants that weren't rejected."""
-    with tempfile.TemporaryDirectory() as room:
+    (root / "out").mkdir(exist_ok=True)
+    with tempfile.TemporaryDirectory(dir=root / "out") as room:
         tree = Path(room) / "tree"
         copy_mutants(root, tree, names)
         output = output_of(tree, "must-fail", *names)
