@@ -27,12 +27,12 @@ PROGRAMS = ("put", "rules", "cont")
 
 
 def counted(words: list[str], code: bytes, log: Path) -> float:
-    """Runs a command under callgrind; returns its instructions an event."""
+    """Runs a command under callgrind, up to its limit, which is status 4; returns its instructions an event."""
     command = ["valgrind", "--tool=callgrind", "--callgrind-out-file=/dev/null", f"--log-file={log}", *words]
-    subprocess.run(command, input=code, stdout=subprocess.DEVNULL, check=False)
+    status = subprocess.run(command, input=code, stdout=subprocess.DEVNULL, check=False).returncode
     found = re.search(r"Collected : (\d+)", log.read_text(encoding="utf-8"))
-    if not found:
-        raise SystemExit(f"events: callgrind counts nothing of {' '.join(words)}")
+    if status != 4 or not found:
+        raise SystemExit(f"events: {' '.join(words)} ends with {status} under callgrind, or counts nothing")
     return int(found[1]) / EVENTS
 
 
