@@ -344,6 +344,8 @@ async function tour(reader) {
 // Downloads are what tw writes.
 async function downloads(reader) {
     const room = fs.mkdtempSync(path.join(os.tmpdir(), "downloads-"));
+    // Waits until files with these endings are there, with their contents: a browser first makes an empty file.
+    const given = async (...endings) => { for (const from = Date.now(); Date.now() - from < 5000 * PATIENCE && (fs.readdirSync(room).some(it => /(part|crdownload)$/.test(it)) || !endings.every(it => fs.statSync(`${room}/pipeline.${it}`, {throwIfNoEntry: false})?.size)); await pause(50)); };
     await reader.page.ask("Browser.setDownloadBehavior", {behavior: "allow", downloadPath: room});
     await reader.go(`${address}?example=pipeline`); await reader.key("Shift");
     const words = await fieldWords(reader), text = await reader.value("text"), run = ["run", "--text", "--in-turn"];
@@ -351,13 +353,13 @@ async function downloads(reader) {
     const wanted = {twn: text, hex: native(["asm", "--names"], text).text, txt: native([...run, ...words], text).text, history: `${native(["asm", "--names"], text).text}${trace}`};
     for (const what of ["text", "bytes", "report", "trace", "timeline"]) await reader.click(`[data-give=${what}]`);
     wanted.svg = native([...run, "--picture", ...words], text).text;
-    for (let k = 0; k < 100 && fs.readdirSync(room).filter(it => /^pipeline\.(twn|hex|txt|history|svg)$/.test(it)).length < 5; k++) await pause(50);
+    await given(...Object.keys(wanted));
     for (const [ending, is] of Object.entries(wanted)) say(fs.existsSync(`${room}/pipeline.${ending}`) && fs.readFileSync(`${room}/pipeline.${ending}`, "utf8") === is, "another file", ending, fs.readdirSync(room));
     say(native(["replay", `${room}/pipeline.history`, ...words.filter(it => !it.startsWith("--limit"))], "").text === wanted.txt, "the trace isn't replayed from its file");
     await reader.click("[data-give=trace]");
     const lines = [await reader.seen("#command code")];
     await reader.click("[data-give=chrome]");
-    for (let k = 0; k < 100 && !fs.existsSync(`${room}/pipeline.json`); k++) await pause(50);
+    await given("json");
     chromeShape(JSON.parse(fs.readFileSync(`${room}/pipeline.json`, "utf8")).traceEvents, trace.split("\n").length - 3);
     say(command("node", [`${folder}/chrome_of.js`, tw, `${examples}/pipeline.twn`, "--in-turn", ...words]).text === fs.readFileSync(`${room}/pipeline.json`, "utf8"), "the script makes another Chrome trace");
     const schema = command("python3", ["-c", "import json, sys, jsonschema; jsonschema.validate(json.load(open(sys.argv[1])), json.load(open(sys.argv[2])))", `${room}/pipeline.json`, `${folder}/chrome.schema.json`]);
@@ -368,13 +370,13 @@ async function downloads(reader) {
     await reader.write("limit", "9"); await reader.click("#run"); await reader.key("Shift");
     fs.rmSync(`${room}/pipeline.svg`);
     await reader.click("[data-give=timeline]");
-    for (let k = 0; k < 100 && !fs.existsSync(`${room}/pipeline.svg`); k++) await pause(50);
+    await given("svg");
     say(fs.readFileSync(`${room}/pipeline.svg`, "utf8").includes(">ended by limit</text>"), "a timeline's head");
     await reader.write("limit", "10000");
     await reader.click("#another");
     fs.rmSync(`${room}/pipeline.history`); fs.rmSync(`${room}/pipeline.txt`); fs.rmSync(`${room}/pipeline.hex`);
     for (const what of ["report", "trace", "bytes", "python"]) { await reader.click(`[data-give=${what}]`); lines.push(await reader.seen("#command code")); }
-    for (let k = 0; k < 100 && fs.readdirSync(room).filter(it => /^pipeline\.(txt|history|hex|py)$/.test(it)).length < 4; k++) await pause(50);
+    await given("txt", "history", "hex", "py");
     say(fs.readFileSync(`${room}/pipeline.history`, "utf8").includes(native([...run, "--trace", "--seed", "1", ...words], text).text.match(/^events\n[^]*?^end\n/m)[0]), "not the order's trace");
     for (const line of [lines[2], lines[3]]) say(command("sh", ["-c", line.replace(/^tw/, path.resolve(tw))], {cwd: room}).text === fs.readFileSync(`${room}/pipeline.txt`, "utf8"), "the command prints otherwise", line);
     const script = command("sh", ["-c", lines[4]], {cwd: room, env: {...process.env, PYTHONPATH: path.resolve(folder, "../embed/python"), ...process.env.YUGLEMIT_LIBRARY ? {} : {TW_OUT: "release"}}});
