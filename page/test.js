@@ -1036,14 +1036,15 @@ async function screens(reader) {
     await reader.size(1300);
 }
 
-// Opens the page in a new browser; if it can't be driven, in another one.
-async function begin(tries = 3) {
+// Opens the page in a new browser; if it can't be driven, in another one, some seconds later.
+async function begin(tries = 5) {
     try {
         page = await open(address);
     } catch (error) {
         console.log(error.message);
-        if (tries > 1) return begin(tries - 1);
-        throw error;
+        if (tries === 1) throw error;
+        await pause(10000 * (6 - tries));
+        return begin(tries - 1);
     }
     reader = new Reader(page);
     say(await page.until('document.body?.dataset.state === "ready"', 60000), "the page isn't ready");
