@@ -1,6 +1,7 @@
 // SPDX-License-Identifier: Apache-2.0
 // Drives a Firefox without a screen over WebDriver BiDi, which the browser itself speaks, by the calls of Chromium's protocol that test.js makes.
 import fs from "node:fs";
+import net from "node:net";
 import {Browser, driven, PATIENCE, pause} from "./browser.js";
 
 const KEYS = {Tab: "\uE004", Enter: "\uE006", Escape: "\uE00C", ArrowLeft: "\uE012", ArrowUp: "\uE013", ArrowRight: "\uE014", ArrowDown: "\uE015", Home: "\uE011", End: "\uE010", Shift: "\uE008"};
@@ -11,13 +12,45 @@ export const LACKS = ["policy", "looks", "everywhere", "screens"];
 // Returns the port that a browser has taken, once it listens: one that no other browser has.
 function portOf({home}) { try { return JSON.parse(fs.readFileSync(`${home}/WebDriverBiDiServer.json`, "utf8")).ws_port; } catch { return 0; } }
 
-// Connects to the browser once it listens.
-async function connect(browser) {
+// Returns the first frame of some bytes: its kind, its text and its end; null if it isn't whole.
+function frameOf(bytes) {
+    const short = bytes[1] & 127, head = short === 127 ? 10 : short === 126 ? 4 : 2;
+    if (bytes.length < head) return null;
+    const end = head + (short === 127 ? Number(bytes.readBigUInt64BE(2)) : short === 126 ? bytes.readUInt16BE(2) : short);
+    return bytes.length < end ? null : {kind: bytes[0] & 15, text: bytes.toString("utf8", head, end), end};
+}
+
+const MASK = [85, 170, 51, 204];
+// Returns a text as a client's frame.
+function framed(text) {
+    const bytes = Buffer.from(text), {length} = bytes, head = Buffer.alloc(length < 126 ? 2 : length < 65536 ? 4 : 10);
+    head[0] = 0x81;
+    head[1] = 128 | (length < 126 ? length : length < 65536 ? 126 : 127);
+    if (head.length === 4) head.writeUInt16BE(length, 2);
+    if (head.length === 10) head.writeBigUInt64BE(BigInt(length), 2);
+    return Buffer.concat([head, Buffer.from(MASK), bytes.map((it, k) => it ^ MASK[k & 3])]);
+}
+
+// Connects to a WebSocket, and returns what sends a text; null if that fails. From a process's 4,097th message on node 20's own client masks wrongly,
+// and Firefox then closes the connection.
+const connected = (port, heard, closed) => new Promise(done => {
+    let rest = Buffer.alloc(0), open = false;
+    const socket = net.connect(port, "127.0.0.1", () => socket.write(`GET /session HTTP/1.1\r\nHost: 127.0.0.1:${port}\r\nUpgrade: websocket\r\nConnection: Upgrade\r\nSec-WebSocket-Version: 13\r\nSec-WebSocket-Key: ${"A".repeat(22)}==\r\n\r\n`));
+    socket.on("error", () => {}).on("close", () => { done(null); if (open) closed(); }).on("data", data => {
+        rest = Buffer.concat([rest, data]);
+        const end = rest.indexOf("\r\n\r\n");
+        if (!open && end < 0) return;
+        if (!open) { open = true; rest = rest.subarray(end + 4); done(text => socket.write(framed(text))); }
+        for (let frame; (frame = frameOf(rest)); rest = rest.subarray(frame.end)) if (frame.kind === 1) heard(frame.text);
+    });
+});
+
+// Connects to the browser once it listens. If the connection is closed since the browser has ended, that is said.
+async function connect(browser, heard) {
+    const closed = () => setTimeout(() => browser.end("Firefox has closed its connection"), 500);
     for (const from = Date.now(); !browser.ended && Date.now() - from < 120000 * PATIENCE; await pause(200)) {
-        const port = portOf(browser);
-        if (!port) continue;
-        const socket = new WebSocket(`ws://127.0.0.1:${port}/session`);
-        if (await new Promise(done => { socket.onopen = () => done(true); socket.onerror = () => done(false); })) return socket;
+        const port = portOf(browser), write = port && await connected(port, heard, closed);
+        if (write) return write;
     }
     throw new Error("Firefox doesn't listen");
 }
@@ -32,18 +65,13 @@ function valueOf({type, value}) {
 
 const begin = () => new Browser("firefox-esr", home => ["--headless", "--no-remote", "--profile", home, "--remote-debugging-port=0"]);
 export const open = (address, width = 1300, height = 1000) => driven(begin(), async browser => {
-    const messages = [], heard = new Map();
-    const socket = await connect(browser), send = (method, params) => browser.ask(method, params);
-    browser.write = text => socket.send(text);
-    let why = "";
-    socket.onerror = ({message, error}) => { why = error?.message ?? message; };
-    socket.onclose = ({code, reason}) => setTimeout(() => browser.end(`Firefox has closed its connection, by ${code} ${reason} ${why}`), 500); // If Firefox has ended, that is said.
-    socket.onmessage = ({data}) => {
-        const it = JSON.parse(data);
+    const messages = [], heard = new Map(), send = (method, params) => browser.ask(method, params);
+    browser.write = await connect(browser, text => {
+        const it = JSON.parse(text);
         if (it.id) browser.answer(it);
         else if (it.method === "log.entryAdded") messages.push(it.params.text);
         else if (it.method === "browsingContext.userPromptOpened") heard.get("Page.javascriptDialogOpening")?.(it.params);
-    };
+    });
     await send("session.new", {capabilities: {alwaysMatch: {unhandledPromptBehavior: {default: "ignore"}}}});
     // A window of its own has the focus; in the first one Enter presses no button.
     const {context} = await send("browsingContext.create", {type: "window"}), act = (type, id, actions, more = {}) => send("input.performActions", {context, actions: [{type, id, actions, ...more}]});

@@ -1,7 +1,7 @@
 // SPDX-License-Identifier: Apache-2.0
 // Uses the page as a reader would, looks at what a reader sees, and compares it with the program tw:
 // test.js INDEX.html TW EXAMPLES SCREENSHOTS [WIDE.wasm NARROW.wasm]; with ONLY=steps,tour in the environment just these parts.
-// With BROWSER=firefox it is used in Firefox (node needs --experimental-websocket), and else in Chromium.
+// With BROWSER=firefox it is used in Firefox, and else in Chromium.
 import {spawnSync} from "node:child_process";
 import fs from "node:fs";
 import os from "node:os";
@@ -819,6 +819,7 @@ async function another(reader) {
     await reader.click("#contested");
     say((await reader.js('(() => { const it = document.getElementById("text"); return it.value.slice(it.selectionStart, it.selectionEnd); })()')) === "INS d0 v1 d2 a", "it leads elsewhere");
     await reader.write("text", "proc control write int write int\nregs\nPUT 1 0 any 0\nPUT 1 0 any 1\nRET\nproc leaf write int\nregs int\nSTORE d0 v0\nRET\n");
+    say((await reader.seen("#verdict")).includes(" Budgets: main 3, procedure 1: 2. "), "budgets that read as one number", await reader.seen("#verdict"));
     await reader.write("limit", "5");
     await reader.click("#run");
     const limited = "The limit ended the run, so its result isn't known. Raise the limit.", answers = [];
@@ -1006,6 +1007,7 @@ async function old(reader) {
     await reader.page.until('document.getElementById("old") && !document.getElementById("old").hidden', 10000);
     say(/Safari 16.4/.test(await reader.seen("#old")) && await reader.js('document.querySelector("#old svg").getBoundingClientRect().width > 100') && (await reader.seen("#whole")) === "", "an old browser", await reader.seen("#old"));
     await reader.page.ask("Page.removeScriptToEvaluateOnNewDocument", {identifier});
+    await reader.go(address);
 }
 
 // The narrowed module computes what the wide one does.

@@ -22,4 +22,4 @@ cc -O2 -o "$out/wide_test" "$here/wide_test.c" && "$out/wide_test" || exit
 node "$here/machine_test.js" "$out/yuglemit.wasm" "$here" "$root/examples" || exit
 node "$here/random_test.js" "$out/yuglemit.wasm" "${RUNS:-300}" || exit
 node "$here/test.js" "$out/index.html" "$program" "$root/examples" "$out/pictures" "$@" || exit
-if command -v firefox-esr >/dev/null; then BROWSER=firefox node --experimental-websocket "$here/test.js" "$out/index.html" "$program" "$root/examples" "$out/pictures"; else echo "left out: the page in Firefox, since firefox-esr isn't installed"; fi
+if command -v firefox-esr >/dev/null; then BROWSER=firefox node "$here/test.js" "$out/index.html" "$program" "$root/examples" "$out/pictures"; else echo "left out: the page in Firefox, since firefox-esr isn't installed"; fi

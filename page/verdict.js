@@ -21,7 +21,7 @@ export const counted = (count, noun) => `${grouped(count)} ${noun}${count === 1 
  * @param {Verdict} verdict @param {import("./source.js").Source} source @param {bigint | null} most its events
  * @param {{limit: number, rules: boolean}} run the limit of its events, and whether it has a RULE */
 export function accepted({budgets, engines, workers, order}, source, most, {limit, rules}) {
-    const budget = budgets.slice(0, 3).map(it => `${callName(source, it.procedure)} ${grouped(it.budget)}`).join(", "), more = budgets.length > 3 ? " and others" : "";
+    const budget = budgets.slice(0, 3).map(it => `${callName(source, it.procedure)} ${grouped(it.budget)}`.replace(/(\d)(?= \S+$)/, "$1:")).join(", "), more = budgets.length > 3 ? " and others" : "";
     const needs = [engines > 1 && `${engines} engines`, workers > 1 && `${workers} workers`].filter(it => it).join(" and ");
     const events = most === null ? "Its tasks start one another in a circle, so the limit ends a run." : `A run has at most ${grouped(most)} events.`;
     const ends = [rules && "get stuck", (most === null || most > BigInt(limit)) && "reach its limit"].filter(it => it).join(", or ");
