@@ -123,11 +123,10 @@ def stale() -> list[str]:
     rows, lines = rows_at_hand(), []
     if not rows:
         return ["release/HARNESSES has no rows"]
-    for tool in TOOLS:
-        if tool.is_harness:
-            row = rows.get(tool.name)
-            if row is None or row.sum != sum_of(tool):
-                lines.append(f"{tool.name} {'has no row' if row is None else f'passed last with version {row.version}, {row.date}, on other sources'}")
+    for tool in (it for it in TOOLS if it.is_harness):
+        row = rows.get(tool.name)
+        if row is None or row.sum != sum_of(tool):
+            lines.append(f"{tool.name} {'has no row' if row is None else f'passed last with version {row.version}, {row.date}, on other sources'}")
     return lines
 
 

@@ -29,7 +29,7 @@ from tools.common.program import ARCHIVE, LIBRARY, found
 from tools.proofs.breaks import Place, built, names_of, write_broken
 
 # The tests of a part may take so many seconds without an edit, and so many times as long with one.
-SECONDS = 900
+SECONDS = 900 * float(os.environ.get("PATIENCE", "1"))
 TIMES = 5
 
 # The command that tests each part, its quick tests first. @LIBRARY@, @ARCHIVE@ and @MODULE@ are the libraries and the page's module.
