@@ -395,8 +395,8 @@ start_sshd() {
 }
 
 over_ssh() {
-    mkdir "$room/five" && cp "$room"/inputs/n[1-5].in "$room/five" || return
-    "$many/parallel.sh" "$tw" "$program" "$room/five" "$room/ssh.out" --sshlogin 2/one -- --limit 20000 && few_wanted "$room/ssh.out" 5 && [ -z "$(ls -d ~/yuglemit.* 2>/dev/null)" ]
+    mkdir "$room/five" && cp "$room"/inputs/n[1-5].in "$room/five" && before=$(echo ~/yuglemit.*) || return
+    "$many/parallel.sh" "$tw" "$program" "$room/five" "$room/ssh.out" --sshlogin 2/one -- --limit 20000 && few_wanted "$room/ssh.out" 5 && [ "$(echo ~/yuglemit.*)" = "$before" ]
 }
 
 ssh_runs() {
