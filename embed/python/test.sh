@@ -24,7 +24,7 @@ failed=0
 # Runs Python with the arguments under valgrind, and writes the errors and leaks with a frame of the library to $room/errors.
 watched() {
     rm -f "$room"/valgrind.*
-    PYTHONMALLOC=malloc valgrind --error-limit=no --num-callers=40 --leak-check=full --show-leak-kinds=definite --log-file="$room/valgrind.%p" \
+    PYTHONMALLOC=malloc valgrind --fair-sched=yes --error-limit=no --num-callers=40 --leak-check=full --show-leak-kinds=definite --log-file="$room/valgrind.%p" \
         "$@" || return
     sed 's/^==[0-9]*== \{0,1\}//' "$room"/valgrind.* | awk 'BEGIN { RS = ""; ORS = "\n\n" } /libyuglemit/' >"$room/errors"
 }

@@ -6,6 +6,7 @@ from __future__ import annotations
 import ctypes
 import enum
 import importlib
+import os
 import time
 import unittest
 from pathlib import Path
@@ -172,6 +173,7 @@ class Lists(unittest.TestCase):
                 runs.append(program.run(value).outputs)
             self.assertEqual(runs, [[len(value)]] * 2)
 
+    @unittest.skipIf("PYTHONMALLOC" in os.environ, "valgrind takes longer")
     def test_many_values_are_quick(self) -> None:
         """100,000 ints are checked and put into arrays in some 10 ms, dicts in some 30."""
         for many, most in ((list(range(100_000)), 0.03), (dict(enumerate(range(100_000))), 0.09)):
