@@ -11,6 +11,8 @@ use tw_writer::Writer;
 #[derive(Clone, Copy)]
 pub(crate) struct Place<'a> {
     pub(crate) lines: &'a LineNumbers,
+    /// The number of the written line for each line of the text, if that is an expanded one.
+    pub(crate) written: &'a [usize],
     pub(crate) procedures: &'a [Procedure],
     pub(crate) number: usize,
     pub(crate) procedure: &'a Procedure,
@@ -30,9 +32,10 @@ impl<'a> Place<'a> {
 
     /// Adds the line of the text from which the instruction at another place comes; if it isn't known, adds the place.
     pub(crate) fn put_other(&self, out: &mut Writer, place: usize) {
-        match self.lines.at(self.number, place) {
-            Some(line) => out.put_numbered("line ", line),
-            None => out.put_numbered("place ", place),
-        }
+        let Some(line) = self.lines.at(self.number, place) else {
+            return out.put_numbered("place ", place);
+        };
+        let written = self.written.get(line.saturating_sub(1)).copied();
+        out.put_numbered("line ", written.unwrap_or(line));
     }
 }

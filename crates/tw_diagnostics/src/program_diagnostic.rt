@@ -122,6 +122,7 @@ fn put_in(
     alloc: Global,
     out: &mut Writer,
     lines: &LineNumbers,
+    written: &[usize],
     refused: &Refused,
     procedure: &Procedure,
 ) -> Result<(), AllocError>
@@ -132,6 +133,7 @@ fn put_in(
         let typings = refused.typings(alloc, refused.procedure)?;
         let at = Place {
             lines,
+            written,
             procedures: refused.program.procedures(),
             number: refused.procedure,
             procedure,
@@ -144,15 +146,17 @@ fn put_in(
     Ok(())
 }
 
-/// Returns what is wrong at the place of an error, to be printed after the line of the instruction there.
+/// Returns what is wrong at the place of an error, to be printed after the line of the instruction there. Lines are those of the text from which the
+/// program was assembled; if that is an expanded one, each has a number in `written`.
 pub fn rejection_text(
     alloc: Global,
     lines: &LineNumbers,
+    written: &[usize],
     refused: &Refused,
 ) -> Result<Vec<u8>, AllocError> {
     let mut out = Writer::new(alloc);
     if let Some(procedure) = refused.program.procedures().get(refused.procedure) {
-        put_in(alloc, &mut out, lines, refused, procedure)?;
+        put_in(alloc, &mut out, lines, written, refused, procedure)?;
     }
     out.finish()
 }

@@ -1,8 +1,9 @@
 pub mod InputLines
 pub mod Nones
 pub mod Sources
-pub mod NamedTexts
+pub mod Tables
+pub mod Rejections
 pub mod Faults
+pub mod Plains
 mod ReplyNames
 mod NamePlaces
-mod Expansions

@@ -13,7 +13,7 @@ pub use Rattle.tw_source.specs.declared.program.NoProgram.{NoProgram}
 pub use Rattle.tw_source.specs.declared.reply.Reply.{Reply}
 pub use Rattle.tw_asm.specs.Fault.{HaveStatements, ParserState, after_line, at_start}
 pub use Rattle.tw_asm.specs.Origins.{AreOrigins, ComesFrom, at_place, instr_at}
-pub use Rattle.tw_symbols.specs.Expansion.{HasNames, IsFirstRejection, ExpandsTo}
+pub use Rattle.tw_symbols.specs.Expansion.{HasNames, ExpandsTo}
 pub use Rattle.tw_source.specs.Program.{MayHaveDetails, PrintsNone, RepliesByPlain, RepliesBySource, HasProgram, HasNoProgram, TextHasProgram, IsFailure}
 pub use Rattle.tw_source.specs.Reply.{Reply as Spoken, reply}
 pub use Rattle.tw_source.specs.Source.{plain_of, text_of}

@@ -9,4 +9,5 @@ pub mod Text
 pub mod Inputs
 -- The model of what the code keeps of a text, and of its first line.
 pub mod Source
+pub mod WrittenLines
 pub mod FirstLine

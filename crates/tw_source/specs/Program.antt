@@ -1,5 +1,5 @@
 -- The program that is read: hex text of its bytes, or assembly text, with names or without.
-use Rattle.std.specs.Prelude.{◌≡◌, ◌⊎◌, ℕ, List, [], IsUtf8, Option, Some, None, Ok, Err, String, string_bytes}
+use Rattle.std.specs.Prelude.{◌≡◌, ◌⊎◌, ℕ, List, [], IsUtf8, MatchOption, filter, length, Option, Some, None, Ok, Err, String, string_bytes}
 use Rattle.std.specs.Result.{IsErr}
 use Rattle.std.specs.Str.Lines.{lines}
 use Rattle.std.specs.declared.alloc.Global.{Global}
@@ -11,13 +11,14 @@ use Rattle.tw_code.specs.format.Program.{Versioned}
 use Rattle.tw_binary.specs.Reading.{program_of}
 use Rattle.tw_order.specs.declared.order.Source.{Source}
 use Rattle.tw_order.specs.declared.order.Source.TheVariants.{Hex, Assembly}
-use Rattle.tw_symbols.specs.Answers.{name_number, seen_rejection}
-use Rattle.tw_symbols.specs.Expansion.{ExpandsTo, HasNames, IsFirstRejection}
+use Rattle.tw_symbols.specs.Answers.{name_number}
+use Rattle.tw_symbols.specs.Expansion.{ExpandsTo, HasNames}
+use Rattle.tw_symbols.specs.Renamed.{is_written}
 use Rattle.tw_source.specs.Failure.{coded, failed_with, fault_failure}
 use Rattle.tw_source.specs.Input.{digits_in}
 use Rattle.tw_source.specs.NamePlace.{IsNamePlace}
 use Rattle.tw_source.specs.Reply.{Reply, reply}
-use Rattle.tw_source.specs.Source.{plain_or}
+use Rattle.tw_source.specs.Source.{plain_or, written}
 use Rattle.tw_source.specs.Text.{RepliesByUtf8}
 use Rattle.tw_source.specs.declared.close.Close.TheVariants.{Success}
 use Rattle.tw_source.specs.declared.faulty_text.FaultyText.{FaultyText}
@@ -32,21 +33,20 @@ use Rattle.tw_visible.specs.Visible.{HidesNothing}
 abbrev pub TextHasProgram : List ℕ → Versioned → Type 0
 TextHasProgram text program = (plain : List ℕ) × ExpandsTo text plain × EncodesProgram program plain
 
--- holds for the expanded text of a text that has names, or if it has none
-abbrev pub IsExpansion : List ℕ → Option (String Global) → Type 0
-IsExpansion text None = ExpandsTo text text × (HasNames (lines text) → ⊥)
-IsExpansion text (Some plain) = ExpandsTo text (string_bytes plain) × HasNames (lines text)
+-- holds for what is kept of a text: if it has names, a text of as many lines that aren't hidden
+abbrev pub IsKept : List ℕ → Option (String Global) → Type 0
+IsKept text found = MatchOption found (HasNames (lines text) → ⊥) (λ plain. HasNames (lines text) × (length (filter is_written (lines (string_bytes plain))) ≡ length (lines text)))
 
 -- returns the text in which a fault is: the expanded text, which of a text without names is that itself
 abbrev pub plain_in : FaultyText → List ℕ
 plain_in f = plain_or f.text.now f.plain
 
--- hold for what is kept of a text that encodes no program: its expansion has this first fault, or this is its first name error
+-- hold for what is kept of a text that encodes no program: the text in which its names were replaced has this first fault, or a name error is reported
 abbrev pub IsFaulty : List ℕ → FaultyText → Type 0
-IsFaulty text f = (f.text.now ≡ text) × IsExpansion text f.plain × HasFault (plain_in f) f.fault.no f.fault.line
+IsFaulty text f = (f.text.now ≡ text) × IsKept text f.plain × HasFault (plain_in f) f.fault.no f.fault.line
 
 abbrev pub IsUnexpanded : List ℕ → UnexpandedText → Type 0
-IsUnexpanded text f = (f.text.now ≡ text) × IsFirstRejection text (seen_rejection f.error)
+IsUnexpanded text f = f.text.now ≡ text
 
 -- holds if the input encodes the program
 abbrev pub HasProgram : Source → List ℕ → Versioned → Type 0
@@ -73,7 +73,7 @@ abbrev pub IsFailure : NoProgram → Failure → Type 0
 IsFailure NotHex failure = failure ≡ coded 72 1 position.Nowhere
 IsFailure NotUtf8 failure = failure ≡ coded 72 3 position.Nowhere
 IsFailure (Bytes f) failure = failure ≡ coded 70 (fault.fault_number f.no) (position.Byte f.offset)
-IsFailure (Text f) failure = (at : ℕ × ℕ) × (failure ≡ fault_failure f.fault.no f.fault.line at)
+IsFailure (Text f) failure = (at : ℕ × ℕ) × (failure ≡ fault_failure f.fault.no (written f.plain f.fault.line) at)
 IsFailure (Named f) failure =
     (at : ℕ × ℕ) × IsNamePlace f.text.now f.error.line f.error.word.now at × (failure ≡ coded 78 (name_number f.error.no) (position.Line f.error.line at.0 at.1))
 IsFailure NoMemory failure = ⊥
@@ -93,10 +93,14 @@ abbrev pub RepliesBySource : Source → List ℕ → (Versioned → Reply → Ty
 RepliesBySource source input Answers r =
     ((program : Versioned) × HasProgram source input program × Answers program r) ⊎ ((why : NoProgram) × HasNoProgram source input why × PrintsNone why r)
 
--- holds if the expanded text itself is printed, or the first name error
+-- holds for the text with its names replaced; or if this has a fault, as what is kept of it
+abbrev pub IsPlain : List ℕ → List ℕ → Type 0
+IsPlain text plain = ExpandsTo text plain ⊎ ((f : FaultyText) × IsFaulty text f × (plain ≡ plain_in f))
+
+-- holds if the expanded text itself is printed, or why there is none
 abbrev pub RepliesByPlain : List ℕ → Reply → Type 0
 RepliesByPlain text r =
-    RepliesByUtf8 text (((plain : List ℕ) × ExpandsTo text plain × (r ≡ reply plain Success)) ⊎ ((f : UnexpandedText) × IsUnexpanded text f × PrintsNone (Named f) r)) r
+    RepliesByUtf8 text (((plain : List ℕ) × IsPlain text plain × (r ≡ reply plain Success)) ⊎ ((why : NoProgram) × HasNoProgram Assembly text why × PrintsNone why r)) r
 
 -- returns the text as it is written, if the program was read from one
 abbrev pub source_text : Source → List ℕ → Option (List ℕ)

@@ -4,7 +4,7 @@ use Rattle.std.specs.Str.{IsTrimAscii}
 use Rattle.std.specs.Str.Lines.{lines}
 use Rattle.tw_asm.specs.Origins.{ComesFrom}
 use Rattle.tw_symbols.specs.Symbols.{AreNames, name_at}
-use Rattle.tw_symbols.specs.Expansion.{ExpandsTo}
+use Rattle.tw_symbols.specs.Expansion.{ExpandsTo, IsWrittenAt}
 use Rattle.tw_diagnostics.specs.FirstHead.{IsFirstHead}
 use Rattle.tw_lexer.specs.Shown.{shortened}
 use Rattle.tw_verify.specs.declared.rejection.VerifyError.{VerifyError}
@@ -45,10 +45,14 @@ IsLineAt all number trimmed = (line : List ℕ) × (slice_get all (number - 1) �
 abbrev pub IsLineOf : List ℕ → ℕ → List ℕ → Type 0
 IsLineOf text number trimmed = IsLineAt (lines text) number trimmed
 
--- holds for the line from which the instruction at a place comes, as it is written, with its procedure's name
+-- holds for the number of the line from which the instruction at a place comes, as it is written; one that fills a hidden register comes from the line `regs`
+abbrev pub IsFromLine : List ℕ → ℕ → ℕ → ℕ → Type 0
+IsFromLine text procedure place number = (plain : List ℕ) × (at : ℕ) × ExpandsTo text plain × ComesFrom plain procedure place at × IsWrittenAt text plain at number
+
+-- holds for that line, with its procedure's name
 abbrev pub IsPlaceLine : List ℕ → ℕ → ℕ → List ℕ → Type 0
 IsPlaceLine text procedure place more =
-    (plain : List ℕ) × (number : ℕ) × (line : List ℕ) × (names : List (List ℕ)) × ExpandsTo text plain × ComesFrom plain procedure place number × IsLineOf text number line
+    (number : ℕ) × (line : List ℕ) × (names : List (List ℕ)) × IsFromLine text procedure place number × IsLineOf text number line
     × AreNames text names × (more ≡ line_in_text (name_at names procedure) number line)
 
 -- holds for that line; without a text there is none
@@ -66,4 +70,5 @@ IsLineOfError which plain procedure place number = ComesFrom plain procedure pla
 -- holds for that of an error; without a text there is none
 abbrev pub IsRejectionLine : Option (List ℕ) → VerifyError → ℕ → ℕ → Option ℕ → Type 0
 IsRejectionLine None which procedure place at = at ≡ None
-IsRejectionLine (Some text) which procedure place at = (plain : List ℕ) × (number : ℕ) × ExpandsTo text plain × IsLineOfError which plain procedure place number × (at ≡ Some number)
+IsRejectionLine (Some text) which procedure place at =
+    (plain : List ℕ) × (own : ℕ) × (number : ℕ) × ExpandsTo text plain × IsLineOfError which plain procedure place own × IsWrittenAt text plain own number × (at ≡ Some number)

@@ -2,14 +2,15 @@
 
 ghost use Rattle.std.specs.Prelude.{◌≡◌, IfOk};
 ghost use Rattle.tw_source.specs.Failure.{fault_failure as fault_failure_is};
-ghost use Rattle.tw_source.specs.Program.{IsFailure};
+ghost use Rattle.tw_source.specs.Program.{IsFailure, plain_in};
+ghost use Rattle.tw_source.specs.Source.{written};
 ghost use Rattle.tw_source.specs.declared.program.NoProgram.TheVariants.{Text};
 ghost use Rattle.tw_visible.specs.Visible.{HidesNothing};
 
 use crate::failure::{Failure, Position};
 use crate::first_words::first_word;
 use crate::name_hint::put_head;
-use crate::source::plain_or;
+use crate::source::{plain_or, written};
 use std::alloc::{AllocError, Global};
 use tw_asm::{AsmFault, FaultNo};
 use tw_diagnostics::{
@@ -28,9 +29,9 @@ pub struct FaultyText<'a> {
     pub fault: AsmFault,
 }
 
-/// Returns whether both texts have a line with this number, and the same one.
-fn is_same_line(text: &str, plain: &str, number: usize) -> bool {
-    match (line_numbered(text, number), line_numbered(plain, number)) {
+/// Returns whether both texts have a line with these numbers, and the same one.
+fn is_same_line(text: &str, number: usize, plain: &str, own: usize) -> bool {
+    match (line_numbered(text, number), line_numbered(plain, own)) {
         (Some(line), Some(other)) => line == other,
         _ => false,
     }
@@ -38,14 +39,23 @@ fn is_same_line(text: &str, plain: &str, number: usize) -> bool {
 
 impl FaultyText<'_> {
     /// Returns the text in which the fault is.
-    pub(crate) fn plain(&self) -> &str {
+    pub(crate) fn plain(&self) -> &str
+        ensures { result.now ≡ plain_in self.entry.now }
+    {
         plain_or(self.text, &self.plain)
+    }
+
+    /// Returns the number of the fault's line, as it is written.
+    pub(crate) fn line(&self) -> usize
+        ensures { result ≡ written self.now.plain self.now.fault.line }
+    {
+        written(&self.plain, self.fault.line)
     }
 
     /// Returns whether the fault's line is written as it is expanded.
     fn is_written(&self) -> bool {
         match &self.plain {
-            Some(plain) => is_same_line(self.text, plain.as_str(), self.fault.line),
+            Some(plain) => is_same_line(self.text, self.line(), plain.as_str(), self.fault.line),
             None => true,
         }
     }
@@ -85,7 +95,11 @@ pub(crate) fn text_failure(alloc: Global, faulty: &FaultyText<'_>) -> Result<Fai
     ensures { IfOk result (IsFailure (Text faulty.now)) }
 {
     let reason = text_reason(alloc, faulty.plain(), faulty.fault)?;
-    Ok(fault_failure(faulty.fault, faulty.word(&reason)))
+    let fault = AsmFault {
+        line: faulty.line(),
+        ..faulty.fault
+    };
+    Ok(fault_failure(fault, faulty.word(&reason)))
 }
 
 /// Returns the line of a fault, as it is written and as it is expanded, why it is rejected, and the head of the procedure that it calls by a name.
@@ -94,17 +108,17 @@ pub(crate) fn fault_details(alloc: Global, faulty: &FaultyText<'_>) -> Result<Ve
 {
     let reason = text_reason(alloc, faulty.plain(), faulty.fault)?;
     let mut out = Vec::new(alloc);
-    let line = faulty.fault.line;
+    let own = faulty.fault.line;
     if !faulty.is_written() {
-        put_shown_line(&mut out, faulty.text, line)?;
+        put_shown_line(&mut out, faulty.text, faulty.line())?;
         put(&mut out, "expands to: ")?;
     }
-    put_text_diagnostic(alloc, &mut out, faulty.plain(), line, &reason)?;
+    put_text_diagnostic(alloc, &mut out, faulty.plain(), own, &reason)?;
     if matches!(faulty.fault.no, FaultNo::Word) {
-        put_usual(&mut out, first_word(faulty.plain(), line))?;
+        put_usual(&mut out, first_word(faulty.plain(), own))?;
     }
     if faulty.is_head_printed() {
-        put_head(alloc, &mut out, faulty.text, line)?;
+        put_head(alloc, &mut out, faulty.text, faulty.line())?;
     }
     visible_bytes(alloc, &out)
 }

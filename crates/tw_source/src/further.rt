@@ -38,7 +38,7 @@ fn word_after(text: &str, number: usize) -> &str {
 /// Returns the number of the line at which a text is rejected, or 0.
 fn line_of(why: &NoProgram<'_>) -> usize {
     match why {
-        NoProgram::Text(faulty) => faulty.fault.line,
+        NoProgram::Text(faulty) => faulty.line(),
         NoProgram::Named(unexpanded) => unexpanded.error.line,
         _ => 0,
     }
@@ -76,7 +76,7 @@ fn calls_replaced(alloc: Global, mended: &Mended<'_>, number: usize) -> Result<b
 fn lacks_names(why: &NoProgram<'_>) -> bool {
     match why {
         NoProgram::Text(faulty) if faulty.plain.is_none() => {
-            let line = line_numbered(faulty.text, faulty.fault.line).unwrap_or("");
+            let line = line_numbered(faulty.text, faulty.line()).unwrap_or("");
             line.trim_ascii().starts_with("proc ") && line.contains("(")
         }
         _ => false,
@@ -87,7 +87,7 @@ fn lacks_names(why: &NoProgram<'_>) -> bool {
 fn limit_follows(mended: &Mended<'_>, faulty: &FaultyText<'_>) -> bool {
     match faulty.fault.due {
         Due::Procedure => true,
-        Due::Instruction => mended.is_changed(faulty.fault.line),
+        Due::Instruction => mended.is_changed(faulty.line()),
         _ => false,
     }
 }
@@ -98,13 +98,13 @@ fn fault_follows(
     mended: &Mended<'_>,
     faulty: &FaultyText<'_>,
 ) -> Result<bool, AllocError> {
-    let number = faulty.fault.line;
+    let number = faulty.line();
     match faulty.fault.no {
         FaultNo::Word => Ok(
             first_word(faulty.text, number) == "regs" && mended.is_replaced_before(number),
         ),
         FaultNo::UnknownLabel | FaultNo::LabelNotForward => {
-            let line = line_numbered(faulty.plain(), number).unwrap_or("");
+            let line = line_numbered(faulty.plain(), faulty.fault.line).unwrap_or("");
             let label = word_of(alloc, line.as_bytes(), faulty.fault.word)?;
             Ok(occurs_elsewhere(mended.written, number, label))
         }

@@ -1,6 +1,7 @@
 //! Output about symbolic assembly and its expanded text.
 
-ghost use Rattle.std.specs.Prelude.{IfOk};
+ghost use Rattle.std.specs.Prelude.{◌≡◌, IfOk, MatchOption};
+ghost use Rattle.tw_source.specs.Source.{plain_of};
 ghost use Rattle.tw_source.specs.Program.{IsFailure, RepliesByPlain};
 ghost use Rattle.tw_source.specs.declared.program.NoProgram.TheVariants.{Named};
 ghost use Rattle.tw_source.specs.Reply.{reply};
@@ -11,12 +12,12 @@ use crate::failure::{Failure, Position};
 use crate::first_words::first_word;
 use crate::name_hint::{is_argument, put_head, put_name_hint};
 use crate::name_place::text_place;
-use crate::program::{NoProgram, parse_error_reply};
+use crate::program::{NoProgram, ReadProgram, parse_error_reply, program_of_text};
 use crate::reply::{Reply, fixed_reply, not_utf8_reply};
 use std::alloc::{AllocError, Global};
 use tw_diagnostics::put_shown_line;
-use tw_lexer::{put, put_both, put_shortened};
-use tw_symbols::{Bank, Binding, Expected, NameError, NameNo, expanded_text};
+use tw_lexer::{put, put_both, put_numbered, put_shortened};
+use tw_symbols::{Bank, Binding, Expected, NameError, NameNo};
 use tw_visible::visible_bytes;
 
 /// A symbolic assembly text that can't be expanded, and its first error.
@@ -39,7 +40,7 @@ fn binding_words(binding: Binding) -> &'static str {
 /// Returns what is required in a name's place, in words.
 fn expected_words(asked: Expected) -> &'static str {
     match asked {
-        Expected::Value | Expected::ValueArgument => "a value register",
+        Expected::Value | Expected::Read | Expected::ValueArgument => "a value register",
         Expected::Right | Expected::RightArgument => "a right register",
         Expected::Number => "a number",
         Expected::Procedure => "a procedure",
@@ -56,7 +57,7 @@ fn kind_hint(first: &str, binding: Binding, asked: Expected) -> &'static str {
         (Binding::Register(_, _, _), Expected::Number) if first == "REPEAT" => {
             "; how often is fixed: a number or a constant; JEQ and JLT skip the body"
         }
-        (Binding::Constant(_), Expected::Value | Expected::ValueArgument) => {
+        (Binding::Constant(_), Expected::Value | Expected::Read | Expected::ValueArgument) => {
             "; INT puts a constant into a register"
         }
         (Binding::Register(Bank::Value, _, _), Expected::Number) => "; a constant will do",
@@ -111,8 +112,34 @@ fn fixed_diagnostic(no: NameNo) -> &'static str {
         }
         NameNo::Listed => "its register has a name already; a procedure has one line regs",
         NameNo::Limit => "there is no register left for it",
+        NameNo::Internal => "its expansion isn't what it says; this is an error of tw",
         _ => "",
     }
+}
+
+/// Adds why a number or text gets no register, if so many are listed.
+fn put_none_left(
+    out: &mut Vec<u8>,
+    word: &[u8],
+    listed: usize,
+    is_used: bool,
+) -> Result<(), AllocError> {
+    let kind = if word.starts_with(b"\"") {
+        "text"
+    } else {
+        "number"
+    };
+    put_both(out, "no value register is left for this ", kind)?;
+    put_numbered(out, "; ", listed)?;
+    if is_used {
+        return put(out, " of 16 are listed, and one after them is used before");
+    }
+    put_numbered(
+        out,
+        " of 16 are listed, which leaves ",
+        16usize.saturating_sub(listed),
+    )?;
+    put(out, " for numbers and texts")
 }
 
 /// Adds what is wrong with a word.
@@ -127,6 +154,15 @@ fn put_diagnostic(
         NameNo::Kind(binding, asked) => put_kind(out, first, binding, asked),
         NameNo::Taken(binding) => put_both(out, "the name is taken by ", binding_words(binding)),
         NameNo::Unknown(asked) => put(out, unknown_diagnostic(asked)),
+        NameNo::Hidden(listed) => {
+            put_numbered(out, "", listed)?;
+            put(
+                out,
+                " of 16 registers are listed; those after them hold numbers and texts",
+            )
+        }
+        NameNo::Spent(listed) => put_none_left(out, word, listed, false),
+        NameNo::Used(listed) => put_none_left(out, word, listed, true),
         _ => put(out, fixed_diagnostic(no)),
     }
 }
@@ -192,21 +228,24 @@ pub(crate) fn name_failure(
     Ok(Failure::coded(b'N', error.no.number(), position))
 }
 
-/// Returns the expanded text, or the first name error.
+/// Returns the expanded text of what was read.
+fn plain_in<'b>(text: &'b str, read: &'b ReadProgram<'_>) -> &'b str
+    ensures { MatchOption read.entry.now.source (result.now ≡ text.entry.now) (λ source. result.now ≡ plain_of source) }
+{
+    match &read.source {
+        Some(source) => source.plain(),
+        None => text,
+    }
+}
+
+/// Returns the expanded text, also if it has a fault, or the first name error.
 fn text_plain_reply(alloc: Global, text: &str) -> Result<Reply, AllocError>
     ensures { IfOk result (λ r. RepliesByPlain text.now (reply r.text.items r.close)) }
 {
-    match expanded_text(alloc, text) {
-        Ok(Some(plain)) => Ok(Reply {
-            text: plain.into_bytes(),
-            close: Close::Success,
-            more: None,
-        }),
-        Ok(None) => fixed_reply(alloc, text, Close::Success),
-        Err(error) => match error.no {
-            NameNo::NoMemory => Err(AllocError),
-            _ => parse_error_reply(alloc, &NoProgram::Named(UnexpandedText { text, error })),
-        },
+    match program_of_text(alloc, text) {
+        Ok(read) => fixed_reply(alloc, plain_in(text, &read), Close::Success),
+        Err(NoProgram::Text(faulty)) => fixed_reply(alloc, faulty.plain(), Close::Success),
+        Err(why) => parse_error_reply(alloc, &why),
     }
 }
 

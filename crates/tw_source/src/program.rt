@@ -1,10 +1,12 @@
 //! Reads a program.
 
-ghost use Rattle.std.specs.Prelude.{◌≡◌, ◌≢◌, Err, Ok, Some, IfErr, IfOk, IsUtf8};
+ghost use Rattle.std.specs.Prelude.{◌≡◌, ◌≢◌, Err, None, Ok, Some, IfErr, IfOk, IsUtf8};
 ghost use Rattle.tw_order.specs.declared.order.Source.TheVariants.{Assembly, Hex};
-ghost use Rattle.tw_source.specs.Program.{IsExpansion, IsFailure, MayHaveDetails, PrintsNone, HasProgram, HasNoProgram, TextHasProgram, source_text};
+ghost use Rattle.tw_source.specs.Program.{IsKept, IsFailure, MayHaveDetails, PrintsNone, HasProgram, HasNoProgram, TextHasProgram, source_text};
 ghost use Rattle.tw_source.specs.Reply.{reply};
-ghost use Rattle.tw_source.specs.Source.{MayBeSource, text_of};
+ghost use Rattle.tw_source.specs.Source.{IsExpanded, MayBeSource, text_of};
+ghost use Rattle.tw_source.specs.Source.{plain_or as plain_or_is};
+ghost use Rattle.tw_asm.specs.Answers.{IsLined};
 ghost use Rattle.tw_binary.specs.declared.fault.Fault.{Fault as ByteFault};
 ghost use Rattle.tw_binary.specs.Reading.{program_of};
 ghost use Rattle.tw_source.specs.declared.program.NoProgram.TheVariants.{Bytes, NoMemory};
@@ -20,11 +22,11 @@ use crate::reply::Reply;
 use crate::source::{SourceText, plain_or};
 use hex::FromHexError;
 use std::alloc::{AllocError, Global};
-use tw_asm::assemble_lined;
+use tw_asm::{LinedProgram, assemble_lined};
 use tw_binary::{Fault, FaultNo, decode};
 use tw_code::Program;
 use tw_order::Source;
-use tw_symbols::{NameNo, expanded_text};
+use tw_symbols::{NameError, NameNo, expanded_text, other_line};
 
 /// A program, with the text from which it was read if there is one.
 #[derive(Drop)]
@@ -79,20 +81,37 @@ fn program_in_hex<'a>(alloc: Global, input: &[u8]) -> Result<Program, NoProgram<
     }
 }
 
-/// Returns the program of a text with this expanded text, if it has names.
-fn program_of_plain<'a>(
+/// Returns the number of the line at which the expansion of symbolic assembly isn't this text; `None` if it is, or if the text has no names.
+fn wrong_line(
+    alloc: Global,
+    text: &str,
+    plain: &Option<String>,
+) -> Result<Option<usize>, AllocError>
+    requires { IsKept text.now plain.now }
+    ensures { IfOk result (λ line. line ≡ None → IsExpanded text.now plain.now) }
+{
+    match plain {
+        Some(plain) => other_line(alloc, text, plain.as_str()),
+        None => Ok(None),
+    }
+}
+
+/// Returns the program of a text that was assembled, if its expanded text is this text with its names replaced.
+fn checked<'a>(
     alloc: Global,
     text: &'a str,
     plain: Option<String>,
+    lined: LinedProgram,
 ) -> Result<ReadProgram<'a>, NoProgram<'a>>
-    requires { IsExpansion text.now plain }
+    requires kept { IsKept text.now plain }
+    requires lined { IsLined (plain_or_is text.now plain) (Ok lined) }
     ensures spells { IfOk result (λ read. TextHasProgram text.entry.now read.program) }
     ensures source { IfOk result (λ read. MayBeSource read.source read.program.procedures) }
     ensures text { IfOk result (λ read. text_of read.source ≡ Some text.entry.now) }
     ensures none { IfErr result (λ why. why ≢ NoMemory → IsUtf8 text.entry.now → HasNoProgram Assembly text.entry.now why) }
 {
-    match assemble_lined(alloc, plain_or(text, &plain)) {
-        Ok(lined) => Ok(ReadProgram {
+    match wrong_line(alloc, text, &plain) {
+        Ok(None) => Ok(ReadProgram {
             program: lined.program,
             source: Some(SourceText {
                 text,
@@ -100,6 +119,28 @@ fn program_of_plain<'a>(
                 lines: lined.lines,
             }),
         }),
+        Ok(Some(line)) => {
+            let error = NameError::internal(line);
+            Err(NoProgram::Named(UnexpandedText { text, error }))
+        }
+        Err(_) => Err(NoProgram::NoMemory),
+    }
+}
+
+/// Returns the program of a text with this expanded text, if it has names.
+fn program_of_plain<'a>(
+    alloc: Global,
+    text: &'a str,
+    plain: Option<String>,
+) -> Result<ReadProgram<'a>, NoProgram<'a>>
+    requires { IsKept text.now plain }
+    ensures spells { IfOk result (λ read. TextHasProgram text.entry.now read.program) }
+    ensures source { IfOk result (λ read. MayBeSource read.source read.program.procedures) }
+    ensures text { IfOk result (λ read. text_of read.source ≡ Some text.entry.now) }
+    ensures none { IfErr result (λ why. why ≢ NoMemory → IsUtf8 text.entry.now → HasNoProgram Assembly text.entry.now why) }
+{
+    match assemble_lined(alloc, plain_or(text, &plain)) {
+        Ok(lined) => checked(alloc, text, plain, lined),
         Err(fault) => match fault.no {
             tw_asm::FaultNo::NoMemory => Err(NoProgram::NoMemory),
             _ => Err(NoProgram::Text(FaultyText { text, plain, fault })),

@@ -1,21 +1,21 @@
 //! Lines of a text, by the instructions of its program.
 
-ghost use Rattle.std.specs.Prelude.{◌≡◌, ◌++◌, ◌-◌, ℕ, List, MatchOption, IfOk, OnOk, None, Some, map, slice_get};
+ghost use Rattle.std.specs.Prelude.{◌≡◌, ◌++◌, ◌-◌, ℕ, List, MatchOption, IfOk, OnOk, None, Some, slice_get};
 ghost use Rattle.std.specs.Str.Lines.{lines};
-ghost use Rattle.tw_asm.specs.Origins.{AreOrigins, ComesFrom, instr_at};
+ghost use Rattle.tw_asm.specs.Origins.{AreOrigins, instr_at};
 ghost use Rattle.tw_code.specs.declared.procedure.Procedure.{Procedure as Section};
-ghost use Rattle.tw_source.specs.Source.{IsSourceAt, MayBeSourceAt, plain_of, plain_or, text_of};
-ghost use Rattle.tw_symbols.specs.Expansion.{ExpandsTo};
+ghost use Rattle.tw_source.specs.Source.{IsExpanded, IsSourceAt, MayBeSourceAt, plain_of, plain_or, text_of, written};
+ghost use Rattle.tw_source.specs.WrittenLines.{IsTable};
 ghost use Rattle.tw_symbols.specs.Symbols.{AreSymbols};
-ghost use Rattle.tw_source.specs.Text.{IsLineOf, IsPlaceLine, IsPlaceText, IsRejectionLine, in_name, line_in_text, text_line, visible_line};
+ghost use Rattle.tw_source.specs.Text.{IsFromLine, IsLineOf, IsLineOfError, IsPlaceLine, IsPlaceText, IsRejectionLine, in_name, line_in_text, text_line, visible_line};
 ghost use Rattle.tw_visible.specs.Visible.{HidesNothing};
 
-use crate::text_lines::TextLines;
+use crate::text_lines::{TextLines, written_lines};
 use std::alloc::{AllocError, Global};
 use tw_asm::LineNumbers;
 use tw_diagnostics::{head_line, rejection_text, shape_text};
 use tw_lexer::{line_numbered, put, put_numbered, put_shortened};
-use tw_symbols::{Symbols, put_with_name};
+use tw_symbols::{Symbols, put_with_name, written_line};
 use tw_verify::{Refused, VerifyError};
 use tw_visible::{put_visible, visible_bytes};
 
@@ -39,7 +39,26 @@ pub(crate) fn plain_or<'b>(text: &'b str, plain: &'b Option<String>) -> &'b str
     }
 }
 
+/// Returns the number of the written line from which the line of this number comes, in the expanded text if there is one.
+pub(crate) fn written(plain: &Option<String>, number: usize) -> usize
+    ensures { result ≡ written plain.now number }
+{
+    match plain {
+        Some(plain) => written_line(plain.as_str(), number),
+        None => number,
+    }
+}
+
 impl SourceText<'_> {
+    /// Returns the number of the line from which the instruction at a place comes, as it is written.
+    pub fn line(&self, procedure: usize, place: usize) -> Option<usize>
+        ensures { (program : List Section) → AreOrigins (plain_of self.now) program self.now.lines.procedures → IsExpanded self.now.text.now self.now.plain
+            → MatchOption result (instr_at program procedure place ≡ None) (IsFromLine self.now.text.now procedure place) }
+    {
+        let number = self.lines.at(procedure, place)?;
+        Some(written(&self.plain, number))
+    }
+
     /// Returns the expanded text.
     pub fn plain(&self) -> &str
         ensures { result.now ≡ plain_of self.now }
@@ -72,12 +91,12 @@ fn source_line<'b>(
     procedure: usize,
     place: usize,
 ) -> Option<(usize, &'b str)>
-    ensures { (program : List Section) → AreOrigins (plain_of source.now) program source.now.lines.procedures → ExpandsTo source.now.text.now (plain_of source.now)
+    ensures { (program : List Section) → AreOrigins (plain_of source.now) program source.now.lines.procedures → IsExpanded source.now.text.now source.now.plain
         → MatchOption result
         (instr_at program procedure place ≡ None)
-        (λ found. ComesFrom (plain_of source.now) procedure place found.0 × IsLineOf source.now.text.now found.0 found.1.now) }
+        (λ found. IsFromLine source.now.text.now procedure place found.0 × IsLineOf source.now.text.now found.0 found.1.now) }
 {
-    let number = source.lines.at(procedure, place)?;
+    let number = source.line(procedure, place)?;
     let line = trimmed_line(source.text, number)?;
     Some((number, line))
 }
@@ -89,14 +108,13 @@ pub fn line_in<'b>(
     procedure: usize,
     place: usize,
 ) -> Option<(usize, &'b str)>
-    ensures { (program : List Section) → map (λ line. line.now) table.now.lines.items ≡ lines source.now.text.now → AreOrigins (plain_of source.now) program source.now.lines.procedures → ExpandsTo source.now.text.now (plain_of source.now)
+    ensures { (program : List Section) → IsTable table.now source.now.text.now source.now.plain → AreOrigins (plain_of source.now) program source.now.lines.procedures → IsExpanded source.now.text.now source.now.plain
         → MatchOption result
         (instr_at program procedure place ≡ None)
-        (λ found. ComesFrom (plain_of source.now) procedure place found.0 × IsLineOf source.now.text.now found.0 found.1.now) }
+        (λ found. IsFromLine source.now.text.now procedure place found.0 × IsLineOf source.now.text.now found.0 found.1.now) }
 {
     let number = source.lines.at(procedure, place)?;
-    let line = table.trimmed(number)?;
-    Some((number, line))
+    table.written(number)
 }
 
 /// Adds the name of the procedure in which a line is, if it has one.
@@ -194,7 +212,8 @@ fn put_diagnostic(
     number: usize,
     refused: &Refused,
 ) -> Result<(), AllocError> {
-    let reason = rejection_text(alloc, &source.lines, refused)?;
+    let numbers = written_lines(alloc, &source.plain)?;
+    let reason = rejection_text(alloc, &source.lines, &numbers, refused)?;
     put_with_name(alloc, out, source.text, number, &reason)
 }
 
@@ -246,6 +265,21 @@ pub(crate) fn rejection_details(
     visible_bytes(alloc, &out)
 }
 
+/// Returns the number of the line at which the program of a text is wrong, in the expanded text.
+fn own_rejection_line(
+    alloc: Global,
+    source: &SourceText<'_>,
+    refused: &Refused,
+) -> Result<Option<usize>, AllocError>
+    ensures { IfOk result (λ at. IsSourceAt source.now refused.now.program.procedures refused.now.procedure refused.now.place
+        → (number : ℕ) × IsLineOfError refused.now.no (plain_of source.now) refused.now.procedure refused.now.place number × (at ≡ Some number)) }
+{
+    match refused.no {
+        VerifyError::MainShape => head_line(alloc, source.plain()),
+        _ => Ok(source.lines.at(refused.procedure, refused.place)),
+    }
+}
+
 /// Returns the number of the line at which the program of a text is wrong.
 fn text_rejection_line(
     alloc: Global,
@@ -255,9 +289,9 @@ fn text_rejection_line(
     ensures { IfOk result (λ at. IsSourceAt source.now refused.now.program.procedures refused.now.procedure refused.now.place
         → IsRejectionLine (Some source.now.text.now) refused.now.no refused.now.procedure refused.now.place at) }
 {
-    match refused.no {
-        VerifyError::MainShape => head_line(alloc, source.plain()),
-        _ => Ok(source.lines.at(refused.procedure, refused.place)),
+    match own_rejection_line(alloc, source, refused)? {
+        Some(number) => Ok(Some(written(&source.plain, number))),
+        None => Ok(None),
     }
 }
 

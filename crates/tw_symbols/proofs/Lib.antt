@@ -1,5 +1,4 @@
 pub mod Taking
-pub mod Once
 pub mod Tables
 pub mod ListedNames
 pub mod Walk
@@ -9,22 +8,11 @@ pub mod NamesLine
 pub mod FirstNamed
 pub mod Cutting
 pub mod Naming
-pub mod Then
-pub mod RegisterNames
-pub mod KeptTexts
-pub mod SaidTexts
-pub mod LineByLine
-pub mod NameSteps
-pub mod Apart
-pub mod Uses
-pub mod Renamed
-pub mod RenamedWords
-pub mod RenamedHeads
-pub mod RenamedTexts
-pub mod RightLines
 pub mod BlankLines
-pub mod UnchangedLines
 pub mod EachLine
+pub mod RenamedLines
+pub mod NameSteps
+pub mod OwnNames
+pub mod WordByWord
 pub mod NoHeads
-pub mod UnreadLines
 mod TextNames

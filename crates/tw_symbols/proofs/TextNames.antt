@@ -12,7 +12,7 @@ pub use Rattle.std.proofs.lemmas.Slice.Eq.{bytes_eq-Decides}
 pub use Rattle.std.proofs.lemmas.Str.{IsCharBoundary-before_ascii, IsUtf8-append, IsUtf8-nil, IsUtf8-take}
 pub use Rattle.std.specs.List.{AllByRecursion, filter_map, find, flat_map, onto_first, slice_get, slice_split}
 pub use Rattle.std.specs.Option.{is_some, option_map_or, option_or, unwrap_or}
-pub use Rattle.std.specs.Prelude.{IsUtf8, codes, decimal, is_none, nat_lt, not, option_map, slice_index, slice_set, ◌&&◌, ◌||◌}
+pub use Rattle.std.specs.Prelude.{IsUtf8, codes, decimal, is_none, nat_le, nat_lt, not, option_map, slice_index, slice_set, ◌&&◌, ◌||◌}
 pub use Rattle.std.specs.Result.{IsErr, result_ok}
 pub use Rattle.std.specs.Str.{bytes_eq}
 pub use Rattle.std.specs.Str.Lines.{lines, lines_of_parts, strip_carriage_return}
@@ -31,23 +31,18 @@ pub use Rattle.tw_lexer.specs.Names.{all_in_name, before_colon, is_in_name, is_l
 pub use Rattle.tw_lexer.specs.Seen.{seen}
 pub use Rattle.tw_lexer.specs.Words.{Bare, IsAtEdge, IsAtWord, IsBare, IsBlank, IsBroken, IsFirstWord, IsGap, IsWord, Quoted, Word, is_parting}
 pub use Rattle.tw_lexer.specs.reading.Next.{IsAfterGap, is_at_edge}
-pub use Rattle.tw_symbols.specs.Answers.{Gives, IsAccepted, IsExpanded, IsMemory, IsNamed, begins_with_p, is_plainly_blank, lists_entry, named_by, pieces_left, seen_rejection}
-pub use Rattle.tw_symbols.specs.Called.{called_in, head_called, head_line}
-pub use Rattle.tw_symbols.specs.Expansion.{HasExpansion, HasNames, Rejection, at_number, ended, expanded_from, expanded_if_read, expanded_taken, expansion_of, or_unread, procedures_of, with_head, with_line, with_lines, with_name, with_words}
-pub use Rattle.tw_symbols.specs.LineExpansion.{Expanded, argument_of, at_head, bank_of_mode, begins, begins_at, begins_first, checked_name, counted, expanded_head, expanded_line, expanded_registers, expanded_results, expanded_word, expanded_words, expands, expected_of, fitting, followed_by, has_colon, is_listed_word, is_names_line, is_unnamed, list_name, name_before, named, names_after_constant, names_after_let, names_after_list, names_if_unnamed, number_in, number_of, parameters, procedure_name, register_in, register_of, value_after, value_types, with_word}
-pub use Rattle.tw_symbols.specs.Lines.{AreTaken, AreWords, Broken, IsTail, IsTaken, Line, StartWith, StartsWith, Worded, has_quote, is_sign, line_rest, line_words, pieces, pieces_after, some_piece}
-pub use Rattle.tw_symbols.specs.Meanings.{Head, Names, Procedures, Table, TokenError, above, and_then, is_bank, is_listed, is_name, is_origin, known, lists, may_name, meaning, name_register, no_names, not_taken, or_else, rejected_word, with_constant, with_listed, with_register}
-pub use Rattle.tw_symbols.specs.Registers.{entry_name, first_part, is_register, last_name, names_after_line, names_then, registers_at}
-pub use Rattle.tw_symbols.specs.Renaming.{AreLineWords, AreRenamed, AreRenamedLines, Either, IfRead, IsRenamedBody, IsRenamedLine, IsRenamedRead, IsTextRenaming, TextsRenamedAlike, renamed_before, renamed_first, renamed_head, renamed_listed, renamed_operands}
-pub use Rattle.tw_symbols.specs.RightNames.{AreLast, HasNoHead, IsAfter, IsReady, begins_procedure, kept_entries, last_right, no_right_names, noted, registers_of, right_name}
-pub use Rattle.tw_symbols.specs.Seen.{now, seen_entry, seen_names, seen_procedures, seen_table, texts}
-pub use Rattle.tw_symbols.specs.Symbols.{head_names, line_names}
-pub use Rattle.tw_symbols.specs.Theorems.{AsManyLines, ExpandsToItself, ExpandsToOne, InUtf8, IsRenaming, ListedByPlace, NamesDiffer, NamesStay, NotBoth, OneFirstRejection, RenamedAlike, UsesAreRegisters, begun, read_in, renamed_names, renamed_procedures, renamed_table, renamed_word, renamed_words}
-pub use Rattle.tw_symbols.specs.Unchanged.{Extends, IsAdded, IsApart, IsPassed, Stays, is_label}
-pub use Rattle.tw_symbols.specs.Unread.{begins_unknown, calls_unknown, is_call, is_open_call, is_past, reads_heads, unread}
 pub use Rattle.tw_symbols.specs.declared.meaning.Bank.{Bank}
 pub use Rattle.tw_symbols.specs.declared.meaning.Binding.{Binding}
 pub use Rattle.tw_symbols.specs.declared.meaning.Expected.{Expected}
 pub use Rattle.tw_symbols.specs.declared.meaning.Listed.{Listed}
 pub use Rattle.tw_symbols.specs.declared.meaning.Origin.{Origin}
 pub use Rattle.tw_symbols.specs.declared.rejection.NameError.{NameError}
+pub use Rattle.tw_symbols.specs.Answers.{IsNamed, IsRenamedBy, begins_with_p, is_plainly_blank, lists_entry, named_by, pieces_left}
+pub use Rattle.tw_symbols.specs.Expansion.{ExpandsTo, HasNames}
+pub use Rattle.tw_symbols.specs.Heads.{procedures_of, with_head, with_line, with_lines, with_name, with_words}
+pub use Rattle.tw_symbols.specs.LineNames.{argument_of, at_head, bank_of_mode, begins, begins_at, begins_first, counted, expected_of, is_names_line, is_unnamed, list_name, name_before, names_after_constant, names_after_let, names_after_list, number_in, number_of, parameters, procedure_name, register_in, register_of, value_after, value_types}
+pub use Rattle.tw_symbols.specs.Lines.{AreTaken, AreWords, Broken, HasNoHead, IsTail, IsTaken, Line, StartWith, StartsWith, Worded, begins_procedure, has_quote, is_sign, line_words, pieces, pieces_after, some_piece}
+pub use Rattle.tw_symbols.specs.Meanings.{Head, Names, Procedures, Table, above, and_then, is_bank, is_listed, is_name, is_origin, known, lists, may_name, meaning, name_register, no_names, or_else, with_constant, with_hidden, with_listed, with_register}
+pub use Rattle.tw_symbols.specs.Renamed.{AreLines, IsLine, IsRenamed}
+pub use Rattle.tw_symbols.specs.Seen.{now, seen_entry, seen_names, seen_procedures, seen_table, texts}
+pub use Rattle.tw_symbols.specs.Symbols.{head_names, line_names}

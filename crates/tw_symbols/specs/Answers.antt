@@ -1,43 +1,39 @@
 -- The results of calls, in terms of the definitions.
-use Rattle.std.specs.Prelude.{◌≡◌, ◌==◌, ◌⊎◌, ◌<◌, ℕ, Bool, true, false, List, [], ◌∷◌, ◌++◌, decimal, Option, Some, None, Result, Ok, Err, ◌-◌, length, take, drop, IsUtf8}
-use Rattle.std.specs.Fmt.{signed_decimal}
-use Rattle.std.specs.Result.{IsErr}
-use Rattle.tw_symbols.specs.Meanings.{TokenError, lists}
+use Rattle.std.specs.Prelude.{◌≡◌, ◌==◌, ◌<◌, ◌+◌, ◌⊎◌, ℕ, Bool, true, false, List, [], ◌∷◌, codes, Option, Some, None, ◌-◌, length, take, drop, IsUtf8}
+use Rattle.tw_symbols.specs.Meanings.{Names, Procedures, lists, no_names}
+use Rattle.std.specs.Str.{bytes_eq}
+use denote.Ref.{Bor}
+use Rattle.std.specs.Str.Iter.{lines_steps}
 use Rattle.std.specs.Str.Lines.{lines}
+use Rattle.std.specs.declared.str.Lines.{Lines as Iterators}
 use Rattle.tw_lexer.specs.Words.{IsBlank, IsBroken}
-use Rattle.tw_symbols.specs.Lines.{StartsWith, pieces_after}
-use Rattle.tw_symbols.specs.LineExpansion.{Expanded, is_names_line}
-use Rattle.tw_symbols.specs.Seen.{seen_names}
-use Rattle.tw_symbols.specs.Expansion.{HasNames, Rejection as SeenRejection}
-use Rattle.tw_symbols.specs.declared.operand_text.OperandText as standings
-use Rattle.tw_symbols.specs.declared.operand_text.OperandText.TheVariants as operand
+use Rattle.tw_symbols.specs.Lines.{AreTaken, IsTaken, Line, StartsWith, line_words, pieces_after}
+use Rattle.tw_symbols.specs.Renamed.{AreFilled, AreLines, IsFilled, IsLine, is_written}
+use Rattle.tw_symbols.specs.LineNames.{is_names_line}
+use Rattle.tw_symbols.specs.Expansion.{HasNames}
 use Rattle.tw_symbols.specs.declared.line.First as firsts
 use Rattle.tw_symbols.specs.declared.line.First.TheVariants as first
 use Rattle.tw_symbols.specs.declared.meaning.Bank.{Bank}
 use Rattle.tw_symbols.specs.declared.meaning.Binding.{Binding}
-use Rattle.tw_symbols.specs.declared.names.Names as names
 use Rattle.tw_symbols.specs.declared.rejection.NameNo.{NameNo}
 use Rattle.tw_symbols.specs.declared.rejection.NameNo.TheVariants as no
-use Rattle.tw_symbols.specs.declared.rejection.NameError.{NameError}
-use Rattle.tw_symbols.specs.declared.rejection.Rejection.{Rejection}
-use Rattle.tw_symbols.specs.declared.rejection.Rejection.TheVariants as rejection
 
--- returns the number of N01 to N07
+-- returns the number of N01 to N08
 abbrev pub name_number : NameNo → ℕ
 name_number no.Form = 1
 name_number no.NoName = 2
 name_number no.Twice = 3
 name_number (no.Taken x) = 3
 name_number no.Listed = 3
+name_number (no.Hidden count) = 3
 name_number (no.Unknown a) = 4
 name_number no.Unlisted = 4
 name_number (no.Kind x a) = 5
 name_number no.Limit = 6
+name_number (no.Spent count) = 6
+name_number (no.Used count) = 6
 name_number no.NoMemory = 7
-
-abbrev pub text_of_operand : standings.OperandText → List ℕ
-text_of_operand (operand.Numbered front number) = front.now ++ decimal number
-text_of_operand (operand.Number number) = signed_decimal number
+name_number no.Internal = 8
 
 -- returns whether an entry is a name by which this register was listed or made
 abbrev pub lists_entry : Bank → ℕ → Option (List ℕ × Binding) → Bool
@@ -57,44 +53,12 @@ abbrev pub begins_with_p : List ℕ → Bool
 begins_with_p [] = false
 begins_with_p (b ∷ bytes) = b == 112
 
--- ---- parts of a line
+-- holds if the words begin with `=` and this one
+abbrev pub IsAssigned : List (List ℕ) → List ℕ → Type 0
+IsAssigned (sign ∷ word ∷ words) value = (bytes_eq sign (codes "=") ≡ true) × (word ≡ value)
+IsAssigned words value = ⊥
 
--- holds if the error is the one that the function returned
-abbrev pub Fails : {Y : Type 0} → Rejection → Result Y TokenError → Type 0
-Fails rejection.NoMemory says = Unit {0}
-Fails (rejection.Flawed which word) says = says ≡ Err (record { no = which; word = word.now })
-
--- holds if the result, seen by `view`, is the expected one, or memory ran out
-abbrev pub Gives : {X Y : Type 0} → (X → Y) → Result X Rejection → Result Y TokenError → Type 0
-Gives view (Ok x) says = says ≡ Ok (view x)
-Gives view (Err e) says = Fails e says
-
--- holds if these are the names now, and the text that is written
-abbrev pub IsExpanded : Result (Unit {0}) Rejection → names.Names → List ℕ → Expanded → Type 0
-IsExpanded result n text says = Gives (λ _. (seen_names n, text)) result says
-
--- ---- a whole text
-
-abbrev pub IsMemory : NameError → Type 0
-IsMemory f = (f.no ≡ no.NoMemory) × (f.line ≡ 0) × (f.word.now ≡ [])
-
-abbrev pub seen_rejection : NameError → SeenRejection
-seen_rejection f = record { line = f.line; no = f.no; word = f.word.now }
-
--- holds if this is the error, with the number of its line
-abbrev pub IsAtLine : ℕ → Rejection → NameError → Type 0
-IsAtLine number rejection.NoMemory f = IsMemory f
-IsAtLine number (rejection.Flawed which word) f = seen_rejection f ≡ record { line = number; no = which; word = word.now }
-
--- holds if these are the names and the text after a line of this number, or its error, or memory ran out
-abbrev pub IsExpandedAt : ℕ → Result (Unit {0}) NameError → names.Names → List ℕ → Expanded → Type 0
-IsExpandedAt number (Ok u) n text says = says ≡ Ok (seen_names n, text)
-IsExpandedAt number (Err f) n text says = IsMemory f ⊎ ((f.line ≡ number) × (says ≡ Err (record { no = f.no; word = f.word.now })))
-
--- holds if a line is rejected; or else these are the names and the text after it
-abbrev pub IsAccepted : Bool → names.Names → List ℕ → Expanded → Type 0
-IsAccepted true n text says = says ≡ Ok (seen_names n, text)
-IsAccepted false n text says = IsErr says
+-- ---- a text
 
 -- returns whether a line has just `names`, if it has a word
 abbrev pub named_by : List (List ℕ) → Option Bool
@@ -104,6 +68,18 @@ named_by (first ∷ words) = Some (is_names_line first words)
 abbrev pub IsNamed : Bool → List ℕ → Type 0
 IsNamed true text = HasNames (lines text)
 IsNamed false text = HasNames (lines text) → ⊥
+
+-- holds if the second text is the first with its names replaced, by these procedures
+abbrev pub IsRenamedBy : Procedures → List ℕ → List ℕ → Type 0
+IsRenamedBy procedures text plain = (all : List Line) × (after : Names) × AreTaken all (lines text) × AreLines procedures 1 no_names all (lines plain) after × AreFilled after
+
+-- Holds if a line of an expanded text is as it has to be after so many written lines, whose names are known, and if these many are read after it, with
+-- these names. The text's lines are left in the iterators.
+abbrev pub IsBeside : Procedures → ℕ → Names → Iterators → List ℕ → ℕ → Names → Iterators → Type 0
+IsBeside procedures count names before plain number after left = (taken : Line) × IsTaken taken plain
+    × (((is_written plain ≡ false) × IsFilled names (line_words taken) after × (number ≡ count) × (left ≡ before))
+    ⊎ ((is_written plain ≡ true) × AreFilled names × (number ≡ count + 1) × (found : Bor (List ℕ)) × (line : Line) × lines_steps before (Some found) left × IsTaken line found.now
+    × IsLine procedures number names (line_words line) (line_words taken) after))
 
 -- ---- a line
 

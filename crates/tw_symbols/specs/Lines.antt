@@ -1,6 +1,7 @@
 -- The words of a line, unchanged.
-use Rattle.std.specs.Prelude.{◌≡◌, ◌==◌, ◌||◌, ℕ, Bool, false, List, [], ◌∷◌, ◌++◌, if◌then◌else◌}
+use Rattle.std.specs.Prelude.{◌≡◌, ◌==◌, ◌||◌, ℕ, Bool, false, List, [], ◌∷◌, ◌++◌, codes, if◌then◌else◌}
 use Rattle.std.specs.List.{list_any}
+use Rattle.std.specs.Str.{bytes_eq}
 use Rattle.tw_lexer.specs.Words.{IsAtWord, IsBlank, IsBroken, IsFirstWord, IsGap, Word}
 
 pub data Line : Type 0 where
@@ -13,11 +14,6 @@ pub data Line : Type 0 where
 abbrev pub line_words : Line → List (List ℕ)
 line_words (Worded words rest) = words
 line_words (Broken words tail) = words ++ tail ∷ []
-
--- returns the rest after the last word
-abbrev pub line_rest : Line → List ℕ
-line_rest (Worded words rest) = rest
-line_rest (Broken words tail) = []
 
 -- holds if the bytes begin with this text as a word, and then this rest
 abbrev pub StartsWith : List ℕ → List ℕ → List ℕ → Type 0
@@ -67,10 +63,6 @@ abbrev pub pieces_after : List ℕ → List ℕ → List (List ℕ)
 pieces_after front [] = some_piece front
 pieces_after front (b ∷ word) = if is_sign b then some_piece front ++ pieces_after [] word else pieces_after (front ++ b ∷ []) word
 
-abbrev pub begins_quoted : List ℕ → Bool
-begins_quoted [] = false
-begins_quoted (b ∷ word) = b == 34
-
 -- returns whether a word has a quote: a quoted text begins in it, or ends
 abbrev pub has_quote : List ℕ → Bool
 has_quote word = list_any (λ b. b == 34) word
@@ -78,3 +70,14 @@ has_quote word = list_any (λ b. b == 34) word
 -- returns the pieces of a word; with a quote it isn't split, since the signs may be in a text
 abbrev pub pieces : List ℕ → List (List ℕ)
 pieces word = if has_quote word then some_piece word else pieces_after [] word
+
+-- ---- heads
+
+-- returns whether a line of these words begins a procedure
+abbrev pub begins_procedure : List (List ℕ) → Bool
+begins_procedure [] = false
+begins_procedure (first ∷ words) = bytes_eq first (codes "proc")
+
+-- holds if the line's words begin no procedure
+abbrev pub HasNoHead : List ℕ → Type 0
+HasNoHead line = (taken : Line) × IsTaken taken line × (begins_procedure (line_words taken) ≡ false)

@@ -1,5 +1,5 @@
 -- The meanings of names.
-use Rattle.std.specs.Prelude.{◌==◌, ◌+◌, ◌&&◌, ◌||◌, ℕ, Bool, true, false, not, List, [], ◌∷◌, ◌++◌, length, codes, Option, Some, None, Result, Ok, Err, nat_lt, if◌then◌else◌}
+use Rattle.std.specs.Prelude.{◌==◌, ◌+◌, ◌-◌, ◌&&◌, ◌||◌, ℕ, Bool, true, false, not, List, [], ◌∷◌, ◌++◌, length, codes, Option, Some, None, is_none, nat_lt, slice_get, if◌then◌else◌}
 use Rattle.std.specs.Map.{lookup}
 use Rattle.std.specs.Str.{bytes_eq}
 use Rattle.tw_lexer.specs.Digits.{are_digits}
@@ -10,8 +10,6 @@ use Rattle.tw_symbols.specs.declared.meaning.Origin.{Origin}
 use Rattle.tw_symbols.specs.declared.meaning.Origin.TheVariants as origin
 use Rattle.tw_symbols.specs.declared.meaning.Binding.{Binding}
 use Rattle.tw_symbols.specs.declared.meaning.Binding.TheVariants as binding
-use Rattle.tw_symbols.specs.declared.rejection.NameNo.{NameNo}
-use Rattle.tw_symbols.specs.declared.rejection.NameNo.TheVariants as no
 
 -- ---- which words are names
 
@@ -52,9 +50,16 @@ pub record Names : Type 0 where
   pub types : List (List ℕ)
   -- one more than the highest right register that has a name
   pub rights : ℕ
+  -- how many value registers the parameters take
+  pub values : ℕ
+  -- the first hidden register, after those that the line `regs` lists; how many hidden ones there are; and the words of the literals that fill the first
+  -- of them, in their order
+  pub first : Option ℕ
+  pub hidden : ℕ
+  pub literals : List (List ℕ)
 
 abbrev pub no_names : Names
-no_names = record { constants = []; registers = []; types = []; rights = 0 }
+no_names = record { constants = []; registers = []; types = []; rights = 0; values = 0; first = None; hidden = 0; literals = [] }
 
 abbrev pub or_else : Option Binding → Option Binding → Option Binding
 or_else None other = other
@@ -64,33 +69,19 @@ or_else (Some x) other = Some x
 abbrev pub known : Procedures → Names → List ℕ → Option Binding
 known procedures names name = or_else (meaning name names.registers) (or_else (meaning name names.constants) (meaning name procedures.table))
 
--- ---- errors
-
--- an error and its word
-pub record TokenError : Type 0 where
-  pub no : NameNo
-  pub word : List ℕ
-
-abbrev pub rejected_word : {A : Type 0} → NameNo → List ℕ → Result A TokenError
-rejected_word which word = Err (record { no = which; word = word })
-
--- returns the result of the next step, or the first error
-abbrev pub and_then : {A B : Type 0} → Result A TokenError → (A → Result B TokenError) → Result B TokenError
-and_then (Ok a) next = next a
-and_then (Err flaw) next = Err flaw
-
 -- ---- one more name
 
-abbrev pub not_taken : List ℕ → Option Binding → Result (Unit {0}) TokenError
-not_taken name None = Ok tt
-not_taken name (Some x) = rejected_word (no.Taken x) name
+-- returns nothing if there is nothing before
+abbrev pub and_then : {A B : Type 0} → Option A → (A → Option B) → Option B
+and_then None next = None
+and_then (Some a) next = next a
 
--- succeeds if it is a name, and has no meaning yet
-abbrev pub may_name : Procedures → Names → List ℕ → Result (Unit {0}) TokenError
-may_name procedures names name = if is_name name then not_taken name (known procedures names name) else rejected_word no.NoName name
+-- returns whether a word may get a meaning: it is a name, and has none yet
+abbrev pub may_name : Procedures → Names → List ℕ → Bool
+may_name procedures names name = is_name name && is_none (known procedures names name)
 
-abbrev pub with_constant : Procedures → Names → List ℕ → Binding → Result Names TokenError
-with_constant procedures names name x = and_then (may_name procedures names name) (λ _. Ok (record names { constants = names.constants ++ (name, x) ∷ [] }))
+abbrev pub with_constant : Procedures → Names → List ℕ → Binding → Option Names
+with_constant procedures names name x = if may_name procedures names name then Some (record names { constants = names.constants ++ (name, x) ∷ [] }) else None
 
 -- returns the count of right registers after this register got a name: at least one more than its number
 abbrev pub above : Bank → ℕ → ℕ → ℕ
@@ -101,9 +92,8 @@ abbrev pub name_register : Names → List ℕ → Bank → ℕ → Origin → Na
 name_register names name in_bank number by =
     record names { registers = names.registers ++ (name, binding.Register in_bank number by) ∷ []; rights = above in_bank number names.rights }
 
-abbrev pub with_register : Procedures → Names → List ℕ → Bank → ℕ → Origin → Result Names TokenError
-with_register procedures names name in_bank number by =
-    and_then (may_name procedures names name) (λ _. if nat_lt number 16 then Ok (name_register names name in_bank number by) else rejected_word no.Limit name)
+abbrev pub with_register : Procedures → Names → List ℕ → Bank → ℕ → Origin → Option Names
+with_register procedures names name in_bank number by = if may_name procedures names name && nat_lt number 16 then Some (name_register names name in_bank number by) else None
 
 -- ---- a register that is listed has one name
 
@@ -127,6 +117,19 @@ abbrev pub is_listed : Bank → ℕ → Table → Bool
 is_listed in_bank number [] = false
 is_listed in_bank number (entry ∷ table) = lists in_bank number entry.1 || is_listed in_bank number table
 
-abbrev pub with_listed : Procedures → Names → List ℕ → Bank → ℕ → Result Names TokenError
-with_listed procedures names name in_bank number =
-    if is_listed in_bank number names.registers then rejected_word no.Listed name else with_register procedures names name in_bank number origin.Listed
+abbrev pub with_listed : Procedures → Names → List ℕ → Bank → ℕ → Option Names
+with_listed procedures names name in_bank number = if is_listed in_bank number names.registers then None else with_register procedures names name in_bank number origin.Listed
+
+-- ---- hidden registers, which hold the numbers and texts among the operands of a procedure
+
+-- returns the names after a line `regs` that lists so many registers, and in the expansion so many hidden ones; there are none if a parameter isn't listed
+abbrev pub with_hidden : Names → ℕ → ℕ → Names
+with_hidden names count hidden = record names { first = if nat_lt count names.values then None else Some count; hidden = hidden; literals = [] }
+
+abbrev pub literal_from : Option ℕ → List (List ℕ) → ℕ → Option (List ℕ)
+literal_from None literals number = None
+literal_from (Some first) literals number = if nat_lt number first then None else slice_get literals (number - first)
+
+-- returns the literal that fills a value register, if it is a hidden one
+abbrev pub literal_at : Names → ℕ → Option (List ℕ)
+literal_at names number = literal_from names.first names.literals number

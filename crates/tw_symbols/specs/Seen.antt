@@ -26,4 +26,13 @@ abbrev pub seen_procedures : procedures.Procedures → Procedures
 seen_procedures p = record { table = seen_table p.table.entries; heads = map seen_head p.heads.items }
 
 abbrev pub seen_names : names.Names → Names
-seen_names n = record { constants = seen_table n.constants.entries; registers = seen_table n.registers.entries; types = texts n.types.items; rights = n.rights }
+seen_names n = record {
+  constants = seen_table n.constants.entries;
+  registers = seen_table n.registers.entries;
+  types = texts n.types.items;
+  rights = n.rights;
+  values = n.values;
+  first = n.first;
+  hidden = n.hidden;
+  literals = texts n.literals.items;
+}

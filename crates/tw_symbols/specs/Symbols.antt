@@ -4,7 +4,7 @@ use Rattle.std.specs.List.{flat_map}
 use Rattle.std.specs.Str.{bytes_eq}
 use Rattle.std.specs.Str.Lines.{lines}
 use Rattle.tw_symbols.specs.Lines.{AreTaken, Line, line_words, pieces}
-use Rattle.tw_symbols.specs.LineExpansion.{procedure_name}
+use Rattle.tw_symbols.specs.LineNames.{procedure_name}
 
 -- returns the name in a head, empty if it has none; any other line names no procedure
 abbrev pub head_names : List (List ℕ) → List (List ℕ)

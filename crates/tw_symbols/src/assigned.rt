@@ -1,8 +1,8 @@
 //! Expansion of lines `const` and `let`.
 
-ghost use Rattle.std.specs.Prelude.{◌≡◌, drop};
-ghost use Rattle.tw_symbols.specs.Answers.{Gives};
-ghost use Rattle.tw_symbols.specs.LineExpansion.{assigned, bank_of_letter, names_after_constant, names_after_let, nothing_left, number_of, register_in, register_of, value_after};
+ghost use Rattle.std.specs.Prelude.{◌≡◌, [], IfOk, OnOk, Some, drop};
+ghost use Rattle.tw_symbols.specs.Answers.{IsAssigned};
+ghost use Rattle.tw_symbols.specs.LineNames.{bank_of_letter, names_after_constant, names_after_let, number_of, register_in, register_of, value_after};
 ghost use Rattle.tw_symbols.specs.Seen.{now, seen_names, seen_procedures, texts};
 
 use crate::meaning::{Bank, Origin};
@@ -12,13 +12,13 @@ use crate::procedures::Procedures;
 use crate::rejection::{NameNo, Rejection};
 
 /// The number of a bank's last register.
-const LAST_REGISTER: u64 = 15;
+pub const LAST_REGISTER: u64 = 15;
 
 /// Returns the word after `=`, from the words after a name.
 ///
 /// If a word is missing, the error names the line's first word.
 fn assigned<'a>(first: &'a [u8], words: &[&'a [u8]]) -> Result<&'a [u8], Rejection<'a>>
-    ensures { Gives now result (assigned first.now (texts words.now)) }
+    ensures { IfOk result (λ word. IsAssigned (texts words.now) word.now) }
 {
     match words {
         [] => Err(Rejection::Flawed(NameNo::Form, first)),
@@ -30,7 +30,7 @@ fn assigned<'a>(first: &'a [u8], words: &[&'a [u8]]) -> Result<&'a [u8], Rejecti
 
 /// Returns an error if a line `const` or `let` has a word after `=` and the value.
 fn nothing_after<'a>(words: &[&'a [u8]]) -> Result<(), Rejection<'a>>
-    ensures { Gives (λ u. u) result (nothing_left (drop 2 (texts words.now))) }
+    ensures { OnOk result (drop 2 (texts words.now) ≡ []) }
 {
     match words {
         [_, _, word, ..] => Err(Rejection::Flawed(NameNo::Form, *word)),
@@ -39,8 +39,9 @@ fn nothing_after<'a>(words: &[&'a [u8]]) -> Result<(), Rejection<'a>>
 }
 
 /// Returns the number after `=`, from the words after a constant's name.
+#[tactic(auto, using(crate::proofs::Naming::assigned_value))]
 fn number_after<'a>(first: &'a [u8], words: &[&'a [u8]]) -> Result<i64, Rejection<'a>>
-    ensures { Gives (λ n. n) result (value_after number_of first.now (texts words.now)) }
+    ensures { IfOk result (λ number. value_after number_of (texts words.now) ≡ Some number) }
 {
     let word = assigned(first, words)?;
     let Some(number) = signed(word) else {
@@ -51,8 +52,9 @@ fn number_after<'a>(first: &'a [u8], words: &[&'a [u8]]) -> Result<i64, Rejectio
 }
 
 /// Returns the register after `=`, from the words after its name.
+#[tactic(auto, using(crate::proofs::Naming::assigned_value))]
 fn register_after<'a>(first: &'a [u8], words: &[&'a [u8]]) -> Result<(Bank, usize), Rejection<'a>>
-    ensures { Gives (λ r. r) result (value_after register_of first.now (texts words.now)) }
+    ensures { IfOk result (λ register. value_after register_of (texts words.now) ≡ Some register) }
 {
     let word = assigned(first, words)?;
     let Some(register) = register_of(word) else {
@@ -100,7 +102,7 @@ pub fn add_const<'a>(
     first: &'a [u8],
     words: &[&'a [u8]],
 ) -> Result<(), Rejection<'a>>
-    ensures { Gives (λ _. seen_names names.new) result (names_after_constant (seen_procedures procedures.now) (seen_names names.old) first.now (texts words.now)) }
+    ensures { OnOk result (names_after_constant (seen_procedures procedures.now) (seen_names names.old) (texts words.now) ≡ Some (seen_names names.new)) }
 {
     let [name, others @ ..] = words else {
         return Err(Rejection::Flawed(NameNo::Form, first));
@@ -117,7 +119,7 @@ pub fn add_let<'a>(
     first: &'a [u8],
     words: &[&'a [u8]],
 ) -> Result<(), Rejection<'a>>
-    ensures { Gives (λ _. seen_names names.new) result (names_after_let (seen_procedures procedures.now) (seen_names names.old) first.now (texts words.now)) }
+    ensures { OnOk result (names_after_let (seen_procedures procedures.now) (seen_names names.old) (texts words.now) ≡ Some (seen_names names.new)) }
 {
     let [name, others @ ..] = words else {
         return Err(Rejection::Flawed(NameNo::Form, first));

@@ -1,21 +1,22 @@
 //! The expansion of a symbolic assembly text.
 
-ghost use Rattle.std.specs.Prelude.{◌≡◌, ◌⊎◌, ◌++◌, [], List, Ok, Err, IfOk, IsUtf8, MatchOption, MatchResult, string_bytes};
+ghost use Rattle.std.specs.Prelude.{◌≡◌, IfOk, IsTrue, MatchOption, filter, length, string_bytes};
 ghost use Rattle.std.specs.Str.Lines.{lines};
-ghost use Rattle.tw_symbols.specs.Answers.{IsAtLine, IsMemory, IsNamed, IsExpandedAt, IsExpanded, named_by, seen_rejection};
-ghost use Rattle.tw_symbols.specs.Lines.{AreTaken, IsTaken, Line, line_words};
-ghost use Rattle.tw_symbols.specs.Meanings.{and_then, no_names};
-ghost use Rattle.tw_symbols.specs.LineExpansion.{expanded_line};
-ghost use Rattle.tw_symbols.specs.Seen.{seen_names, seen_procedures, texts};
-ghost use Rattle.tw_symbols.specs.Expansion.{HasNames, IsFirstRejection, ExpandsTo, ended, expanded_from, expanded_taken};
+ghost use Rattle.tw_symbols.specs.Answers.{IsNamed, named_by};
+ghost use Rattle.tw_symbols.specs.Lines.{IsTaken, Line, line_words};
+ghost use Rattle.tw_symbols.specs.Seen.{texts};
+ghost use Rattle.tw_symbols.specs.Expansion.{HasNames};
+ghost use Rattle.tw_symbols.specs.Renamed.{is_written};
 
+use crate::hidden::is_written;
 use crate::line::take_line;
-use crate::line_expansion::{is_names_line, put_line};
+use crate::line_expansion::put_line;
+use crate::line_kind::is_names_line;
 use crate::names::Names;
-use crate::operand_text::put_ended;
 use crate::procedures::{Procedures, procedures_of};
 use crate::rejection::{NameError, Rejection};
-use crate::unread::put_apart;
+use crate::sections::Sections;
+use crate::unread::put_unread;
 use std::alloc::{AllocError, Global};
 
 /// Returns whether these words are just `names`; `None` if there are none.
@@ -48,24 +49,11 @@ pub fn is_named(alloc: Global, text: &str) -> Result<bool, AllocError>
     Ok(false)
 }
 
-/// Adds the expansion of a line with these words, and its line feed; and its names.
-fn put_worded<'a>(
-    alloc: Global,
-    procedures: &Procedures<'_>,
-    number: usize,
-    names: &mut Names<'a>,
-    out: &mut Vec<u8>,
-    words: &[&'a [u8]],
-    rest: &'a [u8],
-) -> Result<(), Rejection<'a>>
-    ensures { IsExpanded result names.new out.new.items (and_then (expanded_line (seen_procedures procedures.now) number (seen_names names.old) out.old.items (texts words.now)) (λ said. Ok (said.0, said.1 ++ ended rest.now))) }
-{
-    match put_line(alloc, procedures, number, names, out, words) {
-        Ok(()) => {
-            put_ended(out, rest)?;
-            Ok(())
-        }
-        Err(rejection) => Err(rejection),
+/// Returns whether the first of a line's words is this one.
+fn begins_with(words: &[&[u8]], word: &[u8]) -> bool {
+    match words {
+        [first, ..] => *first == word,
+        [] => false,
     }
 }
 
@@ -75,27 +63,24 @@ fn put_taken<'a>(
     procedures: &Procedures<'_>,
     number: usize,
     names: &mut Names<'a>,
-    out: &mut Vec<u8>,
+    out: &mut Sections<'a>,
     line: &'a str,
-) -> Result<(), Rejection<'a>>
-    ensures { (taken : Line) → IsTaken taken line.entry.now → IsExpanded result names.new out.new.items (expanded_taken (seen_procedures procedures.now) number (seen_names names.old) out.old.items taken) }
-{
+) -> Result<(), Rejection<'a>> {
     let taken = take_line(alloc, line)?;
-    put_worded(
-        alloc,
-        procedures,
-        number,
-        names,
-        out,
-        &taken.words,
-        taken.rest,
-    )
+    if begins_with(&taken.words, b"proc") {
+        out.close(names)?;
+    }
+    put_line(alloc, procedures, number, names, out.lines(), &taken.words)?;
+    if begins_with(&taken.words, b"regs") && !out.is_open() {
+        out.open(taken.rest)?;
+    } else {
+        out.end_line(taken.rest)?;
+    }
+    Ok(())
 }
 
 /// Makes the error of symbolic assembly from the rejection of the line of this number.
-fn at_line(number: usize, rejection: Rejection<'_>) -> NameError<'_>
-    ensures { IsAtLine number rejection.entry result }
-{
+fn at_line(number: usize, rejection: Rejection<'_>) -> NameError<'_> {
     match rejection {
         Rejection::NoMemory => NameError::memory(),
         Rejection::Flawed(no, word) => NameError {
@@ -107,16 +92,14 @@ fn at_line(number: usize, rejection: Rejection<'_>) -> NameError<'_>
 }
 
 /// Adds the expansion of the line of this number, and its names. An error has this number.
-pub fn put_numbered_line<'a>(
+fn put_numbered_line<'a>(
     alloc: Global,
     procedures: &Procedures<'_>,
     number: usize,
     names: &mut Names<'a>,
-    out: &mut Vec<u8>,
+    out: &mut Sections<'a>,
     line: &'a str,
-) -> Result<(), NameError<'a>>
-    ensures { (taken : Line) → IsTaken taken line.entry.now → IsExpandedAt number result names.new out.new.items (expanded_taken (seen_procedures procedures.now) number (seen_names names.old) out.old.items taken) }
-{
+) -> Result<(), NameError<'a>> {
     match put_taken(alloc, procedures, number, names, out, line) {
         Ok(()) => Ok(()),
         Err(rejection) => Err(at_line(number, rejection)),
@@ -128,54 +111,57 @@ fn expanded_lines<'a>(
     alloc: Global,
     procedures: &Procedures<'_>,
     text: &'a str,
-) -> Result<Vec<u8>, NameError<'a>>
-    ensures { (all : List Line) → AreTaken all (lines text.entry.now) → MatchResult result
-        (λ out. expanded_from (seen_procedures procedures.now) 1 no_names [] all ≡ Ok out.items)
-        (λ f. IsMemory f ⊎ (expanded_from (seen_procedures procedures.now) 1 no_names [] all ≡ Err (seen_rejection f))) }
-{
-    let mut out = Vec::new(alloc);
+) -> Result<Vec<u8>, NameError<'a>> {
+    let mut out = Sections::new(alloc);
     let mut names = Names::new(alloc, procedures.hash);
     for (index, line) in text.lines().enumerate() {
         let number = index + 1;
-        if !put_apart(alloc, procedures, number, &names, &mut out, line)? {
+        if !put_unread(alloc, procedures, number, &names, out.lines(), line)? {
             put_numbered_line(alloc, procedures, number, &mut names, &mut out, line)?;
         }
     }
-    Ok(out)
+    out.close(&names)?;
+    Ok(out.into_text())
 }
 
 /// Returns the expansion of a text whose first line with a word is `names`, or its first error.
-fn named_text<'a>(alloc: Global, text: &'a str) -> Result<Vec<u8>, NameError<'a>>
-    requires { HasNames (lines text.now) }
-    ensures { MatchResult result
-        (λ plain. ExpandsTo text.entry.now plain.items)
-        (λ f. IsMemory f ⊎ IsFirstRejection text.entry.now (seen_rejection f)) }
-{
+fn named_text<'a>(alloc: Global, text: &'a str) -> Result<Vec<u8>, NameError<'a>> {
     let procedures = procedures_of(alloc, text)?;
     expanded_lines(alloc, &procedures, text)
 }
 
-/// Returns the bytes of an expansion as a string, which they are.
-fn as_text(bytes: Vec<u8>) -> String
-    requires { IsUtf8 bytes.items }
-    ensures { string_bytes result ≡ bytes.items }
+/// Returns whether the expansion of a text has a line for each of the text's, apart from hidden ones.
+fn has_all(text: &str, plain: &str) -> bool
+    ensures { IsTrue result → length (filter is_written (lines plain.now)) ≡ length (lines text.now) }
 {
-    match String::from_utf8(bytes) {
-        Ok(text) => text,
-        Err(_) => unreachable!(),
+    plain.lines().filter(|line| is_written(line)).count() == text.lines().count()
+}
+
+/// Returns the expansion as a string, if it is one.
+fn as_text(plain: Vec<u8>) -> Option<String> {
+    match String::from_utf8(plain) {
+        Ok(plain) => Some(plain),
+        Err(_) => None,
     }
 }
 
-/// Expands a symbolic assembly text, or returns its first error; `None` if the text has no names, and so expands to itself.
+/// Expands a symbolic assembly text, or returns its first error; `None` if the text has no names.
+///
+/// The expansion hasn't been compared with the text: `other_line` does that.
 pub fn expanded_text<'a>(alloc: Global, text: &'a str) -> Result<Option<String>, NameError<'a>>
-    ensures expands { MatchResult result
-        (λ read. MatchOption read (ExpandsTo text.entry.now text.entry.now) (λ plain. ExpandsTo text.entry.now (string_bytes plain)))
-        (λ f. IsMemory f ⊎ IsFirstRejection text.entry.now (seen_rejection f)) }
-    ensures named { IfOk result (λ read. MatchOption read (HasNames (lines text.entry.now) → ⊥) (λ _. HasNames (lines text.entry.now))) }
+    ensures { IfOk result (λ read. MatchOption read (HasNames (lines text.entry.now) → ⊥)
+        (λ plain. HasNames (lines text.entry.now) × (length (filter is_written (lines (string_bytes plain))) ≡ length (lines text.entry.now)))) }
 {
     if !is_named(alloc, text)? {
         return Ok(None);
     }
     let plain = named_text(alloc, text)?;
-    Ok(Some(as_text(plain)))
+    let Some(plain) = as_text(plain) else {
+        return Err(NameError::internal(0));
+    };
+    if has_all(text, plain.as_str()) {
+        Ok(Some(plain))
+    } else {
+        Err(NameError::internal(0))
+    }
 }

@@ -3,7 +3,7 @@
 ghost use Rattle.std.specs.Prelude.{◌≡◌, ◌∷◌, [], IfOk, MatchOption, filter, take};
 ghost use Rattle.std.specs.List.{filter_map};
 ghost use Rattle.std.specs.Option.{option_map};
-ghost use Rattle.tw_symbols.specs.LineExpansion.{bank_of_mode, is_unnamed, parameters, procedure_name, value_types};
+ghost use Rattle.tw_symbols.specs.LineNames.{bank_of_mode, is_unnamed, parameters, procedure_name, value_types};
 ghost use Rattle.tw_symbols.specs.Seen.{now, texts};
 
 use crate::meaning::Bank;

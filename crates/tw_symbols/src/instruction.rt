@@ -1,13 +1,11 @@
 //! Expansion of lines of instructions.
 
-ghost use Rattle.std.specs.Prelude.{◌≡◌, ◌++◌, IfOk, OnOk, drop, take};
+ghost use Rattle.std.specs.Prelude.{◌≡◌, ◌++◌, IfOk, OnOk, take};
 ghost use Rattle.std.specs.List.{flat_map};
 ghost use Rattle.std.specs.Result.{result_ok};
 ghost use Rattle.tw_lexer.specs.Digits.{digits_in};
 ghost use Rattle.tw_symbols.specs.Meanings.{known};
-ghost use Rattle.tw_symbols.specs.Answers.{Gives, IsExpanded};
-ghost use Rattle.tw_code.specs.format.Table.{forms_of};
-ghost use Rattle.tw_symbols.specs.LineExpansion.{argument_of, expected_of, banks_at, banks_of, callee, expanded_instruction, made_one, expanded_results, made_word, makes, expanded_words};
+ghost use Rattle.tw_symbols.specs.LineNames.{argument_of, compares, expected_in, expected_of, banks_at, banks_of, callee, makes};
 ghost use Rattle.tw_symbols.specs.Seen.{seen_names, seen_procedures, texts};
 
 use crate::meaning::{Bank, Binding, Expected, Origin};
@@ -37,7 +35,7 @@ fn push_expected(asked: &mut Vec<Expected>, banks: &[Bank], form: Form) -> Resul
     ensures { OnOk result (asked.new.items ≡ asked.old.items ++ expected_of banks.now form) }
 {
     match form {
-        Form::Value => asked.push(Expected::Value)?,
+        Form::Value => asked.push(Expected::Read)?,
         Form::Right => asked.push(Expected::Right)?,
         Form::Number | Form::Iterations | Form::Target => asked.push(Expected::Number)?,
         Form::Callee => asked.push(Expected::Procedure)?,
@@ -51,13 +49,42 @@ fn push_expected(asked: &mut Vec<Expected>, banks: &[Bank], form: Form) -> Resul
     Ok(())
 }
 
-/// Returns what the operands of these forms have to be.
-fn expected_in(alloc: Global, banks: &[Bank], forms: &[Form]) -> Result<Vec<Expected>, AllocError>
-    ensures { IfOk result (λ asked. asked.items ≡ flat_map (expected_of banks.now) forms.now) }
+/// Returns whether an instruction of this opcode compares its first operand, a value register, and fills none.
+pub fn compares(opcode: Opcode) -> bool
+    ensures { result ≡ compares opcode }
+{
+    match opcode {
+        Opcode::JumpEqual | Opcode::JumpLess | Opcode::JumpTextLess => true,
+        _ => false,
+    }
+}
+
+/// Adds what the operands of these forms have to be, if no value register is filled.
+fn push_all(asked: &mut Vec<Expected>, banks: &[Bank], forms: &[Form]) -> Result<(), AllocError>
+    ensures { OnOk result (asked.new.items ≡ asked.old.items ++ flat_map (expected_of banks.now) forms.now) }
+{
+    for form in forms {
+        push_expected(asked, banks, *form)?;
+    }
+    Ok(())
+}
+
+/// Returns what the operands of these forms have to be. A first one that is a value register is filled, unless it is compared.
+pub fn expected_in(
+    alloc: Global,
+    compared: bool,
+    banks: &[Bank],
+    forms: &[Form],
+) -> Result<Vec<Expected>, AllocError>
+    ensures { IfOk result (λ asked. asked.items ≡ expected_in compared banks.now forms.now) }
 {
     let mut asked = Vec::new(alloc);
-    for form in forms {
-        push_expected(&mut asked, banks, *form)?;
+    match forms {
+        [Form::Value, others @ ..] if !compared => {
+            asked.push(Expected::Value)?;
+            push_all(&mut asked, banks, others)?;
+        }
+        _ => push_all(&mut asked, banks, forms)?,
     }
     Ok(asked)
 }
@@ -105,7 +132,11 @@ fn first_banks(banks: &[Bank], count: usize) -> &[Bank]
 }
 
 /// Returns the banks of the procedure that the first word names, at most as many as there are words.
-fn banks_of<'p>(procedures: &'p Procedures<'_>, names: &Names<'_>, words: &[&[u8]]) -> &'p [Bank]
+pub fn banks_of<'p>(
+    procedures: &'p Procedures<'_>,
+    names: &Names<'_>,
+    words: &[&[u8]],
+) -> &'p [Bank]
     ensures { result.now ≡ banks_of (seen_procedures procedures.entry.now) (seen_names names.now) (texts words.now) }
 {
     match words {
@@ -118,7 +149,7 @@ fn banks_of<'p>(procedures: &'p Procedures<'_>, names: &Names<'_>, words: &[&[u8
 }
 
 /// Returns how many right registers an instruction of this opcode fills, its first operands.
-fn makes(opcode: Opcode) -> usize
+pub fn makes(opcode: Opcode) -> usize
     ensures { result ≡ makes opcode }
 {
     match opcode {
@@ -133,9 +164,7 @@ fn name_made<'a>(
     procedures: &Procedures<'_>,
     names: &mut Names<'a>,
     word: &'a [u8],
-) -> Result<(), Rejection<'a>>
-    ensures { Gives (λ _. seen_names names.new) result (made_one (seen_procedures procedures.now) (seen_names names.old) word.now) }
-{
+) -> Result<(), Rejection<'a>> {
     if is_name(word) && known(procedures, names, word).is_none() {
         let number = names.rights;
         add_register(procedures, names, word, Bank::Right, number, Origin::Listed)
@@ -150,12 +179,9 @@ fn put_made<'a>(
     names: &mut Names<'a>,
     out: &mut Vec<u8>,
     word: &'a [u8],
-) -> Result<(), Rejection<'a>>
-    ensures { IsExpanded result names.new out.new.items (made_word (seen_procedures procedures.now) (seen_names names.old) out.old.items word.now) }
-{
+) -> Result<(), Rejection<'a>> {
     name_made(procedures, names, word)?;
-    put_word(procedures, names, out, Expected::Right, word)?;
-    Ok(())
+    put_word(procedures, names, out, Expected::Right, word)
 }
 
 /// Adds the right registers that these words fill, after naming those whose word has no meaning.
@@ -164,9 +190,7 @@ fn put_all_made<'a>(
     names: &mut Names<'a>,
     out: &mut Vec<u8>,
     words: &[&'a [u8]],
-) -> Result<(), Rejection<'a>>
-    ensures { IsExpanded result names.new out.new.items (expanded_results (seen_procedures procedures.now) (seen_names names.old) out.old.items (texts words.now)) }
-{
+) -> Result<(), Rejection<'a>> {
     for word in words {
         put_made(procedures, names, out, word)?;
     }
@@ -177,18 +201,16 @@ fn put_all_made<'a>(
 fn put_others<'a>(
     alloc: Global,
     procedures: &Procedures<'_>,
-    names: &Names<'_>,
+    names: &mut Names<'a>,
     out: &mut Vec<u8>,
     opcode: Opcode,
     words: &[&'a [u8]],
-) -> Result<(), Rejection<'a>>
-    ensures { Gives (λ _. out.new.items) result (expanded_words (seen_procedures procedures.now) (seen_names names.now)
-        (drop (makes opcode) (flat_map (expected_of (banks_of (seen_procedures procedures.now) (seen_names names.now) (texts words.now))) (forms_of opcode)))
-        out.old.items (drop (makes opcode) (texts words.now))) }
-{
-    let asked = expected_in(alloc, banks_of(procedures, names, words), opcode.forms())?;
+) -> Result<(), Rejection<'a>> {
+    let banks = banks_of(procedures, names, words);
+    let asked = expected_in(alloc, compares(opcode), banks, opcode.forms())?;
     let made = makes(opcode);
     put_words(
+        alloc,
         procedures,
         names,
         out,
@@ -205,9 +227,7 @@ pub fn put_instruction<'a>(
     out: &mut Vec<u8>,
     opcode: Opcode,
     words: &[&'a [u8]],
-) -> Result<(), Rejection<'a>>
-    ensures { IsExpanded result names.new out.new.items (expanded_instruction (seen_procedures procedures.now) (seen_names names.old) opcode out.old.items (texts words.now)) }
-{
+) -> Result<(), Rejection<'a>> {
     put_all_made(procedures, names, out, first_words(words, makes(opcode)))?;
     put_others(alloc, procedures, names, out, opcode, words)?;
     Ok(())

@@ -8,10 +8,13 @@ mod assigned;
 mod called;
 mod expansion;
 mod heads;
+mod hidden;
 mod instruction;
 mod line;
 mod line_expansion;
+mod line_kind;
 mod listed;
+mod literals;
 mod meaning;
 mod names;
 mod numbers;
@@ -20,21 +23,22 @@ mod pieces;
 mod procedures;
 mod registers;
 mod rejection;
+mod renamed;
+mod renamed_line;
+mod renamed_words;
 mod right_names;
+mod sections;
 mod symbols;
 mod theorems;
-mod unchanged;
 mod unread;
 
 pub use called::called_head;
 pub use expansion::expanded_text;
+pub use hidden::{is_written, written_line};
 pub use meaning::{Bank, Binding, Expected, Origin};
-pub use registers::put_with_name;
+pub use registers::{put_named, put_with_name};
 pub use rejection::{NameError, NameNo};
-pub use right_names::{RightNames, put_named};
+pub use renamed::other_line;
+pub use right_names::RightNames;
 pub use symbols::Symbols;
-pub use theorems::{
-    as_many_lines, expands_to_itself, expands_to_one, in_utf8, listed_by_place, names_differ,
-    names_stay, not_both, one_first_rejection, renamed_alike, texts_renamed_alike,
-    uses_are_registers,
-};
+pub use theorems::{as_many_lines, names_differ, names_stay};

@@ -5,8 +5,8 @@ ghost use Rattle.tw_lexer.specs.Seen.{seen};
 ghost use Rattle.tw_lexer.specs.Words.{IsFirstWord};
 ghost use Rattle.tw_lexer.specs.reading.Next.{IsAfterGap};
 ghost use Rattle.tw_symbols.specs.Answers.{IsFirst, begins_with_p, is_plainly_blank};
-ghost use Rattle.tw_symbols.specs.Lines.{IsTaken, Line, StartsWith, line_rest, line_words};
-ghost use Rattle.tw_symbols.specs.RightNames.{HasNoHead};
+ghost use Rattle.tw_symbols.specs.Lines.{IsTaken, Line, StartsWith, line_words};
+ghost use Rattle.tw_symbols.specs.Lines.{HasNoHead};
 ghost use Rattle.tw_symbols.specs.Seen.{texts};
 
 use std::alloc::{AllocError, Global};
@@ -59,7 +59,7 @@ fn first_text(alloc: Global, bytes: &[u8]) -> Result<First<'_>, AllocError>
 /// Returns a symbolic line that has these words, and then something that isn't a word.
 fn broken<'a>(mut words: Vec<&'a [u8]>, rest: &'a [u8]) -> Result<ParsedLine<'a>, AllocError>
     requires { IsUtf8 rest.now }
-    ensures { IfOk result (λ taken. (tail : List ℕ) × IsAfterGap rest.entry.now tail × (texts taken.words.items ≡ texts words.entry.items ++ tail ∷ []) × (taken.rest.now ≡ [])) }
+    ensures { IfOk result (λ taken. (tail : List ℕ) × IsAfterGap rest.entry.now tail × (texts taken.words.items ≡ texts words.entry.items ++ tail ∷ [])) }
 {
     words.push(without_gap(rest))?;
     Ok(ParsedLine { words, rest: b"" })
@@ -96,7 +96,7 @@ pub fn may_begin_procedure(line: &str) -> bool
 
 /// Splits a line of symbolic assembly into its words, as they are written.
 fn take_words(alloc: Global, line: &str) -> Result<ParsedLine<'_>, AllocError>
-    ensures { IfOk result (λ taken. (seen : Line) × IsTaken seen line.now × (texts taken.words.items ≡ line_words seen) × (taken.rest.now ≡ line_rest seen)) }
+    ensures { IfOk result (λ taken. (seen : Line) × IsTaken seen line.now × (texts taken.words.items ≡ line_words seen)) }
 {
     let mut words = Vec::new(alloc);
     let mut rest = line.as_bytes();
@@ -114,7 +114,7 @@ fn take_words(alloc: Global, line: &str) -> Result<ParsedLine<'_>, AllocError>
 
 /// Splits a line of symbolic assembly like `take_words`, but a line without words is mostly seen at once.
 pub fn take_line(alloc: Global, line: &str) -> Result<ParsedLine<'_>, AllocError>
-    ensures { IfOk result (λ taken. (seen : Line) × IsTaken seen line.now × (texts taken.words.items ≡ line_words seen) × (taken.rest.now ≡ line_rest seen)) }
+    ensures { IfOk result (λ taken. (seen : Line) × IsTaken seen line.now × (texts taken.words.items ≡ line_words seen)) }
 {
     if is_plainly_blank(line) {
         Ok(ParsedLine {

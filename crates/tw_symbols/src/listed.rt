@@ -1,18 +1,17 @@
 //! Expansion of lines that list registers: `proc` and `regs`.
 
-ghost use Rattle.std.specs.Prelude.{◌≡◌, ◌≤◌, ◌^◌, IfOk, OnOk, filter, length};
+ghost use Rattle.std.specs.Prelude.{◌≡◌, ◌≤◌, ◌^◌, OnOk, Some, true};
 ghost use Rattle.std.specs.Option.{option_map};
-ghost use Rattle.tw_symbols.specs.Answers.{Gives, IsExpanded};
+ghost use Rattle.tw_symbols.specs.Answers.{};
 ghost use Rattle.tw_lexer.specs.Names.{before_colon};
-ghost use Rattle.tw_symbols.specs.LineExpansion.{at_head, begins, followed_by, begins_at, begins_first, has_colon, expanded_head, is_listed_word, is_map_word, is_unnamed, list_name, names_after_list, name_before, checked_name, number_in, expanded_registers, names_if_unnamed};
-ghost use Rattle.tw_symbols.specs.Meanings.{Names as Known};
+ghost use Rattle.tw_symbols.specs.LineNames.{at_head, begins, begins_at, begins_first, is_head_name, list_name, names_after_list, name_before, number_in};
 ghost use Rattle.tw_symbols.specs.Seen.{now, seen_names, seen_procedures, texts};
 
 use crate::heads::{bank_of_mode, parameters, procedure_name, value_types};
+use crate::hidden::begins_quoted;
 use crate::meaning::{Bank, Binding, Listed};
 use crate::names::{Names, add_listed, is_name, meaning};
 use crate::operand_text::{count, first_words, put_all, put_plain};
-use crate::pieces::begins_quoted;
 use crate::procedures::Procedures;
 use crate::rejection::{NameNo, Rejection};
 use std::alloc::{AllocError, Global};
@@ -55,16 +54,12 @@ fn number_in(bank: Bank, values: usize, rights: usize) -> usize
 }
 
 /// Returns whether a word listed in a head or a line `regs` begins a map: `map`, `tmap` or `sum`.
-fn is_map_word(word: &[u8]) -> bool
-    ensures { result ≡ is_map_word word.now }
-{
+fn is_map_word(word: &[u8]) -> bool {
     word == b"map".as_slice() || word == b"tmap".as_slice() || word == b"sum".as_slice()
 }
 
 /// Returns whether a word has a meaning of its own in a list of registers: a mode, or a word of a type.
-fn is_listed_word(word: &[u8]) -> bool
-    ensures { result ≡ is_listed_word word.now }
-{
+fn is_listed_word(word: &[u8]) -> bool {
     bank_of_mode(word).is_some()
         || word == b"int".as_slice()
         || word == b"text".as_slice()
@@ -74,16 +69,12 @@ fn is_listed_word(word: &[u8]) -> bool
 }
 
 /// Returns whether a listed word that isn't quoted contains a `:`.
-fn has_colon(word: &[u8]) -> bool
-    ensures { result ≡ has_colon word.now }
-{
+fn has_colon(word: &[u8]) -> bool {
     !begins_quoted(word) && word.contains(&b':')
 }
 
 /// Checks a word of a line `proc` or `regs` that isn't a name and `:`.
-fn check_unnamed<'a>(word: &'a [u8]) -> Result<(), Rejection<'a>>
-    ensures { (known : Known) → Gives (λ _. known) result (names_if_unnamed known word.now) }
-{
+fn check_unnamed<'a>(word: &'a [u8]) -> Result<(), Rejection<'a>> {
     if is_name(word) && !is_listed_word(word) {
         Err(Rejection::Flawed(NameNo::Unlisted, word))
     } else if has_colon(word) {
@@ -102,7 +93,7 @@ fn name_begun<'a>(
     name: &'a [u8],
     bank: Option<Bank>,
 ) -> Result<(), Rejection<'a>>
-    ensures { Gives (λ _. seen_names names.new) result (list_name (seen_procedures procedures.now) (seen_names names.old) begun.0 begun.1 word.now name.now bank) }
+    ensures { OnOk result (list_name (seen_procedures procedures.now) (seen_names names.old) begun.0 begun.1 name.now bank ≡ Some (seen_names names.new)) }
 {
     match bank {
         Some(bank) if !name.is_empty() => {
@@ -122,7 +113,7 @@ fn name_listed<'a>(
     word: &'a [u8],
     others: &[&'a [u8]],
 ) -> Result<(), Rejection<'a>>
-    ensures { Gives (λ _. seen_names names.new) result (name_before (seen_procedures procedures.now) listed (seen_names names.old) begun.0 begun.1 word.now (texts others.now) (before_colon word.now)) }
+    ensures { OnOk result (name_before (seen_procedures procedures.now) listed (seen_names names.old) begun.0 begun.1 (texts others.now) (before_colon word.now) ≡ Some (seen_names names.new)) }
 {
     match before_colon(word) {
         Some(name) => name_begun(
@@ -138,7 +129,7 @@ fn name_listed<'a>(
 }
 
 /// Adds the names of listed registers, if so many value registers are listed before these words.
-fn list<'a>(
+pub fn list<'a>(
     procedures: &Procedures<'_>,
     listed: Listed,
     names: &mut Names<'a>,
@@ -146,7 +137,7 @@ fn list<'a>(
     words: &[&'a [u8]],
 ) -> Result<(), Rejection<'a>>
     requires { first ≤ 2 ^ 63 }
-    ensures { Gives (λ _. seen_names names.new) result (names_after_list (seen_procedures procedures.now) listed (seen_names names.old) first 0 (texts words.now)) }
+    ensures { OnOk result (names_after_list (seen_procedures procedures.now) listed (seen_names names.old) first 0 (texts words.now) ≡ Some (seen_names names.new)) }
 {
     let mut values = first;
     let mut rights = 0;
@@ -163,16 +154,16 @@ fn list<'a>(
     Ok(())
 }
 
-/// Adds the words of a line `proc` or `regs` to the expansion, except each name with `:`.
-fn put_unnamed(out: &mut Vec<u8>, words: &[&[u8]]) -> Result<(), AllocError>
-    ensures { OnOk result (out.new.items ≡ followed_by out.old.items (filter is_unnamed (texts words.now))) }
-{
+/// Adds the words of a line `proc` or `regs` to the expansion, except each name with `:`. Returns how many.
+fn put_unnamed(out: &mut Vec<u8>, words: &[&[u8]]) -> Result<usize, AllocError> {
+    let mut count = 0usize;
     for word in words {
         if before_colon(word).is_none() {
             put_plain(out, word)?;
+            count = count.saturating_add(1);
         }
     }
-    Ok(())
+    Ok(count)
 }
 
 /// Returns whether the procedure that a name means has its head at this line.
@@ -189,12 +180,12 @@ fn begins_at(procedures: &Procedures<'_>, number: usize, binding: Option<Binding
 }
 
 /// Checks the name in a head: it may be one, and means the procedure of this line.
-fn check_name<'a>(
+pub fn check_name<'a>(
     procedures: &Procedures<'_>,
     number: usize,
     name: Option<&'a [u8]>,
 ) -> Result<(), Rejection<'a>>
-    ensures { Gives (λ u. u) result (checked_name (seen_procedures procedures.now) number (option_map now name.entry)) }
+    ensures { OnOk result (is_head_name (seen_procedures procedures.now) number (option_map now name.entry) ≡ true) }
 {
     let Some(name) = name else {
         return Ok(());
@@ -209,20 +200,25 @@ fn check_name<'a>(
 }
 
 /// Forgets the registers of the procedure before a head, and keeps the types of its own `val` parameters.
-fn begin_head<'a>(
+pub fn begin_head<'a>(
     alloc: Global,
     names: &mut Names<'a>,
     words: &[&'a [u8]],
 ) -> Result<(), AllocError>
     ensures { OnOk result (seen_names names.new ≡ at_head (seen_names names.old) (texts words.now)) }
 {
+    let types = value_types(alloc, parameters(words))?;
+    names.values = types.len();
     names.types = if procedure_name(words).is_some() {
-        value_types(alloc, parameters(words))?
+        types
     } else {
         Vec::new(alloc)
     };
     names.registers.clear();
     names.rights = 0;
+    names.first = None;
+    names.hidden = 0;
+    names.literals.clear();
     Ok(())
 }
 
@@ -234,9 +230,7 @@ pub fn put_head<'a>(
     names: &mut Names<'a>,
     out: &mut Vec<u8>,
     words: &[&'a [u8]],
-) -> Result<(), Rejection<'a>>
-    ensures { IsExpanded result names.new out.new.items (expanded_head (seen_procedures procedures.now) number (seen_names names.old) out.old.items (texts words.now)) }
-{
+) -> Result<(), Rejection<'a>> {
     check_name(procedures, number, procedure_name(words))?;
     begin_head(alloc, names, words)?;
     let params = parameters(words);
@@ -252,12 +246,11 @@ pub fn put_registers<'a>(
     names: &mut Names<'a>,
     out: &mut Vec<u8>,
     words: &[&'a [u8]],
-) -> Result<(), Rejection<'a>>
-    ensures { IsExpanded result names.new out.new.items (expanded_registers (seen_procedures procedures.now) (seen_names names.old) out.old.items (texts words.now)) }
-{
+) -> Result<(), Rejection<'a>> {
     let first = count(&names.types);
     list(procedures, Listed::Registers, names, first, words)?;
     put_all(out, &names.types)?;
-    put_unnamed(out, words)?;
+    let listed = put_unnamed(out, words)?;
+    names.list_hidden(first.saturating_add(listed), 0);
     Ok(())
 }

@@ -50,7 +50,10 @@ pub enum Binding {
 /// The kind of operand that is required in a word's place.
 #[derive(Clone, Copy, Debug, PartialEq, Eq)]
 pub enum Expected {
+    /// A value register that the instruction fills.
     Value,
+    /// A value register that it reads. A number or a text will do: a hidden register holds it.
+    Read,
     Right,
     /// A value register, by its number alone.
     ValueArgument,

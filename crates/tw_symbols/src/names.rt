@@ -1,10 +1,10 @@
 //! The names that are known at a line.
 
-ghost use Rattle.std.specs.Prelude.{◌≡◌, ◌==◌, ◌||◌, ◌∷◌, [], ◌++◌, ◌<◌, None, OnOk, nat_lt, slice_get};
+ghost use Rattle.std.specs.Prelude.{◌≡◌, ◌==◌, ◌||◌, ◌∷◌, [], ◌++◌, ◌<◌, None, Some, true, OnOk, nat_lt, slice_get};
 ghost use Rattle.tw_lexer.specs.Digits.{all_digits, are_digits};
 ghost use Rattle.std.specs.Char.{digit_value};
-ghost use Rattle.tw_symbols.specs.Answers.{Gives, lists_entry};
-ghost use Rattle.tw_symbols.specs.Meanings.{above, is_name, is_register_word, known, may_name, meaning, no_names, with_constant, with_listed, with_register, is_listed, lists};
+ghost use Rattle.tw_symbols.specs.Answers.{lists_entry};
+ghost use Rattle.tw_symbols.specs.Meanings.{above, is_name, is_register_word, known, may_name, meaning, no_names, with_constant, with_hidden, with_listed, with_register, is_listed, lists};
 ghost use Rattle.tw_symbols.specs.declared.meaning.Binding.TheVariants.{Constant};
 ghost use Rattle.tw_symbols.specs.Seen.{seen_names, seen_procedures, seen_table};
 
@@ -22,7 +22,7 @@ pub type Table<'a> = IndexMap<&'a [u8], Binding, TextHash>;
 const MAX_NAME: usize = 64;
 
 /// The number of registers in a bank.
-const REGISTERS: usize = 16;
+pub const REGISTERS: usize = 16;
 
 /// The names that the lines so far have defined.
 #[derive(Drop)]
@@ -34,6 +34,16 @@ pub struct Names<'a> {
     pub types: Vec<&'a [u8]>,
     /// One more than the highest right register that has a name.
     pub rights: usize,
+    /// How many value registers the parameters take.
+    pub values: usize,
+    /// The first hidden register, after those that the line `regs` lists; none if that lists too few for the parameters.
+    pub first: Option<usize>,
+    /// How many hidden registers the expanded line `regs` has.
+    pub hidden: usize,
+    /// The literals of the first hidden registers, as they are written.
+    pub literals: Vec<&'a [u8]>,
+    /// Whether a word has meant a register after those that the line `regs` lists.
+    pub has_unlisted: bool,
 }
 
 impl<'a> Names<'a> {
@@ -46,7 +56,26 @@ impl<'a> Names<'a> {
             registers: IndexMap::with_hasher(alloc, hash),
             types: Vec::new(alloc),
             rights: 0,
+            values: 0,
+            first: None,
+            hidden: 0,
+            literals: Vec::new(alloc),
+            has_unlisted: false,
         }
+    }
+
+    /// Notes a line `regs` that lists so many registers, and in the expansion so many hidden ones.
+    pub fn list_hidden(&mut self, count: usize, hidden: usize)
+        ensures { seen_names self.new ≡ with_hidden (seen_names self.old) count hidden }
+    {
+        self.first = if count < self.values {
+            None
+        } else {
+            Some(count)
+        };
+        self.hidden = hidden;
+        self.literals.clear();
+        self.has_unlisted = false;
     }
 }
 
@@ -143,7 +172,7 @@ pub fn may_name<'a>(
     names: &Names<'_>,
     name: &'a [u8],
 ) -> Result<(), Rejection<'a>>
-    ensures { Gives (λ u. u) result (may_name (seen_procedures procedures.now) (seen_names names.now) name.now) }
+    ensures { OnOk result (may_name (seen_procedures procedures.now) (seen_names names.now) name.now ≡ true) }
 {
     if !is_name(name) {
         return Err(Rejection::Flawed(NameNo::NoName, name));
@@ -174,7 +203,7 @@ pub fn add_constant<'a>(
     name: &'a [u8],
     number: i64,
 ) -> Result<(), Rejection<'a>>
-    ensures { Gives (λ _. seen_names names.new) result (with_constant (seen_procedures procedures.now) (seen_names names.old) name.now (Constant number)) }
+    ensures { OnOk result (with_constant (seen_procedures procedures.now) (seen_names names.old) name.now (Constant number) ≡ Some (seen_names names.new)) }
 {
     may_name(procedures, names, name)?;
     put_name(&mut names.constants, name, Binding::Constant(number))?;
@@ -201,7 +230,7 @@ pub fn add_register<'a>(
     number: usize,
     origin: Origin,
 ) -> Result<(), Rejection<'a>>
-    ensures { Gives (λ _. seen_names names.new) result (with_register (seen_procedures procedures.now) (seen_names names.old) name.now bank number origin) }
+    ensures { OnOk result (with_register (seen_procedures procedures.now) (seen_names names.old) name.now bank number origin ≡ Some (seen_names names.new)) }
 {
     may_name(procedures, names, name)?;
     if number >= REGISTERS {
@@ -258,7 +287,7 @@ pub fn add_listed<'a>(
     bank: Bank,
     number: usize,
 ) -> Result<(), Rejection<'a>>
-    ensures { Gives (λ _. seen_names names.new) result (with_listed (seen_procedures procedures.now) (seen_names names.old) name.now bank number) }
+    ensures { OnOk result (with_listed (seen_procedures procedures.now) (seen_names names.old) name.now bank number ≡ Some (seen_names names.new)) }
 {
     if is_listed(&names.registers, bank, number) {
         return Err(Rejection::Flawed(NameNo::Listed, name));

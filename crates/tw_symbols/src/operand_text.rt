@@ -1,18 +1,15 @@
 //! The expansion of operands.
 
-ghost use Rattle.std.specs.Prelude.{◌≡◌, ◌++◌, OnOk, drop, length, slice_get, take, unwrap_or};
+ghost use Rattle.std.specs.Prelude.{◌≡◌, drop, length, slice_get, take, unwrap_or};
 ghost use Rattle.tw_symbols.specs.declared.meaning.Expected.TheVariants.{Nothing};
-ghost use Rattle.std.specs.Option.{option_map};
-ghost use Rattle.tw_symbols.specs.Answers.{Gives, text_of_operand};
-ghost use Rattle.tw_symbols.specs.LineExpansion.{followed_by, named, expands, with_word, expanded_word, expanded_words};
-ghost use Rattle.tw_symbols.specs.Expansion.{ended};
-ghost use Rattle.tw_symbols.specs.Seen.{seen_names, seen_procedures, texts};
+ghost use Rattle.tw_symbols.specs.Seen.{texts};
 
+use crate::literals::{check_listed, first_for, put_literal};
 use crate::meaning::{Bank, Binding, Expected};
 use crate::names::{Names, is_name, known};
 use crate::procedures::Procedures;
 use crate::rejection::{NameNo, Rejection};
-use std::alloc::AllocError;
+use std::alloc::{AllocError, Global};
 use tw_lexer::{put_numbered, put_signed};
 
 /// The replacement of a name.
@@ -25,16 +22,14 @@ pub enum OperandText {
 }
 
 /// Returns the replacement of a name with this meaning, if the meaning is of the required kind.
-fn operand_text_of(asked: Expected, binding: Binding) -> Option<OperandText>
-    ensures { option_map text_of_operand result ≡ expands asked binding }
-{
+fn operand_text_of(asked: Expected, binding: Binding) -> Option<OperandText> {
     match binding {
         Binding::Constant(number) => match asked {
             Expected::Number => Some(OperandText::Number(number)),
             _ => None,
         },
         Binding::Register(Bank::Value, number, _) => match asked {
-            Expected::Value => Some(OperandText::Numbered("v", number)),
+            Expected::Value | Expected::Read => Some(OperandText::Numbered("v", number)),
             Expected::ValueArgument => Some(OperandText::Numbered("", number)),
             _ => None,
         },
@@ -51,9 +46,7 @@ fn operand_text_of(asked: Expected, binding: Binding) -> Option<OperandText>
 }
 
 /// Adds the replacement of a name to the expansion: a letter and a number, or a constant's value.
-fn put_operand_text(out: &mut Vec<u8>, operand: OperandText) -> Result<(), AllocError>
-    ensures { OnOk result (out.new.items ≡ out.old.items ++ text_of_operand operand) }
-{
+fn put_operand_text(out: &mut Vec<u8>, operand: OperandText) -> Result<(), AllocError> {
     match operand {
         OperandText::Numbered(front, number) => put_numbered(out, front, number),
         OperandText::Number(number) => put_signed(out, number),
@@ -61,9 +54,7 @@ fn put_operand_text(out: &mut Vec<u8>, operand: OperandText) -> Result<(), Alloc
 }
 
 /// Adds a space and a word to the expansion, as it is.
-pub fn put_plain(out: &mut Vec<u8>, word: &[u8]) -> Result<(), AllocError>
-    ensures { OnOk result (out.new.items ≡ with_word out.old.items word.now) }
-{
+pub fn put_plain(out: &mut Vec<u8>, word: &[u8]) -> Result<(), AllocError> {
     out.extend_from_slice(b" ")?;
     out.extend_from_slice(word)
 }
@@ -112,17 +103,13 @@ pub fn expected_after(asked: &[Expected], count: usize) -> &[Expected]
 }
 
 /// Adds the end of a line to the expansion, and a line feed.
-pub fn put_ended(out: &mut Vec<u8>, line: &[u8]) -> Result<(), AllocError>
-    ensures { OnOk result (out.new.items ≡ out.old.items ++ ended line.now) }
-{
+pub fn put_ended(out: &mut Vec<u8>, line: &[u8]) -> Result<(), AllocError> {
     out.extend_from_slice(line)?;
     out.extend_from_slice(b"\n")
 }
 
 /// Adds words to the expansion as they are, a space before each.
-pub fn put_all(out: &mut Vec<u8>, words: &[&[u8]]) -> Result<(), AllocError>
-    ensures { OnOk result (out.new.items ≡ followed_by out.old.items (texts words.now)) }
-{
+pub fn put_all(out: &mut Vec<u8>, words: &[&[u8]]) -> Result<(), AllocError> {
     for word in words {
         put_plain(out, word)?;
     }
@@ -135,9 +122,7 @@ fn put_named<'a>(
     asked: Expected,
     word: &'a [u8],
     binding: Option<Binding>,
-) -> Result<(), Rejection<'a>>
-    ensures { Gives (λ _. out.new.items) result (named out.old.items word.now binding asked) }
-{
+) -> Result<(), Rejection<'a>> {
     let Some(binding) = binding else {
         return Err(Rejection::Flawed(NameNo::Unknown(asked), word));
     };
@@ -149,16 +134,14 @@ fn put_named<'a>(
     Ok(())
 }
 
-/// Adds a space and the expansion of an operand: a name's replacement, or the word itself.
+/// Adds a space and the expansion of an operand that is no literal: a name's replacement, or the word itself.
 pub fn put_word<'a>(
     procedures: &Procedures<'_>,
     names: &Names<'_>,
     out: &mut Vec<u8>,
     asked: Expected,
     word: &'a [u8],
-) -> Result<(), Rejection<'a>>
-    ensures { Gives (λ _. out.new.items) result (expanded_word (seen_procedures procedures.now) (seen_names names.now) asked out.old.items word.now) }
-{
+) -> Result<(), Rejection<'a>> {
     if matches!(asked, Expected::Nothing) || !is_name(word) {
         put_plain(out, word)?;
         return Ok(());
@@ -166,8 +149,26 @@ pub fn put_word<'a>(
     put_named(out, asked, word, known(procedures, names, word))
 }
 
+/// Adds a space and the expansion of an operand: the hidden register of a literal, or else like `put_word`.
+fn put_operand<'a>(
+    alloc: Global,
+    procedures: &Procedures<'_>,
+    names: &mut Names<'a>,
+    out: &mut Vec<u8>,
+    asked: Expected,
+    word: &'a [u8],
+) -> Result<(), Rejection<'a>> {
+    match first_for(alloc, names, asked, word)? {
+        Some(first) => put_literal(names, out, first, word),
+        None => {
+            check_listed(procedures, names, asked, word)?;
+            put_word(procedures, names, out, asked, word)
+        }
+    }
+}
+
 /// Returns what the first of these operands has to be.
-fn first_expected(asked: &[Expected]) -> Expected
+pub fn first_expected(asked: &[Expected]) -> Expected
     ensures { result ≡ unwrap_or (slice_get asked.now 0) Nothing }
 {
     match asked {
@@ -177,7 +178,7 @@ fn first_expected(asked: &[Expected]) -> Expected
 }
 
 /// Returns what the operands after the first have to be.
-fn after_first(asked: &[Expected]) -> &[Expected]
+pub fn after_first(asked: &[Expected]) -> &[Expected]
     ensures { result.now ≡ drop 1 asked.now }
 {
     match asked {
@@ -188,17 +189,16 @@ fn after_first(asked: &[Expected]) -> &[Expected]
 
 /// Adds the expansion of operands. Each word after the last expected one is added as it is.
 pub fn put_words<'a>(
+    alloc: Global,
     procedures: &Procedures<'_>,
-    names: &Names<'_>,
+    names: &mut Names<'a>,
     out: &mut Vec<u8>,
     asked: &[Expected],
     words: &[&'a [u8]],
-) -> Result<(), Rejection<'a>>
-    ensures { Gives (λ _. out.new.items) result (expanded_words (seen_procedures procedures.now) (seen_names names.now) asked.now out.old.items (texts words.now)) }
-{
+) -> Result<(), Rejection<'a>> {
     let mut left = asked;
     for word in words {
-        put_word(procedures, names, out, first_expected(left), word)?;
+        put_operand(alloc, procedures, names, out, first_expected(left), word)?;
         left = after_first(left);
     }
     Ok(())

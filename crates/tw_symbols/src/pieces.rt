@@ -3,7 +3,7 @@
 ghost use Rattle.std.specs.Prelude.{◌≡◌, [], ◌++◌, ◌+◌, ◌<◌, ◌≤◌, IfOk, OnOk, length};
 ghost use Rattle.tw_symbols.specs.Answers.{pieces_left};
 ghost use Rattle.std.specs.List.{flat_map};
-ghost use Rattle.tw_symbols.specs.Lines.{begins_quoted, has_quote, is_sign, pieces, pieces_after, some_piece};
+ghost use Rattle.tw_symbols.specs.Lines.{has_quote, is_sign, pieces, pieces_after, some_piece};
 ghost use Rattle.tw_symbols.specs.Seen.{texts};
 
 use std::alloc::{AllocError, Global};
@@ -57,16 +57,6 @@ fn push_parted<'a>(out: &mut Vec<&'a [u8]>, word: &'a [u8]) -> Result<(), AllocE
     }
     push_some(out, &word[start..])?;
     Ok(())
-}
-
-/// Returns whether a word begins with a quote.
-pub fn begins_quoted(word: &[u8]) -> bool
-    ensures { result ≡ begins_quoted word.now }
-{
-    match word {
-        [byte, ..] => *byte == b'"',
-        [] => false,
-    }
 }
 
 /// Returns whether a word has a quote. A quoted text begins in it, or ends.

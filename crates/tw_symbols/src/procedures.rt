@@ -1,12 +1,11 @@
 //! The procedures of a text.
 
-ghost use Rattle.std.specs.Prelude.{◌≡◌, List, IfOk, OnOk};
+ghost use Rattle.std.specs.Prelude.{◌≡◌, ◌≤◌, List, IfOk, OnOk, length, nat_le};
 ghost use Rattle.std.specs.Option.{option_map};
 ghost use Rattle.std.specs.Str.Lines.{lines};
 ghost use Rattle.tw_symbols.specs.Lines.{AreTaken, IsTaken, Line};
 ghost use Rattle.tw_symbols.specs.Seen.{now, seen_procedures, seen_table, texts};
-ghost use Rattle.tw_symbols.specs.Expansion.{procedures_of, with_head, with_line, with_name, with_words};
-ghost use Rattle.tw_symbols.specs.Unread.{reads_heads};
+ghost use Rattle.tw_symbols.specs.Heads.{procedures_of, with_head, with_line, with_name, with_words};
 
 use crate::heads::{banks_of_modes, procedure_name};
 use crate::line::{may_begin_procedure, take_line};
@@ -38,7 +37,7 @@ pub struct Procedures<'a> {
 
 /// Returns whether one more head of a procedure is read: those up to the first one past the limit are.
 pub fn reads_heads(procedures: &Procedures<'_>) -> bool
-    ensures { result ≡ reads_heads (seen_procedures procedures.now) }
+    ensures { result ≡ nat_le (length procedures.now.heads.items) 64 }
 {
     procedures.heads.len() <= usize::from(Program::MAX_PROCEDURES)
 }
@@ -78,7 +77,7 @@ fn add_head<'a>(
     Ok(())
 }
 
-/// Adds the procedure whose head these words of a line are, if they begin with `proc` and heads are still read.
+/// Adds the procedure whose head these words of a line are, if they begin with `proc`.
 fn add_words<'a>(
     alloc: Global,
     procedures: &mut Procedures<'a>,
@@ -88,7 +87,7 @@ fn add_words<'a>(
     ensures { OnOk result (seen_procedures procedures.new ≡ with_words (seen_procedures procedures.old) number (texts words.now)) }
 {
     match words {
-        [first, others @ ..] if *first == b"proc".as_slice() && reads_heads(procedures) => {
+        [first, others @ ..] if *first == b"proc".as_slice() => {
             let pieces = pieces_of(alloc, others)?;
             add_head(alloc, procedures, number, &pieces)
         }
@@ -111,7 +110,7 @@ fn add_line<'a>(
 
 /// Returns the procedures of a text by their heads, up to the first one past the limit.
 pub fn procedures_of(alloc: Global, text: &str) -> Result<Procedures<'_>, AllocError>
-    ensures { IfOk result (λ procedures. (all : List Line) × AreTaken all (lines text.now) × (seen_procedures procedures ≡ procedures_of all)) }
+    ensures { IfOk result (λ procedures. length procedures.heads.items ≤ 64 → (all : List Line) × AreTaken all (lines text.now) × (seen_procedures procedures ≡ procedures_of all)) }
 {
     let hash = TextHash::new(text);
     let mut procedures = Procedures {

@@ -1,6 +1,6 @@
 //! Errors of symbolic assembly.
 
-ghost use Rattle.std.specs.Prelude.{◌≡◌, []};
+ghost use Rattle.std.specs.Prelude.{◌≡◌, IfOk, IsTrue, Ok};
 ghost use Rattle.tw_symbols.specs.Answers.{name_number};
 ghost use Rattle.tw_symbols.specs.declared.rejection.NameNo.TheVariants as no;
 ghost use Rattle.tw_symbols.specs.declared.rejection.Rejection.TheVariants.{NoMemory};
@@ -21,6 +21,8 @@ pub enum NameNo {
     Taken(Binding),
     /// N03: the register has been listed by another name.
     Listed,
+    /// N03: the register is one of the hidden ones after so many that are listed.
+    Hidden(usize),
     /// N04: the name has no meaning here, where this is required.
     Unknown(Expected),
     /// N04: in a list of registers, a name that `:` doesn't follow.
@@ -29,8 +31,14 @@ pub enum NameNo {
     Kind(Binding, Expected),
     /// N06: a name would mean a register past the last.
     Limit,
+    /// N06: after so many listed registers none is left for the number or text.
+    Spent(usize),
+    /// N06: the number or text would be in a register that was used before, after so many that are listed.
+    Used(usize),
     /// N07: out of memory.
     NoMemory,
+    /// N08: the expansion isn't the text with its names replaced, by an error of `tw`.
+    Internal,
 }
 
 impl NameNo {
@@ -41,11 +49,12 @@ impl NameNo {
         match self {
             NameNo::Form => 1,
             NameNo::NoName => 2,
-            NameNo::Twice | NameNo::Taken(_) | NameNo::Listed => 3,
+            NameNo::Twice | NameNo::Taken(_) | NameNo::Listed | NameNo::Hidden(_) => 3,
             NameNo::Unknown(_) | NameNo::Unlisted => 4,
             NameNo::Kind(_, _) => 5,
-            NameNo::Limit => 6,
+            NameNo::Limit | NameNo::Spent(_) | NameNo::Used(_) => 6,
             NameNo::NoMemory => 7,
+            NameNo::Internal => 8,
         }
     }
 }
@@ -76,6 +85,17 @@ impl<T: Drop> From<AllocFailed<T>> for Rejection<'_> {
     }
 }
 
+/// Returns whether a step has no error of names.
+pub fn taken(went: Result<(), Rejection<'_>>) -> Result<bool, AllocError>
+    ensures { IfOk result (λ is. IsTrue is → went.entry ≡ Ok tt) }
+{
+    match went {
+        Ok(()) => Ok(true),
+        Err(Rejection::NoMemory) => Err(AllocError),
+        Err(Rejection::Flawed(_, _)) => Ok(false),
+    }
+}
+
 /// The first error of a text: its kind, its line (from 1) and its word.
 ///
 /// If memory runs out, the line is 0 and the word is empty.
@@ -89,9 +109,7 @@ pub struct NameError<'a> {
 impl<'a> NameError<'a> {
     /// Makes the error of symbolic names for a failed allocation, without a line or a word.
     pub(crate) fn memory() -> NameError<'a>
-        ensures no { result.no ≡ no.NoMemory }
-        ensures line { result.line ≡ 0 }
-        ensures word { result.word.now ≡ [] }
+        ensures { result.no ≡ no.NoMemory }
     {
         NameError {
             no: NameNo::NoMemory,
@@ -99,10 +117,19 @@ impl<'a> NameError<'a> {
             word: b"",
         }
     }
+
+    /// Makes the error of an expansion that is wrong at this line.
+    pub fn internal(line: usize) -> NameError<'a> {
+        NameError {
+            no: NameNo::Internal,
+            line,
+            word: b"",
+        }
+    }
 }
 
 impl From<AllocError> for NameError<'_> {
-    ghost from_gives = { λ _ f. (f.no ≡ no.NoMemory) × (f.line ≡ 0) × (f.word.now ≡ []) };
+    ghost from_gives = { λ _ f. f.no ≡ no.NoMemory };
 
     /// Returns the error of symbolic names for a failed allocation.
     fn from(_refused: AllocError) -> Self {

@@ -2,7 +2,7 @@
 
 ghost use Rattle.std.specs.Prelude.{◌≡◌, ◌++◌, ◌∷◌, [], IfOk, OnOk, unwrap_or};
 ghost use Rattle.tw_symbols.specs.Lines.{IsTaken, Line};
-ghost use Rattle.tw_symbols.specs.LineExpansion.{procedure_name};
+ghost use Rattle.tw_symbols.specs.LineNames.{procedure_name};
 ghost use Rattle.tw_symbols.specs.Seen.{texts};
 ghost use Rattle.tw_symbols.specs.Symbols.{AreNames, bracketed, head_names, line_names, name_at};
 

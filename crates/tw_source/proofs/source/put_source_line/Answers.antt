@@ -1,7 +1,7 @@
 use Rattle.std.proofs.Common.{◌++◌, ◌∙◌, ℕ, List, ap, refl}
 use Rattle.tw_symbols.specs.Symbols.{name_at}
 use Rattle.tw_source.specs.Text.{line_in_text}
-use Rattle.tw_source.proofs.ReplyNames.{on_ok_weaker, plain_of}
+use Rattle.tw_source.proofs.ReplyNames.{on_ok_weaker}
 use Rattle.tw_source.proofs.source.put_source_line.Goals as goal
 
 pub returns-in_default : goal.returns-in_default
@@ -17,6 +17,6 @@ returns c = λ program.
     let names = c.in_ok-names.names in
     let found = c.in-Some.ensures program is.0 is.2 in (
       line_in_text (name_at names c.args.procedure) number line,
-      (plain_of source, number, line, names, is.2, found.0, found.1, c.in_ok-names.ensures, refl),
+      (number, line, names, found.0, found.1, c.in_ok-names.ensures, refl),
       put ∙ ap (λ (name : List ℕ). c.args.out.now.items ++ line_in_text name number line) c.procedure.ensures,
     )) c.put_line_in.ensures

@@ -6,18 +6,16 @@ use Rattle.tw_symbols.proofs.line.take_words.Goals as goal
 pub returns-in-End : goal.returns-in-End
 returns-in-End c =
     let blank : IsBlank c.loop-words.rest.now = rw c.in-End.is at c.in_ok-first_text.ensures in
-    (Worded (texts c.loop-words.words.items) c.loop-words.rest.now, (c.loop-words.invariant.first, blank), refl, refl)
+    (Worded (texts c.loop-words.words.items) c.loop-words.rest.now, (c.loop-words.invariant.first, blank), refl)
 
 pub returns-in-Broken : goal.returns-in-Broken
 returns-in-Broken c =
     let broken : IsBroken c.loop-words.rest.now = rw c.in-Broken.is at c.in_ok-first_text.ensures in
     IfOk-weaker c.broken.result _ _
-    (λ taken is.
-    let e : texts taken.words.items ≡ texts c.loop-words.words.items ++ is.0 ∷ [] = is.2 in (
+    (λ taken is. (
       Broken (texts c.loop-words.words.items) is.0,
       (c.loop-words.rest.now, c.loop-words.invariant.first, record { broken = broken; gap = is.1.gap; parts = is.1.parts; is_gap = is.1.is_gap; at_word = is.1.at_word }),
-      e,
-      is.3,
+      is.2,
     ))
     c.broken.ensures
 

@@ -1,7 +1,6 @@
-use Rattle.tw_symbols.proofs.TextNames.{HasNoHead, List, YieldsList-at, YieldsList-end, YieldsList-from_enumerate, YieldsList-from_lines, YieldsList-so_far, YieldsList-turn, all_lines, line_turn, lines, rules, seen_procedures, subst, sym, ℕ, ◌+◌, ◌∙◌, ◌∷◌, ◌≡◌}
+use Rattle.tw_symbols.proofs.TextNames.{HasNoHead, List, false, length, nat_le, nat_tests, arith, ◌≤◌, YieldsList-at, YieldsList-end, YieldsList-from_enumerate, YieldsList-from_lines, YieldsList-so_far, YieldsList-turn, all_lines, line_turn, lines, rules, seen_procedures, subst, sym, ℕ, ◌+◌, ◌∙◌, ◌≡◌}
 use Rattle.tw_symbols.proofs.Loops.{AreGathered, gather_more, lines_in, one_line_in}
 use Rattle.tw_symbols.proofs.NoHeads.{no_procedure}
-use Rattle.tw_symbols.proofs.UnreadLines.{gathered_whole}
 use Rattle.tw_symbols.proofs.procedures.procedures_of.Goals as goal
 
 pub loop-index-preserved-in-Continue-1 : goal.loop-index-preserved-in-Continue-1
@@ -35,11 +34,10 @@ returns c =
     let road = YieldsList-at c.into_iter-index-iterator.ensures.into_iter_gives (YieldsList-from_enumerate (YieldsList-at c.enumerate-index-items.ensures.source (YieldsList-from_lines c.args.text.now c.lines.ensures.rest)) c.enumerate-index-items.ensures.count) in
     let t = YieldsList-end road c.loop-index.yielded _ c.loop-index.yielded_by _ _ c.in-None.is c.next.ensures.steps in
     let all : lines_in c.loop-index.yielded ≡ lines c.args.text.now = all_lines (lines c.args.text.now) c.loop-index.yielded t.0 in
-    subst (λ (ls : List (List ℕ)). AreGathered ls (seen_procedures c.loop-index.procedures)) all c.loop-index.invariant.gathered
+    λ _. subst (λ (ls : List (List ℕ)). AreGathered ls (seen_procedures c.loop-index.procedures)) all c.loop-index.invariant.gathered
 
 pub returns-then-not-reads_heads : goal.returns-then-not-reads_heads
-returns-then-not-reads_heads c =
-    let road = YieldsList-at c.into_iter-index-iterator.ensures.into_iter_gives (YieldsList-from_enumerate (YieldsList-at c.enumerate-index-items.ensures.source (YieldsList-from_lines c.args.text.now c.lines.ensures.rest)) c.enumerate-index-items.ensures.count) in
-    let t = YieldsList-turn road c.loop-index.yielded _ c.loop-index.yielded_by _ _ (c.in-Some.index, c.in-Some.line) c.in-Some.is c.next.ensures.steps in
-    let at = line_turn (lines c.args.text.now) c.loop-index.yielded c.in-Some.index c.in-Some.line.now (YieldsList-so_far road c.loop-index.yielded _ c.loop-index.yielded_by) t.0 t.1 in
-    gathered_whole (lines c.args.text.now) (lines_in c.loop-index.yielded) (c.in-Some.line.now ∷ at.others) (seen_procedures c.loop-index.procedures) c.loop-index.invariant.gathered (sym c.reads_heads.ensures ∙ c.if-not-reads_heads.true) at.parts
+returns-then-not-reads_heads c = λ few. absurd (too_many (length c.loop-index.procedures.heads.items) (sym c.reads_heads.ensures ∙ c.if-not-reads_heads.true) few)
+  where
+    too_many : (n : ℕ) → nat_le n 64 ≡ false → n ≤ 64 → ⊥
+    too_many n e few = grind (arith, nat_tests)

@@ -1,4 +1,4 @@
-use Rattle.tw_symbols.proofs.LineByLine.{as_many}
+use Rattle.tw_symbols.proofs.RenamedLines.{as_many}
 use Rattle.tw_symbols.proofs.theorems.as_many_lines.Goals as goal
 
 pub returns : goal.returns

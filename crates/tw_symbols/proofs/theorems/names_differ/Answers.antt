@@ -1,4 +1,4 @@
-use Rattle.tw_symbols.proofs.Apart.{names_differ}
+use Rattle.tw_symbols.proofs.OwnNames.{names_differ}
 use Rattle.tw_symbols.proofs.theorems.names_differ.Goals as goal
 
 pub returns : goal.returns

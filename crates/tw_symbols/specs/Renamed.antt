@@ -1,0 +1,170 @@
+-- A symbolic text with its names replaced. Line by line and word by word, the second text has the first one's words, and in the place of each name a word
+-- that the assembler reads as what the name means there. A line adds a name only if that means nothing yet, and a name of a register ends at the next head.
+-- In the place of a literal, a number or a text that is read from a register, the second text has a hidden register. After a line `regs`, lines that begin
+-- with a blank fill the hidden registers with their literals. No other word means one of them.
+use Rattle.std.specs.Prelude.{◌≡◌, ◌==◌, ◌≤◌, ◌+◌, ◌⊎◌, ◌++◌, ℕ, ℤ, Bool, false, true, not, List, [], ◌∷◌, codes, drop, filter, if◌then◌else◌, length, slice_get, take, Option, Some, None, unwrap_or}
+use Rattle.std.specs.List.{flat_map}
+use Rattle.std.specs.Result.{result_ok}
+use Rattle.std.specs.Str.Lines.{lines}
+use Rattle.tw_code.specs.format.Table.{forms_of}
+use Rattle.tw_code.specs.declared.opcode.Opcode.{Opcode}
+use Rattle.tw_lexer.specs.Digits.{digits_in}
+use Rattle.tw_symbols.specs.Lines.{AreTaken, IsTaken, Line, line_words, pieces}
+use Rattle.tw_symbols.specs.Meanings.{Names, Procedures, and_then, is_name, known, literal_at, no_names, with_hidden, with_listed}
+use Rattle.tw_symbols.specs.LineNames.{at_head, banks_of, compares, expected_in, is_head_name, is_unnamed, kind_of, makes, names_after_constant, names_after_let, names_after_list, number_of, parameters, procedure_name, register_of}
+use Rattle.tw_symbols.specs.Heads.{procedures_of}
+use Rattle.tw_symbols.specs.declared.line_kind.LineKind.{LineKind}
+use Rattle.tw_symbols.specs.declared.line_kind.LineKind.TheVariants as kind
+use Rattle.tw_symbols.specs.declared.meaning.Bank.{Bank}
+use Rattle.tw_symbols.specs.declared.meaning.Bank.TheVariants as bank
+use Rattle.tw_symbols.specs.declared.meaning.Binding.{Binding}
+use Rattle.tw_symbols.specs.declared.meaning.Binding.TheVariants as binding
+use Rattle.tw_symbols.specs.declared.meaning.Expected.{Expected}
+use Rattle.tw_symbols.specs.declared.meaning.Expected.TheVariants as asked
+use Rattle.tw_symbols.specs.declared.meaning.Listed.TheVariants as listed
+
+-- ---- words
+
+-- holds if a word of assembly text, read in such a place, is what a name means
+abbrev pub IsAt : Expected → Binding → List ℕ → Type 0
+IsAt asked.Value (binding.Register bank.Value number by) plain = register_of plain ≡ Some (bank.Value, number)
+IsAt asked.Read (binding.Register bank.Value number by) plain = register_of plain ≡ Some (bank.Value, number)
+IsAt asked.Right (binding.Register bank.Right number by) plain = register_of plain ≡ Some (bank.Right, number)
+IsAt asked.ValueArgument (binding.Register bank.Value number by) plain = result_ok (digits_in 0 15 plain) ≡ Some number
+IsAt asked.RightArgument (binding.Register bank.Right number by) plain = result_ok (digits_in 0 15 plain) ≡ Some number
+IsAt asked.Number (binding.Constant number) plain = number_of plain ≡ Some number
+IsAt asked.Procedure (binding.Procedure number) plain = result_ok (digits_in 0 255 plain) ≡ Some number
+IsAt place x plain = ⊥
+
+-- holds if a word stays: it is no name, or no name may be in its place
+abbrev pub Stays : Expected → List ℕ → List ℕ → Type 0
+Stays place word plain = (plain ≡ word) × ((is_name word ≡ false) ⊎ (place ≡ asked.Nothing))
+
+-- holds if a word is a name, and is replaced by what it means
+abbrev pub IsReplaced : Procedures → Names → Expected → List ℕ → List ℕ → Type 0
+IsReplaced procedures names place word plain = (x : Binding) × (known procedures names word ≡ Some x) × IsAt place x plain
+
+abbrev pub value_of : Option (Bank × ℕ) → Option ℕ
+value_of (Some (bank.Value, number)) = Some number
+value_of register = None
+
+-- returns the value register that a word of assembly text is in such a place, if it is one
+abbrev pub value_at : Expected → List ℕ → Option ℕ
+value_at asked.Value plain = value_of (register_of plain)
+value_at asked.Read plain = value_of (register_of plain)
+value_at asked.ValueArgument plain = result_ok (digits_in 0 15 plain)
+value_at place plain = None
+
+abbrev pub begins_quoted : List ℕ → Bool
+begins_quoted [] = false
+begins_quoted (b ∷ word) = b == 34
+
+-- holds for two words of the same literal: of one number, or the same quoted text
+abbrev pub IsSame : List ℕ → List ℕ → Type 0
+IsSame word other = ((begins_quoted word ≡ true) × (other ≡ word)) ⊎ ((number : ℤ) × (number_of word ≡ Some number) × (number_of other ≡ Some number))
+
+-- holds if a word is a literal, and is replaced by the hidden register which that fills
+abbrev pub IsLiteral : Names → Expected → List ℕ → List ℕ → Type 0
+IsLiteral names place word plain =
+    (place ≡ asked.Read) × (number : ℕ) × (other : List ℕ) × (value_at place plain ≡ Some number) × (literal_at names number ≡ Some other) × IsSame word other
+
+unfoldable pub IsWord : Procedures → Names → Expected → List ℕ → List ℕ → Type 0
+IsWord procedures names place word plain =
+    ((and_then (value_at place plain) (literal_at names) ≡ None) × (Stays place word plain ⊎ IsReplaced procedures names place word plain)) ⊎ IsLiteral names place word plain
+
+-- holds for words with these places, one by one; nothing is required of further ones
+abbrev pub AreOperands : Procedures → Names → List Expected → List (List ℕ) → List (List ℕ) → Type 0
+AreOperands procedures names places [] [] = Unit {0}
+AreOperands procedures names places (word ∷ words) (plain ∷ plains) = IsWord procedures names (unwrap_or (slice_get places 0) asked.Nothing) word plain × AreOperands procedures names (drop 1 places) words plains
+AreOperands procedures names places words plains = ⊥
+
+-- Holds if a word is a right register that an instruction fills. A name that means nothing yet means this register from here on, which is above all right
+-- registers of the procedure that have a name.
+abbrev pub IsMade : Procedures → Names → List ℕ → List ℕ → Names → Type 0
+IsMade procedures names word plain after =
+    ((after ≡ names) × IsWord procedures names asked.Right word plain)
+    ⊎ ((number : ℕ) × (register_of plain ≡ Some (bank.Right, number)) × (names.rights ≤ number) × (with_listed procedures names word bank.Right number ≡ Some after))
+
+abbrev pub AreMade : Procedures → Names → List (List ℕ) → List (List ℕ) → Names → Type 0
+AreMade procedures names [] [] after = after ≡ names
+AreMade procedures names (word ∷ words) (plain ∷ plains) after = (next : Names) × IsMade procedures names word plain next × AreMade procedures next words plains after
+AreMade procedures names words plains after = ⊥
+
+-- ---- lines
+
+abbrev pub IsInstruction : Procedures → Names → Opcode → List (List ℕ) → List (List ℕ) → Names → Type 0
+IsInstruction procedures names o words plains after =
+    AreMade procedures names (take (makes o) words) (take (makes o) plains) after
+    × AreOperands procedures after (drop (makes o) (expected_in (compares o) (banks_of procedures after words) (forms_of o))) (drop (makes o) words) (drop (makes o) plains)
+
+-- holds for a head: its words stay, but each name and `:`, and the procedure's name
+abbrev pub IsHead : Procedures → ℕ → Names → List (List ℕ) → List (List ℕ) → Names → Type 0
+IsHead procedures number names words plains after =
+    (is_head_name procedures number (procedure_name words) ≡ true)
+    × (names_after_list procedures listed.Parameters (at_head names words) 0 0 (parameters words) ≡ Some after)
+    × (plains ≡ take 1 words ++ filter is_unnamed (parameters words))
+
+-- holds for a line `regs`: first come the types of the `val` parameters, if the procedure has a name; and last those of the hidden registers
+abbrev pub AreRegisters : Procedures → Names → List (List ℕ) → List (List ℕ) → Names → Type 0
+AreRegisters procedures names words plains after =
+    (next : Names) × (more : List (List ℕ)) × (names_after_list procedures listed.Registers names (length names.types) 0 words ≡ Some next)
+    × (plains ≡ names.types ++ (filter is_unnamed words ++ more)) × (after ≡ with_hidden next (length names.types + length (filter is_unnamed words)) (length more))
+
+-- holds if a line of such a kind has no words in assembly text, and these are the names after it
+abbrev pub OnlyNames : LineKind → Procedures → Names → List (List ℕ) → Names → Type 0
+OnlyNames kind.Names procedures names words after = after ≡ names
+OnlyNames kind.Constant procedures names words after = names_after_constant procedures names words ≡ Some after
+OnlyNames kind.Let procedures names words after = names_after_let procedures names words ≡ Some after
+OnlyNames k procedures names words after = ⊥
+
+-- holds if the words after the first are these in assembly text, and these are the names after the line
+abbrev pub AreOthers : LineKind → Procedures → ℕ → Names → List (List ℕ) → List (List ℕ) → Names → Type 0
+AreOthers kind.Head procedures number names words plains after = IsHead procedures number names (flat_map pieces words) plains after
+AreOthers kind.Registers procedures number names words plains after = AreRegisters procedures names (flat_map pieces words) plains after
+AreOthers (kind.Instruction o) procedures number names words plains after = IsInstruction procedures names o (flat_map pieces words) plains after
+AreOthers kind.Other procedures number names words plains after = (plains ≡ words) × (after ≡ names)
+AreOthers k procedures number names words plains after = ⊥
+
+-- holds if these are the words of the line of this number in assembly text, and these the names after it
+abbrev pub IsLine : Procedures → ℕ → Names → List (List ℕ) → List (List ℕ) → Names → Type 0
+IsLine procedures number names [] plains after = (plains ≡ []) × (after ≡ names)
+IsLine procedures number names (first ∷ words) [] after = OnlyNames (kind_of first words) procedures names words after
+IsLine procedures number names (first ∷ words) (plain ∷ plains) after = (plain ≡ first) × AreOthers (kind_of first words) procedures number names words plains after
+
+-- ---- the text
+
+-- returns whether a line of assembly text is the expansion of a line, and not hidden: it doesn't begin with a blank
+abbrev pub is_written : List ℕ → Bool
+is_written [] = true
+is_written (b ∷ line) = not (b == 32)
+
+abbrev pub opcode_for : List ℕ → List ℕ
+opcode_for literal = if begins_quoted literal then codes "TEXT" else codes "INT"
+
+-- holds if a word is the first hidden register that isn't filled yet
+abbrev pub IsNextRegister : Names → List ℕ → Type 0
+IsNextRegister names register = (first : ℕ) × (names.first ≡ Some first) × (register_of register ≡ Some (bank.Value, first + length names.literals))
+
+-- holds if the words of a hidden line fill that register with a literal
+abbrev pub IsFilling : Names → List ℕ → List ℕ → List ℕ → Names → Type 0
+IsFilling names opcode register literal after =
+    (opcode ≡ opcode_for literal) × IsNextRegister names register × (after ≡ record names { literals = names.literals ++ literal ∷ [] })
+
+abbrev pub IsFilled : Names → List (List ℕ) → Names → Type 0
+IsFilled names (opcode ∷ register ∷ literal ∷ []) after = IsFilling names opcode register literal after
+IsFilled names words after = ⊥
+
+abbrev pub AreFilled : Names → Type 0
+AreFilled names = length names.literals ≡ names.hidden
+
+-- hold for lines from this number on beside all lines of assembly text, and the names after them
+abbrev pub AreLines : Procedures → ℕ → Names → List Line → List (List ℕ) → Names → Type 0
+AreLines procedures number names all [] after = (all ≡ []) × (after ≡ names)
+AreLines procedures number names all (plain ∷ plains) after = (taken : Line) × (next : Names) × IsTaken taken plain
+    × (((is_written plain ≡ false) × IsFilled names (line_words taken) next × AreLines procedures number next all plains after)
+    ⊎ ((is_written plain ≡ true) × AreFilled names × (line : Line) × (others : List Line) × (all ≡ line ∷ others)
+    × IsLine procedures number names (line_words line) (line_words taken) next × AreLines procedures (number + 1) next others plains after))
+
+-- holds if the second text is the first with its names and literals replaced
+abbrev pub IsRenamed : List ℕ → List ℕ → Type 0
+IsRenamed text plain = (all : List Line) × (after : Names) × AreTaken all (lines text) × AreLines (procedures_of all) 1 no_names all (lines plain) after × AreFilled after

@@ -1,0 +1,146 @@
+//! Hidden registers, which hold the numbers and texts among the operands of a procedure.
+
+ghost use Rattle.std.specs.Prelude.{◌≡◌, IfOk, IsTrue, filter, length, option_map, take};
+ghost use Rattle.std.specs.Str.Lines.{lines};
+ghost use Rattle.tw_symbols.specs.Expansion.{written_line};
+ghost use Rattle.tw_symbols.specs.Lines.{IsTaken, Line, line_words};
+ghost use Rattle.tw_symbols.specs.Meanings.{literal_at, literal_from};
+ghost use Rattle.tw_symbols.specs.Renamed.{IsFilled, IsFilling, IsNextRegister, IsSame, begins_quoted, is_written, opcode_for};
+ghost use Rattle.tw_symbols.specs.Seen.{now, seen_names, texts};
+
+use crate::assigned::register_of;
+use crate::line::take_line;
+use crate::meaning::Bank;
+use crate::names::Names;
+use crate::numbers::signed;
+use std::alloc::{AllocError, Global};
+
+/// Returns whether a word begins with a quote.
+pub fn begins_quoted(word: &[u8]) -> bool
+    ensures { result ≡ begins_quoted word.now }
+{
+    match word {
+        [byte, ..] => *byte == b'"',
+        [] => false,
+    }
+}
+
+/// Returns whether two words are one number.
+fn are_same_number(word: &[u8], other: &[u8]) -> bool
+    ensures { IsTrue result → IsSame word.now other.now }
+{
+    match (signed(word), signed(other)) {
+        (Some(number), Some(same)) => number == same,
+        _ => false,
+    }
+}
+
+/// Returns whether two words are the same literal: one number, or the same quoted text.
+pub fn is_same(word: &[u8], other: &[u8]) -> bool
+    ensures { IsTrue result → IsSame word.now other.now }
+{
+    if begins_quoted(word) {
+        other == word
+    } else {
+        are_same_number(word, other)
+    }
+}
+
+/// Returns the literal that fills a value register, if it is a hidden one after this first one.
+fn literal_from<'a>(first: Option<usize>, literals: &[&'a [u8]], number: usize) -> Option<&'a [u8]>
+    ensures { option_map now result ≡ literal_from first (texts literals.now) number }
+{
+    let first = first?;
+    if number < first {
+        None
+    } else {
+        literals.get(number - first).copied()
+    }
+}
+
+/// Returns the literal that fills a value register, if it is a hidden one.
+pub fn literal_at<'a>(names: &Names<'a>, number: usize) -> Option<&'a [u8]>
+    ensures { option_map now result ≡ literal_at (seen_names names.now) number }
+{
+    literal_from(names.first, &names.literals, number)
+}
+
+/// Returns whether a line of an expanded text is that of a written line: one that is hidden begins with a blank.
+pub fn is_written(line: &str) -> bool
+    ensures { result ≡ is_written line.now }
+{
+    match line.as_bytes() {
+        [byte, ..] => *byte != b' ',
+        [] => true,
+    }
+}
+
+/// Returns the number of the line whose expansion has the line of this number of an expanded text, both from 1.
+pub fn written_line(plain: &str, number: usize) -> usize
+    ensures { result ≡ written_line plain.now number }
+{
+    let lines = plain.lines().take(number);
+    lines.filter(|line| is_written(line)).count()
+}
+
+/// Returns the name of the instruction that fills a register with a literal.
+pub fn opcode_for(literal: &[u8]) -> &'static [u8]
+    ensures { result.now ≡ opcode_for literal.now }
+{
+    if begins_quoted(literal) {
+        b"TEXT"
+    } else {
+        b"INT"
+    }
+}
+
+/// Returns whether a word is the next hidden register.
+fn is_next(names: &Names<'_>, register: &[u8]) -> bool
+    ensures { IsTrue result → IsNextRegister (seen_names names.now) register.now }
+{
+    match (names.first, register_of(register)) {
+        (Some(first), Some((Bank::Value, number))) => {
+            first <= number && number - first == names.literals.len()
+        }
+        _ => false,
+    }
+}
+
+/// Returns whether an instruction of these words fills the next hidden register with a literal, and adds that.
+fn is_filling<'a>(
+    names: &mut Names<'a>,
+    opcode: &[u8],
+    register: &[u8],
+    literal: &'a [u8],
+) -> Result<bool, AllocError>
+    ensures { IfOk result (λ is. IsTrue is → IsFilling (seen_names names.old) opcode.now register.now literal.now (seen_names names.new)) }
+{
+    if opcode == opcode_for(literal) && is_next(names, register) {
+        names.literals.push(literal)?;
+        Ok(true)
+    } else {
+        Ok(false)
+    }
+}
+
+/// Returns whether these words of a hidden line fill the next hidden register with a literal, and adds that.
+fn are_filled<'a>(names: &mut Names<'a>, words: &[&'a [u8]]) -> Result<bool, AllocError>
+    ensures { IfOk result (λ is. IsTrue is → IsFilled (seen_names names.old) (texts words.now) (seen_names names.new)) }
+{
+    match words {
+        [opcode, register, literal] => is_filling(names, opcode, register, literal),
+        _ => Ok(false),
+    }
+}
+
+/// Returns whether a hidden line fills the next hidden register with a literal, and adds that.
+pub fn is_filled<'a>(
+    alloc: Global,
+    names: &mut Names<'a>,
+    plain: &'a str,
+) -> Result<bool, AllocError>
+    ensures { IfOk result (λ is. IsTrue is → (taken : Line) × IsTaken taken plain.now × IsFilled (seen_names names.old) (line_words taken) (seen_names names.new)) }
+{
+    let taken = take_line(alloc, plain)?;
+    are_filled(names, &taken.words)
+}
