@@ -5,10 +5,11 @@ ghost use Rattle.tw_visible.specs.Visible.{HidesNothing};
 
 use crate::listing::{put_code_line, put_number, typed_text, typings_at};
 use std::alloc::{AllocError, Global};
+use std::str::Lines;
 use tw_code::Program;
 use tw_diagnostics::{LineRole, line_role};
 use tw_source::SourceText;
-use tw_symbols::RightNames;
+use tw_symbols::{RightNames, is_written};
 use tw_types::Items;
 use tw_verify::{Refused, Typing, Verified};
 use tw_visible::visible_bytes;
@@ -61,26 +62,39 @@ fn put_role_line(
     }
 }
 
+/// Returns the next written line, if a line of the text in which names are replaced is that of one.
+fn next_written<'a>(source: &SourceText<'_>, lines: &mut Lines<'a>, own: &str) -> Option<&'a str> {
+    if source.plain.is_none() || is_written(own) {
+        lines.next()
+    } else {
+        None
+    }
+}
+
 /// Returns the lines of a text as they are written, with the place of each instruction, and what is known of the right registers there, by name if the
 /// text has names. The expanded lines give their roles.
 fn said_text(
     alloc: Global,
-    text: &str,
-    plain: &str,
+    source: &SourceText<'_>,
     all: &[Items<Typing>],
 ) -> Result<Vec<u8>, AllocError>
     ensures { IfOk result (λ listing. HidesNothing listing.items) }
 {
-    let mut names = RightNames::of(alloc, text)?;
+    let mut names = RightNames::of(alloc, source.text)?;
     let mut out = Writer::new(alloc);
     let mut counts = Counts {
         procedures: 0,
         instructions: 0,
     };
-    for (index, (line, own)) in text.lines().zip(plain.lines()).enumerate() {
-        names.read(alloc, index + 1, line)?;
+    let mut lines = source.text.lines();
+    let mut number = 0usize;
+    for own in source.plain().lines() {
         let says = line_role(alloc, own)?;
-        put_role_line(&mut out, &names, all, counts, line, says);
+        if let Some(line) = next_written(source, &mut lines, own) {
+            number = number.saturating_add(1);
+            names.read(alloc, number, line)?;
+            put_role_line(&mut out, &names, all, counts, line, says);
+        }
         counts = counts.advanced(says);
     }
     let listing = out.finish()?;
@@ -122,7 +136,7 @@ fn listed(
     ensures { IfOk result (λ listing. HidesNothing listing.items) }
 {
     match source {
-        Some(source) => said_text(alloc, source.text, source.plain(), all),
+        Some(source) => said_text(alloc, source, all),
         None => typed_text(alloc, program, all),
     }
 }

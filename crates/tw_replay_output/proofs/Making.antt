@@ -1,7 +1,7 @@
 -- Events that made rules, and the numbers of these.
 use Rattle.std.proofs.Common.{◌≡◌, ◌+◌, ◌<◌, ◌≤◌, ◌⊎◌, inl, inr, ℕ, zero, suc, List, [], ◌∷◌, ◌++◌, length, get_or, take, Option, Some, None, refl, sym, ap, subst, ◌∙◌, append_assoc, arith}
 use Rattle.std.proofs.lemmas.Option.{same_Some}
-use Rattle.tw_replay_output.proofs.ReplayNames.{AreMade, ComesFrom, DoesRule, Event, Frame, IsLineOf, IsMade, IsMadeSo, IsOpened, IsReplayOf, IsUnmade, PlainView, Procedure, ExpandsTo, Start, State, PrintRules, PrintsCircle, PrintsRule, Went, append-nil, instr_at, length-append, option_to_list, reached_from, rule_by, rule_done, rule_in, rule_line, slice_get, take_more}
+use Rattle.tw_replay_output.proofs.ReplayNames.{AreMade, DoesRule, Event, Frame, IsFromLine, IsLineOf, IsMade, IsMadeSo, IsOpened, IsReplayOf, IsUnmade, PlainView, Procedure, Start, State, PrintRules, PrintsCircle, PrintsRule, Went, append-nil, instr_at, length-append, option_to_list, reached_from, rule_by, rule_done, rule_in, rule_line, slice_get, take_more}
 use Rattle.std.specs.FinMap.{get}
 use Rattle.tw_types.specs.declared.actor.Actor.{Actor}
 use Rattle.tw_types.specs.declared.event.Event.TheVariants.{Take, Local, Call, End, Ask, Deliver, Release}
@@ -199,12 +199,12 @@ there start events rule m (action, made, runs) none =
 abbrev pub AddsDiagnostic : (List ℕ → Type 0) → List ℕ → List ℕ → Type 0
 AddsDiagnostic Prints old new = (more : List ℕ) × Prints more × (new ≡ old ++ more)
 
-pub rule_printed : (names : List (List ℕ)) (text plain : List ℕ) (start : Start) (events : List Event) (rule : ℕ) (m : Made) (number : ℕ) (line old new : List ℕ) → ExpandsTo text plain → IsMadeSo start events rule m
-    → ComesFrom plain m.procedure m.place number → IsLineOf text number line
+pub rule_printed : (names : List (List ℕ)) (text : List ℕ) (start : Start) (events : List Event) (rule : ℕ) (m : Made) (number : ℕ) (line old new : List ℕ) → IsMadeSo start events rule m
+    → IsFromLine text m.procedure m.place number → IsLineOf text number line
     → new ≡ old ++ rule_line rule m.runs (name_at names m.runs) number line → AddsDiagnostic (PrintsRule names text start events rule) old new
-rule_printed names text plain start events rule m number line old new expands (action, made, runs) comes is added = (
+rule_printed names text start events rule m number line old new (action, made, runs) comes is added = (
   rule_line rule action.procedure (name_at names action.procedure) number line,
-  inl (plain, m.procedure, m.place, number, action, line, made, expands, comes, is, refl),
+  inl (m.procedure, m.place, number, action, line, made, comes, is, refl),
   added ∙ ap (λ (n : ℕ). old ++ rule_line rule n (name_at names n) number line) (sym runs),
 )
 

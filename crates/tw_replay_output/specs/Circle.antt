@@ -11,7 +11,6 @@ use Rattle.tw_types.specs.declared.input.Input.{Input}
 use Rattle.tw_types.specs.declared.pending.Link.{Link}
 use Rattle.tw_types.specs.Layout.{ActorCounts}
 use Rattle.tw_types.specs.Outcome.{Outcome, Went}
-use Rattle.tw_asm.specs.Origins.{ComesFrom}
 use Rattle.tw_code.specs.declared.instr.Action.{Action}
 use Rattle.tw_code.specs.declared.instr.Instr.TheVariants.{Rule}
 use Rattle.tw_code.specs.declared.procedure.Procedure.{Procedure}
@@ -19,9 +18,8 @@ use Rattle.tw_code.specs.machine.Due.{instr_here}
 use Rattle.tw_code.specs.machine.Opening.{reached}
 use Rattle.tw_code.specs.machine.Pending.{circle}
 use Rattle.tw_code.specs.machine.State.{Frame, State}
-use Rattle.tw_symbols.specs.Expansion.{ExpandsTo}
 use Rattle.tw_symbols.specs.Symbols.{AreNames, bracketed, name_at}
-use Rattle.tw_source.specs.Text.{IsLineOf, text_line}
+use Rattle.tw_source.specs.Text.{IsFromLine, IsLineOf, text_line}
 
 -- ---- who made a rule
 
@@ -68,8 +66,8 @@ rule_line rule procedure name number line = rule_text rule procedure name ++ tex
 -- holds for the line of a rule that was made by the events, if procedures have these names; another rule has none
 abbrev pub PrintsRule : List (List ℕ) → List ℕ → Start → List Event → ℕ → List ℕ → Type 0
 PrintsRule names text start events rule more =
-    ((plain : List ℕ) × (procedure place number : ℕ) × (action : Action) × (line : List ℕ) × IsMade start events rule procedure place action
-    × ExpandsTo text plain × ComesFrom plain procedure place number × IsLineOf text number line × (more ≡ rule_line rule action.procedure (name_at names action.procedure) number line))
+    ((procedure place number : ℕ) × (action : Action) × (line : List ℕ) × IsMade start events rule procedure place action
+    × IsFromLine text procedure place number × IsLineOf text number line × (more ≡ rule_line rule action.procedure (name_at names action.procedure) number line))
     ⊎ (((procedure place : ℕ) (action : Action) → IsMade start events rule procedure place action → ⊥) × (more ≡ []))
 
 -- holds for the lines of the rules of a circle

@@ -1,5 +1,5 @@
 -- The model of what the code keeps of a trace while it replays it, for the lines that made its rules.
-use Rattle.std.specs.Prelude.{◌≡◌, ◌+◌, ◌≤◌, ℕ, List, [], Option, Some, None, Result, Ok, Err, length, map, slice_get}
+use Rattle.std.specs.Prelude.{◌≡◌, ◌+◌, ◌≤◌, ℕ, List, [], Option, Some, None, Result, Ok, Err, length, slice_get}
 use Rattle.std.specs.FinMap.{get}
 use Rattle.std.specs.Option.{option_and_then}
 use Rattle.tw_types.specs.declared.event.Event.{Event}
@@ -18,6 +18,7 @@ use Rattle.tw_machine.specs.PlainView.{PlainView}
 use Rattle.tw_order.specs.declared.runs.Answer.{Answer}
 use Rattle.tw_source.specs.Reply.{Reply, reply}
 use Rattle.tw_source.specs.Source.{MayBeSource, text_of}
+use Rattle.tw_source.specs.WrittenLines.{IsTable}
 use Rattle.tw_source.specs.declared.source.SourceText.{SourceText}
 use Rattle.tw_replay_output.specs.Circle.{AreEndingDetails, IsMade, Start, reached_from}
 use Rattle.tw_replay_output.specs.Replay.{ByOutcome, IsAnswer, IsDetailed, played_from, state_reply}
@@ -26,7 +27,6 @@ use Rattle.tw_replay_output.specs.declared.replaying.Made.{Made}
 use Rattle.tw_replay_output.specs.declared.replaying.Replaying.{Replaying}
 use Rattle.tw_replay_output.specs.declared.stuck.Lookup.{Lookup}
 use Rattle.tw_symbols.specs.Symbols.{AreNames}
-use Rattle.std.specs.Str.Lines.{lines}
 
 -- ---- rules that were made
 
@@ -64,10 +64,10 @@ pub record AreMade (start : Start) (events : List Event) (made : List Made) : Ty
 
 -- ---- the lines of rules
 
--- the lines of this text, and the names that it gives its procedures
-pub record IsLookup (l : Lookup) (text : List ℕ) : Type 0 where
-  pub lines_are : map (λ line. line.now) l.lines.lines.items ≡ lines text
-  pub names_are : AreNames text l.names
+-- the lines of this text, by those of its expansion, and the names that it gives its procedures
+pub record IsLookup (l : Lookup) (source : SourceText) : Type 0 where
+  pub lines_are : IsTable l.lines source.text.now source.plain
+  pub names_are : AreNames source.text.now l.names
 
 -- ---- a trace
 

@@ -66,11 +66,11 @@ struct Lookup<'a> {
 
 impl<'a> Lookup<'a> {
     /// Reads a text once for all rules.
-    fn of(alloc: Global, text: &'a str) -> Result<Lookup<'a>, AllocError>
-        ensures { IfOk result (λ lookup. IsLookup lookup text.entry.now) }
+    fn of(alloc: Global, source: &SourceText<'a>) -> Result<Lookup<'a>, AllocError>
+        ensures { IfOk result (λ lookup. IsLookup lookup source.now) }
     {
-        let lines = TextLines::of(alloc, text)?;
-        let names = Symbols::of(alloc, text)?;
+        let lines = TextLines::of(alloc, source)?;
+        let names = Symbols::of(alloc, source.text)?;
         Ok(Lookup { lines, names })
     }
 }
@@ -84,7 +84,7 @@ fn put_rule(
     made: &[Made],
     rule: RuleNo,
 ) -> Result<(), AllocError>
-    ensures { OnOk result ((start : Start) (events : List AnEvent) → IsLookup lookup.now source.now.text.now → IsSource source.now start.program → AreMade start events made.now
+    ensures { OnOk result ((start : Start) (events : List AnEvent) → IsLookup lookup.now source.now → IsSource source.now start.program → AreMade start events made.now
         → (more : List ℕ) × PrintsRule lookup.now.names source.now.text.now start events rule more × (out.new.items ≡ out.old.items ++ more)) }
 {
     let Some(own) = made_of(made, rule) else {
@@ -105,7 +105,7 @@ fn put_rules(
     made: &[Made],
     links: &[Link],
 ) -> Result<(), AllocError>
-    ensures { OnOk result ((start : Start) (events : List AnEvent) → IsLookup lookup.now source.now.text.now → IsSource source.now start.program → AreMade start events made.now
+    ensures { OnOk result ((start : Start) (events : List AnEvent) → IsLookup lookup.now source.now → IsSource source.now start.program → AreMade start events made.now
         → (more : List ℕ) × PrintRules lookup.now.names source.now.text.now start events links.now more × (out.new.items ≡ out.old.items ++ more)) }
 {
     for link in links {
@@ -125,7 +125,7 @@ fn put_links(
     ensures { OnOk result ((start : Start) (events : List AnEvent) → IsSource source.now start.program → AreMade start events made.now
         → (more : List ℕ) × PrintsCircle source.now.text.now start events (Some links.now) more × (out.new.items ≡ out.old.items ++ more)) }
 {
-    let lookup = Lookup::of(alloc, source.text)?;
+    let lookup = Lookup::of(alloc, source)?;
     put_rules(alloc, out, source, &lookup, made, links)
 }
 
