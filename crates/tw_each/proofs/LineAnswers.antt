@@ -26,10 +26,6 @@ pub long_line : (w : Way) (n : ℕ) (line old new : List ℕ) (worst : WorstEnd)
     → (worst ≡ ends.Refused) × ((l : List ℕ) × IsJsonLine l × (new ≡ old ++ numbered n l)) → (answer : List ℕ) × IsLine w n line answer worst × (new ≡ old ++ answer)
 long_line w n line old new worst long (is_refused, (l, json, is)) = (numbered n l, rw long ((l, json, refl), is_refused), is)
 
-pub short_line : (w : Way) (n : ℕ) (line old new : List ℕ) (worst : WorstEnd) → nat_lt most_bytes (length line) ≡ false
-    → (answer : List ℕ) × IsShortLine w n line answer worst × (new ≡ old ++ answer) → (answer : List ℕ) × IsLine w n line answer worst × (new ≡ old ++ answer)
-short_line w n line old new worst short (answer, h, is) = (answer, rw short h, is)
-
 -- ---- one more
 
 answers_more : (w : Way) (before : ℕ) (lines : List (List ℕ)) (text : List ℕ) (worst : WorstEnd) (line answer : List ℕ) (bad : WorstEnd) → AreAnswers w before lines text worst → IsLine w (before + length lines + 1) line answer bad

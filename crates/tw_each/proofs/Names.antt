@@ -6,8 +6,8 @@ pub use Rattle.std.proofs.lemmas.List.{append-nil, length-append, length-map, le
 pub use Rattle.std.proofs.lemmas.Result.{IfOk-weaker, err_from_is_err_and}
 pub use Rattle.std.specs.Io.KnownBytes.{Appends, Consumes, IsAtEnd, Keeps, ReadConsumes}
 pub use Rattle.std.specs.Prelude.{MatchOption, if◌then◌else◌}
-pub use Rattle.tw_each.specs.Answers.{AreAnswers, IsAnswer, IsEnded, IsFullLine, IsInputsAnswer, IsLeftLine, IsLine, IsRejectedLine, IsShortLine, IsUnread, Way, is_blank, labelled, numbered, way}
-pub use Rattle.tw_each.specs.Ready.{IsEachInput, IsReady}
+pub use Rattle.tw_each.specs.Answers.{AreAnswers, IsAnswer, IsFullLine, IsInputsAnswer, IsLeftLine, IsLine, IsRejectedLine, IsShortLine, IsUnread, Way, is_blank, labelled, numbered, way}
+pub use Rattle.tw_each.specs.Ready.{IsReady}
 pub use Rattle.tw_each.specs.Reply.{IsTooLongReply, RepliesByEach, RepliesByParts, way_of}
 pub use Rattle.tw_each.specs.Shares.{AreMerged, AreShares}
 pub use Rattle.tw_each.specs.Stream.{Adds, AnswersAll, AnswersLast, AreSomeWritten, AreWritten, IsAt, Stops, TakesChunk, begun_line, but_last, ended_lines, kept, last_of, lines_in, parts_of}
@@ -18,7 +18,7 @@ pub use Rattle.tw_each.specs.declared.shares.Share.{Share}
 pub use Rattle.tw_each.specs.declared.stream.AnsweredLines.{AnsweredLines}
 pub use Rattle.tw_each.specs.declared.stream.StreamError.{StreamError}
 pub use Rattle.tw_each.specs.declared.stream.StreamError.TheVariants.{NoMemory, Read, Write}
-pub use Rattle.tw_each.specs.declared.together.EachInput.{EachInput}
+pub use Rattle.tw_each.specs.declared.together.EachParts.{EachParts}
 pub use Rattle.tw_each.specs.declared.worst.WorstEnd.{WorstEnd}
 pub use Rattle.tw_inputs.specs.JsonLines.{line_id}
 pub use Rattle.tw_json_output.specs.Lines.{IsJsonLine}

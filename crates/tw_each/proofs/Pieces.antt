@@ -30,10 +30,7 @@ onto_joined b (part ∷ []) first others h = refl
 onto_joined b (part ∷ next ∷ parts) first others h = refl
 
 after_joined : (parts : List (List ℕ)) (first : List ℕ) (others : List (List ℕ)) → HasFirst parts → [] ∷ joined parts first others ≡ joined ([] ∷ parts) first others
-after_joined [] first others (part, more, is) = absurd (never is)
-  where
-    never : [] ≡ part ∷ more → ⊥
-    never e = cc
+after_joined [] first others (part, more, is) = absurd (let never : [] ≡ part ∷ more = is in cc)
 after_joined (part ∷ parts) first others h = refl
 
 one_more : (is : Bool) (b : ℕ) (parts whole : List (List ℕ)) (first : List ℕ) (others : List (List ℕ)) → HasFirst parts → whole ≡ joined parts first others

@@ -17,16 +17,6 @@ appended_on (Some o) None new xs ys p q = absurd p
 appended_on (Some o) (Some m) None xs ys p q = absurd q
 appended_on (Some o) (Some m) (Some n) xs ys p q = q ∙ ap (λ (l : List ℕ). l ++ ys) p ∙ append_assoc o xs ys
 
-pub appended_kept : (old mid new : Option (List ℕ)) (xs : List ℕ) → Appends old mid xs → Keeps mid new → Appends old new xs
-appended_kept None mid new xs p q = tt
-appended_kept (Some o) None new xs p q = absurd p
-appended_kept (Some o) (Some m) None xs p q = absurd q
-appended_kept (Some o) (Some m) (Some n) xs p q = q ∙ p
-
-pub nothing_consumed : (from : Option (List ℕ)) → Consumes from from []
-nothing_consumed None = tt
-nothing_consumed (Some xs) = refl
-
 pub consumed_on : (from mid left : Option (List ℕ)) (xs ys : List ℕ) → Consumes from mid xs → Consumes mid left ys → Consumes from left (xs ++ ys)
 consumed_on None mid left xs ys p q = tt
 consumed_on (Some f) None left xs ys p q = absurd p

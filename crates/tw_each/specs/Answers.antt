@@ -1,32 +1,22 @@
 -- The answers to lines of inputs, each of them a JSON object on one line.
-use Rattle.std.specs.Prelude.{◌≡◌, ◌≢◌, ◌⊎◌, ◌+◌, ◌++◌, ℕ, Bool, is_some, MatchBool, List, [], ◌∷◌, codes, decimal, drop, length, nat_lt, unwrap_or, IsUtf8, Option, Some, None}
-use Rattle.std.specs.List.{list_all}
+use Rattle.std.specs.Prelude.{◌≡◌, ◌≢◌, ◌⊎◌, ◌+◌, ◌++◌, ◌∷◌}
+use Rattle.tw_each.specs.Names.{ℕ, Bool, is_some, MatchBool, List, [], codes, decimal, drop, length, nat_lt, IsUtf8, Option, Some, None, list_all, TypedProgram, Closing, is_gap_byte, most_bytes, coded, text_of}
 use Rattle.tw_types.specs.Layout.{ActorCounts}
 use Rattle.tw_types.specs.declared.input.Input.{Input}
 use Rattle.tw_code.specs.machine.Opening.{main_params}
-use Rattle.tw_verify.specs.Typed.{TypedProgram}
-use Rattle.tw_pool.specs.declared.answer.Closing.{Closing}
-use Rattle.tw_pool.specs.declared.answer.Closing.TheVariants as closings
 use Rattle.tw_pool.specs.declared.open.OpenError.{OpenError}
 use Rattle.tw_pool.specs.declared.open.OpenError.TheVariants.{NoMemory}
 use Rattle.tw_pool.specs.Openings.{IsRejection, MayOpen, opened}
 use Rattle.tw_pool.specs.PoolView.{PoolView}
-use Rattle.tw_in_turn.specs.Stopping.{IsLeftIf}
-use Rattle.tw_in_turn.specs.declared.run.StoppableResult.{StoppableResult}
-use Rattle.tw_in_turn.specs.declared.run.StoppableResult.TheVariants.{Ended, Stopped}
-use Rattle.tw_in_turn.specs.declared.run.InTurnResult.TheVariants as result
+use Rattle.tw_in_turn.specs.Stopping.{IsLeftIf, cut_of, left_closing}
+use Rattle.tw_in_turn.specs.declared.run.EndedRun.{EndedRun}
 use Rattle.tw_inputs.specs.JsonInputs.{AreInputsOf, HasFaultOf}
 use Rattle.tw_inputs.specs.JsonLines.{line_id, line_json}
 use Rattle.tw_inputs.specs.declared.json_inputs.Place.{Place}
 use Rattle.tw_json_output.specs.Lines.{IsJsonLine}
-use Rattle.tw_source.specs.Input.{is_gap_byte, most_bytes}
-use Rattle.tw_source.specs.Failure.{coded}
 use Rattle.tw_source.specs.declared.failure.Failure.{Failure}
 use Rattle.tw_source.specs.declared.failure.Position.TheVariants.{Nowhere}
-use Rattle.tw_source.specs.Source.{text_of}
 use Rattle.tw_run_output.specs.Json.{IsEndLine}
-use Rattle.tw_pool.specs.Ends.{FinalView}
-use Rattle.tw_types.specs.declared.event.Event.{Event}
 use Rattle.tw_each.specs.Worst.{end_of, worse}
 use Rattle.tw_each.specs.declared.answer.EachRun.{EachRun}
 use Rattle.tw_each.specs.declared.worst.WorstEnd.{WorstEnd}
@@ -45,19 +35,14 @@ way run = record { text = text_of run.source.now; verified = run.verified.now; l
 
 -- ---- one line
 
--- holds for the line of a run that ended so, whose cut-off task executed so many local instructions, and for its end
-abbrev pub IsEnded : FinalView → List Event → ℕ → Closing → List ℕ → WorstEnd → Type 0
-IsEnded final events cut closing line end = IsEndLine final events cut closing line × (end ≡ end_of closing)
-
 -- holds for the line of a finished run, and its end: why it ended, or that it was stopped, unless it had its end then
-abbrev pub IsLeftLine : StoppableResult → List ℕ → WorstEnd → Type 0
-IsLeftLine (Ended (result.Over final history)) line end = (closing : Closing) × (final.closing ≡ Some closing) × IsEnded final history.events 0 closing line end
-IsLeftLine (Ended (result.NoMemory final history)) line end = ⊥
-IsLeftLine (Stopped final history cut) line end = IsEnded final history.events cut (unwrap_or final.closing closings.Stopped) line end
+abbrev pub IsLeftLine : EndedRun → List ℕ → WorstEnd → Type 0
+IsLeftLine left line end =
+    (closing : Closing) × (left_closing left ≡ Some closing) × IsEndLine left.outcome left.history.events (cut_of left.end) closing line × (end ≡ end_of closing)
 
 -- holds for the line of what a run leaves, from its first pool on, if it may be stopped
 abbrev pub IsRunLine : Bool → PoolView → List ℕ → WorstEnd → Type 0
-IsRunLine may_stop first line end = (left : StoppableResult) × IsLeftIf may_stop None first left × IsLeftLine left line end
+IsRunLine may_stop first line end = (left : EndedRun) × IsLeftIf may_stop None first left × IsLeftLine left line end
 
 -- holds for the line of the error at opening
 abbrev pub IsRejectedLine : Way → List Input → List ℕ → Type 0

@@ -7,3 +7,5 @@ pub mod Ready
 pub mod Shares
 -- The worst end of lines, and what a session ends with.
 pub mod Worst
+-- Names of other crates that several files here use.
+pub mod Names

@@ -1,18 +1,10 @@
 -- The reply to a program and the lines of inputs after it.
-use Rattle.std.specs.Prelude.{◌≡◌, ◌⊎◌, ℕ, List, Option, Some, MatchOption, codes, is_some, IsUtf8}
+use Rattle.std.specs.Prelude.{◌≡◌, ◌⊎◌}
+use Rattle.tw_each.specs.Names.{ℕ, List, Option, Some, MatchOption, codes, is_some, IsUtf8, Versioned, TypedProgram, EachOrder, Source, IsJsonReply, coded, failed, cut_inputs, lines_in, RepliesBySource, HasProgram, source_text, Reply, reply}
 use Rattle.tw_code.specs.declared.procedure.Procedure.{Procedure}
-use Rattle.tw_code.specs.format.Program.{Versioned}
-use Rattle.tw_verify.specs.Typed.{TypedProgram}
-use Rattle.tw_order.specs.declared.runs.EachOrder.{EachOrder}
 use Rattle.tw_order.specs.declared.form.Places.TheVariants.{Hidden}
-use Rattle.tw_order.specs.declared.order.Source.{Source}
 use Rattle.tw_program_output.specs.Admission.{IsAdmitted, IsRejected}
-use Rattle.tw_program_output.specs.ErrorJson.{IsJsonReply}
-use Rattle.tw_source.specs.Failure.{coded, failed}
 use Rattle.tw_source.specs.declared.failure.Position.TheVariants as position
-use Rattle.tw_source.specs.Inputs.{cut_inputs, lines_in}
-use Rattle.tw_source.specs.Program.{RepliesBySource, HasProgram, source_text}
-use Rattle.tw_source.specs.Reply.{Reply, reply}
 use Rattle.tw_source.specs.declared.close.Close.TheVariants.{CommandLine}
 use Rattle.tw_each.specs.Answers.{AreAnswers, Way, too_long}
 use Rattle.tw_each.specs.Worst.{close_of}

@@ -1,7 +1,6 @@
 -- The shares of lines that threads answer, for private clauses.
-use Rattle.std.specs.Prelude.{◌≡◌, ◌+◌, ◌++◌, ℕ, List, [], ◌∷◌, Result, Ok, Err, length}
-use Rattle.std.specs.Borrow.{Bor}
-use Rattle.std.specs.declared.alloc.AllocError.{AllocError}
+use Rattle.std.specs.Prelude.{◌≡◌, ◌+◌, ◌++◌, ◌∷◌}
+use Rattle.tw_each.specs.Names.{ℕ, List, [], Result, Ok, Err, length, Bor}
 use Rattle.tw_each.specs.declared.lines.Answers.{Answers}
 use Rattle.tw_each.specs.Worst.{worse}
 use Rattle.tw_each.specs.declared.shares.Share.{Share}

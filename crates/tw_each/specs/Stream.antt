@@ -1,14 +1,7 @@
 -- Lines that are read one after the other, and what is written.
-use Rattle.std.specs.Prelude.{◌≡◌, ◌⊎◌, ◌==◌, ◌++◌, ◌+◌, ℕ, Bool, List, [], ◌∷◌, Option, Result, Ok, Err, IfOk, IfSome, MatchResult, length, take, nat_lt, if◌then◌else◌}
+use Rattle.std.specs.Prelude.{◌≡◌, ◌⊎◌, ◌==◌, ◌++◌, ◌+◌, ◌∷◌, if◌then◌else◌}
+use Rattle.tw_each.specs.Names.{ℕ, Bool, List, [], Option, Result, Ok, Err, IfOk, IfSome, MatchResult, length, take, nat_lt, slice_split, Versioned, EachOrder, Source, most_bytes, source_text, Reply, reply, TypedProgram}
 use Rattle.std.specs.Io.KnownBytes.{Appends, Consumes, Keeps}
-use Rattle.std.specs.List.{slice_split}
-use Rattle.tw_code.specs.format.Program.{Versioned}
-use Rattle.tw_order.specs.declared.runs.EachOrder.{EachOrder}
-use Rattle.tw_order.specs.declared.order.Source.{Source}
-use Rattle.tw_source.specs.Input.{most_bytes}
-use Rattle.tw_source.specs.Program.{source_text}
-use Rattle.tw_source.specs.Reply.{Reply, reply}
-use Rattle.tw_verify.specs.Typed.{TypedProgram}
 use Rattle.tw_each.specs.Answers.{AreAnswers, Way}
 use Rattle.tw_each.specs.Reply.{IsRead, IsRejectionLine, way_of, IsTooLongReply}
 use Rattle.tw_each.specs.declared.stream.AnsweredLines.{AnsweredLines}

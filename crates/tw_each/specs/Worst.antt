@@ -1,7 +1,6 @@
 -- How lines ended: the worst end of any of them.
-use Rattle.tw_pool.specs.declared.answer.Closing.{Closing}
+use Rattle.tw_each.specs.Names.{Closing, uncoded}
 use Rattle.tw_pool.specs.declared.answer.Closing.TheVariants as closings
-use Rattle.tw_source.specs.Failure.{uncoded}
 use Rattle.tw_source.specs.declared.close.Close.{Close}
 use Rattle.tw_source.specs.declared.close.Close.TheVariants as closes
 use Rattle.tw_source.specs.declared.failure.Position.TheVariants.{Nowhere}

@@ -1,17 +1,13 @@
 //! The answer to one line.
 
-ghost use Rattle.std.specs.Prelude.{◌≡◌, ◌≢◌, ◌++◌, List, None, ℕ, Bool, IfOk, MatchResult, string_bytes, unwrap_or};
+ghost use Rattle.std.specs.Prelude.{◌≡◌, ◌≢◌, ◌++◌, List, ℕ, IfOk, MatchResult, string_bytes};
 ghost use Rattle.tw_code.specs.machine.Opening.{main_params};
-ghost use Rattle.tw_in_turn.specs.InTurn.{IsLeft};
-ghost use Rattle.tw_in_turn.specs.Stopping.{IsLeftIf};
-ghost use Rattle.tw_in_turn.specs.declared.run.StoppableResult.TheVariants.{Ended};
 ghost use Rattle.tw_pool.specs.Openings.{IsRejection};
-ghost use Rattle.tw_pool.specs.PoolView.{PoolView};
 ghost use Rattle.tw_pool.specs.declared.open.OpenError.TheVariants.{NoMemory};
 ghost use Rattle.tw_inputs.specs.JsonInputs.{AreInputsOf, HasFaultOf};
 ghost use Rattle.tw_inputs.specs.JsonLines.{line_id, line_json};
 ghost use Rattle.tw_json_output.specs.Lines.{IsJsonLine};
-ghost use Rattle.tw_each.specs.Answers.{IsAnswer, IsEnded, IsFaultAnswer, IsInputsAnswer, IsLeftLine, IsRejectedLine, labelled, numbered, way};
+ghost use Rattle.tw_each.specs.Answers.{IsAnswer, IsFaultAnswer, IsInputsAnswer, IsLeftLine, IsRejectedLine, labelled, numbered, way};
 ghost use Rattle.tw_each.specs.declared.worst.WorstEnd.TheVariants.{Refused};
 
 use crate::numbered::put_labelled_line;
@@ -20,9 +16,9 @@ use crate::worst::WorstEnd;
 use std::alloc::{AllocError, Global};
 use std::time::Duration;
 use tw_code::main_params;
-use tw_in_turn::{InTurnResult, StoppableResult};
+use tw_in_turn::EndedRun;
 use tw_inputs::{InputLine, Place, Scratch, line_fault_text, read_line};
-use tw_pool::{Closing, Final, History, OpenError};
+use tw_pool::OpenError;
 use tw_program_output::error_line;
 use tw_replay_output::inputs_refused_reply;
 use tw_run_output::end_line;
@@ -57,61 +53,17 @@ fn params_of<'a>(run: &EachRun<'a>) -> &'a [Param]
     main_params(run.verified.program().procedures())
 }
 
-/// Returns the line of a run that ended so.
-fn ending_line(
-    alloc: Global,
-    outcome: &Final,
-    history: &History,
-    cut: u64,
-    closing: Closing,
-) -> Result<AnswerLine, AllocError>
-    ensures { IfOk result (λ answer. IsEnded outcome.now history.now.events cut closing (string_bytes answer.line) answer.end) }
+/// Returns the line of what a run left, if memory lasted.
+fn left_line(alloc: Global, left: &EndedRun) -> Result<AnswerLine, AllocError>
+    ensures { IfOk result (λ answer. IsLeftLine left.now (string_bytes answer.line) answer.end) }
 {
-    Ok(AnswerLine {
-        line: end_line(alloc, outcome, history, cut, closing)?,
-        end: WorstEnd::of(closing),
-    })
-}
-
-/// Returns the line of a run that ended.
-fn ended_line(alloc: Global, left: InTurnResult) -> Result<AnswerLine, AllocError>
-    requires { (first : PoolView) × IsLeft None first left }
-    ensures { IfOk result (λ answer. IsLeftLine (Ended left) (string_bytes answer.line) answer.end) }
-{
-    match left {
-        InTurnResult::Over { outcome, history } => match outcome.closing() {
-            Some(closing) => ending_line(alloc, &outcome, &history, 0, closing),
-            None => unreachable!(),
-        },
-        InTurnResult::NoMemory { .. } => Err(AllocError),
-    }
-}
-
-/// Returns the line of a run that was stopped. It may have reached its end before.
-fn stopped_line(
-    alloc: Global,
-    outcome: &Final,
-    history: &History,
-    cut: u64,
-) -> Result<AnswerLine, AllocError>
-    ensures { IfOk result (λ answer. IsEnded outcome.now history.now.events cut (unwrap_or outcome.now.closing Closing.Stopped) (string_bytes answer.line) answer.end) }
-{
-    let closing = outcome.closing().unwrap_or(Closing::Stopped);
-    ending_line(alloc, outcome, history, cut, closing)
-}
-
-/// Returns the line of what a run left.
-fn left_line(alloc: Global, left: StoppableResult) -> Result<AnswerLine, AllocError>
-    requires { (may_stop : Bool) × (first : PoolView) × IsLeftIf may_stop None first left }
-    ensures { IfOk result (λ answer. IsLeftLine left (string_bytes answer.line) answer.end) }
-{
-    match left {
-        StoppableResult::Ended(left) => ended_line(alloc, left),
-        StoppableResult::Stopped {
-            outcome,
-            history,
-            cut,
-        } => stopped_line(alloc, &outcome, &history, cut),
+    match left.closing() {
+        Some(closing) => {
+            let line = end_line(alloc, &left.outcome, &left.history, left.cut(), closing)?;
+            let end = WorstEnd::of(closing);
+            Ok(AnswerLine { line, end })
+        }
+        None => Err(AllocError),
     }
 }
 
@@ -141,7 +93,7 @@ fn inputs_answer<L: RunsLine>(
     ensures { IfOk result (λ answer. IsInputsAnswer (way run.now) inputs.now (string_bytes answer.line) answer.end) }
 {
     match runner.run(alloc, run, inputs) {
-        Ok(left) => left_line(alloc, left),
+        Ok(left) => left_line(alloc, &left),
         Err(OpenError::NoMemory) => Err(AllocError),
         Err(why) => Ok(AnswerLine {
             line: rejected_line(alloc, run, inputs, why)?,

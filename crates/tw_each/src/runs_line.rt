@@ -7,19 +7,14 @@ ghost use Rattle.tw_pool.specs.Openings.{IsRejection, MayOpen, opened};
 use crate::answer::EachRun;
 use std::alloc::Global;
 use std::time::Clock;
-use tw_in_turn::{StoppableResult, run_in_turn, run_timed};
+use tw_in_turn::{EndedRun, run_in_turn, run_timed};
 use tw_pool::OpenError;
 use tw_types::Input;
 
 /// Runs the program on the inputs of a line. Only a run whose time is limited is stopped.
 pub trait RunsLine {
     /// Runs it in this thread.
-    fn run(
-        &self,
-        alloc: Global,
-        run: &EachRun<'_>,
-        inputs: &[Input],
-    ) -> Result<StoppableResult, OpenError>
+    fn run(&self, alloc: Global, run: &EachRun<'_>, inputs: &[Input]) -> Result<EndedRun, OpenError>
         ensures allowed { IfOk result (λ _. MayOpen run.now.verified.now.program inputs.now run.now.layout run.now.limit) }
         ensures left { IfOk result (IsLeftIf (is_some run.now.seconds) None (opened run.now.verified.now inputs.now run.now.layout run.now.limit)) }
         ensures refused { IfErr result (IsRejection run.now.verified.now.program inputs.now run.now.layout run.now.limit) };
@@ -35,11 +30,8 @@ impl RunsLine for WithoutClock {
         alloc: Global,
         run: &EachRun<'_>,
         inputs: &[Input],
-    ) -> Result<StoppableResult, OpenError> {
-        match run_in_turn(alloc, run.verified, inputs, run.layout, run.limit, None) {
-            Ok(left) => Ok(StoppableResult::Ended(left)),
-            Err(why) => Err(why),
-        }
+    ) -> Result<EndedRun, OpenError> {
+        run_in_turn(alloc, run.verified, inputs, run.layout, run.limit, None)
     }
 }
 
@@ -55,7 +47,7 @@ impl<'a, C: Clock> RunsLine for ByClock<'a, C> {
         alloc: Global,
         run: &EachRun<'_>,
         inputs: &[Input],
-    ) -> Result<StoppableResult, OpenError> {
+    ) -> Result<EndedRun, OpenError> {
         run_timed(
             self.clock,
             alloc,

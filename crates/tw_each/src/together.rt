@@ -1,9 +1,9 @@
 //! The reply to a program and lines of inputs that are read together.
 
-ghost use Rattle.std.specs.Prelude.{◌≡◌, IfOk, map};
+ghost use Rattle.std.specs.Prelude.{◌≡◌, IfOk};
 ghost use Rattle.tw_source.specs.Reply.{reply};
-ghost use Rattle.tw_each.specs.Ready.{IsEachInput, IsTextInput};
-ghost use Rattle.tw_each.specs.Reply.{RepliesByEach, RepliesByParts};
+ghost use Rattle.tw_each.specs.Ready.{AreEachParts, AreTextParts};
+ghost use Rattle.tw_each.specs.Reply.{RepliesByEach};
 ghost use Rattle.tw_each.specs.Worst.{close_of as close_of_is};
 
 use crate::line_count::LineCount;
@@ -18,48 +18,56 @@ use std::alloc::{AllocError, Global};
 use std::thread::Threads;
 use std::time::Clock;
 use tw_order::{EachOrder, Source};
-use tw_source::{Close, Reply, cut_inputs, fixed_reply, not_utf8_reply};
+use tw_source::{Close, Reply, SourceText, cut_inputs, fixed_reply, not_utf8_reply};
+use tw_verify::Verified;
 
-/// A program and the lines of inputs after it.
+/// A program that may be run on lines, with the text from which it was read, if from any, and the lines; or the reply to what is none.
 #[derive(Drop)]
-pub(crate) struct LineParts<'a> {
-    pub(crate) program: &'a [u8],
-    pub(crate) lines: Vec<&'a [u8]>,
+pub(crate) enum EachParts<'a> {
+    Lines(Option<SourceText<'a>>, Verified, Vec<&'a [u8]>),
+    Replied(Reply),
 }
 
-/// A program with lines of inputs, or the reply to what is none.
-#[derive(Drop)]
-pub(crate) enum EachInput<'a> {
-    Parts(LineParts<'a>),
-    Rejected(Reply),
-}
-
-/// Splits a text into a program and the lines after it. Without a line `inputs` the command line is rejected.
-fn text_input<'a>(alloc: Global, text: &'a [u8]) -> Result<EachInput<'a>, AllocError>
-    ensures { IfOk result (IsTextInput text.entry.now) }
+/// Reads the program of a text and the lines after it. Without a line `inputs` the command line is rejected.
+fn text_parts<'a>(
+    alloc: Global,
+    source: Source,
+    order: &EachOrder,
+    text: &'a [u8],
+) -> Result<EachParts<'a>, AllocError>
+    ensures { IfOk result (AreTextParts source order.now text.entry.now) }
 {
-    match cut_inputs(text) {
-        Some((program, inputs)) => {
-            let lines = parts_of(alloc, inputs)?;
-            Ok(EachInput::Parts(LineParts { program, lines }))
+    let Some((program, lines)) = cut_inputs(text) else {
+        let reply = fixed_reply(alloc, "command line refused\n", Close::CommandLine)?;
+        return Ok(EachParts::Replied(reply));
+    };
+    match read_ready(alloc, source, order, program)? {
+        Ready::Run(text, verified) => {
+            let lines = parts_of(alloc, lines)?;
+            Ok(EachParts::Lines(text, verified, lines))
         }
-        None => {
-            let reply = fixed_reply(alloc, "command line refused\n", Close::CommandLine)?;
-            Ok(EachInput::Rejected(reply))
+        Ready::Rejected(error) => {
+            let reply = json_reply(alloc, error)?;
+            Ok(EachParts::Replied(reply))
         }
     }
 }
 
-/// Splits what is read into a program and the lines after it.
-fn each_input<'a>(alloc: Global, input: &'a [u8]) -> Result<EachInput<'a>, AllocError>
-    ensures { IfOk result (IsEachInput input.entry.now) }
+/// Reads a program and the lines after it.
+fn each_parts<'a>(
+    alloc: Global,
+    source: Source,
+    order: &EachOrder,
+    input: &'a [u8],
+) -> Result<EachParts<'a>, AllocError>
+    ensures { IfOk result (AreEachParts source order.now input.entry.now) }
 {
     match str::from_utf8(input) {
-        Ok(_) => text_input(alloc, input),
+        Ok(_) => text_parts(alloc, source, order, input),
         Err(_) => {
             let error = not_utf8_reply(alloc)?;
             let reply = json_reply(alloc, error)?;
-            Ok(EachInput::Rejected(reply))
+            Ok(EachParts::Replied(reply))
         }
     }
 }
@@ -76,52 +84,6 @@ fn answered_reply(answers: Answers) -> Reply
     }
 }
 
-/// Reads a program, and runs it on each line, in threads.
-fn parts_reply<H: Threads + Sync, C: Clock + Sync>(
-    crew: &LineCrew<'_, H, C>,
-    source: Source,
-    order: &EachOrder,
-    parts: &LineParts<'_>,
-) -> Result<Reply, AllocError>
-    requires { crew.now.team.now.jobs ≡ order.now.jobs }
-    ensures { IfOk result (λ r. RepliesByParts source order.now parts.now.program.now (map (λ line. line.now) parts.now.lines.items) (reply r.text.items r.close)) }
-{
-    match read_ready(crew.alloc, source, order, parts.program)? {
-        Ready::Run(text, verified) => {
-            let run = each_run(&text, order, &verified);
-            let answers = divided(crew, &run, 0, &parts.lines)?;
-            Ok(answered_reply(answers))
-        }
-        Ready::Rejected(error) => json_reply(crew.alloc, error),
-    }
-}
-
-/// Like `parts_reply`, but answers all lines in this thread, which has no clock: no run is stopped.
-fn parts_reply_in_turn(
-    alloc: Global,
-    source: Source,
-    order: &EachOrder,
-    parts: &LineParts<'_>,
-) -> Result<Reply, AllocError>
-    ensures { IfOk result (λ r. RepliesByParts source order.now parts.now.program.now (map (λ line. line.now) parts.now.lines.items) (reply r.text.items r.close)) }
-{
-    match read_ready(alloc, source, order, parts.program)? {
-        Ready::Run(text, verified) => {
-            let run = each_run(&text, order, &verified);
-            let answers = answer_lines(
-                alloc,
-                &WithoutClock,
-                &run,
-                &LineCount::new(),
-                0,
-                &parts.lines,
-            )?;
-            Ok(answered_reply(answers))
-        }
-        Ready::Rejected(error) => json_reply(alloc, error),
-    }
-}
-
 /// Returns the reply to a program, a line `inputs` and lines of inputs: an object for each line that isn't blank, or one for the error of the program.
 /// In how many threads the lines are answered doesn't change it.
 pub fn each_reply<H: Threads + Clock + Sync>(
@@ -133,21 +95,24 @@ pub fn each_reply<H: Threads + Clock + Sync>(
     ensures { IfOk result (λ r. RepliesByEach source order.now input.now (reply r.text.items r.close)) }
 {
     let LineThreads { rt, alloc, count } = *threads;
-    let given = each_input(alloc, input)?;
-    let team = LineTeam::new(rt, order.jobs);
-    let crew = LineCrew {
-        team: &team,
-        clock: rt,
-        alloc,
-        count,
-    };
-    match given {
-        EachInput::Parts(parts) => parts_reply(&crew, source, order, &parts),
-        EachInput::Rejected(reply) => Ok(reply),
+    match each_parts(alloc, source, order, input)? {
+        EachParts::Lines(text, verified, lines) => {
+            let team = LineTeam::new(rt, order.jobs);
+            let crew = LineCrew {
+                team: &team,
+                clock: rt,
+                alloc,
+                count,
+            };
+            let run = each_run(&text, order, &verified);
+            let answers = divided(&crew, &run, 0, &lines)?;
+            Ok(answered_reply(answers))
+        }
+        EachParts::Replied(reply) => Ok(reply),
     }
 }
 
-/// Like `each_reply`, but in this thread, and without a clock.
+/// Like `each_reply`, but answers all lines in this thread, which has no clock: no run is stopped.
 pub fn each_reply_in_turn(
     alloc: Global,
     source: Source,
@@ -156,9 +121,13 @@ pub fn each_reply_in_turn(
 ) -> Result<Reply, AllocError>
     ensures { IfOk result (λ r. RepliesByEach source order.now input.now (reply r.text.items r.close)) }
 {
-    let given = each_input(alloc, input)?;
-    match given {
-        EachInput::Parts(parts) => parts_reply_in_turn(alloc, source, order, &parts),
-        EachInput::Rejected(reply) => Ok(reply),
+    match each_parts(alloc, source, order, input)? {
+        EachParts::Lines(text, verified, lines) => {
+            let run = each_run(&text, order, &verified);
+            let count = LineCount::new();
+            let answers = answer_lines(alloc, &WithoutClock, &run, &count, 0, &lines)?;
+            Ok(answered_reply(answers))
+        }
+        EachParts::Replied(reply) => Ok(reply),
     }
 }

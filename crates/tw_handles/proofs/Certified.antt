@@ -1,5 +1,5 @@
 -- The facts about a finished run, and its certificate.
-use Rattle.tw_handles.proofs.Names.{ActorCounts, Bool, Event, Input, IsCertificate, IsLeftAfter, IsLeftBy, IsLeftOf, IsOfRun, List, None, Ok, Option, Procedure, Result, Some, StoppableResult, TypedProgram, Went, ap, arith, calm, certificate_of, false, final_of, history_of, if◌then◌else◌, length, option_or, own_end, reached, refl, subst, sym, true, ℕ, ◌==◌, ◌∙◌, ◌≡◌, ◌≤◌}
+use Rattle.tw_handles.proofs.Names.{ActorCounts, Bool, Event, Input, IsCertificate, IsLeftBy, IsLeftOf, IsOfRun, List, None, Option, Procedure, Result, Some, EndedRun, TypedProgram, Went, ap, arith, calm, certificate_of, false, if◌then◌else◌, length, option_or, own_end, reached, refl, subst, sym, true, ℕ, ◌==◌, ◌∙◌, ◌≡◌, ◌≤◌}
 use Rattle.std.specs.Option.{option_map}
 use Rattle.tw_types.specs.declared.ending.Ending.{Ending}
 use Rattle.tw_types.specs.declared.ending.Ending.TheVariants as ending
@@ -9,8 +9,6 @@ use Rattle.tw_certificate.specs.FirstContest.{IsFirstContest}
 use Rattle.tw_copies.specs.declared.check.CopyInsertion.{CopyInsertion}
 use Rattle.tw_determinism.specs.OneResult.{IsOnlyResult, IsWholeRun}
 use Rattle.tw_in_turn.specs.InTurn.{IsLeftIn}
-use Rattle.tw_in_turn.specs.declared.run.InTurnResult.TheVariants as left
-use Rattle.tw_in_turn.specs.declared.run.StoppableResult.TheVariants as stoppable
 use Rattle.tw_pool.specs.declared.answer.Closing.TheVariants.{Stopped, Limit}
 use Rattle.tw_pool.specs.Openings.{MayOpen, opened}
 use Rattle.tw_pool.specs.PoolView.{HasState, PoolView}
@@ -26,7 +24,7 @@ own_ending (Some ending.Quiet) stopped full = refl
 own_ending (Some (ending.Stuck rules)) stopped full = refl
 
 module _ (verified : TypedProgram) (inputs : List Input) (counts : ActorCounts) (limit : ℕ) (may : MayOpen verified.program inputs counts limit) where
-  left_in : (left : StoppableResult) (p : PoolView) → IsLeftIn (opened verified inputs counts limit) p (final_of left) (history_of left) → IsOfRun verified.program inputs counts left
+  left_in : (left : EndedRun) (p : PoolView) → IsLeftIn (opened verified inputs counts limit) p left.outcome left.history → IsOfRun verified.program inputs counts left
   left_in left p h =
       let shut = h.shut in
       let s = shut.state in
@@ -38,37 +36,32 @@ module _ (verified : TypedProgram) (inputs : List Input) (counts : ActorCounts) 
         state = s;
         reaches = subst (λ (es : List Event). reached verified.program inputs counts es ≡ Went s) (sym shut.events) here;
         few = subst (λ (es : List Event). length es ≤ 1000000) (sym shut.events) few;
-        shows = subst (λ (q : PoolView). IsLeftOf q.program.program s (final_of left)) h.of_first shut.left;
+        shows = subst (λ (q : PoolView). IsLeftOf q.program.program s left.outcome) h.of_first shut.left;
         ends = ap own_end shut.closing ∙ own_ending (ending_of s) p.stopped (length p.history == p.limit);
       }
 
-  after : (seed : Option ℕ) (turns : ℕ) (left : StoppableResult) → IsLeftAfter seed (opened verified inputs counts limit) turns left → IsOfRun verified.program inputs counts left
-  after seed turns (stoppable.Ended (left.Over final history)) h = left_in (stoppable.Ended (left.Over final history)) h.0 h.2
-  after seed turns (stoppable.Ended (left.NoMemory final history)) h = left_in (stoppable.Ended (left.NoMemory final history)) h.0 h.2
-  after seed turns (stoppable.Stopped final history cut) h = left_in (stoppable.Stopped final history cut) h.0 h.2
-
-  pub of_run : (seed : Option ℕ) (answers : List Bool) (left : StoppableResult) → IsLeftBy seed (opened verified inputs counts limit) answers left → IsOfRun verified.program inputs counts left
-  of_run seed answers left h = after seed h.0 left h.4
+  pub of_run : (seed : Option ℕ) (answers : List Bool) (left : EndedRun) → IsLeftBy seed (opened verified inputs counts limit) answers left → IsOfRun verified.program inputs counts left
+  of_run seed answers left (turns, count, many, is, (p, comes, shut, ended)) = left_in left p shut
 
 -- ---- its certificate
 
-module _ (program : List Procedure) (inputs : List Input) (layout : ActorCounts) (left : StoppableResult) (is : IsOfRun program inputs layout left) where
-  calm_is : IsFirstContest program inputs layout (history_of left).events None → ((s : State) (end : Ending) → IsWholeRun program inputs layout (history_of left).events s end → IsOnlyResult program inputs s end)
+module _ (program : List Procedure) (inputs : List Input) (layout : ActorCounts) (left : EndedRun) (is : IsOfRun program inputs layout left) where
+  calm_is : IsFirstContest program inputs layout left.history.events None → ((s : State) (end : Ending) → IsWholeRun program inputs layout left.history.events s end → IsOnlyResult program inputs s end)
       → (e : Option Ending) → e ≡ ending_of is.state → IsCertificate program inputs layout left (calm e)
   calm_is first only None end = (first, record { state = is.state; reaches = is.reaches; runs_on = sym end })
   calm_is first only (Some e) end =
-      let whole : IsWholeRun program inputs layout (history_of left).events is.state e = record { given = is.given; goes = is.reaches; ends = sym end } in
+      let whole : IsWholeRun program inputs layout left.history.events is.state e = record { given = is.given; goes = is.reaches; ends = sym end } in
       (first, record { state = is.state; end = e; whole = whole; shows = is.shows; only = only is.state e whole })
 
-  found_is : (found : Option CopyInsertion) → IsFirstContest program inputs layout (history_of left).events found
-      → (found ≡ None → (s : State) (end : Ending) → IsWholeRun program inputs layout (history_of left).events s end → IsOnlyResult program inputs s end)
-      → IsCertificate program inputs layout left (certificate_of found (final_of left).closing)
-  found_is None first only = calm_is first (only refl) (own_end (final_of left).closing) is.ends
+  found_is : (found : Option CopyInsertion) → IsFirstContest program inputs layout left.history.events found
+      → (found ≡ None → (s : State) (end : Ending) → IsWholeRun program inputs layout left.history.events s end → IsOnlyResult program inputs s end)
+      → IsCertificate program inputs layout left (certificate_of found left.outcome.closing)
+  found_is None first only = calm_is first (only refl) (own_end left.outcome.closing) is.ends
   found_is (Some at) first only = first
 
   -- from the events that were copied
-  pub certified : (events : List Event) (found : Option CopyInsertion) → events ≡ (history_of left).events → IsFirstContest program inputs layout events found
-      → (found ≡ None → (s : State) (end : Ending) → IsWholeRun program inputs layout events s end → IsOnlyResult program inputs s end) → IsCertificate program inputs layout left (certificate_of found (final_of left).closing)
+  pub certified : (events : List Event) (found : Option CopyInsertion) → events ≡ left.history.events → IsFirstContest program inputs layout events found
+      → (found ≡ None → (s : State) (end : Ending) → IsWholeRun program inputs layout events s end → IsOnlyResult program inputs s end) → IsCertificate program inputs layout left (certificate_of found left.outcome.closing)
   certified events found all first only =
       found_is found
       (subst (λ (es : List Event). IsFirstContest program inputs layout es found) all first)

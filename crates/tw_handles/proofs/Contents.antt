@@ -1,5 +1,5 @@
 -- Facts about what a container or a map has at its subscripts.
-use Rattle.tw_handles.proofs.Names.{Contains, Content, FinalView, Maps, Set, Unset, [], ap, at_member, at_value, count_in, entries, entries_in, false, has_entries, len-entries, length, length-map, members_in, option_map, refl, shown_of, slice_get, slice_get-map, sym, true, ℕ, ◌∙◌, ◌≡◌}
+use Rattle.tw_handles.proofs.Names.{Contains, Content, FinalView, Maps, Set, Unset, [], ap, at_member, at_value, count_in, entries, false, has_entries, len-entries, length, length-map, members_in, option_map, refl, shown_of, slice_get, slice_get-map, sym, ℕ, ◌∙◌, ◌≡◌}
 use Rattle.std.proofs.Common.{map as each}
 use Rattle.tw_datum.proofs.Members.{no_entries}
 
@@ -15,12 +15,6 @@ module _ (final : FinalView) where
 
   pub member_shown_at : (content : Content) (place : ℕ) → has_entries content ≡ false → slice_get (shown_of final content) place ≡ option_map (at_member final) (slice_get (entries (members_in content)) place)
   member_shown_at content place is = ap (λ es. slice_get es place) (members_shown content is) ∙ slice_get-map (at_member final) (entries (members_in content)) place
-
-  pub value_shown_at : (content : Content) (place : ℕ) → has_entries content ≡ true → slice_get (shown_of final content) place ≡ option_map at_value (slice_get (entries (entries_in content)) place)
-  value_shown_at Unset place is = cc
-  value_shown_at (Set v) place is = cc
-  value_shown_at (Contains members) place is = cc
-  value_shown_at (Maps values) place is = slice_get-map at_value (entries values) place
 
   pub count_shown : (content : Content) → length (shown_of final content) ≡ count_in content
   count_shown Unset = refl

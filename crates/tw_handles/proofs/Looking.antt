@@ -1,5 +1,5 @@
 -- A run that was opened has looked at its signal.
-use Rattle.tw_handles.proofs.Names.{Bool, Fails, Held, Input, InputCount, InputType, IsRunBy, IsRunIn, IsRunWith, IsSeen, LimitRange, List, Looked, Looks, MatchOption, MissingTarget, NoMemory, None, Option, Some, TypedProgram, [], ap, counts_of, inl, inputs_in, inr, program_in, refl, sym, ℕ, ◌∙◌, ◌∷◌, ◌≡◌, ◌≢◌, ◌⊎◌}
+use Rattle.tw_handles.proofs.Names.{Bool, Fails, Held, Input, InputCount, InputType, IsRunBy, IsRunIn, IsRunWith, IsSeen, LimitRange, List, Looked, Looks, MatchOption, MissingTarget, NoMemory, None, Option, Some, TypedProgram, [], ap, inl, inputs_in, inr, program_in, sym, ℕ, ◌∙◌, ◌∷◌, ◌≡◌}
 use Rattle.tw_flags.specs.declared.flag.FlagSignal.{FlagSignal}
 use Rattle.tw_pool.specs.declared.open.OpenError.{OpenError}
 use Rattle.tw_handles.specs.Codes.{done, no_inputs, no_program, open_code}

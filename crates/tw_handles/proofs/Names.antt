@@ -24,7 +24,7 @@ pub use Rattle.tw_handles.specs.Certificates.{IsCertificate, IsOfRun, calm, cert
 pub use Rattle.tw_handles.specs.Lists.{AreTexts, AreTextsTo, IsListAdded, IsTextAt, IsWhy, begin_of, text_in}
 pub use Rattle.tw_handles.specs.Loading.{finished_in, inputs_in, program_in}
 pub use Rattle.tw_handles.specs.Many.{AreReadTo, IsReadAt}
-pub use Rattle.tw_handles.specs.Reading.{final_of, history_of, item_of, value_of}
+pub use Rattle.tw_handles.specs.Reading.{item_of, value_of}
 pub use Rattle.tw_handles.specs.Running.{IsAdded, IsRunBy, IsRunIfWithin, IsRunIn, IsRunUntil, IsRunWith, Looks, counts_of}
 pub use Rattle.tw_handles.specs.Shown.{AtSubscript, at_member, at_value, shown_of}
 pub use Rattle.tw_handles.specs.Slot.{slot_owns}
@@ -32,8 +32,8 @@ pub use Rattle.tw_handles.specs.Texts.{IsTextKept, IsTextMade, capped}
 pub use Rattle.tw_handles.specs.declared.held.Held.{Held}
 pub use Rattle.tw_handles.specs.declared.item.Item.{Item}
 pub use Rattle.tw_handles.specs.declared.members.Member.{Member}
-pub use Rattle.tw_in_turn.specs.Stopping.{IsLeftAfter, IsLeftBy, cut_of, events_of, executed_in}
-pub use Rattle.tw_in_turn.specs.declared.run.StoppableResult.{StoppableResult}
+pub use Rattle.tw_in_turn.specs.Stopping.{IsLeftBy, cut_of, executed_in}
+pub use Rattle.tw_in_turn.specs.declared.run.EndedRun.{EndedRun}
 pub use Rattle.tw_pool.specs.Ends.{FinalView, IsLeftOf}
 pub use Rattle.tw_pool.specs.History.{HistoryView}
 pub use Rattle.tw_pool.specs.declared.open.OpenError.TheVariants.{InputCount, InputType, LimitRange, MissingTarget, NoMemory}

@@ -1,21 +1,10 @@
 -- The machine values of a `Loose` and of a `Handle`. Assumes `Logic`.
 use Rattle.tw_handles.proofs.Names.{Al, Global, Good, List, None, Option, Some, [], and_tt, ghosts, handle_tells, refl, slot_owns, subst, ℕ, ◌++◌, ◌∷◌, ◌≡◌}
-use mathlib.Core.Bool.{Bool, true, false, ◌&&◌}
+use mathlib.Core.Bool.{true, ◌&&◌}
 use lib.Dec.{T}
 use seplogic.Ra.Ura.{Ura}
-use mir.Syntax.{impl, tnil, dnil}
-use mir.Raw.{raw as bare}
-use mir.Val.{Val, vptr, vnull, vstruct, vcons, vnil, of_list, has_ty, WT}
-use base.Logic.{never, fst∗}
-use types.Logic.{Logic, sem}
-use types.Kit.{Item, Goal, Seq, Step, step, ‵, ◌$◌, move, drop, fsplit, fjoin, fpick, fpack, feq_i, feq_l}
-use denote.RattleType.{RattleType, Valss}
-use denote.Builtin.{RawPtr}
+use Rattle.tw_handles.proofs.Walks.{Goal, Item, Laws, Logic, Ptr, R, RattleType, RawPtr, SProp, Seq, Step, Testable, Val, Valss, WT, bare, block_ptr, dnil, drop, fact_use, feq_i, feq_l, fjoin, fpack, fpick, fsplit, fst∗, given, guard_i, has_ty, impl, in_a_block, layout, learn, lies_at, move, never, nothing, null_ptr, of_list, ptr_val, sem, snd∗, step, tnil, use1, vcons, via, vnil, vnull, vptr, vstruct, ‵, ◌$◌}
 use denote.Memory.{lone}
-use denote.RawPtr.{Ptr, block_ptr, null_ptr, ptr_val, in_a_block}
-use denote.Steps.{nothing}
-use denote.Param.{layout}
-use denote.Param.Laws.{Laws}
 use denote.Struct.Struct.{within}
 use denote.Struct.Owning.{shape}
 use Rattle.core.specs.declared.alloc.Allocator.{Ghosts}
@@ -24,23 +13,13 @@ use Rattle.tw_handles.specs.contracts.loose.Loose as loose
 use Rattle.std.specs.contracts.alloc.Global as heap
 use Rattle.std.proofs.alloc.Global.TheLaws as heap_laws
 use Rattle.tw_handles.specs.contracts.handle.Handle as slot
-use Rattle.tw_handles.specs.contracts.held.Held.{the_row as R}
 use Rattle.std.proofs.GlobalToken.{dealloc_token-Testable}
-use denote.RawPtr.{Testable, lies_at}
 use base.Fraction.{full_share}
-use base.Logic.{SProp, via, snd∗, guard_i}
-use types.Kit.{given, use1, learn}
-use contract.Monad.{fact_use}
 use denote.Struct.Owning.{to}
 use lib.Dec.{lit<}
 
 abbrev pub both : Val → Val → Val
 both v w = vstruct (vcons v (vcons w vnil))
-
-pub both_tt : (x y : Bool) → T x → T y → T (x && (y && true))
-both_tt true true s t = tt
-both_tt true false s t = absurd t
-both_tt false y s t = absurd s
 
 module _ (R Z : RattleType) (L : Laws Z) (g : Ghosts Z.Denot) where
   abbrev pub Loose : RattleType

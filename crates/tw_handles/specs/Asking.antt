@@ -1,8 +1,8 @@
 -- Calls on a loaded program: another handle of it, the number of its procedures, and their budgets.
-use Rattle.std.specs.Prelude.{◌≡◌, ◌⊎◌, ℕ, Option, Some, slice_get, MatchOption}
+use Rattle.std.specs.Prelude.{◌≡◌, ◌⊎◌}
+use Rattle.tw_handles.specs.Names.{ℕ, Option, Some, slice_get, MatchOption, TypedProgram}
 use Rattle.tw_code.specs.accepting.Flow.{flows}
 use Rattle.tw_code.specs.accepting.Walk.{IsBudget}
-use Rattle.tw_verify.specs.Typed.{TypedProgram}
 use Rattle.tw_handles.specs.Codes.{done, no_index, no_memory, no_program}
 use Rattle.tw_handles.specs.Loading.{program_in}
 use Rattle.tw_handles.specs.declared.held.Held.{Held}

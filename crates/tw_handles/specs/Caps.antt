@@ -1,6 +1,6 @@
 -- Caps on the runs of a loaded program, and the bounds of its runs.
-use Rattle.std.specs.Prelude.{◌≡◌, ◌⊎◌, ◌<◌, ◌≤◌, ◌∷◌, [], ℕ, Bool, true, List, Option, Some, None, slice_get, unwrap_or}
-use Rattle.tw_code.specs.declared.procedure.Procedure.{Procedure}
+use Rattle.std.specs.Prelude.{◌≡◌, ◌⊎◌, ◌<◌, ◌≤◌, ◌∷◌}
+use Rattle.tw_handles.specs.Names.{[], ℕ, Bool, true, List, Option, Some, None, slice_get, unwrap_or, Procedure, TypedProgram}
 use Rattle.tw_bounds.specs.Least.{AreLeastBounds, LeastRuns}
 use Rattle.tw_bounds.specs.declared.bound.Bound.{Bound}
 use Rattle.tw_bounds.specs.declared.bound.Bound.TheVariants.{AtMost, Over, Endless}
@@ -8,7 +8,6 @@ use Rattle.tw_bounds.specs.declared.limited.LimitedBounds.{LimitedBounds}
 use Rattle.tw_order.specs.Orders.{greatest_cap}
 use Rattle.tw_order.specs.declared.caps.Caps.{Caps}
 use Rattle.tw_program_output.specs.Admission.{IsJudged}
-use Rattle.tw_verify.specs.Typed.{TypedProgram}
 use Rattle.tw_handles.specs.Asking.{Fails}
 use Rattle.tw_handles.specs.Codes.{done, no_limit, no_memory}
 use Rattle.tw_handles.specs.Numbers.{filled}

@@ -1,6 +1,6 @@
 -- The codes that calls return: zero, or the code of an error. 200 and a number are the error O with this number.
-use Rattle.std.specs.Prelude.{ℕ, ◌==◌, if◌then◌else◌}
-use Rattle.tw_pool.specs.declared.open.OpenError.{OpenError}
+use Rattle.std.specs.Prelude.{◌==◌, if◌then◌else◌}
+use Rattle.tw_handles.specs.Names.{ℕ, OpenError}
 use Rattle.tw_pool.specs.declared.open.OpenError.TheVariants.{InputCount, InputType, MissingTarget, LimitRange, NoMemory}
 
 abbrev pub done : ℕ

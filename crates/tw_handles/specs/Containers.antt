@@ -1,6 +1,6 @@
 -- Containers that are to be inputs, and calls on them.
-use Rattle.std.specs.Prelude.{◌≡◌, ◌⊎◌, ◌++◌, ◌∷◌, ◌==◌, [], ℕ, List, IsUtf8, Option, Some, None, MatchOption, Result, Ok, Err, if◌then◌else◌}
-use Rattle.tw_types.specs.declared.input.Input.{Input}
+use Rattle.std.specs.Prelude.{◌≡◌, ◌⊎◌, ◌++◌, ◌∷◌, ◌==◌, if◌then◌else◌}
+use Rattle.tw_handles.specs.Names.{[], ℕ, List, IsUtf8, Option, Some, None, MatchOption, Result, Ok, Err, Input}
 use Rattle.tw_types.specs.declared.input.Input.TheVariants as input
 use Rattle.tw_handles.specs.Asking.{Fails}
 use Rattle.tw_handles.specs.Codes.{done, no_container, no_inputs, no_memory, no_utf8}

@@ -1,9 +1,7 @@
 -- Whether the order of events may show in the outputs of a loaded program.
-use Rattle.std.specs.Prelude.{◌≡◌, ◌⊎◌, ◌∷◌, [], ℕ, List, Option, Some, None}
+use Rattle.std.specs.Prelude.{◌≡◌, ◌⊎◌, ◌∷◌}
+use Rattle.tw_handles.specs.Names.{[], ℕ, List, Option, Some, None, CopyInsertion, IsDeterministic, TypedProgram}
 use Rattle.tw_copies.specs.Copies.{IsFirstCopyInsertion}
-use Rattle.tw_copies.specs.declared.check.CopyInsertion.{CopyInsertion}
-use Rattle.tw_determinism.specs.OneResult.{IsDeterministic}
-use Rattle.tw_verify.specs.Typed.{TypedProgram}
 use Rattle.tw_handles.specs.Asking.{Fails}
 use Rattle.tw_handles.specs.Codes.{done, no_memory}
 use Rattle.tw_handles.specs.Numbers.{filled}

@@ -1,12 +1,8 @@
 -- The place of a subscript in an output.
-use Rattle.std.specs.Prelude.{◌≡◌, ◌⊎◌, ℕ, List, [], IsUtf8, Option, Some, None, slice_get}
+use Rattle.std.specs.Prelude.{◌≡◌, ◌⊎◌}
+use Rattle.tw_handles.specs.Names.{ℕ, List, [], IsUtf8, Option, Some, None, slice_get, get, option_and_then, FinalView, Datum, subscripts_of}
 use Rattle.std.specs.declared.cmp.Ordering.{Ordering}
 use Rattle.std.specs.declared.cmp.Ordering.TheVariants.{Less}
-use Rattle.std.specs.FinMap.{get}
-use Rattle.std.specs.Option.{option_and_then}
-use Rattle.tw_pool.specs.Ends.{FinalView}
-use Rattle.tw_types.specs.Store.{Datum}
-use Rattle.tw_types.specs.StoreCalls.{subscripts_of}
 use Rattle.tw_types.specs.ValueOrder.{Subscript, value_cmp}
 use Rattle.tw_types.specs.declared.value.Value.TheVariants as value
 use Rattle.tw_handles.specs.Asking.{Fails}

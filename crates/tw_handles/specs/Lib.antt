@@ -40,3 +40,5 @@ pub mod Stops
 pub mod Texts
 -- The first input that doesn't fit main.
 pub mod Unfit
+-- Names of other crates that several files here use.
+pub mod Names

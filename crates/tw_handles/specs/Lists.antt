@@ -1,7 +1,7 @@
 -- Calls that give all members of a container at once, in lists, as one input.
-use Rattle.std.specs.Prelude.{◌≡◌, ◌⊎◌, ◌<◌, ◌≤◌, ◌-◌, ◌==◌, if◌then◌else◌, ℕ, zero, suc, ℤ, pos, List, IsUtf8, Option, drop, get_or, length, map, take}
+use Rattle.std.specs.Prelude.{◌≡◌, ◌⊎◌, ◌<◌, ◌≤◌, ◌-◌, ◌==◌, if◌then◌else◌}
+use Rattle.tw_handles.specs.Names.{ℕ, zero, suc, ℤ, pos, List, IsUtf8, Option, drop, get_or, length, map, take, Input}
 use Rattle.std.specs.List.{range_with_len, zip}
-use Rattle.tw_types.specs.declared.input.Input.{Input}
 use Rattle.tw_types.specs.declared.input.Input.TheVariants as input
 use Rattle.tw_handles.specs.Codes.{no_list, no_memory, no_utf8}
 use Rattle.tw_handles.specs.Running.{IsAdded}

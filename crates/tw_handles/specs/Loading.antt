@@ -1,14 +1,13 @@
 -- The contents of a handle, and loading a program.
-use Rattle.std.specs.Prelude.{◌≡◌, ◌≢◌, ◌⊎◌, ◌<◌, ◌≤◌, ◌∷◌, ℕ, List, [], length, unwrap_or, Option, Some, None, slice_get}
+use Rattle.std.specs.Prelude.{◌≡◌, ◌≢◌, ◌⊎◌, ◌<◌, ◌≤◌, ◌∷◌}
+use Rattle.tw_handles.specs.Names.{ℕ, List, [], length, unwrap_or, Option, Some, None, slice_get, Input, TypedProgram}
 use Rattle.std.specs.Arc.{arc_value}
 use Rattle.tw_code.specs.format.Versions.{version_number}
-use Rattle.tw_types.specs.declared.input.Input.{Input}
 use Rattle.tw_verdict.specs.Source.{HasSource, IsSourceError, IsSourceReading, without_line}
 use Rattle.tw_verdict.specs.Verdict.{accepted, no_memory}
 use Rattle.tw_verdict.specs.declared.format.Format.{Format}
 use Rattle.tw_verdict.specs.declared.format.Format.TheVariants as format
 use Rattle.tw_verdict.specs.declared.text.SourceVerdict.{SourceVerdict}
-use Rattle.tw_verify.specs.Typed.{TypedProgram}
 use Rattle.tw_handles.specs.Codes.{loading_code, no_options}
 use Rattle.tw_handles.specs.Numbers.{filled}
 use Rattle.tw_handles.specs.declared.finished.Finished.{Finished}

@@ -1,6 +1,6 @@
 -- Calls that read many members of an output at once, or values of one that is a map.
-use Rattle.std.specs.Prelude.{◌≡◌, ◌⊎◌, ◌<◌, ◌≤◌, ◌+◌, ℕ, List, length, Option, Some, None, slice_get}
-use Rattle.tw_pool.specs.Ends.{FinalView}
+use Rattle.std.specs.Prelude.{◌≡◌, ◌⊎◌, ◌<◌, ◌≤◌, ◌+◌}
+use Rattle.tw_handles.specs.Names.{ℕ, List, length, Option, Some, None, slice_get, FinalView}
 use Rattle.tw_handles.specs.Asking.{Fails}
 use Rattle.tw_handles.specs.Codes.{done, no_index}
 use Rattle.tw_handles.specs.Members.{member_by}

@@ -1,6 +1,6 @@
 -- Calls on the members of an output that is a container, or on the values of one that is a map.
-use Rattle.std.specs.Prelude.{◌≡◌, ℕ, List, Option, Some, MatchOption, slice_get}
-use Rattle.tw_pool.specs.Ends.{FinalView}
+use Rattle.std.specs.Prelude.{◌≡◌}
+use Rattle.tw_handles.specs.Names.{ℕ, List, Option, Some, MatchOption, slice_get, FinalView}
 use Rattle.tw_handles.specs.Asking.{Fails}
 use Rattle.tw_handles.specs.Codes.{done, no_index}
 use Rattle.tw_handles.specs.Reading.{IsWritten, value_item}

@@ -1,5 +1,6 @@
 -- Numbers that are written for C.
-use Rattle.std.specs.Prelude.{◌≡◌, ◌++◌, ℕ, List, drop, length, min, take}
+use Rattle.std.specs.Prelude.{◌≡◌, ◌++◌}
+use Rattle.tw_handles.specs.Names.{ℕ, List, drop, length, min, take}
 use Rattle.tw_handles.specs.Codes.{done}
 
 -- Returns the buffer with the numbers at its start, as many as there is room for. A later version has more numbers, so callers of this one

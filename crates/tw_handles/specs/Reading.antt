@@ -1,22 +1,12 @@
 -- Calls on a report: how the run ended, and its outputs.
-use Rattle.std.specs.Prelude.{◌≡◌, ◌≤◌, ◌<◌, ◌⊎◌, ◌||◌, ◌==◌, ◌++◌, ◌∷◌, [], ℕ, List, Option, Some, None, MatchOption, Result, Ok, Err, MatchResult, drop, length, pos, slice_get, if◌then◌else◌}
-use Rattle.std.specs.FinMap.{get}
-use Rattle.std.specs.Option.{option_and_then}
-use Rattle.tw_in_turn.specs.declared.run.InTurnResult.TheVariants as left
-use Rattle.tw_in_turn.specs.declared.run.StoppableResult.{StoppableResult}
-use Rattle.tw_in_turn.specs.declared.run.StoppableResult.TheVariants as stoppable
-use Rattle.tw_pool.specs.declared.answer.Closing.{Closing}
+use Rattle.std.specs.Prelude.{◌≡◌, ◌≤◌, ◌<◌, ◌⊎◌, ◌||◌, ◌==◌, ◌++◌, ◌∷◌, if◌then◌else◌}
+use Rattle.tw_handles.specs.Names.{[], ℕ, List, Option, Some, None, MatchOption, Result, Ok, Err, MatchResult, drop, length, pos, slice_get, get, option_and_then, EndedRun, Closing, FinalView, has_subscripts_by, has_sums, is_map, NestedScalar, Datum, is_closed, count_in, value_in, Value}
+use Rattle.tw_in_turn.specs.declared.rounds.End.{End}
+use Rattle.tw_in_turn.specs.declared.rounds.End.TheVariants as end
 use Rattle.tw_pool.specs.declared.answer.Closing.TheVariants.{Quiet, Stuck, Stopped, Limit}
-use Rattle.tw_pool.specs.Ends.{FinalView}
-use Rattle.tw_pool.specs.History.{HistoryView}
-use Rattle.tw_types.specs.DataType.{has_subscripts_by, has_sums, is_map}
-use Rattle.tw_types.specs.Nesting.{NestedScalar}
 use Rattle.tw_types.specs.declared.data_type.Scalar.{Scalar}
 use Rattle.tw_types.specs.declared.data_type.Scalar.TheVariants as scalar
-use Rattle.tw_types.specs.Store.{Datum, is_closed}
-use Rattle.tw_types.specs.StoreCalls.{count_in, value_in}
 use Rattle.tw_types.specs.StoreChecks.{is_unset}
-use Rattle.tw_types.specs.declared.value.Value.{Value}
 use Rattle.tw_types.specs.declared.value.Value.TheVariants as value
 use Rattle.tw_handles.specs.Asking.{Fails}
 use Rattle.tw_handles.specs.Codes.{done, no_index, no_report, no_room, no_text, unfinished}
@@ -24,16 +14,6 @@ use Rattle.tw_handles.specs.Loading.{finished_in}
 use Rattle.tw_handles.specs.declared.finished.Finished.{Finished}
 use Rattle.tw_handles.specs.declared.held.Held.{Held}
 use Rattle.tw_handles.specs.declared.item.Item.{Item}
-
-abbrev pub final_of : StoppableResult → FinalView
-final_of (stoppable.Ended (left.Over final history)) = final
-final_of (stoppable.Ended (left.NoMemory final history)) = final
-final_of (stoppable.Stopped final history cut) = final
-
-abbrev pub history_of : StoppableResult → HistoryView
-history_of (stoppable.Ended (left.Over final history)) = history
-history_of (stoppable.Ended (left.NoMemory final history)) = history
-history_of (stoppable.Stopped final history cut) = history
 
 -- returns the exit status of `tw run`: 0 quiet, 3 stuck, 4 limit; a finished run has no other
 abbrev pub closing_status : Option Closing → ℕ
@@ -44,19 +24,22 @@ closing_status (Some Stopped) = 5
 closing_status (Some Limit) = 4
 
 -- returns the exit status of `tw run`, which is 5 if an allocation failed; 8 if it was stopped, which no run of `tw` is
-abbrev pub end_status : StoppableResult → ℕ
-end_status (stoppable.Ended (left.Over final history)) = closing_status final.closing
-end_status (stoppable.Ended (left.NoMemory final history)) = 5
-end_status (stoppable.Stopped final history cut) = 8
+abbrev pub status_at : End → Option Closing → ℕ
+status_at end.Over closing = closing_status closing
+status_at end.NoMemory closing = 5
+status_at (end.Stopped cut) closing = 8
+
+abbrev pub end_status : EndedRun → ℕ
+end_status left = status_at left.end left.outcome.closing
 
 -- returns the numbers of events and of outputs, and the status
-abbrev pub ending_of : StoppableResult → List ℕ
-ending_of left = length (history_of left).events ∷ length (final_of left).outputs ∷ end_status left ∷ []
+abbrev pub ending_of : EndedRun → List ℕ
+ending_of left = length left.history.events ∷ length left.outcome.outputs ∷ end_status left ∷ []
 
 -- returns the outputs and the store of a report: those of a run that ended by itself, quiet, or whose options ask for what is there
 abbrev pub readable_of : Option Finished → Result FinalView ℕ
 readable_of None = Err no_report
-readable_of (Some run) = if run.partial || (end_status run.left == 0) then Ok (final_of run.left) else Err unfinished
+readable_of (Some run) = if run.partial || (end_status run.left == 0) then Ok run.left.outcome else Err unfinished
 
 abbrev pub readable : Option Held → Result FinalView ℕ
 readable held = readable_of (finished_in held)

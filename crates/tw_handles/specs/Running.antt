@@ -1,16 +1,10 @@
 -- The inputs of a run, and the result of running a loaded program.
-use Rattle.std.specs.Prelude.{◌≡◌, ◌≢◌, ◌⊎◌, ◌<◌, ◌≤◌, ◌==◌, if◌then◌else◌, Bool, true, false, ◌++◌, ◌∷◌, [], ℕ, List, length, min, slice_get, unwrap_or, Option, Some, None, MatchOption}
+use Rattle.std.specs.Prelude.{◌≡◌, ◌≢◌, ◌⊎◌, ◌<◌, ◌≤◌, ◌==◌, if◌then◌else◌, ◌++◌, ◌∷◌}
+use Rattle.tw_handles.specs.Names.{Bool, true, false, [], ℕ, List, length, min, slice_get, unwrap_or, Option, Some, None, MatchOption, StopFlag, IsFlagOf, IsSeen, IsLeftBy, OpenError, ActorCounts, IsLayout, Input, TypedProgram}
 use Rattle.tw_flags.specs.declared.flag.FlagSignal.{FlagSignal}
-use Rattle.tw_flags.specs.declared.flag.StopFlag.{StopFlag}
-use Rattle.tw_flags.specs.Flags.{IsFlagOf, IsSeen}
 use Rattle.tw_stop.specs.declared.signal.Never.{Never}
 use Rattle.tw_stop.specs.Looks.{Looked, always_no}
-use Rattle.tw_in_turn.specs.Stopping.{IsLeftBy}
 use Rattle.tw_pool.specs.Openings.{IsRejection, MayOpen, opened}
-use Rattle.tw_pool.specs.declared.open.OpenError.{OpenError}
-use Rattle.tw_types.specs.Layout.{ActorCounts, IsLayout}
-use Rattle.tw_types.specs.declared.input.Input.{Input}
-use Rattle.tw_verify.specs.Typed.{TypedProgram}
 use Rattle.tw_handles.specs.Asking.{Fails}
 use Rattle.tw_handles.specs.Caps.{IsDecided, listed_caps}
 use Rattle.tw_handles.specs.Codes.{above_cap, done, no_inputs, no_layout, no_memory, no_options, no_program, no_stop, open_code}

@@ -1,18 +1,14 @@
 -- Calls on the procedures of a loaded program: kinds, parameters, names, and the actors that the program needs.
-use Rattle.std.specs.Prelude.{◌≡◌, ◌⊎◌, ◌∷◌, [], ℕ, List, IsUtf8, length, slice_get, Option, Some, None, MatchOption, if◌then◌else◌}
-use Rattle.std.specs.Option.{option_and_then, option_map_or}
+use Rattle.std.specs.Prelude.{◌≡◌, ◌⊎◌, ◌∷◌, if◌then◌else◌}
+use Rattle.tw_handles.specs.Names.{[], ℕ, List, IsUtf8, length, slice_get, Option, Some, None, MatchOption, option_and_then, option_map_or, Procedure, depth_of, element_of, is_container, is_container_by, map_by, NestedScalar, TypedProgram}
 use Rattle.tw_code.specs.accepting.Needs.{needed}
-use Rattle.tw_code.specs.declared.procedure.Procedure.{Procedure}
 use Rattle.tw_symbols.specs.Symbols.{AreNames, name_at}
-use Rattle.tw_types.specs.DataType.{depth_of, element_of, is_container, is_container_by, map_by}
-use Rattle.tw_types.specs.Nesting.{NestedScalar}
 use Rattle.tw_types.specs.declared.actor.Kind.{Kind}
 use Rattle.tw_types.specs.declared.actor.Kind.TheVariants.{Control, Leaf}
 use Rattle.tw_types.specs.declared.data_type.Scalar.TheVariants as scalar
 use Rattle.tw_types.specs.declared.param.Mode.{Mode}
 use Rattle.tw_types.specs.declared.param.Mode.TheVariants.{Val, Closed, Ref, Write}
 use Rattle.tw_types.specs.declared.param.Param.{Param}
-use Rattle.tw_verify.specs.Typed.{TypedProgram}
 use Rattle.tw_handles.specs.Asking.{Fails}
 use Rattle.tw_handles.specs.Codes.{done, no_index, no_utf8}
 use Rattle.tw_handles.specs.Numbers.{filled}

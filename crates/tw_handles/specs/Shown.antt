@@ -1,10 +1,6 @@
 -- The content of an output by its subscripts: the members of a container, or the values of a map.
-use Rattle.std.specs.Prelude.{◌≡◌, ℕ, List, [], map, Option, Some, None, MatchOption, slice_get}
-use Rattle.std.specs.FinMap.{entries, get}
-use Rattle.std.specs.Option.{option_and_then, option_copied}
-use Rattle.tw_pool.specs.Ends.{FinalView}
-use Rattle.tw_types.specs.Store.{Content, Unset, Set, Contains, Maps, Datum}
-use Rattle.tw_types.specs.declared.value.Value.{Value}
+use Rattle.std.specs.Prelude.{◌≡◌}
+use Rattle.tw_handles.specs.Names.{ℕ, List, [], map, Option, Some, None, MatchOption, slice_get, entries, get, option_and_then, option_copied, FinalView, Content, Unset, Set, Contains, Maps, Datum, Value}
 use Rattle.tw_handles.specs.Reading.{item_of, value_item, value_of}
 use Rattle.tw_handles.specs.declared.item.Item.{Item}
 use Rattle.tw_handles.specs.declared.shown.Shown.{Shown}

@@ -1,7 +1,6 @@
 -- Calls on a stop flag.
-use Rattle.std.specs.Prelude.{◌≡◌, ◌⊎◌, ℕ, Bool, [], Option, Some, None, MatchOption}
-use Rattle.tw_flags.specs.declared.flag.StopFlag.{StopFlag}
-use Rattle.tw_flags.specs.Flags.{IsSet, IsShared, values_of}
+use Rattle.std.specs.Prelude.{◌≡◌, ◌⊎◌}
+use Rattle.tw_handles.specs.Names.{ℕ, Bool, [], Option, Some, None, MatchOption, StopFlag, IsSet, IsShared, values_of}
 use Rattle.tw_handles.specs.Asking.{Fails}
 use Rattle.tw_handles.specs.Codes.{done, no_memory, no_stop}
 use Rattle.tw_handles.specs.declared.held.Held.{Held}

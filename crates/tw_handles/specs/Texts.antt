@@ -1,14 +1,13 @@
 -- Texts that calls make of a report or a source. A handle holds such a text, and its bytes are copied from there.
-use Rattle.std.specs.Prelude.{◌≡◌, ◌⊎◌, ℕ, List, length, min, Option, Some, None, MatchOption, true}
-use Rattle.tw_in_turn.specs.Stopping.{cut_of, executed_in}
-use Rattle.tw_in_turn.specs.declared.run.StoppableResult.{StoppableResult}
+use Rattle.std.specs.Prelude.{◌≡◌, ◌⊎◌}
+use Rattle.tw_handles.specs.Names.{ℕ, List, length, min, Option, Some, None, MatchOption, true, cut_of, executed_in, EndedRun}
 use Rattle.tw_run_output.specs.Ends.{IsEndReport}
 use Rattle.tw_run_output.specs.Json.{IsEndLine}
 use Rattle.tw_run_output.specs.Run.{trace_text}
 use Rattle.tw_visible.specs.Visible.{HidesNothing}
 use Rattle.tw_handles.specs.Asking.{Fails}
 use Rattle.tw_handles.specs.Codes.{done, no_end, no_memory, no_string}
-use Rattle.tw_handles.specs.Reading.{IsFilled, final_of, history_of}
+use Rattle.tw_handles.specs.Reading.{IsFilled}
 use Rattle.tw_handles.specs.declared.held.Held.{Held}
 use Rattle.tw_handles.specs.declared.held.Held.TheVariants.{Text}
 
@@ -31,22 +30,22 @@ MayBeTold old new = (new ≡ old) ⊎ ((text : List ℕ) × (text_in new ≡ Som
 
 -- ---- texts of a report
 
-abbrev pub IsReportOf : StoppableResult → List ℕ → Type 0
-IsReportOf left text = IsEndReport (final_of left) text
+abbrev pub IsReportOf : EndedRun → List ℕ → Type 0
+IsReportOf left text = IsEndReport left.outcome text
 
-abbrev pub IsTrace : StoppableResult → List ℕ → Type 0
-IsTrace left text = text ≡ trace_text true (history_of left).events
+abbrev pub IsTrace : EndedRun → List ℕ → Type 0
+IsTrace left text = text ≡ trace_text true left.history.events
 
 -- a run that was broken off has no JSON line
-abbrev pub IsJsonIn : StoppableResult → Option Held → Option Held → ℕ → Type 0
+abbrev pub IsJsonIn : EndedRun → Option Held → Option Held → ℕ → Type 0
 IsJsonIn left old new code =
-    MatchOption (final_of left).closing (Fails no_end old new code) (λ closing. IsTextMade (IsEndLine (final_of left) (history_of left).events (cut_of left) closing) old new code)
+    MatchOption left.outcome.closing (Fails no_end old new code) (λ closing. IsTextMade (IsEndLine left.outcome left.history.events (cut_of left.end) closing) old new code)
 
 -- returns the greatest number of 64 bits for a larger one
 abbrev pub capped : ℕ → ℕ
 capped number = min number 18446744073709551615
 
-abbrev pub executed : StoppableResult → ℕ
+abbrev pub executed : EndedRun → ℕ
 executed left = capped (executed_in left)
 
 -- ---- reading a text

@@ -1,9 +1,6 @@
 -- The first input that doesn't fit main.
-use Rattle.std.specs.Prelude.{◌≡◌, ◌⊎◌, ◌<◌, ◌+◌, ℕ, true, false, List, length, take, Option, MatchOption}
-use Rattle.tw_code.specs.declared.procedure.Procedure.{Procedure}
-use Rattle.tw_code.specs.machine.Inputs.{has_fitting_inputs, has_input_count}
-use Rattle.tw_types.specs.declared.input.Input.{Input}
-use Rattle.tw_verify.specs.Typed.{TypedProgram}
+use Rattle.std.specs.Prelude.{◌≡◌, ◌⊎◌, ◌<◌, ◌+◌}
+use Rattle.tw_handles.specs.Names.{ℕ, true, false, List, length, take, Option, MatchOption, Procedure, has_fitting_inputs, has_input_count, Input, TypedProgram}
 use Rattle.tw_handles.specs.Asking.{Fails}
 use Rattle.tw_handles.specs.Codes.{done, input_count, no_index, no_inputs}
 use Rattle.tw_handles.specs.Loading.{inputs_in}

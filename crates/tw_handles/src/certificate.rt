@@ -3,11 +3,10 @@
 ghost use Rattle.std.specs.Prelude.{◌≡◌, IfOk};
 ghost use Rattle.tw_handles.specs.Certificates.{IsCertificate, IsCertificateIf, IsOfRun, asks as asks_is, calm as calm_is, certificate_of as certificate_of_is, own_end};
 
-use crate::report::{final_of, history_of};
 use std::alloc::{AllocError, Global};
 use tw_certificate::first_contest;
 use tw_copies::CopyInsertion;
-use tw_in_turn::StoppableResult;
+use tw_in_turn::EndedRun;
 use tw_pool::Closing;
 use tw_run_output::events_of;
 use tw_types::{Input, Layout};
@@ -57,14 +56,14 @@ fn certify(
     verified: &Verified,
     inputs: &[Input],
     layout: Layout,
-    left: &StoppableResult,
+    left: &EndedRun,
 ) -> Result<Certificate, AllocError>
     requires { IsOfRun verified.now.program inputs.now layout left.now }
     ensures { IfOk result (IsCertificate verified.now.program inputs.now layout left.now) }
 {
-    let events = events_of(alloc, history_of(left))?;
+    let events = events_of(alloc, &left.history)?;
     let found = first_contest(alloc, verified, inputs, layout, &events)?;
-    Ok(certificate_of(found, final_of(left).closing()))
+    Ok(certificate_of(found, left.outcome.closing()))
 }
 
 /// Makes the certificate of a run that is asked for one.
@@ -74,7 +73,7 @@ pub(crate) fn certify_if(
     verified: &Verified,
     inputs: &[Input],
     layout: Layout,
-    left: &StoppableResult,
+    left: &EndedRun,
 ) -> Result<Option<Certificate>, AllocError>
     requires { IsOfRun verified.now.program inputs.now layout left.now }
     ensures { IfOk result (IsCertificateIf asked verified.now.program inputs.now layout left.now) }

@@ -9,8 +9,7 @@ ghost use Rattle.tw_handles.specs.Numbers.{filled};
 use crate::codes;
 use crate::numbers::put;
 use crate::printing::instructions_of;
-use crate::report::{final_of, history_of};
-use tw_in_turn::StoppableResult;
+use tw_in_turn::EndedRun;
 use tw_pool::History;
 use tw_types::Event;
 
@@ -38,18 +37,16 @@ fn tasks_in(history: &History) -> u64
 
 /// Writes how many events a run had, how many tasks it took, how many instructions it executed, and how many data it made, with those of
 /// its opening. Two numbers more are the members and the bytes of texts that its store held at the end. None is larger than 2 ^ 64 - 1.
-pub fn report_meter(left: &StoppableResult, numbers: &mut [u64]) -> u8
+pub fn report_meter(left: &EndedRun, numbers: &mut [u64]) -> u8
     ensures numbers { numbers.new ≡ filled (meter_of left.now) numbers.old }
     ensures code { result ≡ done }
 {
-    let history = history_of(left);
-    let outcome = final_of(left);
-    let held = outcome.amounts();
+    let held = left.outcome.amounts();
     let meter = [
-        history.len() as u64,
-        tasks_in(history),
+        left.history.len() as u64,
+        tasks_in(&left.history),
         instructions_of(left),
-        outcome.next().number().saturating_sub(1),
+        left.outcome.next().number().saturating_sub(1),
         held.members,
         held.bytes,
     ];

@@ -2,65 +2,15 @@
 
 ghost use Rattle.std.specs.Prelude.{◌≡◌, Err, MatchResult, Ok, Some};
 ghost use Rattle.tw_handles.specs.Codes.{done};
-ghost use Rattle.tw_handles.specs.Reading.{IsOutputIn, IsOutputTextIn, closing_status as closing_status_is, end_status as end_status_is, final_of as final_is, history_of as history_is, ending_of, readable_of};
+ghost use Rattle.tw_handles.specs.Reading.{IsOutputIn, IsOutputTextIn, closing_status as closing_status_is, end_status as end_status_is, ending_of, readable_of};
 ghost use Rattle.tw_handles.specs.Numbers.{filled};
 
 use crate::codes;
 use crate::finished::Finished;
 use crate::item::{Item, item_of, value_of, write_text};
 use crate::numbers::put;
-use tw_in_turn::{InTurnResult, StoppableResult};
-use tw_pool::{Closing, Final, History};
-
-/// Returns the outputs and the store that a run left.
-pub(crate) fn final_of(left: &StoppableResult) -> &Final
-    ensures { result.now ≡ final_is left.now }
-{
-    match left {
-        StoppableResult::Ended(
-            InTurnResult::Over {
-                outcome,
-                history: _,
-            },
-        ) => outcome,
-        StoppableResult::Ended(
-            InTurnResult::NoMemory {
-                outcome,
-                history: _,
-            },
-        ) => outcome,
-        StoppableResult::Stopped {
-            outcome,
-            history: _,
-            cut: _,
-        } => outcome,
-    }
-}
-
-/// Returns the events of a run.
-pub(crate) fn history_of(left: &StoppableResult) -> &History
-    ensures { result.now ≡ history_is left.now }
-{
-    match left {
-        StoppableResult::Ended(
-            InTurnResult::Over {
-                outcome: _,
-                history,
-            },
-        ) => history,
-        StoppableResult::Ended(
-            InTurnResult::NoMemory {
-                outcome: _,
-                history,
-            },
-        ) => history,
-        StoppableResult::Stopped {
-            outcome: _,
-            history,
-            cut: _,
-        } => history,
-    }
-}
+use tw_in_turn::{End, EndedRun};
+use tw_pool::{Closing, Final};
 
 /// Returns the exit status of a run that ended.
 fn closing_status(closing: Option<Closing>) -> u8
@@ -75,29 +25,24 @@ fn closing_status(closing: Option<Closing>) -> u8
 }
 
 /// Returns the exit status of a run, 5 if memory ran out and 8 if it was stopped.
-fn end_status(left: &StoppableResult) -> u8
+fn end_status(left: &EndedRun) -> u8
     ensures { result ≡ end_status_is left.now }
 {
-    match left {
-        StoppableResult::Ended(
-            InTurnResult::Over {
-                outcome,
-                history: _,
-            },
-        ) => closing_status(outcome.closing()),
-        StoppableResult::Ended(InTurnResult::NoMemory { .. }) => 5,
-        StoppableResult::Stopped { .. } => 8,
+    match left.end {
+        End::Over => closing_status(left.outcome.closing()),
+        End::NoMemory => 5,
+        End::Stopped(_) => 8,
     }
 }
 
 /// Writes the end of a run in numbers: of events and of outputs, and the exit status of `tw run`: 0 quiet, 3 stuck, 4 limit, 5 out of memory; or 8 if
 /// it was stopped.
-pub fn report_ending(left: &StoppableResult, numbers: &mut [u64]) -> u8
+pub fn report_ending(left: &EndedRun, numbers: &mut [u64]) -> u8
     ensures numbers { numbers.new ≡ filled (ending_of left.now) numbers.old }
     ensures code { result ≡ done }
 {
-    let events = history_of(left).len() as u64;
-    let outputs = final_of(left).outputs().len() as u64;
+    let events = left.history.len() as u64;
+    let outputs = left.outcome.outputs().len() as u64;
     put(&[events, outputs, end_status(left) as u64], numbers);
     codes::DONE
 }
@@ -108,7 +53,7 @@ pub(crate) fn readable(run: &Finished) -> Result<&Final, u8>
     ensures { MatchResult result (λ outcome. readable_of (Some run.now) ≡ Ok outcome.now) (λ code. readable_of (Some run.now) ≡ Err code) }
 {
     if run.partial || end_status(&run.left) == 0 {
-        Ok(final_of(&run.left))
+        Ok(&run.left.outcome)
     } else {
         Err(codes::UNFINISHED)
     }

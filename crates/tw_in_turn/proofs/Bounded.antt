@@ -33,10 +33,10 @@ not_by_limit (Some Stopped) ended not = ended
 not_by_limit (Some Limit) ended not = not refl
 
 pub ends_by_itself : (verified : TypedProgram) (most : ℕ) → IsBoundedBy verified most → EndsByItself verified most
-ends_by_itself verified most is inputs layout limit seed final history given above left =
-    not_by_limit final.closing left.3 (by left.0 left.2)
+ends_by_itself verified most is inputs layout limit seed may_stop left given above over (turns, (q, comes, shut, ended), may) =
+    not_by_limit left.outcome.closing (ended over) (by q shut)
   where
-    by : (p : PoolView) → IsLeftIn (opened verified inputs layout limit) p final history → final.closing ≡ Some Limit → ⊥
+    by : (p : PoolView) → IsLeftIn (opened verified inputs layout limit) p left.outcome left.history → left.outcome.closing ≡ Some Limit → ⊥
     by p l e =
         let program = ap (λ (q : PoolView). q.program) l.of_first in
         let same = ap (λ (q : PoolView). q.inputs) l.of_first in

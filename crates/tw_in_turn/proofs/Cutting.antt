@@ -1,5 +1,5 @@
 -- A job that was cut off: the steps that its task made so far.
-use Rattle.tw_in_turn.proofs.Names.{Actor, ActorCounts, DoneView, Event, Executes, Frame, Has, HasState, IsCut, IsTurn, JobView, List, MayExecute, None, Option, PoolView, Position, Procedure, Some, State, Turn, Went as Gone, [], ap, arith, events_of, false, get, instructions_by, issued_to, length, nat_eq, nat_tests, opening, option_map, refl, slice_get, subst, suc, sum_by-cons, sym, with_events, with_frame, zero, ℕ, ◌++◌, ◌+◌, ◌<◌, ◌∙◌, ◌∷◌, ◌≡◌}
+use Rattle.tw_in_turn.proofs.Names.{Actor, ActorCounts, DoneView, Executes, Frame, Has, HasState, IsCut, IsTurn, JobView, List, MayExecute, None, Option, PoolView, Position, Procedure, Some, State, Turn, Went as Gone, [], ap, arith, events_of, false, get, instructions_by, issued_to, length, nat_eq, nat_tests, opening, option_map, refl, slice_get, subst, suc, sum_by-cons, sym, with_events, with_frame, zero, ℕ, ◌+◌, ◌<◌, ◌∙◌, ◌∷◌, ◌≡◌}
 use Rattle.tw_types.specs.declared.event.Event.TheVariants.{Local}
 use Rattle.tw_code.specs.machine.Machine.{local_steps, step}
 use Rattle.tw_code.proofs.Runs.{run_more}

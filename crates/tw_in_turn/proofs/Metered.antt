@@ -1,9 +1,8 @@
 -- The instructions of a run, with those of a task that was cut off, are within main's bound.
-use Rattle.tw_in_turn.proofs.Names.{ActorCounts, AreInputsOf, Bool, ExecutesFew, FinalView, HasState, HistoryView, Input, IsBoundOfMain, IsLeftIn, List, MayExecute, Option, PoolView, State, TypedProgram, Went, ap, arith, instructions_alone, instructions_by, instructions_in, opened, reached, subst, suc, sum_by-append, sym, typings_of, with_events, within, zero, ℕ, ◌+◌, ◌≡◌, ◌≤◌}
+use Rattle.tw_in_turn.proofs.Names.{ActorCounts, AreInputsOf, End, EndsAfter, ExecutesFew, FinalView, HasState, HistoryView, Input, IsBoundOfMain, IsLeftIn, List, MayExecute, PoolView, State, TypedProgram, Went, ap, arith, cut_of, instructions_alone, instructions_by, instructions_in, opened, reached, subst, suc, sum_by-append, sym, typings_of, with_events, within, zero, ℕ, ◌+◌, ◌≡◌, ◌≤◌}
 use Rattle.tw_code.specs.format.Program.{IsProgram}
 use Rattle.tw_soundness.specs.NoTrap.{AreRight}
-use Rattle.tw_in_turn.specs.declared.run.InTurnResult.TheVariants as result
-use Rattle.tw_in_turn.specs.declared.run.StoppableResult.TheVariants.{Ended, Stopped}
+use Rattle.tw_in_turn.specs.declared.rounds.End.TheVariants.{Over, NoMemory, Stopped}
 
 module _ (verified : TypedProgram) (most : ℕ) (is : IsProgram verified.program) (are : AreRight verified.program (typings_of verified)) (main : IsBoundOfMain verified.program instructions_alone most) where
   few : (p : PoolView) (s : State) → p.program ≡ verified → AreInputsOf verified.program p.inputs → HasState p s → instructions_in p.history ≤ most
@@ -34,6 +33,10 @@ module _ (verified : TypedProgram) (most : ℕ) (is : IsProgram verified.program
           omega (arith, all, same, sum, rest)
 
   pub executes_few : ExecutesFew verified most
-  executes_few inputs layout limit seed may_stop (Ended (result.Over final history)) given (p, comes, l, ended) = in_left inputs layout limit p final history given l 0 tt
-  executes_few inputs layout limit seed may_stop (Ended (result.NoMemory final history)) given (p, comes, l) = in_left inputs layout limit p final history given l 0 tt
-  executes_few inputs layout limit seed may_stop (Stopped final history cut) given (turns, p, may, after, l, more) = in_left inputs layout limit p final history given l cut more
+  executes_few inputs layout limit seed may_stop left given (turns, (p, comes, l, ended), may) =
+      in_left inputs layout limit p left.outcome left.history given l (cut_of left.end) (executes left.end comes)
+    where
+      executes : (end : End) → EndsAfter seed (opened verified inputs layout limit) turns end p → MayExecute p (cut_of end)
+      executes Over over = tt
+      executes NoMemory failed = tt
+      executes (Stopped cut) stopped = stopped.1

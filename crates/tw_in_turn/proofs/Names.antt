@@ -21,9 +21,9 @@ pub use Rattle.tw_code.specs.machine.State.{Frame, Frames, State, with_frame}
 pub use Rattle.tw_frame.specs.Jobs.{DoneView, IsCut, IsDone, JobView}
 pub use Rattle.tw_in_turn.specs.Bounded.{EndsByItself, ExecutesFew, HasEndedByItself, HasFew, IsBoundedBy}
 pub use Rattle.tw_in_turn.specs.Drawn.{place_for}
-pub use Rattle.tw_in_turn.specs.InTurn.{Continues, Has, HasDone, HasEnded, IsAfter, IsDrawn, IsLeft, IsLeftIn, IsMove, IsNext, IsOutOfMemory, IsOver, IsReachedWith, IsWorkOf, actor_after, actor_from}
-pub use Rattle.tw_in_turn.specs.Rounds.{AreKept, ContinuesOrEnds, Ends, EndsAfter, IsGrown, IsRoundResult, IsTurned, IsWatched, Keeps, MayTurn, all_owed, answers_in, is_stop, looks_at, owed, turns_in}
-pub use Rattle.tw_in_turn.specs.Stopping.{Executes, IsLeftBy, IsLeftIf, IsReachedAfter, MayExecute, is_stopped, looks_in, looks_within}
+pub use Rattle.tw_in_turn.specs.InTurn.{Continues, Has, HasDone, HasEnded, IsAfter, IsDrawn, IsLeftIn, IsMove, IsNext, IsOutOfMemory, IsOver, IsReachedWith, IsWorkOf, actor_after, actor_from}
+pub use Rattle.tw_in_turn.specs.Rounds.{AreKept, ContinuesOrEnds, Ends, IsGrown, IsRoundResult, IsTurned, IsWatched, Keeps, MayTurn, all_owed, answers_in, looks_at, owed, turns_in}
+pub use Rattle.tw_in_turn.specs.Stopping.{EndsAfter, Executes, IsLeftAfter, IsLeftBy, IsLeftIf, IsReachedAfter, MayExecute, cut_of, is_stop, looks_in, looks_within}
 pub use Rattle.tw_in_turn.specs.declared.rounds.End.{End}
 pub use Rattle.tw_pool.proofs.Counting.{AreBy, few, others_same, the_same}
 pub use Rattle.tw_pool.specs.Actors.{events_of, same_actor}

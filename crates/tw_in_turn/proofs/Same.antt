@@ -1,5 +1,5 @@
 -- Two runs in one thread from one opening are equal.
-use Rattle.tw_in_turn.proofs.Names.{Actor, Bool, Closing, Continues, DoneView, Engine, Event, FinalView, HasDone, HistoryView, Instr, IsAfter, IsClosedPool, IsDelivery, IsDrawn, IsDueFree, IsIdle, IsLeft, IsMove, IsNext, IsOldest, IsOver, IsReachedWith, IsWorkOf, Issues, JobView, List, Makes, None, NotEnabled, Option, PoolView, Position, Procedure, Server, Some, State, TakesBack, Turn, Turns, TurnsFree, TurnsUnless, Went as Gone, Worker, [], actor_count, actor_from, ap, cases_order, closing_at, event_of, false, inl, inr, instr_after, is_last, issued_to, local_step, local_steps, oldest_notice, place_for, refl, same_went, steps_of, subst, suc, sym, true, went_first, with_events, zero, ℕ, ◌++◌, ◌∙◌, ◌∷◌, ◌≡◌, ◌⊎◌}
+use Rattle.tw_in_turn.proofs.Names.{Actor, Bool, Closing, Continues, DoneView, EndsAfter, Engine, Event, FinalView, HasDone, HistoryView, Instr, IsAfter, IsClosedPool, IsDelivery, IsDrawn, IsDueFree, IsIdle, IsLeftIf, IsMove, IsNext, IsOldest, IsOver, IsReachedWith, IsWorkOf, Issues, JobView, List, Makes, None, NotEnabled, Option, PoolView, Position, Procedure, Server, Some, State, TakesBack, Turn, Turns, TurnsFree, TurnsUnless, Went as Gone, Worker, [], actor_count, actor_from, ap, cases_order, closing_at, event_of, false, inl, inr, instr_after, is_last, issued_to, local_step, local_steps, oldest_notice, place_for, refl, same_went, steps_of, subst, suc, sym, true, went_first, with_events, zero, ℕ, ◌++◌, ◌∙◌, ◌∷◌, ◌≡◌, ◌⊎◌}
 use Rattle.std.proofs.lemmas.Option.{same_Some}
 use Rattle.tw_types.specs.declared.event.Event.TheVariants.{Take, Local, Call, End, Ask, Deliver, Release}
 use Rattle.tw_types.specs.declared.notice.Notice.{Notice}
@@ -7,7 +7,9 @@ use Rattle.tw_code.specs.machine.Pending.{pending_rules}
 use Rattle.tw_frame.specs.Ready.{IsStop}
 use Rattle.tw_pool.specs.declared.answer.Turn.TheVariants.{Over, Foreign, Owed, NoMemory, Run, Ended, Went, Idle}
 use Rattle.tw_in_turn.specs.Same.{AreSameFinals}
-use Rattle.tw_in_turn.specs.declared.run.InTurnResult.TheVariants as left
+use Rattle.tw_in_turn.specs.declared.rounds.End.{End as Stop}
+use Rattle.tw_in_turn.specs.declared.rounds.End.TheVariants as stop
+use Rattle.tw_in_turn.specs.declared.run.EndedRun.{EndedRun}
 
 -- ---- results of jobs
 
@@ -265,6 +267,11 @@ same_shut p one other h k a b =
       },
     )
 
-pub same_left : (seed : Option ℕ) (first : PoolView) (one other : FinalView) (h k : HistoryView) → IsLeft seed first (left.Over one h) → IsLeft seed first (left.Over other k) → (h.events ≡ k.events) × AreSameFinals one other
-same_left seed first one other h k (p, c, a, ended) (q, d, b, over) =
-    same_shut p one other h k a.shut (subst (λ (x : PoolView). IsClosedPool x other k) (one_run seed first q p d c) b.shut)
+pub same_left : (seed : Option ℕ) (first : PoolView) (may_stop : Bool) (one other : EndedRun) → one.end ≡ stop.Over → other.end ≡ stop.Over → IsLeftIf may_stop seed first one → IsLeftIf may_stop seed first other
+    → (one.history.events ≡ other.history.events) × AreSameFinals one.outcome other.outcome
+same_left seed first may_stop one other over ended (turns, (p, comes, a, more), may) (others, (q, goes, b, rest), must) =
+    same_shut p one.outcome other.outcome one.history other.history a.shut
+    (subst (λ (x : PoolView). IsClosedPool x other.outcome other.history) (one_run seed first q p (reached_by others q other.end ended goes) (reached_by turns p one.end over comes)) b.shut)
+  where
+    reached_by : (count : ℕ) (x : PoolView) (end : Stop) → end ≡ stop.Over → EndsAfter seed first count end x → IsReachedWith seed first IsOver x
+    reached_by count x end is here = (subst (λ (e : Stop). EndsAfter seed first count e x) is here).0

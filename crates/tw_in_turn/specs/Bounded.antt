@@ -10,13 +10,10 @@ use Rattle.tw_verify.specs.Typed.{TypedProgram, typings_of}
 use Rattle.tw_bounds.specs.Runs.{IsBoundOfMain, events_alone}
 use Rattle.tw_pool.specs.declared.answer.Closing.{Closing}
 use Rattle.tw_pool.specs.declared.answer.Closing.TheVariants.{Quiet, Stuck, Stopped, Limit}
-use Rattle.tw_pool.specs.Ends.{FinalView}
-use Rattle.tw_pool.specs.History.{HistoryView}
 use Rattle.tw_pool.specs.Openings.{opened}
 use Rattle.tw_pool.specs.PoolView.{PoolView, HasState}
-use Rattle.tw_in_turn.specs.declared.run.InTurnResult.TheVariants as left
-use Rattle.tw_in_turn.specs.declared.run.StoppableResult.{StoppableResult}
-use Rattle.tw_in_turn.specs.InTurn.{IsLeft}
+use Rattle.tw_in_turn.specs.declared.rounds.End.TheVariants.{Over}
+use Rattle.tw_in_turn.specs.declared.run.EndedRun.{EndedRun}
 use Rattle.tw_in_turn.specs.Stopping.{IsLeftIf, executed_in}
 
 -- an accepted program, and a bound of the events of main's task, with all tasks that descend from it
@@ -40,11 +37,11 @@ HasEndedByItself (Some Limit) = ⊥
 -- holds if a run with a limit above the bound ends by itself, unless an allocation fails
 abbrev pub EndsByItself : TypedProgram → ℕ → Type 0
 EndsByItself verified most =
-    (inputs : List Input) (layout : ActorCounts) (limit : ℕ) (seed : Option ℕ) (final : FinalView) (history : HistoryView) → AreInputsOf verified.program inputs → most < limit
-    → IsLeft seed (opened verified inputs layout limit) (left.Over final history) → HasEndedByItself final.closing
+    (inputs : List Input) (layout : ActorCounts) (limit : ℕ) (seed : Option ℕ) (may_stop : Bool) (left : EndedRun) → AreInputsOf verified.program inputs → most < limit
+    → left.end ≡ Over → IsLeftIf may_stop seed (opened verified inputs layout limit) left → HasEndedByItself left.outcome.closing
 
 -- holds if no run executes more instructions, also with those of a task that was cut off
 abbrev pub ExecutesFew : TypedProgram → ℕ → Type 0
 ExecutesFew verified most =
-    (inputs : List Input) (layout : ActorCounts) (limit : ℕ) (seed : Option ℕ) (may_stop : Bool) (left : StoppableResult) → AreInputsOf verified.program inputs
+    (inputs : List Input) (layout : ActorCounts) (limit : ℕ) (seed : Option ℕ) (may_stop : Bool) (left : EndedRun) → AreInputsOf verified.program inputs
     → IsLeftIf may_stop seed (opened verified inputs layout limit) left → executed_in left ≤ most

@@ -17,8 +17,6 @@ use Rattle.tw_pool.specs.PoolView.{PoolView, HasState}
 use Rattle.tw_pool.specs.Turns.{IsTurn, issued_to}
 use Rattle.tw_pool.specs.Work.{IsIdle}
 use Rattle.tw_in_turn.specs.Drawn.{place_for}
-use Rattle.tw_in_turn.specs.declared.run.InTurnResult.{InTurnResult}
-use Rattle.tw_in_turn.specs.declared.run.InTurnResult.TheVariants as left
 
 -- ---- the order of steps
 
@@ -127,8 +125,3 @@ pub record IsLeftIn (first p : PoolView) (final : FinalView) (history : HistoryV
   pub within : length p.history ≤ first.limit
   pub shut : IsClosedPool p final history
   pub ends_well : EndsWell first.program.program shut.state
-
--- holds for a finished run, from its first pool on
-abbrev pub IsLeft : Option ℕ → PoolView → InTurnResult → Type 0
-IsLeft seed first (left.Over final history) = (p : PoolView) × IsReachedWith seed first IsOver p × IsLeftIn first p final history × HasEnded final.closing
-IsLeft seed first (left.NoMemory final history) = (p : PoolView) × IsReachedWith seed first IsOutOfMemory p × IsLeftIn first p final history

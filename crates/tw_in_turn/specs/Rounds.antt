@@ -12,7 +12,7 @@ use Rattle.tw_host.specs.Sees.{IsDoneOf}
 use Rattle.tw_in_turn.specs.declared.rounds.End.{End}
 use Rattle.tw_in_turn.specs.declared.rounds.End.TheVariants.{Over, NoMemory, Stopped}
 use Rattle.tw_stop.specs.Looks.{looks, noes}
-use Rattle.tw_in_turn.specs.Stopping.{IsReachedAfter, MayExecute, looks_within}
+use Rattle.tw_in_turn.specs.Stopping.{EndsAfter, MayExecute, is_stop, looks_within}
 use Rattle.tw_pool.specs.Work.{IsIdle}
 use Rattle.tw_in_turn.specs.InTurn.{Continues, Has, IsAfter, IsMove, IsOver, IsOutOfMemory}
 
@@ -21,17 +21,6 @@ abbrev pub Ends : End → PoolView → Turn → Type 0
 Ends Over p answer = IsOver answer
 Ends NoMemory p answer = IsOutOfMemory answer
 Ends (Stopped cut) p answer = (job : JobView) × (answer ≡ Run job) × MayExecute p cut
-
--- holds for the reason why no step follows the first so many, which lead to this pool
-abbrev pub EndsAfter : Option ℕ → PoolView → ℕ → End → PoolView → Type 0
-EndsAfter seed first turns Over p = IsReachedAfter seed first turns IsOver p
-EndsAfter seed first turns NoMemory p = IsReachedAfter seed first turns IsOutOfMemory p
-EndsAfter seed first turns (Stopped cut) p = IsAfter seed first turns p × MayExecute p cut
-
-abbrev pub is_stop : End → Bool
-is_stop Over = false
-is_stop NoMemory = false
-is_stop (Stopped cut) = true
 
 -- ---- looks while tasks run
 

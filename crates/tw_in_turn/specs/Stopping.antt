@@ -1,33 +1,42 @@
 -- A run in one thread that looks at a signal before each step that may make an event and while a task runs, and stops at the first look that says yes.
-use Rattle.std.specs.Prelude.{◌≡◌, ◌≤◌, ◌+◌, ◌/◌, ℕ, zero, suc, Bool, true, false, List, Option, sum_by}
+use Rattle.std.specs.Prelude.{◌≡◌, ◌≤◌, ◌+◌, ◌/◌, ℕ, zero, suc, Bool, true, false, List, Option, Some, None, sum_by, unwrap_or}
 use Rattle.tw_stop.specs.Looks.{looks}
 use Rattle.tw_types.specs.declared.event.Event.{Event}
 use Rattle.tw_types.specs.declared.event.Event.TheVariants.{Take, Local, Call, End, Ask, Deliver, Release}
+use Rattle.tw_pool.specs.declared.answer.Closing.{Closing}
+use Rattle.tw_pool.specs.declared.answer.Closing.TheVariants as closings
 use Rattle.tw_pool.specs.declared.answer.Turn.{Turn}
 use Rattle.tw_bounds.specs.Runs.{instructions_in}
 use Rattle.tw_code.specs.machine.State.{State}
 use Rattle.tw_pool.specs.PoolView.{HasState, PoolView, with_events}
-use Rattle.tw_in_turn.specs.InTurn.{IsReachedWith, HasEnded, IsAfter, IsLeft, IsLeftIn, IsOver, IsOutOfMemory}
-use Rattle.tw_in_turn.specs.declared.run.InTurnResult.TheVariants as left
-use Rattle.tw_in_turn.specs.declared.run.StoppableResult.{StoppableResult}
-use Rattle.tw_in_turn.specs.declared.run.StoppableResult.TheVariants.{Ended, Stopped}
+use Rattle.tw_in_turn.specs.InTurn.{IsReachedWith, HasEnded, IsAfter, IsLeftIn, IsOver, IsOutOfMemory}
+use Rattle.tw_in_turn.specs.declared.rounds.End.{End as Stop}
+use Rattle.tw_in_turn.specs.declared.rounds.End.TheVariants.{Over, NoMemory, Stopped}
+use Rattle.tw_in_turn.specs.declared.run.EndedRun.{EndedRun}
 
-abbrev pub is_stopped : StoppableResult → Bool
-is_stopped (Ended left) = false
-is_stopped (Stopped final history cut) = true
-
-abbrev pub events_of : StoppableResult → List Event
-events_of (Ended (left.Over final history)) = history.events
-events_of (Ended (left.NoMemory final history)) = history.events
-events_of (Stopped final history cut) = history.events
+-- returns whether the run was stopped
+abbrev pub is_stop : Stop → Bool
+is_stop Over = false
+is_stop NoMemory = false
+is_stop (Stopped cut) = true
 
 -- return how many local instructions a task that was cut off had executed, and how many instructions a run executed, with those
-abbrev pub cut_of : StoppableResult → ℕ
-cut_of (Ended left) = 0
-cut_of (Stopped final history cut) = cut
+abbrev pub cut_of : Stop → ℕ
+cut_of Over = 0
+cut_of NoMemory = 0
+cut_of (Stopped cut) = cut
 
-abbrev pub executed_in : StoppableResult → ℕ
-executed_in left = instructions_in (events_of left) + cut_of left
+abbrev pub executed_in : EndedRun → ℕ
+executed_in left = instructions_in left.history.events + cut_of left.end
+
+-- return why a run is over, from its end and its results: none if memory ran out. One that was stopped may have had its end before.
+abbrev pub closing_at_end : Stop → Option Closing → Option Closing
+closing_at_end Over closing = closing
+closing_at_end NoMemory closing = None
+closing_at_end (Stopped cut) closing = Some (unwrap_or closing closings.Stopped)
+
+abbrev pub left_closing : EndedRun → Option Closing
+left_closing left = closing_at_end left.end left.outcome.closing
 
 -- ---- looks at the signal
 
@@ -62,19 +71,23 @@ MayExecute p (suc cut) = Executes p (suc cut)
 abbrev pub IsReachedAfter : Option ℕ → PoolView → ℕ → (Turn → Type 0) → PoolView → Type 0
 IsReachedAfter seed first turns Answers p = (c : IsReachedWith seed first Answers p) × (c.turns ≡ turns)
 
+-- holds for the reason why no step follows the first so many, which lead to this pool
+abbrev pub EndsAfter : Option ℕ → PoolView → ℕ → Stop → PoolView → Type 0
+EndsAfter seed first turns Over p = IsReachedAfter seed first turns IsOver p
+EndsAfter seed first turns NoMemory p = IsReachedAfter seed first turns IsOutOfMemory p
+EndsAfter seed first turns (Stopped cut) p = IsAfter seed first turns p × MayExecute p cut
+
 -- holds for a finished run, from its first pool on: it ended at the step after so many, or was stopped after them
-abbrev pub IsLeftAfter : Option ℕ → PoolView → ℕ → StoppableResult → Type 0
-IsLeftAfter seed first turns (Ended (left.Over final history)) = (p : PoolView) × IsReachedAfter seed first turns IsOver p × IsLeftIn first p final history × HasEnded final.closing
-IsLeftAfter seed first turns (Ended (left.NoMemory final history)) = (p : PoolView) × IsReachedAfter seed first turns IsOutOfMemory p × IsLeftIn first p final history
-IsLeftAfter seed first turns (Stopped final history cut) = (p : PoolView) × IsAfter seed first turns p × IsLeftIn first p final history × MayExecute p cut
+abbrev pub IsLeftAfter : Option ℕ → PoolView → ℕ → EndedRun → Type 0
+IsLeftAfter seed first turns left =
+    (p : PoolView) × EndsAfter seed first turns left.end p × IsLeftIn first p left.outcome left.history × (left.end ≡ Over → HasEnded left.outcome.closing)
 
 -- Holds for a finished run whose looks had these answers: at least one for each event that isn't local, and those while tasks ran. All say no
 -- but the last one, which says whether the run was stopped. If a task was cut off, the step that issued its job is the last one.
-abbrev pub IsLeftBy : Option ℕ → PoolView → List Bool → StoppableResult → Type 0
+abbrev pub IsLeftBy : Option ℕ → PoolView → List Bool → EndedRun → Type 0
 IsLeftBy seed first answers left =
-    (turns : ℕ) × (count : ℕ) × (looks_within (events_of left) ≤ count + 1) × (answers ≡ looks count (is_stopped left)) × IsLeftAfter seed first turns left
+    (turns : ℕ) × (count : ℕ) × (looks_within left.history.events ≤ count + 1) × (answers ≡ looks count (is_stop left.end)) × IsLeftAfter seed first turns left
 
--- holds for a finished run without its looks: it ended, or it was stopped after so many steps, if that may be
-abbrev pub IsLeftIf : Bool → Option ℕ → PoolView → StoppableResult → Type 0
-IsLeftIf may_stop seed first (Ended left) = IsLeft seed first left
-IsLeftIf may_stop seed first (Stopped final history cut) = (turns : ℕ) × (p : PoolView) × (may_stop ≡ true) × IsAfter seed first turns p × IsLeftIn first p final history × MayExecute p cut
+-- holds for a finished run without its looks: it was stopped only if that may be
+abbrev pub IsLeftIf : Bool → Option ℕ → PoolView → EndedRun → Type 0
+IsLeftIf may_stop seed first left = (turns : ℕ) × IsLeftAfter seed first turns left × (is_stop left.end ≡ true → may_stop ≡ true)

@@ -7,6 +7,7 @@ mod run;
 mod theorems;
 mod timed;
 
-pub use run::{InTurnResult, StoppableResult, run_in_turn, run_until};
+pub use rounds::End;
+pub use run::{EndedRun, run_in_turn, run_until};
 pub use theorems::{ends_below_limit, executes_few, one_run};
 pub use timed::run_timed;

@@ -12,14 +12,14 @@ use tw_pool::{History, Pool, Turn};
 use tw_stop::StopSignal;
 use tw_types::Actor;
 
-/// The reason why no step follows another.
+/// The reason why no step of a run in one thread follows another.
 #[derive(Clone, Copy)]
-pub(crate) enum End {
-    /// The run is over.
+pub enum End {
+    /// The run has ended by itself, or has reached the limit.
     Over,
     /// An allocation failed.
     NoMemory,
-    /// The stop signal is raised. The number is that of the local instructions of a task that was cut off.
+    /// The stop signal is raised. The number is that of the local instructions of a task that was cut off, whose event isn't made.
     Stopped(u64),
 }
 

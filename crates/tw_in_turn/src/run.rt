@@ -4,53 +4,44 @@ ghost use Rattle.std.specs.Prelude.{◌≡◌, Bool, IfErr, IfOk, List, OnErr};
 ghost use Rattle.tw_stop.specs.Looks.{Looked};
 ghost use Rattle.tw_pool.specs.Openings.{IsRejection, MayOpen, opened};
 ghost use Rattle.tw_pool.specs.PoolView.{PoolView};
-ghost use Rattle.tw_in_turn.specs.InTurn.{IsLeft};
-ghost use Rattle.tw_in_turn.specs.Stopping.{IsLeftBy, cut_of};
+ghost use Rattle.tw_in_turn.specs.Stopping.{IsLeftBy, IsLeftIf, cut_of, left_closing};
 ghost use Rattle.tw_in_turn.specs.Rounds.{AreKept, IsOpened, all_owed};
 
 use crate::rounds::{End, turn_all};
 use std::alloc::{AllocError, Global};
 use tw_frame::Done;
-use tw_pool::{Final, History, OpenError, Pool};
+use tw_pool::{Closing, Final, History, OpenError, Pool};
 use tw_stop::{Never, StopSignal};
 use tw_types::{Input, Layout};
 use tw_verify::Verified;
 
 /// A finished run.
 #[derive(Drop)]
-pub enum InTurnResult {
-    /// The run has ended by itself, or has reached the limit.
-    Over { outcome: Final, history: History },
-    /// An allocation failed.
-    NoMemory { outcome: Final, history: History },
+pub struct EndedRun {
+    pub outcome: Final,
+    pub history: History,
+    pub end: End,
 }
 
-/// A finished run that could be stopped.
-#[derive(Drop)]
-pub enum StoppableResult {
-    /// It ended without being stopped.
-    Ended(InTurnResult),
-    /// The stop signal was raised before its end. A task that was cut off had executed so many local instructions, whose event isn't
-    /// made.
-    Stopped {
-        outcome: Final,
-        history: History,
-        cut: u64,
-    },
-}
-
-impl StoppableResult {
+impl EndedRun {
     /// Returns how many local instructions a task that was cut off had executed.
     pub fn cut(&self) -> u64
-        ensures { result ≡ cut_of self.now }
+        ensures { result ≡ cut_of self.now.end }
     {
-        match self {
-            StoppableResult::Ended(_) => 0,
-            StoppableResult::Stopped {
-                outcome: _,
-                history: _,
-                cut,
-            } => *cut,
+        match self.end {
+            End::Stopped(cut) => cut,
+            End::Over | End::NoMemory => 0,
+        }
+    }
+
+    /// Returns why the run is over, if memory lasted. One that was stopped may have reached its end before.
+    pub fn closing(&self) -> Option<Closing>
+        ensures { result ≡ left_closing self.now }
+    {
+        match self.end {
+            End::Over => self.outcome.closing(),
+            End::NoMemory => None,
+            End::Stopped(_) => Some(self.outcome.closing().unwrap_or(Closing::Stopped)),
         }
     }
 }
@@ -78,7 +69,7 @@ pub fn run_until<S: StopSignal>(
     limit: usize,
     seed: Option<u64>,
     stop: &mut S,
-) -> Result<StoppableResult, OpenError>
+) -> Result<EndedRun, OpenError>
     ensures allowed { IfOk result (λ _. MayOpen verified.now.program inputs.now layout limit) }
     ensures left { IfOk result (λ left. (answers : List Bool) × Looked S.says stop.old stop.new answers × IsLeftBy seed (opened verified.now inputs.now layout limit) answers left) }
     ensures refused { IfErr result (IsRejection verified.now.program inputs.now layout limit) }
@@ -91,15 +82,11 @@ pub fn run_until<S: StopSignal>(
     };
     let end = turn_all(alloc, &mut pool, kept.as_mut_slice(), seed, stop);
     let (outcome, history) = pool.shut();
-    match end {
-        End::Over => Ok(StoppableResult::Ended(InTurnResult::Over { outcome, history })),
-        End::NoMemory => Ok(StoppableResult::Ended(InTurnResult::NoMemory { outcome, history })),
-        End::Stopped(cut) => Ok(StoppableResult::Stopped {
-            outcome,
-            history,
-            cut,
-        }),
-    }
+    Ok(EndedRun {
+        outcome,
+        history,
+        end,
+    })
 }
 
 /// Like `run_until`, without a stop signal.
@@ -110,14 +97,10 @@ pub fn run_in_turn(
     layout: Layout,
     limit: usize,
     seed: Option<u64>,
-) -> Result<InTurnResult, OpenError>
+) -> Result<EndedRun, OpenError>
     ensures allowed { IfOk result (λ _. MayOpen verified.now.program inputs.now layout limit) }
-    ensures left { IfOk result (IsLeft seed (opened verified.now inputs.now layout limit)) }
+    ensures left { (may_stop : Bool) → IfOk result (IsLeftIf may_stop seed (opened verified.now inputs.now layout limit)) }
     ensures refused { IfErr result (IsRejection verified.now.program inputs.now layout limit) }
 {
-    match run_until(alloc, verified, inputs, layout, limit, seed, &mut Never) {
-        Ok(StoppableResult::Ended(left)) => Ok(left),
-        Ok(StoppableResult::Stopped { .. }) => unreachable!(),
-        Err(why) => Err(why),
-    }
+    run_until(alloc, verified, inputs, layout, limit, seed, &mut Never)
 }

@@ -1,15 +1,15 @@
 //! Theorems on runs in one thread.
 
-ghost use Rattle.std.specs.Prelude.{◌≡◌, ℕ, Option};
+ghost use Rattle.std.specs.Prelude.{◌≡◌, Bool, ℕ, Option};
 ghost use Rattle.tw_code.specs.format.Program.{IsProgram};
 ghost use Rattle.tw_soundness.specs.NoTrap.{AreRight};
 ghost use Rattle.tw_bounds.specs.Runs.{IsBoundOfMain, instructions_alone};
 ghost use Rattle.tw_in_turn.specs.Bounded.{EndsByItself, ExecutesFew, HasFew, IsBoundedBy};
-ghost use Rattle.tw_in_turn.specs.InTurn.{IsReachedWith, IsLeft, IsOver};
+ghost use Rattle.tw_in_turn.specs.InTurn.{IsReachedWith, IsOver};
 ghost use Rattle.tw_in_turn.specs.Same.{AreSameFinals};
-ghost use Rattle.tw_in_turn.specs.declared.run.InTurnResult.TheVariants as left;
-ghost use Rattle.tw_pool.specs.Ends.{FinalView};
-ghost use Rattle.tw_pool.specs.History.{HistoryView};
+ghost use Rattle.tw_in_turn.specs.Stopping.{IsLeftIf};
+ghost use Rattle.tw_in_turn.specs.declared.rounds.End.TheVariants.{Over};
+ghost use Rattle.tw_in_turn.specs.declared.run.EndedRun.{EndedRun};
 ghost use Rattle.tw_pool.specs.PoolView.{PoolView};
 ghost use Rattle.tw_verify.specs.Typed.{TypedProgram, typings_of};
 
@@ -17,8 +17,8 @@ ghost use Rattle.tw_verify.specs.Typed.{TypedProgram, typings_of};
 /// that they leave the same results.
 pub fn one_run()
     ensures pool { (seed : Option ℕ) (first p q : PoolView) → IsReachedWith seed first IsOver p → IsReachedWith seed first IsOver q → p ≡ q }
-    ensures results { (seed : Option ℕ) (first : PoolView) (one other : FinalView) (h k : HistoryView)
-        → IsLeft seed first (left.Over one h) → IsLeft seed first (left.Over other k) → (h.events ≡ k.events) × AreSameFinals one other }
+    ensures results { (seed : Option ℕ) (first : PoolView) (may_stop : Bool) (one other : EndedRun) → one.end ≡ Over → other.end ≡ Over
+        → IsLeftIf may_stop seed first one → IsLeftIf may_stop seed first other → (one.history.events ≡ other.history.events) × AreSameFinals one.outcome other.outcome }
 {}
 
 /// Proves that no run of a program whose events have a bound has more of them, in threads or in one thread. Also that a run in one

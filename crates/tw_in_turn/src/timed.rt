@@ -4,7 +4,7 @@ ghost use Rattle.std.specs.Prelude.{IfErr, IfOk, is_some};
 ghost use Rattle.tw_pool.specs.Openings.{IsRejection, MayOpen, opened};
 ghost use Rattle.tw_in_turn.specs.Stopping.{IsLeftIf};
 
-use crate::run::{StoppableResult, run_in_turn, run_until};
+use crate::run::{EndedRun, run_in_turn, run_until};
 use std::alloc::Global;
 use std::time::{Clock, Duration};
 use tw_pool::OpenError;
@@ -22,16 +22,13 @@ pub fn run_timed<C: Clock>(
     limit: usize,
     seed: Option<u64>,
     seconds: Option<Duration>,
-) -> Result<StoppableResult, OpenError>
+) -> Result<EndedRun, OpenError>
     ensures allowed { IfOk result (λ _. MayOpen verified.now.program inputs.now layout limit) }
     ensures left { IfOk result (IsLeftIf (is_some seconds) seed (opened verified.now inputs.now layout limit)) }
     ensures refused { IfErr result (IsRejection verified.now.program inputs.now layout limit) }
 {
     match seconds {
-        None => match run_in_turn(alloc, verified, inputs, layout, limit, seed) {
-            Ok(left) => Ok(StoppableResult::Ended(left)),
-            Err(why) => Err(why),
-        },
+        None => run_in_turn(alloc, verified, inputs, layout, limit, seed),
         Some(seconds) => {
             let mut deadline = Deadline::after(clock, seconds);
             run_until(alloc, verified, inputs, layout, limit, seed, &mut deadline)

@@ -12,27 +12,15 @@ replied Answers text close (Ended other) old new h wrote =
   where
     same : {a b : Close} → Ended a ≡ Ended b → a ≡ b
     same e = cc
-replied Answers text close NoMemory old new h wrote = absurd (never ((wrote (λ e. cc)).0))
-  where
-    never : NoMemory ≡ Ended close → ⊥
-    never e = cc
-replied Answers text close ReadFailed old new h wrote = absurd (never ((wrote (λ e. cc)).0))
-  where
-    never : ReadFailed ≡ Ended close → ⊥
-    never e = cc
+replied Answers text close NoMemory old new h wrote = absurd (let never : NoMemory ≡ Ended close = (wrote (λ e. cc)).0 in cc)
+replied Answers text close ReadFailed old new h wrote = absurd (let never : ReadFailed ≡ Ended close = (wrote (λ e. cc)).0 in cc)
 replied Answers text close WriteFailed old new h wrote = tt
 
 -- an allocation failed
 pub no_reply : (Answers : Reply → Type 0) (status : Status) (old new : Option (List ℕ)) → (status ≢ WriteFailed → status ≡ NoMemory) → (status ≡ NoMemory → Appends old new (codes "memory\n")) → EndsWithReply Answers status old new
-no_reply Answers (Ended close) old new is wrote = absurd (never (is (λ e. cc)))
-  where
-    never : Ended close ≡ NoMemory → ⊥
-    never e = cc
+no_reply Answers (Ended close) old new is wrote = absurd (let never : Ended close ≡ NoMemory = is (λ e. cc) in cc)
 no_reply Answers NoMemory old new is wrote = wrote refl
-no_reply Answers ReadFailed old new is wrote = absurd (never (is (λ e. cc)))
-  where
-    never : ReadFailed ≡ NoMemory → ⊥
-    never e = cc
+no_reply Answers ReadFailed old new is wrote = absurd (let never : ReadFailed ≡ NoMemory = is (λ e. cc) in cc)
 no_reply Answers WriteFailed old new is wrote = tt
 
 -- if a reply may be made, what was written of it

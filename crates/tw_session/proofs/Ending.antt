@@ -22,10 +22,7 @@ rejected source order input from left old mid new r WriteFailed h wrote = tt
 
 pub unread : (source : Source) (order : EachOrder) (input : List ℕ) (from left old new : Option (List ℕ)) → Streams source order input from left old new (Err stream.Read) → EndsEach source order input from left old new ReadFailed
 unread source order input from left old new (inl h) = h
-unread source order input from left old new (inr h) = absurd (never h.0)
-  where
-    never : stream.Read ≡ stream.NoMemory → ⊥
-    never e = cc
+unread source order input from left old new (inr h) = absurd (let never : stream.Read ≡ stream.NoMemory = h.0 in cc)
 
 pub out_of_memory : (source : Source) (order : EachOrder) (input : List ℕ) (from left old mid new : Option (List ℕ)) (status : Status) → Streams source order input from left old mid (Err stream.NoMemory)
     → EndsWithReply (λ (made : Reply). ⊥) status mid new → EndsEach source order input from left old new status

@@ -1,5 +1,5 @@
 -- The end of a run is as its definition says.
-use Rattle.tw_session.proofs.SessionNames.{Bool, Closed, Closes, EndsSo, Err, IfOk, Input, IsAtEnd, IsLeftIf, IsOrdered, IsRun, Limit, List, MayOpen, None, Ok, Option, Procedure, RepliesByClose, RepliesByEnd, RepliesByRun, Result, Run, SeatEvents, Some, StoppableResult, Stopped, ap, eqb-true, false, if◌then◌else◌, inl, inr, length, opened, reached, refl, reply, run_as, run_of, subst, sym, true, unwrap_or, ℕ, ◌++◌, ◌==◌, ◌∙◌, ◌≡◌, ◌≤◌, ◌⊎◌}
+use Rattle.tw_session.proofs.SessionNames.{Bool, Closed, EndsSo, Err, IfOk, Input, IsAtEnd, IsLeftIf, IsOrdered, IsRun, Limit, List, MayOpen, None, Ok, Option, Procedure, RepliesByClose, RepliesByEnd, RepliesByRun, Result, Run, Some, EndedRun, Stopped, ap, eqb-true, false, if◌then◌else◌, inl, inr, length, opened, reached, refl, reply, run_as, run_of, subst, sym, true, unwrap_or, ℕ, ◌++◌, ◌==◌, ◌∙◌, ◌≡◌, ◌≤◌, ◌⊎◌}
 use Rattle.std.specs.Option.{option_map, option_or}
 use Rattle.std.specs.Result.{IfErr}
 use Rattle.tw_types.specs.declared.ending.Ending.{Ending}
@@ -9,6 +9,10 @@ use Rattle.tw_types.specs.Outcome.{Went}
 use Rattle.tw_code.specs.machine.Ending.{ending}
 use Rattle.tw_code.specs.machine.State.{State}
 use Rattle.tw_verify.specs.Typed.{TypedProgram}
+use Rattle.tw_in_turn.specs.InTurn.{HasEnded}
+use Rattle.tw_in_turn.specs.Stopping.{EndsAfter, closing_at_end, cut_of, is_stop, left_closing}
+use Rattle.tw_in_turn.specs.declared.rounds.End.{End}
+use Rattle.tw_in_turn.specs.declared.rounds.End.TheVariants as stop
 use Rattle.tw_pool.specs.declared.answer.Closing.{Closing}
 use Rattle.tw_pool.specs.Ends.{FinalView, IsClosedPool}
 use Rattle.tw_pool.specs.History.{HistoryView}
@@ -38,7 +42,7 @@ IsEndOf order over closing =
     ((over ≡ Some closing) × (closing ≡ Stopped → may_be_stopped order.options ≡ true)) ⊎ ((over ≡ None) × (closing ≡ Stopped) × (may_be_stopped order.options ≡ true))
 
 -- of one that was stopped, though it may have ended before
-pub stopped_end : (order : RunOrder) (over : Option Closing) → may_be_stopped order.options ≡ true → IsEndOf order over (unwrap_or over Stopped)
+stopped_end : (order : RunOrder) (over : Option Closing) → may_be_stopped order.options ≡ true → IsEndOf order over (unwrap_or over Stopped)
 stopped_end order None may = inr (refl, refl, may)
 stopped_end order (Some closing) may = inl (refl, λ stopped. may)
 
@@ -48,21 +52,12 @@ ends_so order history s (Some ending.Quiet) stopped full closing is at printed m
 ends_so order history s (Some (ending.Stuck rules)) stopped full closing is at printed may = subst (EndsSo order history s) (same printed) is
 ends_so order history s None true full closing is at printed may = subst (EndsSo order history s) (same printed) (may (sym (same printed)), is)
 ends_so order history s None false true closing is at printed may = subst (EndsSo order history s) (same printed) (at refl, is)
-ends_so order history s None false false closing is at printed may = absurd (none printed)
-  where
-    none : None ≡ Some closing → ⊥
-    none e = cc
+ends_so order history s None false false closing is at printed may = absurd (let never : None ≡ Some closing = printed in cc)
 
 no_ending : (e : Option Ending) (stopped full : Bool) → closing_by e stopped full ≡ None → e ≡ None
 no_ending None stopped full none = refl
-no_ending (Some ending.Quiet) stopped full none = absurd (some none)
-  where
-    some : closing_by (Some ending.Quiet) stopped full ≡ None → ⊥
-    some e = cc
-no_ending (Some (ending.Stuck rules)) stopped full none = absurd (some none)
-  where
-    some : closing_by (Some (ending.Stuck rules)) stopped full ≡ None → ⊥
-    some e = cc
+no_ending (Some ending.Quiet) stopped full none = cc
+no_ending (Some (ending.Stuck rules)) stopped full none = cc
 
 ends_as : (order : RunOrder) (history : List Event) (s : State) (stopped full : Bool) (closing : Closing)
     → (full ≡ true → length history ≡ order.options.limit) → IsEndOf order (closing_by (ending s) stopped full) closing → EndsSo order history s closing
@@ -109,15 +104,6 @@ pub replied_close : {E : Type 0} (made : Result MadeReply E) (text : Option (Lis
 replied_close (Ok r) text program order closed h = inl h
 replied_close (Err e) text program order closed h = tt
 
--- with threads, the reply to a closed run is one of `run`
-pub closed_run : {E : Type 0} (made : Result MadeReply E) (text : Option (List ℕ)) (verified : TypedProgram) (order : RunOrder) (closed : Closed) → order.options.in_turn ≡ false
-    → ((seats : List SeatEvents) × Closes (run_as verified order) seats closed)
-    → IfOk made (λ r. RepliesByClose text verified.program order closed (reply r.text.items r.close)) → IfOk made (λ r. RepliesByRun text verified.program order (reply r.text.items r.close))
-closed_run (Ok r) text verified order closed threads closes (inl h) = inl h
-closed_run (Ok r) text verified order closed threads (seats, closes) (inr h) =
-    inr (threads, record { verified = verified; is = refl; seats = seats; closed = closed; closes = closes; unfinished = h.0 }, h.1)
-closed_run (Err e) text verified order closed threads closes h = tt
-
 -- with threads nothing more is required
 pub in_threads : (program : List Procedure) (order : RunOrder) (history : List Event) (cut : ℕ) → order.options.in_turn ≡ false → IsOrdered order.options.in_turn program order history cut
 in_threads program order history cut threads = subst (λ b. IsOrdered b program order history cut) (sym threads) tt
@@ -130,8 +116,27 @@ in_turn verified order p cut comes = by order.options.in_turn
     by true = record { verified = verified; is = refl; last = p; comes = comes; made = refl }
     by false = tt
 
+-- of what a run in one thread left
+pub left_over : (verified : TypedProgram) (order : RunOrder) (left : EndedRun) (cut : ℕ) (closing : Closing) → IsLeftIf (may_be_stopped order.options) order.options.seed (opened verified order.inputs order.options.layout order.options.limit) left
+    → cut ≡ cut_of left.end → left_closing left ≡ Some closing → (o : IsRunOver verified.program order left.outcome left.history.events closing) × IsRun verified.program order left.history.events cut o.state closing
+left_over verified order left cut closing (turns, (p, comes, shut, ended), may) cut_is is =
+    over verified order p left.outcome left.history cut closing (ap run_of shut.of_first) shut.within shut.shut (in_turn verified order p cut (subst (IsAtEnd order first p) (sym cut_is) (at_end left.end comes may is))) (ends left.end ended may is)
+  where
+    first : PoolView
+    first = opened verified order.inputs order.options.layout order.options.limit
+
+    at_end : (end : End) → EndsAfter order.options.seed first turns end p → (is_stop end ≡ true → may_be_stopped order.options ≡ true) → closing_at_end end left.outcome.closing ≡ Some closing → IsAtEnd order first p (cut_of end)
+    at_end stop.Over over may is = inl (over.0, refl)
+    at_end stop.NoMemory failed may is = absurd (let never : None ≡ Some closing = is in cc)
+    at_end (stop.Stopped n) stopped may is = inr (turns, may refl, stopped.0, stopped.1)
+
+    ends : (end : End) → (end ≡ stop.Over → HasEnded left.outcome.closing) → (is_stop end ≡ true → may_be_stopped order.options ≡ true) → closing_at_end end left.outcome.closing ≡ Some closing → IsEndOf order left.outcome.closing closing
+    ends stop.Over ended may is = inl (is, λ stopped. absurd (subst HasEnded (is ∙ ap Some stopped) (ended refl)))
+    ends stop.NoMemory ended may is = absurd (let never : None ≡ Some closing = is in cc)
+    ends (stop.Stopped n) ended may is = subst (IsEndOf order left.outcome.closing) (same is) (stopped_end order left.outcome.closing (may refl))
+
 -- what a run leaves that looks at a signal, with the inputs and the limit that are ordered
-pub watched : (made : Result StoppableResult OpenError) (verified : TypedProgram) (order : RunOrder) (inputs : List Input) (limit : ℕ) → inputs ≡ order.inputs → limit ≡ order.options.limit
+pub watched : (made : Result EndedRun OpenError) (verified : TypedProgram) (order : RunOrder) (inputs : List Input) (limit : ℕ) → inputs ≡ order.inputs → limit ≡ order.options.limit
     → IfOk made (λ left. MayOpen verified.program inputs order.options.layout limit) → IfOk made (IsLeftIf true order.options.seed (opened verified inputs order.options.layout limit))
     → IfErr made (IsRejection verified.program inputs order.options.layout limit) → IsRunWatched verified order made
 watched (Ok left) verified order inputs limit same most allowed is refused =

@@ -14,7 +14,7 @@ pub use Rattle.tw_host.specs.Run.{Run, run_of}
 pub use Rattle.tw_host.specs.Seats.{SeatEvents}
 pub use Rattle.tw_host.specs.declared.close.Closed.{Closed}
 pub use Rattle.tw_in_turn.specs.Stopping.{IsLeftIf}
-pub use Rattle.tw_in_turn.specs.declared.run.StoppableResult.{StoppableResult}
+pub use Rattle.tw_in_turn.specs.declared.run.EndedRun.{EndedRun}
 pub use Rattle.tw_inputs.specs.InputWords.{AreEncoded, refused_word}
 pub use Rattle.tw_order.specs.declared.order.Order.{Order}
 pub use Rattle.tw_pool.specs.Openings.{MayOpen, opened}

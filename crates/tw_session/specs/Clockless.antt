@@ -1,13 +1,9 @@
 -- The replies of a session that has no clock: it rejects an order that limits the time of a run.
-use Rattle.std.specs.Prelude.{◌≡◌, ℕ, Bool, false, List, codes, is_some, MatchBool, MatchResult, Result}
-use Rattle.clap.specs.Words.{Text}
-use Rattle.tw_cli.specs.Order.{GivesByWords}
-use Rattle.tw_cli.specs.declared.command.NoOrder.{NoOrder}
-use Rattle.tw_order.specs.Orders.{order_in_turn}
-use Rattle.tw_order.specs.declared.order.Order.{Order}
-use Rattle.tw_order.specs.declared.order.Order.TheVariants.{Assemble, Check, Disassemble, Each, Replay, Run}
-use Rattle.tw_source.specs.Reply.{Reply, reply}
+use Rattle.std.specs.Prelude.{◌≡◌}
+use Rattle.tw_session.specs.Names.{ℕ, Bool, false, List, codes, is_some, MatchBool, MatchResult, Result, Text, NoOrder, order_in_turn, Order, Reply, reply}
 use Rattle.tw_source.specs.declared.close.Close.TheVariants.{CommandLine}
+use Rattle.tw_cli.specs.Order.{GivesByWords}
+use Rattle.tw_order.specs.declared.order.Order.TheVariants.{Assemble, Check, Disassemble, Each, Replay, Run}
 use Rattle.tw_session.specs.Parts.{Given, alone}
 use Rattle.tw_session.specs.Session.{MayReplyTo, RepliesByReason}
 

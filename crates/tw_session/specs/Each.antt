@@ -1,15 +1,12 @@
 -- The end of a session whose program is run on lines that are read apart from it.
-use Rattle.std.specs.Prelude.{◌≡◌, ◌⊎◌, ℕ, List, Option, Ok, Err, ⊤, codes}
-use Rattle.std.specs.Io.KnownBytes.{Appends, Keeps}
+use Rattle.std.specs.Prelude.{◌≡◌, ◌⊎◌}
+use Rattle.tw_session.specs.Names.{ℕ, List, Option, Ok, Err, ⊤, codes, Appends, Keeps, Order, Source, reply}
 use Rattle.tw_order.specs.declared.runs.EachOrder.{EachOrder}
-use Rattle.tw_order.specs.declared.order.Order.{Order}
 use Rattle.tw_order.specs.declared.order.Order.TheVariants.{Each}
-use Rattle.tw_order.specs.declared.order.Source.{Source}
 use Rattle.tw_each.specs.Worst.{close_of}
 use Rattle.tw_each.specs.declared.worst.WorstEnd.{WorstEnd}
 use Rattle.tw_each.specs.Stream.{BreaksFirst, IsRejection, RunsOnLines}
 use Rattle.tw_each.specs.declared.stream.StreamError.TheVariants as stream
-use Rattle.tw_source.specs.Reply.{reply}
 use Rattle.tw_session.specs.Session.{MayReply}
 use Rattle.tw_session.specs.Status.{EndsWithReply}
 use Rattle.tw_session.specs.declared.status.Status.{Status}

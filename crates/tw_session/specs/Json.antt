@@ -1,10 +1,9 @@
 -- Replies as JSON.
-use Rattle.std.specs.Prelude.{◌≡◌, Bool, MatchBool, is_some}
-use Rattle.tw_order.specs.declared.runs.Answer.{Answer}
+use Rattle.std.specs.Prelude.{◌≡◌}
+use Rattle.tw_session.specs.Names.{Bool, MatchBool, is_some, Answer, Order, Reply, reply}
 use Rattle.tw_order.specs.declared.runs.Answer.TheVariants as answer
 use Rattle.tw_order.specs.declared.form.Assembling.{Assembling}
 use Rattle.tw_order.specs.declared.form.Assembling.TheVariants as assembling
-use Rattle.tw_order.specs.declared.order.Order.{Order}
 use Rattle.tw_order.specs.declared.order.Order.TheVariants.{Assemble, Check, Disassemble, Each, Replay, Run}
 use Rattle.tw_order.specs.declared.form.Places.{Places}
 use Rattle.tw_order.specs.declared.form.Places.TheVariants.{Hidden, Shown}
@@ -16,7 +15,6 @@ use Rattle.tw_order.specs.declared.form.Form.TheVariants as form
 use Rattle.tw_json_output.specs.declared.text_object.Printed.{Printed}
 use Rattle.tw_json_output.specs.declared.text_object.Printed.TheVariants as printed
 use Rattle.tw_program_output.specs.ErrorJson.{IsJsonReply, failure_in}
-use Rattle.tw_source.specs.Reply.{Reply, reply}
 use Rattle.tw_source.specs.declared.close.Close.{Close}
 use Rattle.tw_source.specs.declared.close.Close.TheVariants as close
 use Rattle.tw_session.specs.declared.json.Rendering.{Rendering}

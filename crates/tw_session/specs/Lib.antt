@@ -10,3 +10,5 @@ pub mod Each
 pub mod Clockless
 -- The definitions for private clauses: what the code keeps before a program is run.
 pub mod ProgramAction
+-- Names of other crates that several files here use.
+pub mod Names

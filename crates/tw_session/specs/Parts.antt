@@ -1,13 +1,11 @@
 -- The bytes that a session is given, and their parts.
-use Rattle.std.specs.Prelude.{◌≡◌, ◌+◌, ◌-◌, ℕ, Bool, List, [], Option, None, Some, IsUtf8, MatchOption, codes, length, take, if◌then◌else◌, nat_eq, nat_lt}
+use Rattle.std.specs.Prelude.{◌≡◌, ◌+◌, ◌-◌, if◌then◌else◌}
+use Rattle.tw_session.specs.Names.{ℕ, Bool, List, [], Option, None, Some, IsUtf8, MatchOption, codes, length, take, nat_eq, nat_lt, Order, AreParts, after_inputs, before_inputs}
 use Rattle.std.specs.List.{ends_with}
 use Rattle.std.specs.Option.{option_map, option_map_or}
-use Rattle.tw_order.specs.declared.order.Order.{Order}
 use Rattle.tw_order.specs.declared.order.Order.TheVariants.{Replay, Run}
 use Rattle.tw_order.specs.declared.runs.RunInputs.TheVariants.{Json, Words}
-use Rattle.tw_report.specs.History.{AreParts}
 use Rattle.tw_source.specs.Input.{most_bytes}
-use Rattle.tw_source.specs.Inputs.{after_inputs, before_inputs}
 use Rattle.tw_session.specs.declared.parts.Given.{Given as Made}
 use Rattle.tw_session.specs.declared.parts.Parts.{Parts as Read}
 

@@ -1,20 +1,8 @@
 -- The results of the parts of a session before a program is run.
-use Rattle.std.specs.Prelude.{◌≡◌, ◌≤◌, ℕ, List, Option, length}
-use Rattle.clap.specs.Words.{Text}
+use Rattle.std.specs.Prelude.{◌≡◌, ◌≤◌}
+use Rattle.tw_session.specs.Names.{ℕ, List, Option, length, Text, Versioned, AreEncoded, IsRejectedWord, RejectedWord, AreInputsIn, HasFaultAt, Place, lines_in, PrintsInputWord, Reply, reply, RepliesByCheck, IsDisassembled, RepliesByLines, RepliesByEach}
 use Rattle.tw_types.specs.declared.param.Param.{Param}
-use Rattle.tw_code.specs.format.Program.{Versioned}
-use Rattle.tw_inputs.specs.InputWords.{AreEncoded, IsRejectedWord, RejectedWord}
-use Rattle.tw_inputs.specs.JsonInputs.{AreInputsIn, HasFaultAt}
-use Rattle.tw_inputs.specs.declared.json_inputs.Place.{Place}
-use Rattle.tw_report.specs.History.{lines_in}
-use Rattle.tw_source.specs.Inputs.{PrintsInputWord}
-use Rattle.tw_source.specs.Reply.{Reply, reply}
 use Rattle.tw_source.specs.Source.{MayBeSource, text_of}
-use Rattle.tw_source.specs.declared.close.Close.TheVariants.{Success}
-use Rattle.tw_program_output.specs.Check.{RepliesByCheck}
-use Rattle.tw_program_output.specs.Listing.{IsDisassembled}
-use Rattle.tw_replay_output.specs.Replay.{RepliesByLines}
-use Rattle.tw_each.specs.Reply.{RepliesByEach}
 use Rattle.tw_session.specs.Run.{RepliesByOpening}
 use Rattle.tw_session.specs.Session.{PrintsFault, RepliesByJsonRun, RepliesIfRun, run_with}
 use Rattle.tw_session.specs.declared.action.Action.{Action}

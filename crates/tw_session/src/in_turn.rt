@@ -2,7 +2,6 @@
 
 ghost use Rattle.std.specs.Prelude.{◌≡◌, IfOk, map, string_bytes, true};
 ghost use Rattle.tw_code.specs.machine.Inputs.{AreInputsOf};
-ghost use Rattle.tw_in_turn.specs.InTurn.{IsLeft};
 ghost use Rattle.tw_in_turn.specs.Stopping.{IsLeftIf};
 ghost use Rattle.tw_order.specs.Orders.{may_be_stopped};
 ghost use Rattle.tw_pool.specs.Openings.{opened};
@@ -14,72 +13,43 @@ ghost use Rattle.tw_source.specs.Source.{MayBeSource, text_of};
 
 use crate::order::reply_in_turn;
 use crate::parts::Given;
-use crate::run::{stop_reason, unopened_reply};
+use crate::run::unopened_reply;
 use crate::shell::unordered_reply;
 use std::alloc::{AllocError, Global};
 use tw_cli::read_order;
-use tw_in_turn::{InTurnResult, StoppableResult, run_in_turn, run_until};
+use tw_in_turn::{EndedRun, run_in_turn, run_until};
 use tw_order::{Order, RunOrder};
-use tw_pool::{Closing, OpenError};
+use tw_pool::OpenError;
 use tw_run_output::ended_reply;
 use tw_source::{Close, Reply, SourceText, fixed_reply};
 use tw_stop::StopSignal;
 use tw_verify::Verified;
 
-/// Returns the reply of a run that ended.
-fn ended_in_turn(
-    alloc: Global,
-    source: &Option<SourceText<'_>>,
-    order: &RunOrder,
-    verified: Verified,
-    left: InTurnResult,
-) -> Result<Reply, AllocError>
-    requires left { IsLeft order.now.options.seed (opened verified order.now.inputs order.now.options.layout order.now.options.limit) left }
-    requires inputs { AreInputsOf verified.program order.now.inputs }
-    requires source { MayBeSource source.now verified.program }
-    ensures { IfOk result (λ r. RepliesByRun (text_of source.now) verified.program order.now (reply r.text.items r.close)) }
-{
-    match left {
-        InTurnResult::Over { outcome, history } => {
-            match stop_reason(outcome.closing(), order.options.may_be_stopped()) {
-                Some(closing) => {
-                    ended_reply(
-                        alloc, source, order, verified, &outcome, &history, 0, closing,
-                    )
-                }
-                None => unreachable!(),
-            }
-        }
-        InTurnResult::NoMemory { .. } => Err(AllocError),
-    }
-}
-
-/// Returns the reply of a finished run that could be stopped. One that was may have reached its end before.
+/// Returns the reply of a finished run.
 fn left_reply(
     alloc: Global,
     source: &Option<SourceText<'_>>,
     order: &RunOrder,
     verified: Verified,
-    left: StoppableResult,
+    left: EndedRun,
 ) -> Result<Reply, AllocError>
-    requires stopping { may_be_stopped order.now.options ≡ true }
-    requires left { IsLeftIf true order.now.options.seed (opened verified order.now.inputs order.now.options.layout order.now.options.limit) left }
+    requires left { IsLeftIf (may_be_stopped order.now.options) order.now.options.seed (opened verified order.now.inputs order.now.options.layout order.now.options.limit) left }
     requires inputs { AreInputsOf verified.program order.now.inputs }
     requires source { MayBeSource source.now verified.program }
     ensures { IfOk result (λ r. RepliesByRun (text_of source.now) verified.program order.now (reply r.text.items r.close)) }
 {
-    match left {
-        StoppableResult::Ended(left) => ended_in_turn(alloc, source, order, verified, left),
-        StoppableResult::Stopped {
-            outcome,
-            history,
-            cut,
-        } => {
-            let closing = outcome.closing().unwrap_or(Closing::Stopped);
-            ended_reply(
-                alloc, source, order, verified, &outcome, &history, cut, closing,
-            )
-        }
+    match left.closing() {
+        Some(closing) => ended_reply(
+            alloc,
+            source,
+            order,
+            verified,
+            &left.outcome,
+            &left.history,
+            left.cut(),
+            closing,
+        ),
+        None => Err(AllocError),
     }
 }
 
@@ -103,7 +73,7 @@ pub fn reply_single_threaded(
         limit,
         order.options.seed,
     ) {
-        Ok(left) => ended_in_turn(alloc, source, order, verified, left),
+        Ok(left) => left_reply(alloc, source, order, verified, left),
         Err(why) => unopened_reply(alloc, source, order, &verified, why),
     }
 }
@@ -114,7 +84,7 @@ pub fn run_until_raised<S: StopSignal>(
     order: &RunOrder,
     verified: &Verified,
     stop: &mut S,
-) -> Result<StoppableResult, OpenError>
+) -> Result<EndedRun, OpenError>
     ensures { IsRunWatched verified.now order.now result }
 {
     run_until(
@@ -134,7 +104,7 @@ pub fn reply_after(
     source: &Option<SourceText<'_>>,
     order: &RunOrder,
     verified: Verified,
-    made: Result<StoppableResult, OpenError>,
+    made: Result<EndedRun, OpenError>,
 ) -> Result<Reply, AllocError>
     requires stopping { may_be_stopped order.now.options ≡ true }
     requires made { IsRunWatched verified order.now made }

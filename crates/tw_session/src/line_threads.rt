@@ -15,34 +15,7 @@ use tw_order::{EachOrder, Source};
 use tw_source::Reply;
 use tw_workers::Gate;
 
-/// Answers the lines while the observer monitors them. Without a thread for it, it is called after the last one.
-fn monitored_reply<H: Threads + Wait + Clock + Sync, G: Gate + Sync>(
-    threads: &LineThreads<'_, H>,
-    gate: &G,
-    source: Source,
-    order: &EachOrder,
-    input: &[u8],
-) -> Result<Reply, AllocError>
-    ensures { IfOk result (λ r. RepliesByEach source order.now input.now (reply r.text.items r.close)) }
-{
-    let rt = threads.rt;
-    let count = threads.count;
-    let monitor = move ||
-        requires { IsSync H.row × IsSync G.row }
-    { gate.monitor(rt, &LineProgress { count }) };
-    let work = move || -> Result<Reply, AllocError>
-        requires { IsSync H.row }
-        ensures { IfOk result (λ r. RepliesByEach source order.entry.now input.entry.now (reply r.text.items r.close)) }
-    {
-        let made = each_reply(threads, source, order, input);
-        count.end();
-        made
-    };
-    let ((), made) = join(rt, monitor, work);
-    made
-}
-
-/// Returns the reply to a program and the lines after it.
+/// Returns the reply to a program and the lines after it, which the observer monitors. Without a thread for it, it is called after the last line.
 pub fn lines_reply<H: Threads + Wait + Clock + Sync, G: Gate + Sync>(
     rt: &H,
     alloc: Global,
@@ -54,10 +27,19 @@ pub fn lines_reply<H: Threads + Wait + Clock + Sync, G: Gate + Sync>(
     ensures { IfOk result (λ r. RepliesByEach source order.now input.now (reply r.text.items r.close)) }
 {
     let count = LineCount::new();
-    let threads = LineThreads {
-        rt,
-        alloc,
-        count: &count,
+    let count = &count;
+    let threads = LineThreads { rt, alloc, count };
+    let monitor = move ||
+        requires { IsSync H.row × IsSync G.row }
+    { gate.monitor(rt, &LineProgress { count }) };
+    let work = move || -> Result<Reply, AllocError>
+        requires { IsSync H.row }
+        ensures { IfOk result (λ r. RepliesByEach source order.entry.now input.entry.now (reply r.text.items r.close)) }
+    {
+        let made = each_reply(&threads, source, order, input);
+        count.end();
+        made
     };
-    monitored_reply(&threads, gate, source, order, input)
+    let ((), made) = join(rt, monitor, work);
+    made
 }

@@ -1,8 +1,7 @@
 //! Replies of a session to an order and what it reads.
 
-ghost use Rattle.std.specs.Prelude.{◌≡◌, ◌≤◌, IfOk, false, length, true};
+ghost use Rattle.std.specs.Prelude.{◌≡◌, ◌≤◌, IfOk, false, length};
 ghost use Rattle.std.specs.Thread.{IsSync};
-ghost use Rattle.tw_order.specs.Orders.{may_be_stopped};
 ghost use Rattle.tw_source.specs.Reply.{reply};
 ghost use Rattle.tw_session.specs.Run.{IsRunWatched, RepliesByOpening};
 ghost use Rattle.tw_source.specs.Source.{MayBeSource, text_of};
@@ -22,7 +21,7 @@ use std::sync::Wait;
 use std::thread::{Threads, join};
 use std::time::Clock;
 use tw_each::each_reply_in_turn;
-use tw_in_turn::StoppableResult;
+use tw_in_turn::EndedRun;
 use tw_order::{Order, RunOrder};
 use tw_pool::OpenError;
 use tw_source::{Reply, SourceText};
@@ -36,7 +35,7 @@ fn run_watched<H: Threads + Wait + Clock + Sync, G: Gate + Sync>(
     gate: &G,
     order: &RunOrder,
     verified: &Verified,
-) -> Result<StoppableResult, OpenError>
+) -> Result<EndedRun, OpenError>
     ensures { IsRunWatched verified.now order.now result }
 {
     let turns = Turns::new();
@@ -44,7 +43,7 @@ fn run_watched<H: Threads + Wait + Clock + Sync, G: Gate + Sync>(
     let monitor = move ||
         requires { IsSync H.row × IsSync G.row }
     { gate.monitor(rt, turns) };
-    let work = move || -> Result<StoppableResult, OpenError>
+    let work = move || -> Result<EndedRun, OpenError>
         requires { IsSync H.row }
         ensures { IsRunWatched verified.entry.now order.entry.now result }
     {
@@ -55,23 +54,6 @@ fn run_watched<H: Threads + Wait + Clock + Sync, G: Gate + Sync>(
     };
     let ((), made) = join(rt, monitor, work);
     made
-}
-
-/// Returns the reply of a run in one thread that the observer monitors.
-fn reply_watched<H: Threads + Wait + Clock + Sync, G: Gate + Sync>(
-    rt: &H,
-    alloc: Global,
-    gate: &G,
-    source: &Option<SourceText<'_>>,
-    order: &RunOrder,
-    verified: Verified,
-) -> Result<Reply, AllocError>
-    requires stopping { may_be_stopped order.now.options ≡ true }
-    requires source { MayBeSource source.now verified.program }
-    ensures { IfOk result (λ r. RepliesByOpening (text_of source.now) verified.program order.now (reply r.text.items r.close)) }
-{
-    let made = run_watched(rt, alloc, gate, order, &verified);
-    reply_after(alloc, source, order, verified, made)
 }
 
 /// Runs an accepted program with threads, or single-threaded if that is ordered. A run in one thread is observed if it may be stopped.
@@ -89,7 +71,8 @@ fn run_as_ordered<H: Threads + Wait + Clock + Sync, G: Gate + Sync>(
     if !order.options.in_turn {
         reply_threaded(rt, alloc, gate, source, &order, verified)
     } else if order.options.may_be_stopped() {
-        reply_watched(rt, alloc, gate, source, &order, verified)
+        let made = run_watched(rt, alloc, gate, &order, &verified);
+        reply_after(alloc, source, &order, verified, made)
     } else {
         reply_single_threaded(alloc, source, &order, verified)
     }

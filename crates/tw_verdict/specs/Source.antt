@@ -1,10 +1,8 @@
 -- Reading a source: the accepted program, or the verdict with the position of its error.
 use Rattle.std.specs.Prelude.{◌≡◌, ◌≢◌, ◌⊎◌, ℕ, List, Option, Some, None, Ok, Err}
-use Rattle.tw_asm.specs.Origins.{ComesFrom, instr_at}
-use Rattle.tw_binary.specs.Fault.{fault_number}
+use Rattle.tw_asm.specs.Origins.{instr_at}
 use Rattle.tw_binary.specs.Reading.{program_of}
 use Rattle.tw_binary.specs.declared.fault.Fault.{Fault}
-use Rattle.tw_order.specs.declared.order.Source.{Source}
 use Rattle.tw_order.specs.declared.order.Source.TheVariants as from
 use Rattle.tw_code.specs.accepting.WellTyped.{IsAccepted, IsFirstRejection}
 use Rattle.tw_code.specs.declared.procedure.Procedure.{Procedure}
@@ -14,16 +12,13 @@ use Rattle.tw_source.specs.declared.failure.ErrorCode.{ErrorCode}
 use Rattle.tw_source.specs.declared.failure.Failure.{Failure}
 use Rattle.tw_source.specs.declared.failure.Position.{Position}
 use Rattle.tw_source.specs.declared.failure.Position.TheVariants as position
-use Rattle.tw_source.specs.Source.{plain_of}
-use Rattle.tw_source.specs.declared.source.SourceText.{SourceText}
+use Rattle.tw_source.specs.Text.{IsFromLine}
 use Rattle.tw_source.specs.declared.program.NoProgram.{NoProgram}
 use Rattle.tw_source.specs.declared.program.NoProgram.TheVariants.{Bytes}
-use Rattle.tw_symbols.specs.Expansion.{ExpandsTo}
 use Rattle.tw_verify.specs.Rejection.{verify_error_code}
 use Rattle.tw_verify.specs.Typed.{TypedProgram}
 use Rattle.tw_verify.specs.declared.rejection.VerifyError.{VerifyError}
 use Rattle.tw_verify.specs.declared.rejection.VerifyError.TheVariants as error
-use Rattle.tw_source.specs.declared.program.ReadProgram.{ReadProgram}
 use Rattle.tw_verdict.specs.Verdict.{accepted, no_memory, rejection}
 use Rattle.tw_verdict.specs.declared.format.Format.{Format}
 use Rattle.tw_verdict.specs.declared.format.Format.TheVariants as format
@@ -76,10 +71,6 @@ coded_numbers (Some code) at = in_numbers code at
 abbrev pub failure_in_numbers : Failure → SourceVerdict
 failure_in_numbers f = coded_numbers f.code f.position
 
--- returns a fault of bytes in numbers: letter F, its number, and the byte
-abbrev pub fault_in_numbers : Fault → SourceVerdict
-fault_in_numbers f = without_line (record { letter = 70; number = fault_number f.no; engines = 0; workers = 0; procedure = 0; place = f.offset })
-
 -- holds for the verdict if the source encodes no program: the error in numbers
 abbrev pub IsUnreadable : NoProgram → SourceVerdict → Type 0
 IsUnreadable why v = (f : Failure) × IsFailure why f × (v ≡ failure_in_numbers f)
@@ -90,42 +81,25 @@ EncodesNone format.Bytes source why = (f : Fault) × (why ≡ Bytes f) × (progr
 EncodesNone format.Hex source why = HasNoProgram from.Hex source why
 EncodesNone format.Assembly source why = HasNoProgram from.Assembly source why
 
--- the line from which the instruction at a place comes; 0 if there is no such instruction
-abbrev pub IsLineOf : List ℕ → List Procedure → ℕ → ℕ → ℕ → Type 0
-IsLineOf plain program procedure place line = ((instr_at program procedure place ≡ None) × (line ≡ 0)) ⊎ ComesFrom plain procedure place line
-
--- that of a text that was read, if one was
-abbrev pub IsLineIn : Option SourceText → List Procedure → ℕ → ℕ → ℕ → Type 0
-IsLineIn None program procedure place line = line ≡ 0
-IsLineIn (Some text) program procedure place line = IsLineOf (plain_of text) program procedure place line
+-- returns the text of a source, if it is assembly text
+abbrev pub text_in : Format → List ℕ → Option (List ℕ)
+text_in format.Bytes source = None
+text_in format.Hex source = None
+text_in format.Assembly source = Some source
 
 -- the line of an assembly text from which the instruction at a place comes; 0 if there is no such instruction, or no such text
-abbrev pub IsOrigin : Format → List ℕ → List Procedure → ℕ → ℕ → ℕ → Type 0
-IsOrigin format.Bytes source program procedure place line = line ≡ 0
-IsOrigin format.Hex source program procedure place line = line ≡ 0
-IsOrigin format.Assembly source program procedure place line =
-    (plain : List ℕ) × ExpandsTo source plain × IsLineOf plain program procedure place line
+abbrev pub IsOrigin : Option (List ℕ) → List Procedure → ℕ → ℕ → ℕ → Type 0
+IsOrigin None program procedure place line = line ≡ 0
+IsOrigin (Some text) program procedure place line = ((instr_at program procedure place ≡ None) × (line ≡ 0)) ⊎ IsFromLine text procedure place line
 
 abbrev pub rejection_at : ℕ → ℕ → ℕ → ℕ → SourceVerdict
 rejection_at number procedure place line = record { verdict = rejection number procedure place; line = line; word = 0; column = 0 }
 
--- a program that was read is rejected: its first error, with the line of the instruction
-abbrev pub IsRejectionIn : Option SourceText → List Procedure → SourceVerdict → Type 0
-IsRejectionIn source program v =
-    (number : ℕ) × (procedure : ℕ) × (place : ℕ) × (line : ℕ) × IsFirstRejection program number procedure place
-    × IsLineIn source program procedure place line × (v ≡ rejection_at number procedure place line)
-
--- the verifier's error of a program, unless an allocation failed
-abbrev pub IsErrorIn : Option SourceText → List Procedure → VerifyError → ℕ → ℕ → SourceVerdict → Type 0
-IsErrorIn source program which procedure place v =
-    ((which ≢ error.NoMemory) × (line : ℕ) × IsLineIn source program procedure place line × (v ≡ rejection_at (verify_error_code which) procedure place line))
+-- the verifier's error of a program that was read from this text, if from any, unless an allocation failed
+abbrev pub IsErrorIn : Option (List ℕ) → List Procedure → VerifyError → ℕ → ℕ → SourceVerdict → Type 0
+IsErrorIn text program which procedure place v =
+    ((which ≢ error.NoMemory) × (line : ℕ) × IsOrigin text program procedure place line × (v ≡ rejection_at (verify_error_code which) procedure place line))
     ⊎ ((which ≡ error.NoMemory) × (v ≡ without_line no_memory))
-
--- a program that was read is there just if it is accepted
-abbrev pub IsSourceAcceptance : ReadProgram → Option TypedProgram → SourceVerdict → Type 0
-IsSourceAcceptance read (Some verified) v =
-    (verified.program ≡ read.program.procedures) × (verified.version ≡ read.program.version) × IsAccepted verified.program × (v ≡ without_line (accepted verified.program))
-IsSourceAcceptance read None v = (IsRejectionIn read.source read.program.procedures v ⊎ (v ≡ without_line no_memory)) × (v.verdict.letter ≢ 0)
 
 -- the source encodes a program, and this is its first error
 pub record IsRejected (form : Format) (source : List ℕ) (v : SourceVerdict) : Type 0 where
@@ -136,7 +110,7 @@ pub record IsRejected (form : Format) (source : List ℕ) (v : SourceVerdict) : 
   pub place : ℕ
   pub first : IsFirstRejection read.procedures number procedure place
   pub line : ℕ
-  pub origin : IsOrigin form source read.procedures procedure place line
+  pub origin : IsOrigin (text_in form source) read.procedures procedure place line
   pub verdict_is : v ≡ rejection_at number procedure place line
 
 -- the source encodes no program, and this is why
@@ -148,10 +122,6 @@ pub record HasNone (form : Format) (source : List ℕ) (v : SourceVerdict) : Typ
 -- or an allocation failed
 abbrev pub IsSourceError : Format → List ℕ → SourceVerdict → Type 0
 IsSourceError form source v = IsRejected form source v ⊎ (HasNone form source v ⊎ (v ≡ without_line no_memory))
-
-abbrev pub format_of_source : Source → Format
-format_of_source from.Hex = format.Hex
-format_of_source from.Assembly = format.Assembly
 
 -- the program of the source is there just if it is accepted
 abbrev pub IsSourceReading : Format → List ℕ → Option TypedProgram → SourceVerdict → Type 0

@@ -1,13 +1,9 @@
-use Rattle.tw_each.proofs.Names.{IfOk, IsLeftLine, None, string_bytes, subst, sym}
-use Rattle.tw_in_turn.specs.Stopping.{IsLeftIf}
-use Rattle.tw_in_turn.specs.declared.run.StoppableResult.{StoppableResult}
+use Rattle.tw_each.proofs.Names.{string_bytes, subst, sym, ℕ, ◌∙◌}
+use Rattle.tw_run_output.specs.Json.{IsEndLine}
 use Rattle.tw_each.proofs.answer.left_line.Goals as goal
 
-pub ended_line-requires : goal.ended_line-requires
-ended_line-requires c = (c.requires.1, subst (λ (x : StoppableResult). IsLeftIf c.requires.0 None c.requires.1 x) c.in-Ended.is c.requires.2)
-
-pub returns-in-Ended : goal.returns-in-Ended
-returns-in-Ended c = subst (λ (x : StoppableResult). IfOk c.ended_line.result (λ answer. IsLeftLine x (string_bytes answer.line) answer.end)) (sym c.in-Ended.is) c.ended_line.ensures
-
-pub returns-in-Stopped : goal.returns-in-Stopped
-returns-in-Stopped c = subst (λ (x : StoppableResult). IfOk c.stopped_line.result (λ answer. IsLeftLine x (string_bytes answer.line) answer.end)) (sym c.in-Stopped.is) c.stopped_line.ensures
+pub returns-in_ok-line-in-Some : goal.returns-in_ok-line-in-Some
+returns-in_ok-line-in-Some c =
+    let left = c.args.left.now in
+    let line = subst (λ (n : ℕ). IsEndLine left.outcome left.history.events n c.in-Some.closing (string_bytes c.in_ok-line-in-Some.line)) c.cut.ensures c.in_ok-line-in-Some.ensures in
+    (c.in-Some.closing, sym c.closing.ensures ∙ c.in-Some.is, line, c.of-end.ensures)

@@ -1,14 +1,21 @@
-use Rattle.tw_each.proofs.Names.{EachInput, IfOk-weaker, IsEachInput, RepliesByEach, Reply, reply, subst}
-use Rattle.tw_each.proofs.WholeReplies.{no_parts, replied}
+use Rattle.tw_each.proofs.Names.{AreAnswers, Bor, EachParts, List, ap, map, reply, subst, way, ℕ, ◌≡◌}
+use Rattle.tw_each.specs.Ready.{AreEachParts}
+use Rattle.tw_each.proofs.WholeReplies.{answered}
 use Rattle.tw_each.proofs.together.each_reply_in_turn.Goals as goal
 
-pub returns-in-Parts : goal.returns-in-Parts
-returns-in-Parts c =
-    let input = c.args.input.now in
-    let parts = subst (λ (given : EachInput). IsEachInput input given) c.in-Parts.is c.in_ok-given.ensures in
-    IfOk-weaker _ _ (λ (r : Reply). RepliesByEach c.args.source c.args.order.now input (reply r.text.items r.close))
-    (λ (r : Reply) h. replied c.args.source c.args.order.now input c.in-Parts.parts (reply r.text.items r.close) parts h) c.parts_reply_in_turn.ensures
+pub returns-in_ok-answers-in-Lines : goal.returns-in_ok-answers-in-Lines
+returns-in_ok-answers-in-Lines c =
+    let now = map (λ (line : Bor (List ℕ)). line.now) in
+    let source = c.args.source in
+    let order = c.args.order.now in
+    let lines = c.in-Lines.lines in
+    let run = way c.each_run-run.result in
+    let answers = c.in_ok-answers-in-Lines.answers in
+    let printed = reply c.answered_reply.result.text.items c.answered_reply.result.close in
+    let same : now c.deref.result.now ≡ now lines.items = ap now c.deref.ensures.value in
+    let parts = subst (AreEachParts source order c.args.input.now) c.in-Lines.is c.in_ok-text.ensures in
+    let made = subst (λ (ls : List (List ℕ)). AreAnswers run 0 ls answers.text.items answers.worst) same c.in_ok-answers-in-Lines.ensures in
+    answered source order c.args.input.now c.in-Lines.text c.in-Lines.verified lines run answers.text.items answers.worst printed parts c.each_run-run.ensures made c.answered_reply.ensures.text c.answered_reply.ensures.close
 
-pub returns-in-Rejected : goal.returns-in-Rejected
-returns-in-Rejected c =
-    no_parts c.args.source c.args.order.now c.args.input.now c.in-Rejected.reply (subst (λ (given : EachInput). IsEachInput c.args.input.now given) c.in-Rejected.is c.in_ok-given.ensures)
+pub returns-in-Replied : goal.returns-in-Replied
+returns-in-Replied c = subst (AreEachParts c.args.source c.args.order.now c.args.input.now) c.in-Replied.is c.in_ok-text.ensures

@@ -1,7 +1,6 @@
-use Rattle.tw_session.proofs.SessionNames.{Awaits, IfOk, Input, List, Option, RepliesByReplay, RepliesByTexts, RepliesByTrace, RepliesByWords, Reply, coded, failed, inl, inr, lines, refl, replay_with, seen, subst, sym, words_in}
+use Rattle.tw_session.proofs.SessionNames.{Awaits, IfOk, Input, List, Option, RepliesByReplay, RepliesByTexts, RepliesByTrace, RepliesByWords, Reply, inl, lines, replay_with, seen, subst, sym, words_in}
 use Rattle.tw_source.specs.Text.{RepliesByUtf8}
-use Rattle.tw_source.specs.declared.failure.Position.TheVariants as position
-use Rattle.tw_session.proofs.Leading.{awaits, finished}
+use Rattle.tw_session.proofs.Leading.{awaits}
 use Rattle.tw_session.proofs.prepare.prepare_replay.Goals as goal
 
 pub returns-in-Some : goal.returns-in-Some

@@ -1,8 +1,11 @@
-use Rattle.tw_verdict.proofs.Sources.{read_fault, read_program}
+use Rattle.std.proofs.Common.{◌≡◌, ◌⊎◌, Err, ap, inl, inr, refl}
+use Rattle.tw_binary.specs.declared.fault.Fault.{Fault}
+use Rattle.tw_binary.specs.Reading.{out_of_memory, program_of}
 use Rattle.tw_verdict.proofs.source.read_bytes.Goals as goal
 
-pub returns-in-Ok-clause-is : goal.returns-in-Ok-clause-is
-returns-in-Ok-clause-is c = read_program c.args.bytes.now c.in-Ok.program c.verify_read.result.0 c.verify_read.result.1 c.in-Ok.ensures.exact c.verify_read.ensures.is
-
-pub returns-in-Err-clause-is : goal.returns-in-Err-clause-is
-returns-in-Err-clause-is c = read_fault c.args.bytes.now c.in-Err.fault c.fault_verdict.result c.in-Err.ensures.exact c.fault_verdict.ensures
+pub returns-in_default-clause-none : goal.returns-in_default-clause-none
+returns-in_default-clause-none c = λ other. (c.in-Err.fault, refl, by c.in-Err.ensures.exact)
+  where
+    by : (c.in-Err.fault ≡ out_of_memory) ⊎ (program_of c.args.bytes.now ≡ Err c.in-Err.fault) → program_of c.args.bytes.now ≡ Err c.in-Err.fault
+    by (inl e) = absurd (c.in_default.not-NoMemory (ap (λ (f : Fault). f.no) e))
+    by (inr e) = e

@@ -17,8 +17,7 @@ use Rattle.tw_types.specs.contracts.input.Input
 use Rattle.tw_verify.specs.contracts.verified.Verified
 use Rattle.tw_types.proofs.input.Input.TheSendSync as OfInput
 use Rattle.tw_verify.proofs.verified.Verified.TheSendSync as OfVerified
-use Rattle.tw_in_turn.specs.contracts.run.InTurnResult
-use Rattle.tw_in_turn.specs.contracts.run.StoppableResult
+use Rattle.tw_in_turn.specs.contracts.run.EndedRun
 use Rattle.tw_datum.proofs.tree.Tree.TheLaws.TheKnot
 use Rattle.tw_store.specs.contracts.store.Store
 use Rattle.tw_pool.specs.contracts.ends.Final
@@ -34,11 +33,8 @@ store = search (crosses, TheKnot.crosses, sendable) depth 60 fits 20000
 outcome : IsSend Final.the_row
 outcome = search (store, crosses, sendable) depth 60 fits 20000
 
-left : IsSend InTurnResult.the_row
+left : IsSend EndedRun.the_row
 left = search (outcome, OfHistory.the_send, sendable) depth 60 fits 20000
-
-stoppable : IsSend StoppableResult.the_row
-stoppable = search (left, outcome, OfHistory.the_send, sendable) depth 60 fits 20000
 
 program : IsSend (Arc.the_row Verified.the_row heap.the_row ghosts)
 program = Arc-send Verified.the_row (search (OfVerified.the_send, sendable)) (search (OfVerified.the_sync, sendable))
@@ -50,7 +46,7 @@ container : IsSend Container.the_row
 container = search (crosses, sendable) depth 60 fits 20000
 
 held_send : IsSend R
-held_send = search (OfVerified.the_send, OfVerified.the_sync, OfInput.the_send, outcome, OfHistory.the_send, stoppable, program, inputs, flag_send, container, crosses, sendable) depth 100 fits 200000
+held_send = search (OfVerified.the_send, OfVerified.the_sync, OfInput.the_send, outcome, OfHistory.the_send, left, program, inputs, flag_send, container, crosses, sendable) depth 100 fits 200000
 
 slot_keyless : (a : Global) (p : Ptr) (k : Option R.Denot) → Keyless (slot_owns R a p k)
 slot_keyless a p None = tt

@@ -1,24 +1,7 @@
 -- `empty` makes a slot that is null.
 use Rattle.tw_handles.proofs.Names.{List, Option, [], handle_tells, leaves, proved_at, refl, subst, sym, ◌++◌, ◌∷◌, ◌≡◌}
-use mir.Val.{Val, vnull}
-use base.Logic.{SProp, ent, emp, id⊢}
-use base.Fml.{ftrue}
-use prog.Wp.{WpFn}
-use types.Kit.{‵, raw, ◌⊛◌, ◌$◌, ◌∵◌, !, qed, by, move, keep, split, fsplit, fjoin, suffices, use0}
-use types.Run.{lit, no_more, and_then, returns, enter}
-use types.ByLocal.{alloc_all, pass_all, free_all, look_at, get, sets}
-use types.Part.{agg}
-use contract.Monad.{fact, fact_i}
-use contract.Running.{tables}
-use denote.Exit.{yes}
-use denote.RattleType.{owns}
-use denote.Signature.{types_at, plain}
-use denote.RawPtr.{null_ptr}
-use denote.Steps.{nothing}
-use denote.Triple.Walked.{Stays, stay_dropped, walk_of, Goes-dropped}
-use Rattle.core.specs.declared.option.Option.TheVariants.{None}
+use Rattle.tw_handles.proofs.Walks.{ !, Goes-dropped, None, R, SProp, Stays, Val, WpFn, agg, alloc_all, and_then, by, emp, ent, enter, fact, fact_i, fjoin, free_all, fsplit, ftrue, get, id⊢, keep, lit, look_at, move, no_more, nothing, null_ptr, owns, pass_all, plain, qed, raw, returns, sets, split, stay_dropped, suffices, tables, types_at, use0, vnull, walk_of, yes, ‵, ◌$◌, ◌∵◌, ◌⊛◌}
 use Rattle.tw_handles.proofs.Values.{both, Z, slot_in_none}
-use Rattle.tw_handles.specs.contracts.held.Held.{the_row as R}
 use Rattle.tw_handles.specs.contracts.handle.Handle.empty.{ended, clauses}
 use Rattle.tw_handles.specs.contracts.handle.Handle.empty.Key.{name as #self}
 use Rattle.tw_handles.proofs.handle.Handle.empty.Statement.{statement}

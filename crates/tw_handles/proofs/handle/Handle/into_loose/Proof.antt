@@ -1,28 +1,10 @@
 -- `into_loose` reads the pointer, and returns the box unless it is null.
 use Rattle.tw_handles.proofs.Names.{Good, List, Ptr-Good, [], and_tt, ghosts, leaves, lit<, proved_at, refl, subst, sym, ◌++◌, ◌∷◌, ◌≡◌}
-use mir.Val.{Val, vptr, vnull, vcons, vnil}
-use base.Logic.{SProp, ent, emp, id⊢}
-use base.Fml.{ftrue}
-use prog.Wp.{WpFn}
-use types.Kit.{‵, raw, ◌⊛◌, at_ret, ◌$◌, ◌∵◌, !, qed, by, move, keep, split, fsplit, fjoin, suffices, use0, use1}
-use types.Run.{stop, fld, lit, of_opd, bin, no_more, and_then, first, branches, exec, returns, enter}
-use types.ByLocal.{alloc_all, pass_all, free_all, look_at, get, get_in, sets, sets_last, env}
-use types.Part.{agg, sub, whole}
+use Rattle.tw_handles.proofs.Walks.{ !, Goes-dropped, None, R, RattleType, SProp, Some, Stays, Val, WpFn, agg, alloc_all, and_then, at_ret, bin, block_ptr, branches, by, emp, ent, enter, env, exec, fact, fact_i, first, fjoin, fld, free_all, fsplit, ftrue, get, get_in, id⊢, keep, layout, lit, look_at, move, no_more, nothing, null_ptr, of_opd, owns, pass_all, plain, qed, raw, returns, sets, sets_last, split, stay_dropped, stop, sub, suffices, tables, tests_null, type_at, types_at, use0, use1, vcons, vnil, vnull, vptr, walk_of, whole, yes, ‵, ◌$◌, ◌∵◌, ◌⊛◌}
 use types.Match.{live}
-use contract.Monad.{fact, fact_i}
-use contract.Running.{tables}
-use denote.Exit.{yes}
-use denote.RattleType.{RattleType, owns}
-use denote.Signature.{types_at, type_at, plain}
-use denote.RawPtr.{block_ptr, null_ptr, tests_null}
-use denote.Steps.{nothing}
-use denote.Param.{layout}
-use denote.Triple.Walked.{Stays, stay_dropped, walk_of, Goes-dropped}
-use Rattle.core.specs.declared.option.Option.TheVariants.{None, Some}
 use Rattle.core.proofs.option.Made.{Some-of, none_of}
 use Rattle.std.proofs.alloc.Global.TheLaws as heap_laws
 use Rattle.tw_handles.proofs.Values.{both, Loose, loose_good, loose_in, Z, Sl, slot_out}
-use Rattle.tw_handles.specs.contracts.held.Held.{the_row as R}
 use Rattle.tw_handles.proofs.Values.{nowhere_good, tested}
 use Rattle.tw_handles.specs.contracts.handle.Handle.into_loose.{ended, clauses}
 use Rattle.tw_handles.specs.contracts.handle.Handle.into_loose.Key.{name as #self}

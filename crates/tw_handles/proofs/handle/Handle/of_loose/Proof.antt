@@ -1,25 +1,8 @@
 -- `of_loose` moves the ownership of the box.
 use Rattle.tw_handles.proofs.Names.{List, [], ghosts, leaves, proved_at, refl, subst, sym, ◌++◌, ◌∷◌, ◌≡◌}
-use mir.Val.{Val, vptr}
-use base.Logic.{SProp, ent, emp, id⊢}
-use base.Fml.{ftrue}
-use prog.Wp.{WpFn}
-use types.Kit.{‵, raw, ◌⊛◌, ◌$◌, ◌∵◌, !, qed, by, move, keep, split, fsplit, fjoin, suffices, use0}
-use types.Run.{stop, fld, of_opd, no_more, and_then, returns, enter}
-use types.ByLocal.{alloc_all, pass_all, free_all, look_at, get, get_in, sets}
-use types.Part.{agg, sub, whole}
-use contract.Monad.{fact, fact_i}
-use contract.Running.{tables}
-use denote.Exit.{yes}
-use denote.RattleType.{RattleType, owns}
-use denote.Signature.{types_at, plain}
-use denote.RawPtr.{block_ptr}
-use denote.Steps.{nothing}
-use denote.Triple.Walked.{Stays, stay_dropped, walk_of, Goes-dropped}
-use Rattle.core.specs.declared.option.Option.TheVariants.{Some}
+use Rattle.tw_handles.proofs.Walks.{ !, Goes-dropped, R, RattleType, SProp, Some, Stays, Val, WpFn, agg, alloc_all, and_then, block_ptr, by, emp, ent, enter, fact, fact_i, fjoin, fld, free_all, fsplit, ftrue, get, get_in, id⊢, keep, look_at, move, no_more, nothing, of_opd, owns, pass_all, plain, qed, raw, returns, sets, split, stay_dropped, stop, sub, suffices, tables, types_at, use0, vptr, walk_of, whole, yes, ‵, ◌$◌, ◌∵◌, ◌⊛◌}
 use Rattle.std.proofs.alloc.Global.TheLaws as heap_laws
 use Rattle.tw_handles.proofs.Values.{both, Loose, loose_good, loose_out, Z, slot_in_some}
-use Rattle.tw_handles.specs.contracts.held.Held.{the_row as R}
 use Rattle.tw_handles.specs.contracts.handle.Handle.of_loose.{ended, clauses}
 use Rattle.tw_handles.specs.contracts.handle.Handle.of_loose.Key.{name as #self}
 use Rattle.tw_handles.proofs.handle.Handle.of_loose.Statement.{statement}

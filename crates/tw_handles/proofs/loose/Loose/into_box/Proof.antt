@@ -1,29 +1,8 @@
 -- `into_box` makes the box from its pointer.
 use Rattle.tw_handles.proofs.Names.{Goes-blank, Good, List, [], ap, box_in, box_out, fm, leaves, proved_at, refl, subst, sym, ◌++◌, ◌∷◌, ◌≡◌}
-use mir.Syntax.{a_type, dcons, dnil}
-use mir.Val.{Val, vptr}
-use mir.MapTy.{inst_fn}
-use base.Logic.{SProp, ent, id⊢}
-use base.Fml.{ftrue, flft}
-use prog.Wp.{WpFn}
-use types.Kit.{‵, raw, ◌⊛◌, some, later, at_ret, ◌$◌, ◌∵◌, !, qed, by, move, keep, drop, split, split3, join, fsplit, fjoin, pick, suffices, use1, await, rewrite, feq_i}
-use types.Run.{stop, fld, of_opd, no_more, and_then, first, blocks, exec, returns, enter}
-use types.ByLocal.{alloc_all, pass_all, free_all, look_at, get, get_in, sets, lands_last, env}
-use types.Part.{sub, whole}
-use contract.Monad.{fact}
+use Rattle.tw_handles.proofs.Walks.{ !, RattleType, SProp, Stays, Val, WpFn, a_type, alloc_all, and_then, at_ret, await, block_ptr, blocks, bounded, by, calls_at_last, dcons, dnil, drop, ent, enter, env, exec, fact, feq_i, first, fjoin, fld, flft, free_all, fsplit, ftrue, get, get_in, id⊢, inst_fn, join, keep, lands_last, later, layout, look_at, move, no, no_more, nothing, of_opd, only, owns, param, param_laws, pass_all, pick, plain, qed, raw, returns, rewrite, sets, some, split, split3, stay_dropped, stop, sub, suffices, tables, triple_of, types_at, use1, vptr, walk_of, whole, ‵, ◌$◌, ◌∵◌, ◌⊛◌}
 use contract.BorrowLft.{◌⊑◌}
-use contract.Running.{tables}
-use denote.Exit.{no}
-use denote.RattleType.{RattleType, owns}
-use denote.Signature.{types_at, plain}
-use denote.RawPtr.{block_ptr}
-use denote.Steps.{nothing, only}
-use denote.Param.{param, layout, bounded}
-use denote.Param.Laws.{param_laws}
 use denote.Triple.Clauses.{Lasts, lasts}
-use denote.Triple.Spec.{triple_of}
-use denote.Triple.Call.{calls_at_last}
-use denote.Triple.Walked.{Stays, stay_dropped, walk_of}
 use Rattle.core.proofs.alloc.Shapes.{after}
 use Rattle.std.proofs.BoxSteps.Form as box
 use Rattle.tw_handles.proofs.Values.{both, Loose, loose_good, loose_out}

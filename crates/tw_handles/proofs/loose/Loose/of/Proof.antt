@@ -1,31 +1,7 @@
 -- `of` turns the box into its pointer.
 use Rattle.tw_handles.proofs.Names.{Goes-blank, List, [], ap, box_in, box_out, fm, handle_tells, leaves, proved_at, refl, subst, sym, ◌++◌, ◌∙◌, ◌∷◌, ◌≡◌}
-use mir.Syntax.{a_type, dcons, dnil}
-use mir.Raw.{raw as bare}
-use mir.Val.{Val, vptr, vstruct, of_list}
-use mir.MapTy.{inst_fn}
-use base.Logic.{SProp, ent, emp, never, id⊢, fst∗}
-use base.Fml.{ftrue, fsep, flft}
-use prog.Wp.{WpFn}
-use types.Logic.{sem}
-use types.Kit.{‵, raw, ◌⊛◌, some, later, ◌$◌, ◌∵◌, !, qed, by, move, keep, drop, split, split3, join, fsplit, fjoin, fpick, pick, suffices, use0, use1, await, rewrite, feq_l}
-use types.Run.{stop, fld, of_opd, no_more, and_then, returns, enter}
-use types.ByLocal.{alloc_all, pass_all, free_all, look_at, get, get_in, sets, lands_as}
-use types.Part.{agg, sub, whole}
-use contract.Monad.{fact, fact_i}
-use contract.Running.{tables}
-use denote.Exit.{no}
-use denote.RattleType.{RattleType, owns}
-use denote.Signature.{types_at, plain}
-use denote.Builtin.{RawPtr}
-use denote.RawPtr.{Ptr, block_ptr, null_ptr, ptr_val, in_a_block}
-use denote.Steps.{nothing, only, heard}
-use denote.Param.{param, layout, bounded}
-use denote.Param.Laws.{param_laws}
+use Rattle.tw_handles.proofs.Walks.{ !, Ptr, RattleType, RawPtr, SProp, Stays, Val, WpFn, a_type, agg, alloc_all, and_then, await, bare, block_ptr, bounded, by, calls_at, dcons, dnil, drop, emp, ent, enter, fact, fact_i, feq_l, fjoin, fld, flft, fpick, free_all, fsep, fsplit, fst∗, ftrue, get, get_in, heard, id⊢, in_a_block, inst_fn, join, keep, lands_as, later, layout, look_at, move, never, no, no_more, nothing, null_ptr, of_list, of_opd, only, owns, param, param_laws, pass_all, pick, plain, ptr_val, qed, raw, returns, rewrite, sem, sets, some, split, split3, stay_dropped, stop, sub, suffices, tables, triple_of, types_at, use0, use1, vptr, vstruct, walk_of, whole, ‵, ◌$◌, ◌∵◌, ◌⊛◌}
 use denote.Struct.Tuple.{Tuple}
-use denote.Triple.Spec.{triple_of}
-use denote.Triple.Call.{calls_at}
-use denote.Triple.Walked.{Stays, stay_dropped, walk_of}
 use Rattle.std.specs.Box.Ownership.{box_owns}
 use Rattle.std.proofs.BoxSteps.Form as box
 use Rattle.tw_handles.proofs.Values.{both, loose_good, loose_in}
