@@ -6,8 +6,8 @@ import re
 # The signs that separate names in a line, and those that may also follow one.
 PARTING = r" \t\r(),"
 ENDING = PARTING + ":;"
-# A word; a no-break space is part of one.
-WORD = re.compile(r"[^ \t\r]+")
+# A word; a no-break space is part of one, and a quoted text is one with its blanks.
+WORD = re.compile(r'"(?:[^"\\]|\\.)*"[^ \t\r]*|[^ \t\r]+')
 # The end of a word that is cut.
 CUT = " .."
 # A hidden character, as it is printed.

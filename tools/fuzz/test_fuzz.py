@@ -22,6 +22,7 @@ from tools.fuzz.oracle.assembler import Error, assembled
 from tools.fuzz.oracle.bounds import COUNTED, bound, bound_lines, budgets, check_lines, has_circle, is_circle
 from tools.fuzz.oracle.code import Fault, Instr, Param, Procedure, Program, decode, disassembled, encode, program_text, quoted, smaller, without
 from tools.fuzz.library import Answer, Library, Verdict
+from tools.fuzz.oracle.literals import literal_count, with_literals
 from tools.fuzz.oracle.machine import Machine, NotEnabled, Scalar, Trap, Value, computed, read_int, run_in_turn, scaled, wrapped
 from tools.fuzz.oracle.names import is_name, symbolic
 from tools.fuzz.oracle.report import circle_fault, event_of, event_text, report_lines, split_circle, stats_lines, trace_text
@@ -283,12 +284,23 @@ class RulesTest(unittest.TestCase):
 class TextsTest(unittest.TestCase):
     def test_a_no_break_space_is_part_of_a_word(self) -> None:
         self.assertEqual(positions.of_error(["refused N02 at line 2", "let \xa0", "\xa0: this can't be a name"], "let \xa0"), (2, 5))
+        self.assertEqual(positions.of_error(["refused N04 at line 2", 'INS " " E', "E: the name means nothing here"], 'INS " " E'), (3, 9))
 
     def test_other_names_are_others(self) -> None:
         text = "names\nproc control main(out: write int)\nregs total: int\nINT total 7 ; total\nSTORE out total\nRET\n"
         other = renamed(random.Random(1), text)
         self.assertNotIn("total ", other.replace("; total", ""))
         self.assertEqual([line.split(" ")[0] for line in other.split("\n")], [line.split(" ")[0] for line in text.split("\n")])
+
+    def test_literals(self) -> None:
+        old = PIPELINE.procedures[1]
+        new = replace(old, registers=(1, 1, 1), code=(Instr("INT", (2, 7)), *old.code[:2], Instr("ADD", (0, 0, 2, 0)), *old.code[3:]))
+        self.assertEqual(literal_count(PIPELINE, new), 1)
+        self.assertEqual(literal_count(PIPELINE, replace(new, code=(*new.code, Instr("INT", (2, 8))))), 0)
+        for seed in range(20):
+            made = with_literals(random.Random(seed), PIPELINE)
+            added = [len(it.registers) - len(was.registers) for was, it in zip(PIPELINE.procedures, made.procedures)]
+            self.assertEqual([literal_count(made, procedure) for procedure in made.procedures], added)
 
     def test_no_names(self) -> None:
         self.assertEqual([is_name(word) for word in ("any", "v0", "d15", "int", "RET", "v", "vx", "total")], [False] * 5 + [True] * 3)

@@ -1,6 +1,6 @@
 //! Runs a case by its kind. README.md has the table of kinds. The `match` is split, since a function may have few exits.
 
-use crate::named::{alike_text, names_text};
+use crate::named::{alike_text, names_text, renamed_text};
 use crate::programs::{decode_text, prefixes_text, verify_text};
 use crate::scarce::scarce_text;
 use crate::sessions::{
@@ -37,6 +37,7 @@ pub fn case_text<H: AllocGlobal + Files + Threads + Wait + Clock + Sync>(
         "layout" => layout_text(rt.alloc(), given),
         "names" => names_text(rt.alloc(), given),
         "alike" => alike_text(rt, given),
+        "renamed" => renamed_text(rt.alloc(), given),
         _ => {
             // All other kinds begin with a program's bytes.
             let (bytes, rest) = first_field(given);

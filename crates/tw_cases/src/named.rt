@@ -7,15 +7,32 @@ use std::rt::Files;
 use tw_asm::assemble;
 use tw_binary::encode;
 use tw_case_lines::Complaint;
-use tw_symbols::expanded_text;
+use tw_symbols::{expanded_text, other_line};
+
+/// Returns the bytes of a case's word as text.
+fn word_text(alloc: Global, word: &str) -> Result<String, Complaint> {
+    match String::from_utf8(unescaped(alloc, word)?) {
+        Ok(text) => Ok(text),
+        Err(_) => Err(Complaint::WordBytes),
+    }
+}
+
+/// Returns the output of a case that compares a text with another one that is to be its expansion, after a line `becomes`: the line at which it isn't.
+pub fn renamed_text(alloc: Global, texts: &str) -> Result<String, Complaint> {
+    let texts = word_text(alloc, texts)?;
+    let Some((text, plain)) = texts.as_str().split_once("\nbecomes\n") else {
+        return Err(Complaint::Names);
+    };
+    match other_line(alloc, text, plain)? {
+        Some(line) => Ok(format!(in alloc; "another at line {line}")?),
+        None => Ok("renamed".to_string(alloc)?),
+    }
+}
 
 /// Returns the output of a case that expands a text, with a slash for each line end; `itself` if it has no names, or its first
 /// error.
 pub fn names_text(alloc: Global, text: &str) -> Result<String, Complaint> {
-    let bytes = unescaped(alloc, text)?;
-    let Ok(text) = String::from_utf8(bytes) else {
-        return Err(Complaint::WordBytes);
-    };
+    let text = word_text(alloc, text)?;
     match expanded_text(alloc, text.as_str()) {
         Ok(None) => Ok("itself".to_string(alloc)?),
         Ok(Some(plain)) => one_line(alloc, plain.as_str()),

@@ -3,7 +3,8 @@
 import random
 from dataclasses import dataclass, field
 
-from tools.fuzz.oracle.code import CALLS, ENTRIES, FORMS, KINDS, MODES, TYPES, VAL, Instr, Procedure, Program, operand_text, quoted, type_text, version_lines
+from tools.fuzz.oracle.code import CALLS, ENTRIES, FORMS, KINDS, MODES, TYPES, VAL, Instr, Operand, Procedure, Program, operand_text, quoted, type_text, version_lines
+from tools.fuzz.oracle.literals import REGISTERS, kept_values, literal_count, parameters, value_places, word_of
 
 KEYWORDS = {"any", "names", "version", "proc", "regs", "const", "let", *KINDS, *MODES.values(), *TYPES.values(), *ENTRIES.values()}
 LETTERS = "abcdefghijklmnopqrstuvwxyzABCDEFGHIJKLMNOPQRSTUVWXYZ"
@@ -34,6 +35,9 @@ class Scope:
     constants: tuple[str, ...]
     values: tuple[str, ...]
     rights: tuple[str, ...]
+    # The value registers that are listed, if literals may be operands, and how many literals there are before.
+    listed: int | None
+    literals: int
 
 
 @dataclass
@@ -47,6 +51,7 @@ class Names:
     procedures: dict[int, str] = field(default_factory=dict)
     values: dict[int, str] = field(default_factory=dict)
     rights: dict[int, list[str]] = field(default_factory=dict)
+    hidden: dict[int, Operand] = field(default_factory=dict)
     lines: list[str] = field(default_factory=list)
     scopes: list[Scope] = field(default_factory=list)
 
@@ -91,14 +96,17 @@ class Names:
             self.lines.append(f"{head}({', '.join(parts)})")
         else:
             self.lines.append(f"{head} {self.chance.choice([' ', ', ']).join(parts)}".rstrip())
-        self.registers(number, procedure)
-        self.code(procedure)
+        count = literal_count(self.program, procedure) if self.is_so(0.8) else 0
+        listed = len(procedure.registers) - count
+        self.hidden = {listed + place: instr.operands[1] for place, instr in enumerate(procedure.code[:count])}
+        self.registers(number, procedure, procedure.registers[:listed])
+        self.code(procedure, listed)
 
-    def registers(self, number: int, procedure: Procedure) -> None:
+    def registers(self, number: int, procedure: Procedure, listed: tuple[int, ...]) -> None:
         """Writes the line `regs`: in a named procedure those after the `val` parameters', else all."""
-        values = sum(param.mode == VAL for param in procedure.params)
+        values = parameters(procedure)
         parts = []
-        for place, type_ in enumerate(procedure.registers):
+        for place, type_ in enumerate(listed):
             if number in self.procedures and place < values:
                 continue
             if place >= values and self.is_so(0.8):
@@ -108,29 +116,35 @@ class Names:
 
     # --- Code
 
-    def code(self, procedure: Procedure) -> None:
+    def code(self, procedure: Procedure, listed: int) -> None:
+        seen: set[int] = set()
         places = {place + 1 + instr.skip for place, instr in enumerate(procedure.code) if instr.skip is not None}
         labels = {place: new_name(self.chance, self.taken) for place in sorted(places) if place <= len(procedure.code)}
         for place, instr in enumerate(procedure.code):
             if place in labels:
                 self.lines.append(labels[place] + ":")
+            if place < len(self.hidden):
+                continue
             if self.is_so(0.1):
-                self.let(procedure)
+                self.let(listed)
             rights = tuple(name for names in self.rights.values() for name in names)
-            self.scopes.append(Scope(len(self.lines), tuple(self.constants.values()), tuple(self.values.values()), rights))
+            can_have = listed >= parameters(procedure) and all(instr.number(at) < len(procedure.registers) for instr in procedure.code for at in value_places(instr)) and not any(
+                register >= listed for instr in procedure.code for register in kept_values(self.program, instr))
+            self.scopes.append(Scope(len(self.lines), tuple(self.constants.values()), tuple(self.values.values()), rights, listed if can_have else None, len(seen)))
+            seen |= {instr.number(at) for at in value_places(instr)} & set(self.hidden)
             self.instruction(place, instr, labels)
         if len(procedure.code) in labels:
             self.lines.append(labels[len(procedure.code)] + ":")
 
-    def let(self, procedure: Procedure) -> None:
+    def let(self, listed: int) -> None:
         """Writes a line `let` for any register, or a comment."""
         name = new_name(self.chance, self.taken)
         if self.is_so(0.7):
             register = self.chance.randrange(16)
             self.rights.setdefault(register, []).append(name)
             self.lines.append(f"let {name} = d{register}")
-        elif procedure.registers:
-            register = self.chance.randrange(len(procedure.registers))
+        elif listed:
+            register = self.chance.randrange(listed)
             self.values[register] = name
             self.lines.append(f"let {name} = v{register}")
 
@@ -138,7 +152,8 @@ class Names:
         made = MAKERS.get(instr.name, 0)
         words = [self.operand(instr, at, labels.get(place + 1 + (instr.skip or 0)), at < made) for at in range(len(instr.operands))]
         words = [word for word in words if word]
-        joint = self.chance.choice(JOINTS) if self.is_so(0.2) else " "
+        is_quoted = any(word[0] == '"' for word in words[:-1])
+        joint = self.chance.choice(JOINTS) if self.is_so(0.2) and not is_quoted else " "
         parts = [part for word in words for part in ([word] if word[0] == '"' else word.split(" "))]
         self.lines.append(f"{instr.name} {joint.join(parts)}".rstrip())
 
@@ -161,6 +176,8 @@ class Names:
         return self.constant(found - 1) if found and self.is_so(0.3) else operand_text(form, found)
 
     def value(self, register: int) -> str:
+        if register in self.hidden:
+            return word_of(self.chance, self.hidden[register])
         return self.values[register] if register in self.values and self.is_so(0.8) else f"v{register}"
 
     def right(self, register: int) -> str:
@@ -208,6 +225,13 @@ def wrong_lines(chance: random.Random, scope: Scope, procedures: list[str], free
     ]
     if other != free:
         found += [("N03", [f"const {other} = 5"]), ("N03", [f"let {other} = d3"]), ("N05", [f"INT {other} 5"])]
+    if scope.listed is not None and scope.listed < REGISTERS:
+        number = 10**18
+        left = REGISTERS - scope.listed - scope.literals
+        found += [("N06", [f"JLT {number + place} {number + place} +0" for place in range(left + 1)])]
+        found += [("N03", [f"JLT v{scope.listed} {number} +0"]) if scope.literals else ("N06", [f"JLT v{scope.listed} {number} +0"])]
+        if left:
+            found += [("N03", [f"JLT {number} {number} +0", f"LEN v{REGISTERS - 1} v{REGISTERS - 1}"])]
     if scope.values:
         found += [("N05", [f"REPEAT {scope.values[0]}"]), ("N05", [f"DROPR {scope.values[0]}"]), ("N03", [f"let {scope.values[0]} = v0"])]
     return chance.choice(found)
