@@ -36,13 +36,13 @@ quoted() {
 
 # Lays out a file: its mode, the file, and its name below the prefix.
 put() {
-    mkdir -p "$stage/$(dirname "$3")" && cp "$2" "$stage/$3" && chmod "$1" "$stage/$3" || exit 70
+    install -D -m "$1" "$2" "$stage/$3" || exit 70
     echo "$3" >>"$room/names"
 }
 
 # Lays out a link: what it names, and its name below the prefix.
 put_link() {
-    mkdir -p "$stage/$(dirname "$2")" && ln -sfn "$1" "$stage/$2" || exit 70
+    mkdir -p "$stage/${2%/*}" && ln -sfn "$1" "$stage/$2" || exit 70
     echo "$2" >>"$room/names"
 }
 
@@ -98,8 +98,7 @@ put_documents() {
     for file in $documents; do echo "share/doc/yuglemit/$file.md"; done >>"$room/names"
     for file in $documents; do
         name=share/doc/yuglemit/$file.md
-        awk -v name="$name" -f "$root/script/install/links.awk" "$room/names" "$root/$file.md" >"$room/document" || exit 70
-        mkdir -p "$stage/$(dirname "$name")" && cp "$room/document" "$stage/$name" && chmod 644 "$stage/$name" || exit 70
+        awk -v name="$name" -f "$root/script/install/links.awk" "$room/names" "$root/$file.md" >"$room/document" && install -D -m 644 "$room/document" "$stage/$name" || exit 70
     done
 }
 
@@ -112,34 +111,34 @@ put_manual() {
     done
 }
 
-# The SHA-256 of a file, or of what a link names; nothing if there is neither.
-sum_at() {
-    if [ -L "$1" ]; then
-        readlink "$1" | sum_of_input
-    elif [ -f "$1" ]; then
-        sum_of_input <"$1"
-    fi
+# The lines that a list has of what is in a folder under the names of standard input: the SHA-256 of a file, or of what a link names, and the name.
+# What is neither, or can't be read, has zeros.
+lines_of() {
+    (
+        cd "$1" 2>/dev/null || exit 0
+        while read -r name; do
+            if [ -L "$name" ]; then
+                echo "$(readlink "$name" | sum_of_input)  $name"
+            elif [ -f "$name" ] && [ -r "$name" ]; then
+                echo "$name" >&5
+            elif [ -e "$name" ]; then
+                printf '%064d  %s\n' 0 "$name"
+            fi
+        done 5>"$room/files"
+        xargs -r -d '\n' sha256sum <"$room/files"
+    )
 }
 
-# Whether an earlier installation put a file there, and it is as it was. Lists before version 0.20 have no sums.
-is_ours() {
-    sum=$(sum_at "$base/$1")
-    [ -n "$sum" ] && awk -v name="$1" -v sum="$sum" '
-        { its = $0; known = "" }
-        /^[0-9a-f]+  / { known = $1; its = substr($0, length($1) + 3) }
-        its == name && (known == "" || known == sum) { found = 1 }
-        END { exit !found }' "$room/before"
-}
-
-is_there() {
-    [ -e "$base/$1" ] || [ -L "$base/$1" ]
+# Which names of standard input are there, but not as an earlier installation put them there. Lists before version 0.20 have no sums.
+foreign() {
+    lines_of "$base" | awk '
+        is_list { known[$0]; next }
+        !($0 in known) && !($1 ~ /[1-9a-f]/ && substr($0, 67) in known) { print substr($0, 67) }' is_list=1 "$room/before" is_list=0 -
 }
 
 # Ends if a file would be replaced that isn't ours.
 refuse_foreign() {
-    while read -r name; do
-        { ! is_there "$name" || is_ours "$name"; } || echo "$name"
-    done <"$room/names" >"$room/foreign"
+    foreign <"$room/names" >"$room/foreign"
     [ -s "$room/foreign" ] || return 0
     while read -r name; do say "$prefix/$name is in the way: no installation put it there, or it has changed"; done <"$room/foreign"
     say "nothing is installed; --force replaces what is in the way"
@@ -148,16 +147,15 @@ refuse_foreign() {
 
 # Lists what is laid out with its sums, after what an earlier list has of other files that are still there.
 list_all() {
-    while read -r name; do echo "$(sum_at "$stage/$name")  $name"; done <"$room/names" >"$room/listed"
     sed 's/^[0-9a-f]\{64\}  //' "$room/before" | grep -vxFf "$room/names" | grep -vxF "$list" | while read -r name; do
-        is_there "$name" && awk -v name="$name" '$0 == name || substr($0, 67) == name' "$room/before"
+        { [ -e "$base/$name" ] || [ -L "$base/$name" ]; } && awk -v name="$name" '$0 == name || substr($0, 67) == name' "$room/before"
     done
-    cat "$room/listed"
+    lines_of "$stage" <"$room/names"
 }
 
 # Puts one file into its place in one step, so that a running program isn't disturbed.
 move_in() {
-    mkdir -p "$base/$(dirname "$1")" && cp -P "$stage/$1" "$base/$1.new.$$" && mv -fT "$base/$1.new.$$" "$base/$1" && return
+    { [ -d "$base/${1%/*}" ] || mkdir -p "$base/${1%/*}"; } && cp -P "$stage/$1" "$base/$1.new.$$" && mv -fT "$base/$1.new.$$" "$base/$1" && return
     rm -f "$base/$1.new.$$"
     say "$base/$1 can't be written"
     exit 73
@@ -195,14 +193,11 @@ uninstall_all() {
     fi
     read_list
     sed 's/^[0-9a-f]\{64\}  //' "$room/before" | LC_ALL=C sort -u | grep -vxF "$list" >"$room/names"
-    while read -r name; do
-        if [ -n "$force" ] || is_ours "$name"; then
-            rm -f "$base/$name"
-        elif is_there "$name"; then
-            say "$base/$name has changed, and stays; --force removes it"
-        fi
-    done <"$room/names"
+    : >"$room/foreign"
+    [ -n "$force" ] || foreign <"$room/names" >"$room/foreign"
+    grep -vxFf "$room/foreign" "$room/names" | (cd "$base" && xargs -r -d '\n' rm -f --)
     rm -f "$base/$list"
+    while read -r name; do say "$base/$name has changed, and stays; --force removes it"; done <"$room/foreign"
     { echo "$list"; cat "$room/names"; } | sed 's|/[^/]*$||' | LC_ALL=C sort -ru | while read -r folder; do
         (cd "$base" && rmdir -p "$folder") 2>/dev/null
     done

@@ -43,6 +43,8 @@ class Tool(NamedTuple):
     # Whether CI runs the short form; whether it may run beside another one, since it measures no time.
     in_ci: bool = True
     is_beside: bool = False
+    # Whether fewer things than before are no fault, since the program decides how many there are.
+    may_fall: bool = False
 
     @property
     def is_harness(self) -> bool:
@@ -120,7 +122,7 @@ TOOLS = (
     Tool("prices", "program/prices.py", "the seconds of the dearest instructions and events, by which runs are bounded", Run("ADD", 1), Run("", 40), "tw_embed", shard=3, in_ci=False),
     Tool("load", "program/orders.py --load", "a large run many times", Run("3", 3), Run("100", 100), PROGRAM, depends="./bench/load.tw", limit=1800, shard=5, in_ci=False),
     Tool("hostile", "program/hostile.py", "time and memory of the worst inputs", Run("--commands 1", 100), Run("", 900), PROGRAM, limit=3600, shard=4, in_ci=False),
-    Tool("refused", "program/refused.py", "a run for each failing allocation", Run("--most 60", 500), Run("", 2000), PROGRAM, "cc", "program/refuse.c", 3600, 5, False, True),
+    Tool("refused", "program/refused.py", "a run for each failing allocation", Run("--most 60", 500), Run("", 2000), PROGRAM, "cc", "program/refuse.c", 3600, 5, False, True, True),
     Tool("many", "program/many.sh", "the engines of docs/MANY.md", Run("threads", 1), Run("", 20), BOTH, depends="./examples/many ./embed/python", limit=2400, shard=5, in_ci=False),
     Tool("callers", "library/callers.sh", "C, C++ and Rust with hostile calls, under valgrind and with sanitizers", Run("--quick", 35), Run("", 40), "libyuglemit.a", "cc c++ objcopy",
          "library ./embed", 3600, 0, False, True),
@@ -146,6 +148,7 @@ TOOLS = (
     Tool("editor", "sources/editor.py", "the files of editors and shells in script/install"),
     Tool("prooftime", "proofs/prooftime.py", "what proofs cost, by crate and by function"),
     Tool("alone", "proofs/alone.py", "a crate over unproved sources"),
+    Tool("bodies", "proofs/bodies.py", "wrong bodies under contracts, and how many were refused"),
     Tool("release", "release/release.py", "makes the release, and compares it"),
     Tool("package", "release/package.py", "writes the packages into dist/ (./tw package)"),
 )

@@ -369,7 +369,7 @@ def unknown_names(book: Book) -> list[tuple[Case, str]]:
     found = []
     for case in book.cases:
         is_session = case.kind.split(" ")[0] in SESSION_KINDS
-        if is_session and not case.given.startswith("hex ") or case.kind.split(" ")[0] in ("phrases", "names"):
+        if is_session and not case.given.startswith("hex ") or case.kind.split(" ")[0] in ("phrases", "names", "renamed"):
             continue
         found += [(case, name) for name in REFERENCE.findall(case.given) if name not in book.lets]
     return found

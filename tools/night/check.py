@@ -1,4 +1,4 @@
-"""Runs what CI runs of the harnesses, in some minutes of two processors. Prints what fails, with its log, and what is left out.
+"""Runs what CI runs of the harnesses, in five minutes of two processors. Prints what fails, with its log, and what is left out.
 
     ./dev check              all
     ./dev check NAME..       these
@@ -6,8 +6,8 @@
     ./dev check --built      those that test programs and the library
     ./dev check --times      prints a line for each, too
 
-What is tested is the release, or what is built here (script/pick.sh). The seed of the fuzz tests is the sum of what they test, so that they are
-the same ones before a commit, after it and in CI."""
+What is tested is the release, or what is built here (script/pick.sh). Of more than two processors one stays free, since some harnesses measure
+time. The seed of the fuzz tests is the sum of what they test: the same before a commit, after it and in CI."""
 
 import os
 import tempfile
@@ -19,7 +19,10 @@ from tools.harnesses import TOOLS, Tool, named
 from tools.night import record
 from tools.night.runner import FAILED, LEFT_OUT, Ended, Runner, heed_signals, status_of, total
 
-JOBS = 2
+
+def jobs(processors: int) -> int:
+    """Returns how many harnesses are run at once."""
+    return max(2, processors - 1)
 
 
 def seed() -> str:
@@ -58,6 +61,6 @@ def main(words: list[str]) -> int:
         runner = Runner(ROOT, logs, {"seed": seed()}, float(os.environ.get("PATIENCE", "1")), environment=environment)
         runner.say = lambda ended: report(ended, logs, prints_all)
         heed_signals(runner)
-        ended = runner.run_all(tools, JOBS)
+        ended = runner.run_all(tools, jobs(len(os.sched_getaffinity(0))))
     print(total(ended))
     return status_of(ended)

@@ -18,7 +18,7 @@ from tools.night.runner import FAILED, Runner, heed_signals
 
 # Harnesses that test a clone of what is committed: the file of an edit, its text and another one. They take minutes, and need a release.
 CLONES = {
-    "installed": ("script/install.sh", 'rm -f "$base/$name"', ":"),
+    "installed": ("script/install.sh", "xargs -r -d '\\n' rm -f --", ":"),
     "released": ("docs/HOSTING.md", "\n```sh\n", "\n```sh\nexit 3\n"),
     "packaged": ("tools/release/package.py", "Depends: libc6", "Depends: no-such-libc6"),
     "wheel": ("tools/release/package.py", 'files["yuglemit/lib/libyuglemit.so"] = library.read_bytes()', "pass"),

@@ -20,8 +20,8 @@ from tools.harnesses import Run, Tool
 OK, FAILED, LEFT_OUT = "ok", "FAILED", "left out"
 # The last line that counts what passed, also in a test run of Python's.
 COUNT = re.compile(r"^(?:\w+ +)?(?:Ran )?(\d+) (?:passed|same|shown|as wanted|killed|noticed|rejected|checked|tests?\b)", re.M)
-# The line of a part that was left out.
-PART = re.compile(r"^left out: (.*)", re.M)
+# The line of a part that was left out, or of Python's tests that were skipped.
+PART = re.compile(r"^(?:left out: |OK (?=\())(.*)", re.M)
 # A harness that hasn't used its limit of processors may take so many times as long by the clock: the machine does other things too.
 LATE = 3
 # Among the arguments of a harness, a variable for it.

@@ -115,9 +115,8 @@ class RunnerTest(WithScripts):
         rows = [
             self.tool("well", "echo @seed passed"), self.tool("few", "echo 0 passed"), self.tool("fails", "echo 9 passed; exit 3"), self.tool("dies", "kill -SEGV $$"),
             self.tool("slow", "echo begun; sleep 90", limit=8), self.tool("lacks", "echo 1 passed", needs="no_such_command"),
-            self.tool("part", "echo left out: types, since tsc is missing; echo 1 passed"),
+            self.tool("part", "echo left out: types, since tsc is missing; echo 'OK (skipped=2)'; echo 1 passed"), self.tool("variable", "TIMES=4 echo $TIMES passed"),
         ]
-        rows.append(self.tool("variable", "TIMES=4 echo $TIMES passed"))
         with mock.patch.object(runner, "LATE", 1):
             found = {it.tool.name: it for it in self.runner.run_all(rows, 2)}
         outcomes = {"variable": OK, "well": OK, "few": FAILED, "fails": FAILED, "dies": FAILED, "slow": FAILED, "lacks": LEFT_OUT, "part": OK}
@@ -125,8 +124,8 @@ class RunnerTest(WithScripts):
         self.assertEqual(found["variable"].passed, 4)
         self.assertEqual((found["well"].passed, found["lacks"].text), (7, "no_such_command isn't installed"))
         self.assertRegex(found["slow"].text, "^took longer than 8 s; (begun|it says nothing)$")
-        self.assertEqual((found["part"].parts, found["dies"].text), (("types, since tsc is missing",), "status -11; it says nothing"))
-        self.assertRegex(found["part"].line(), r"^ok +part +\d+ s, \d+ used +1 passed; left out: types, since tsc is missing$")
+        self.assertEqual((found["part"].parts, found["dies"].text), (("types, since tsc is missing", "(skipped=2)"), "status -11; it says nothing"))
+        self.assertRegex(found["part"].line(), r"^ok +part +\d+ s, \d+ used +1 passed; left out: types, since tsc is missing; left out: \(skipped=2\)$")
         self.assertEqual((total(found.values()), status_of(list(found.values()))), ("3 passed, 4 failed, 1 left out", 1))
 
     def test_what_is_only_left_out_is_no_pass(self) -> None:
@@ -177,6 +176,9 @@ class NamesTest(unittest.TestCase):
             for name in sums:
                 with mock.patch.dict(sums, {name: "2"}):
                     self.assertNotEqual(check.seed(), first)
+
+    def test_one_of_many_processors_stays_free(self) -> None:
+        self.assertEqual([check.jobs(processors) for processors in (1, 2, 4)], [2, 2, 3])
 
     def test_parts_of_check(self) -> None:
         sources, built = ({tool.name for tool in check.chosen([word])} for word in ("--sources", "--built"))
@@ -235,7 +237,8 @@ class RecordTest(unittest.TestCase):
             self.assertEqual(record.faults({"one": ROW._replace(version="0.1")}, {}, (one,)), [])
             self.assertEqual(record.faults({}, {}, (one,)), ["one has no row"])
             self.assertEqual(record.faults({"one": ROW._replace(version="0.0")}, {}, (one,)), ["one passed last with version 0.0"])
-            for tool, found in ((one, ["one passed 6 in the release before, and 5 now"]), (one._replace(whole=Run("--seconds @seconds")), [])):
+            others = one._replace(whole=Run("--seconds @seconds")), one._replace(may_fall=True)
+            for tool, found in ((one, ["one passed 6 in the release before, and 5 now"]), *((other, list[str]()) for other in others)):
                 self.assertEqual(record.faults({"one": ROW}, {"one": ROW._replace(passed=6)}, (tool,)), found)
 
     def test_quick_runs_and_failures_are_no_rows(self) -> None:

@@ -1,20 +1,13 @@
 """Tests that a row which takes more is found."""
 
-import unittest
-
+from tools.common.testing import Table
 from tools.program import events
 
 
-class Risen(unittest.TestCase):
+class Risen(Table):
     def test_rows(self) -> None:
-        figures = {"same": 1000.0, "more": 1000.0, "much": 1000.0}
-        rows = {"same": 1000.0, "more": 1019.0, "much": 1021.0, "new": 5.0}
-        self.assertEqual(events.risen(rows, figures), ["events: much: 1021, before 1000", "events: new: 5, before 0"])
-
-    def test_threads_may_rise_more(self) -> None:
-        figures = {"put in threads": 1000.0}
-        self.assertEqual(events.risen({"put in threads": 1149.0}, figures), [])
-        self.assertEqual(events.risen({"put in threads": 1151.0}, figures), ["events: put in threads: 1151, before 1000"])
-
-    def test_fewer(self) -> None:
-        self.assertEqual(events.risen({"row": 1.0}, {"row": 1000.0}), [])
+        self.compare(
+            lambda row, count: events.risen({row: count}, {"put": 1000.0, "put in threads": 1000.0}), ("the same", "put", 1000.0, []), ("fewer", "put", 1.0, []),
+            ("two percent", "put", 1019.0, []), ("more than two", "put", 1021.0, ["events: put: 1021, before 1000"]), ("a new row", "new", 5.0, ["events: new: 5, before 0"]),
+            ("two in threads", "put in threads", 1149.0, []), ("too many in threads", "put in threads", 1151.0, ["events: put in threads: 1151, before 1000"]),
+        )

@@ -56,7 +56,7 @@ def file_options() -> list[str]:
 def all_words() -> dict[str, list[str]]:
     """Returns the words by their names; those of a command's name are its options."""
     tw = program()
-    statements = words_in("tw_asm/src/first.rt", "tw_symbols/src/line_expansion.rt")
+    statements = words_in("tw_asm/src/first.rt", "tw_symbols/src/line_kind.rt")
     names = commands(printed(tw, "--help"))
     helps = {name: printed(tw, name, "--help") for name in names}
     forms = re.findall(r"(?m)^ *\[INPUT\]\.\.\. *(.*)", helps["run"])[0]

@@ -58,7 +58,7 @@ WHOLES: tuple[Whole, ...] = (
 PARTS: tuple[str, ...] = (
     "tw_code/specs/accepting/Flow.antt", "tw_code/src/flow.rt", "tw_asm/specs/Seen.antt", "tw_asm/src/skip.rt", "tw_binary/src/rows.rt",
     "tw_asm/src/instructions.rt", "tw_frame/src/step.rt", "tw_frame/src/text_step.rt", "tw_verify/src/quick.rt", "tw_verify/specs/Quick.antt",
-    "tw_verify/src/searching.rt", "tw_verify/specs/Searching.antt", "tw_symbols/src/instruction.rt", "tw_symbols/specs/LineExpansion.antt",
+    "tw_verify/src/searching.rt", "tw_verify/specs/Searching.antt", "tw_symbols/src/instruction.rt", "tw_symbols/specs/LineNames.antt",
     "tw_bounds/src/weighing.rt", "tw_bounds/specs/Bounds.antt", "tw_bounds/src/limited.rt", "tw_bounds/specs/Limited.antt", "tw_bounds/src/texts.rt",
     "tw_pool_state/src/data/scalars.rt", "tw_pool_state/src/data/containers.rt", "tw_pool_state/src/data/maps.rt", "tw_pool_state/src/data/rights.rt",
     "tw_determinism/specs/Contested.antt", "tw_determinism/specs/OneResult.antt", "tw_determinism/specs/Refused.antt", "tw_copies/specs/Copies.antt",

@@ -8,29 +8,23 @@
 cd "$(dirname "$(readlink -f "$0")")/../.." || exit
 room=$(mktemp -d)
 trap 'rm -rf "$room"' EXIT
+export MYPY_CACHE_DIR="${MYPY_CACHE_DIR:-$room/mypy}"
 failed=0
 
 # Runs a checker on the files that standard input lists.
 check() {
-    cat >"$room/files"
-    xargs env MYPYPATH=embed/python "$@" <"$room/files" || failed=1
-}
-
-# Checks Python files that import one another, likewise.
-check_types() {
-    check mypy --strict --no-error-summary --cache-dir "$room/mypy"
+    xargs env MYPYPATH=embed/python "$@" || failed=1
 }
 
 # `git` isn't piped into a function, which would set `failed` in a shell of its own.
 git grep -lE '^#!/(usr/)?bin/(env )?(ba|da)?sh' >"$room/scripts"
 { echo dev; git ls-files '*.py'; } >"$room/python"
 git ls-files 'bench/*.py' 'embed/python/yuglemit/*.py' 'embed/python/tests/*.py' ':!embed/python/tests/programs' >"$room/package"
+grep -E '^(dev$|tools/)' "$room/python" >"$room/tools"
+grep '^page/' "$room/python" >"$room/page"
 check shellcheck -x -S warning <"$room/scripts"
 check pyflakes3 <"$room/python"
-grep -E '^(dev$|tools/)' "$room/python" >"$room/part"
-check_types <"$room/part"
-grep '^page/' "$room/python" >"$room/part"
-check_types <"$room/part"
-check_types <"$room/package"
+# Files of a part import one another.
+for part in tools page package; do check mypy --strict --no-error-summary <"$room/$part"; done
 [ "$failed" = 0 ] && echo "$(cat "$room/scripts" "$room/python" | wc -l) passed"
 exit "$failed"

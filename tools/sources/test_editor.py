@@ -45,7 +45,7 @@ class Sources(unittest.TestCase):
     def test_words_of_sources_and_help_texts(self) -> None:
         root = folder_of(self)
         put(root, {"tw_code/src/opcode.rt": '    Opcode::Add => "ADD",\n', "tw_cli/src/command_rows.rt": '{ form: ArgumentForm::Trace, name: "events" }\n'})
-        put(root, {"tw_asm/src/first.rt": 'b"proc"', "tw_asm/src/types.rt": 'b"int" b"proc"', "tw_symbols/src/line_expansion.rt": 'b"let"'})
+        put(root, {"tw_asm/src/first.rt": 'b"proc"', "tw_asm/src/types.rt": 'b"int" b"proc"', "tw_symbols/src/line_kind.rt": 'b"let"'})
         replace(self, editor, CRATES=root, program=lambda: "tw", printed=printed, PACKAGES={"deb": None})
         self.assertEqual(editor.all_words(), {
             "instructions": ["ADD"], "statements": ["let", "proc"], "words": ["int"], "commands": ["run"], "own": [], "numbers": ["--limit"], "files": ["--events"],

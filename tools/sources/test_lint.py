@@ -1,5 +1,6 @@
 """Tests that ./dev lint notices a fault of each language, and counts what it checks."""
 
+import os
 import shutil
 import subprocess
 import unittest
@@ -18,9 +19,10 @@ class LintTest(unittest.TestCase):
         put(root, {LINT: (ROOT / LINT).read_text(encoding="utf-8")})
         for words in (("init", "-q"), ("add", "-A")):
             subprocess.run(["git", "-C", str(root), *words], check=True)
-        done = subprocess.run(["sh", root / LINT], stdout=subprocess.PIPE, text=True, check=False)
+        lint, own = ["sh", str(root / LINT)], {**os.environ, "MYPY_CACHE_DIR": f"{root}/kept"}
+        done = subprocess.run(lint, stdout=subprocess.PIPE, text=True, env=own, check=False)
         self.assertEqual(done.returncode, 1)
         for fault in ("SC2164", "'os' imported but unused", "Incompatible return value type"):
             self.assertIn(fault, done.stdout)
         put(root, {"tools/a.py": "", "a.sh": "#!/bin/sh\ncd gone || exit\n"})
-        self.assertEqual(subprocess.run(["sh", root / LINT], stdout=subprocess.PIPE, text=True, check=False).stdout.splitlines()[-1:], ["6 passed"])
+        self.assertEqual(subprocess.run(lint, stdout=subprocess.PIPE, text=True, env=own, check=False).stdout.splitlines()[-1:], ["6 passed"])

@@ -175,19 +175,22 @@ def without_blocks(lines: Iterable[Line], margin: str = "  ") -> Iterator[Line]:
 
 def is_allowed(path: str, text: str, start: int) -> bool:
     """Says if what begins at this place of the text is one of the exceptions."""
-    for allowed in ALLOWED:
-        if path.startswith(allowed.path):
-            for match in re.finditer(re.escape(allowed.phrase), text):
-                if match.start() <= start < match.end():
-                    return True
-    return False
+    phrases = (match for it in ALLOWED if path.startswith(it.path) for match in re.finditer(re.escape(it.phrase), text))
+    return any(match.start() <= start < match.end() for match in phrases)
+
+
+@functools.cache
+def of_words(*expressions: str) -> re.Pattern[str]:
+    """Returns an expression that finds one of these words."""
+    return re.compile(rf"(?<![\w-])(?:{'|'.join(expressions)})(?![\w-])", re.IGNORECASE)
 
 
 def wrong_words(path: str, lines: Iterable[Line], words: tuple[tuple[str, str], ...] = WORDS) -> Iterator[Finding]:
-    """Finds the words that this project doesn't use."""
-    for line in lines:
+    """Finds the words that this project doesn't use. One look at a line, for all words, decides whether there is more to do."""
+    some = of_words(*(expression for expression, _ in words))
+    for line in (line for line in lines if some.search(line.text)):
         for expression, better in words:
-            for match in re.finditer(rf"(?<![\w-])(?:{expression})(?![\w-])", line.text, re.IGNORECASE):
+            for match in of_words(expression).finditer(line.text):
                 if not is_allowed(path, line.text, match.start()):
                     yield Finding(path, line.number, "word", f"{match[0]}: {better}")
 
@@ -287,9 +290,7 @@ def leads_nowhere(path: str, target: str, documents: dict[str, list[Line]]) -> b
     """Says if a link of a document names a file or a heading that isn't there."""
     name, _, anchor = target.partition("#")
     to = posixpath.normpath(posixpath.join(posixpath.dirname(path), name)) if name else path
-    if to not in documents:
-        return not (ROOT / to).exists()
-    return bool(anchor) and anchor not in anchors_of(documents[to])
+    return bool(anchor) and anchor not in anchors_of(documents[to]) if to in documents else not (ROOT / to).exists()
 
 
 def dead_links(path: str, documents: dict[str, list[Line]]) -> Iterator[Finding]:

@@ -246,9 +246,7 @@ class CodeScope:
         self.constructors: dict[str, Definition] = {}
 
     def meaning(self, name: str) -> Meaning:
-        if name in self.names:
-            return found(*self.names[name])
-        return self.own(name)
+        return found(*self.names[name]) if name in self.names else self.own(name)
 
 
 def is_constructor(scope: Scope, name: str) -> bool:
