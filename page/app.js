@@ -152,7 +152,7 @@ async function check() {
     if (mine !== checks) return;
     const trouble = replies.find(it => !it || it.failed);
     if (trouble !== undefined) { cannot(trouble?.failed ?? "The check was stopped."); return; }
-    const [judged, listed, bytes, plain] = replies.map(it => it?.text ?? ""), source = scan(text), verdict = readVerdict(judged, source);
+    const [judged, listed, bytes, plain] = replies.map(it => it?.text ?? ""), source = scan(text, plain), verdict = readVerdict(judged, source);
     const program = replies[2]?.status === 0 ? decode(bytes) : null;
     checked = {text, source, verdict, places: readPlaces(listed, source), names: program ? namings(source, plain) : [], program};
     if (program) fields.ask(program, parameterNames(checked));

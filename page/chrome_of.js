@@ -36,9 +36,9 @@ function actors(option) {
 
 if (!file) fail("usage: chrome_of.js TW FILE [WORDS OF tw run]..");
 if (!fs.existsSync(file)) fail(`${file} isn't there`);
-const input = fs.readFileSync(file, "utf8"), source = scan(input), {trace, report} = readTrace(ask("run", "--text", "--trace", ...words));
+const input = fs.readFileSync(file, "utf8"), plain = ask("asm", "--names", "--plain"), source = scan(input, plain), {trace, report} = readTrace(ask("run", "--text", "--trace", ...words));
 if (!trace) fail(report.trim() || "the run has no trace");
 const program = decode(ask("asm", "--names")), inputs = words.flatMap(word => readInput(word) ?? []);
 if (inputs.length !== program[0].params.filter(({mode}) => mode !== "write").length) fail("inputs are words with their type, such as int:39");
-const setting = {program, source, names: namings(source, ask("asm", "--names", "--plain")), inputs, engines: actors("--engines"), servers: actors("--servers"), workers: actors("--workers")};
+const setting = {program, source, names: namings(source, plain), inputs, engines: actors("--engines"), servers: actors("--servers"), workers: actors("--workers")};
 process.stdout.write(chromeTrace(new Run(setting).follow(trace), path.parse(file).name));

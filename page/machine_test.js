@@ -28,7 +28,7 @@ async function compare(name, text, words, [engines, servers, workers]) {
     const options = ["--engines", engines, "--servers", servers, "--workers", workers].map(String), limit = ["--limit", "1000"];
     const {text: answer} = session(["run", "--text", "--trace", ...limit, ...options, ...words], text), {trace} = readTrace(answer), events = trace.split("\n").slice(0, -1);
     say(events.length > 0, name, "has no events", answer.slice(0, 200));
-    const source = scan(text), program = decode(session(["asm", "--names"], text).text), names = namings(source, session(["asm", "--names", "--plain"], text).text);
+    const expanded = session(["asm", "--names", "--plain"], text).text, source = scan(text, expanded), program = decode(session(["asm", "--names"], text).text), names = namings(source, expanded);
     const setting = {program, source, names, inputs: words.map(readInput), engines, servers, workers}, run = new Run(setting).follow(trace);
     const state = open(program, setting.inputs, servers);
     sameInParts(name, setting, run, trace);

@@ -1,7 +1,7 @@
 // @ts-check
 // SPDX-License-Identifier: Apache-2.0
 // Mistakes to plant in a program. Each offers edits; the page takes the first that the verifier refuses by the expected rule.
-import {scan, uncommented, wordsOf} from "./source.js";
+import {isSymbolic, scan, uncommented, wordsOf} from "./source.js";
 
 /** A planted text, and the line to look at.
  * @typedef {{text: string, line: number}} Planted */
@@ -34,7 +34,7 @@ function aroundMain(text, before, atStart) {
 /** Adds a text register, and stores it in an int.
  * @param {string} text @returns {Planted[]} */
 function textIntoInt(text) {
-    const source = scan(text), lines = source.text, symbolic = /^\s*names\b/m.test(text);
+    const source = scan(text), lines = source.text, symbolic = isSymbolic(text);
     return source.places.flatMap((code, procedure) => code.flatMap(line => {
         const words = wordsOf(lines[line]).map(it => it.word), regs = source.lines.findIndex(it => it.kind === "regs" && it.procedure === procedure);
         if (words[0] !== "STORE" || regs < 0) return [];

@@ -29,11 +29,27 @@ export function wordsOf(line) {
     return [...uncommented(line).matchAll(/"(?:[^"\\]|\\.)*"?\S*|[^\s"(),]+/g)].map(it => ({word: it[0], at: it.index ?? 0}));
 }
 
-/** Classifies the lines of a text.
- * @param {string} text @returns {Source} */
-export function scan(text) {
+/** Returns whether a text is symbolic assembly.
+ * @param {string} text */
+export const isSymbolic = text => /^\s*names\b/m.test(text);
+
+/** Returns how many lines of the plain text fill hidden registers after each line of a symbolic text: those begin with a blank.
+ * @param {string} text @param {string} plain @returns {number[]} */
+function hiddenAfter(text, plain) {
+    /** @type {number[]} */
+    const counts = [];
+    for (const line of isSymbolic(text) ? plain.split("\n") : []) {
+        if (line[0] === " ") counts[counts.length - 1]++;
+        else counts.push(0);
+    }
+    return counts;
+}
+
+/** Classifies the lines of a text. Instructions that fill hidden registers are at the line `regs`; the plain text shows how many there are.
+ * @param {string} text @param {string} [plain] @returns {Source} */
+export function scan(text, plain = "") {
     /** @type {Source} */
-    const source = {text: text.split("\n"), lines: [], places: [], heads: [], names: []};
+    const source = {text: text.split("\n"), lines: [], places: [], heads: [], names: []}, hidden = hiddenAfter(text, plain);
     source.text.forEach((line, k) => {
         if (line === "" || line[0] === ";") { source.lines.push({kind: "other", procedure: source.heads.length - 1, place: -1}); return; } // Most of a large text is such.
         const [first = {word: ""}, , third] = wordsOf(line), procedure = source.heads.length - 1;
@@ -45,7 +61,10 @@ export function scan(text) {
         } else if (procedure >= 0 && /^[A-Z]/.test(first.word) && !first.word.endsWith(":")) {
             source.lines.push({kind: "instruction", procedure, place: source.places[procedure].length});
             source.places[procedure].push(k);
-        } else source.lines.push({kind: first.word === "regs" ? "regs" : "other", procedure, place: -1});
+        } else {
+            source.lines.push({kind: first.word === "regs" ? "regs" : "other", procedure, place: -1});
+            source.places[procedure]?.push(...Array(hidden[k] ?? 0).fill(k));
+        }
     });
     return source;
 }
@@ -84,12 +103,13 @@ function namesOfHead(line) {
     return {pairs, values};
 }
 
-/** Returns the names of registers, each from its line on. The plain text has the same lines with registers in place of names.
+/** Returns the names of registers, each from its line on. The plain text has the same lines with registers in place of names and literals, which name their
+ * hidden registers.
  * @param {Source} source @param {string} plain @returns {Naming[]} */
 export function namings(source, plain) {
     /** @type {Naming[]} */
     const all = [];
-    const expanded = plain.split("\n");
+    const expanded = plain.split("\n").filter(line => line[0] !== " " || !isSymbolic(source.text.join("\n")));
     let values = 0;
     source.lines.forEach(({kind, procedure}, line) => {
         const add = (/** @type {string} */ register, /** @type {string} */ name) => all.push({line, procedure, register, name});
