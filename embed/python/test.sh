@@ -17,8 +17,8 @@ case $1 in
         source=$room/wheel
         shift ;;
 esac
-PYTHONPATH=$source PYTHONDONTWRITEBYTECODE=1
-export PYTHONPATH PYTHONDONTWRITEBYTECODE
+PYTHONPATH=$source PYTHONDONTWRITEBYTECODE=1 MYPY_CACHE_DIR=$room/mypy
+export PYTHONPATH PYTHONDONTWRITEBYTECODE MYPY_CACHE_DIR
 failed=0
 
 # Runs Python with the arguments under valgrind, and writes the errors and leaks with a frame of the library to $room/errors.
@@ -50,7 +50,7 @@ elif [ $# -gt 0 ]; then
 else
     "$python" -m unittest discover -p 'test_*.py' || failed=1
     if command -v mypy >/dev/null 2>&1; then
-        (cd "$here" && mypy --strict --cache-dir "$room/mypy" yuglemit) || failed=1
+        (cd "$here" && mypy --strict yuglemit) || failed=1
     else
         echo "left out: types, since mypy isn't installed"
     fi

@@ -21,7 +21,7 @@ assembly_numbers =
 -- the codes of symbolic assembly
 abbrev pub name_numbers : List Text
 name_numbers =
-    codes "N01" ∷ codes "N02" ∷ codes "N03" ∷ codes "N04" ∷ codes "N05" ∷ codes "N06" ∷ codes "N07" ∷ []
+    codes "N01" ∷ codes "N02" ∷ codes "N03" ∷ codes "N04" ∷ codes "N05" ∷ codes "N06" ∷ codes "N07" ∷ codes "N08" ∷ []
 
 -- the codes of a program's bytes
 abbrev pub byte_numbers : List Text

@@ -4,7 +4,7 @@ use crate::explanations::Explanation;
 
 /// The codes of symbolic assembly.
 #[rattlefmt::skip]
-pub(crate) const NAMES: [Explanation; 7] = [
+pub(crate) const NAMES: [Explanation; 8] = [
     Explanation { number: "N01",
         meaning: "a line that defines names has the wrong form",
         asked: "const NAME = NUMBER, let NAME = REGISTER, and after a name and `:` the mode of a parameter or the type of a register",
@@ -16,10 +16,10 @@ pub(crate) const NAMES: [Explanation; 7] = [
         mistake: "a name with a - or a letter of another alphabet in it, or one such as v0 or d1, which is a register",
         mending: "choose another name" },
     Explanation { number: "N03",
-        meaning: "the name is taken",
+        meaning: "the name is taken, or the register: it holds a number or a text among the operands",
         asked: "one meaning for each name: a procedure's is taken in the whole text, a constant's from its line on, a register's in its procedure",
         mistake: "a register with the name of a procedure, a parameter listed again after `regs`, or lines that were copied with their names",
-        mending: "give one of the two another name; a parameter is a register already" },
+        mending: "give one of the two another name; a parameter is a register already; list a register before its word is used" },
     Explanation { number: "N04",
         meaning: "the name means nothing here",
         asked: "a name that is defined: a register of the same procedure, a constant of a line above, or any procedure of the text",
@@ -31,7 +31,7 @@ pub(crate) const NAMES: [Explanation; 7] = [
         mistake: "arguments in another order than the parameters, or a read right in place of a value: GET puts the value into a value register",
         mending: "compare the words with the instruction's operands, and arguments with the `proc` line of the procedure" },
     Explanation { number: "N06",
-        meaning: "there is no register left for the name",
+        meaning: "there is no register left for the name, or for the number or text",
         asked: "at most 16 value registers and 16 right registers in a procedure: v0 to v15 and d0 to d15",
         mistake: "a new name for each right that is made, although an earlier register is empty again",
         mending: "use the name of an earlier right whose register is empty there, or split the procedure" },
@@ -40,4 +40,9 @@ pub(crate) const NAMES: [Explanation; 7] = [
         asked: "memory for the text and its names",
         mistake: "a limit on the process's memory",
         mending: "give it more memory" },
+    Explanation { number: "N08",
+        meaning: "the expansion of a line isn't what the line says, as a check found that compares both; so the program isn't run",
+        asked: "nothing of the text: this is an error of `tw`, which no known text meets",
+        mistake: "none",
+        mending: "report the text; until then write the line with registers, numbers and no names" },
 ];

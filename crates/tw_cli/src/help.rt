@@ -11,7 +11,7 @@ pub(crate) struct CommandHelp<'a> {
 }
 
 /// The program's version, which the newest section of CHANGELOG.md names.
-pub(crate) const VERSION: &str = "0.31";
+pub(crate) const VERSION: &str = "0.32";
 
 pub(crate) const ABOUT: &str =
     "Yuglemit assembles, checks and runs dataflow programs on a proved task host. Its manual is `man tw`.";
@@ -151,7 +151,7 @@ Exit status: 0 quiet or still running, 1 rejected or an event that isn't enabled
 pub(crate) const EXPLAIN: CommandHelp<'static> = CommandHelp {
     about: "Explains the code of an error or a trap",
     usage: "tw explain [OPTIONS] [CODE]",
-    whole: "A code is what an error line of another command names: H01 to H03, A01 to A07, N01 to N07, F01 to F09, V01 to V18, O01 to O07,
+    whole: "A code is what an error line of another command names: H01 to H03, A01 to A07, N01 to N08, F01 to F09, V01 to V18, O01 to O07,
 E01, X01 or C1 to C15. Small letters are accepted, and V4 for V04. The output says what the code means, what is required, the
 usual mistake and its correction. Without a code all are listed, each with what it means.
 Exit status: 0 explained, 2 command line rejected or no such code, 5 out of memory, 7 a write failed.",

@@ -66,8 +66,8 @@ class Types(unittest.TestCase):
             for number, text in enumerate(texts):
                 files.append(f"{folder}/user_{number}.py")
                 Path(files[-1]).write_text(text, encoding="utf-8")
-            its = {**os.environ, "MYPYPATH": str(Path(yuglemit.__file__).parents[1])}
-            words = [mypy, "--strict", "--follow-imports", "silent", "--no-error-summary", "--cache-dir", f"{folder}/kept", *files]
+            its = {"MYPY_CACHE_DIR": f"{folder}/kept", **os.environ, "MYPYPATH": str(Path(yuglemit.__file__).parents[1])}
+            words = [mypy, "--strict", "--no-error-summary", *files]
             return subprocess.run(words, stdout=subprocess.PIPE, text=True, check=False, env=its).stdout
 
     def test_programs(self) -> None:

@@ -82,8 +82,8 @@ class Types(unittest.TestCase):
         with tempfile.TemporaryDirectory() as folder:
             file = Path(folder) / "user.py"
             file.write_text(text, encoding="utf-8")
-            its = {**os.environ, "MYPYPATH": str(Path(yuglemit.__file__).parents[1])}
-            words = [mypy, "--strict", "--no-error-summary", "--cache-dir", f"{folder}/kept", str(file)]
+            its = {"MYPY_CACHE_DIR": f"{folder}/kept", **os.environ, "MYPYPATH": str(Path(yuglemit.__file__).parents[1])}
+            words = [mypy, "--strict", "--no-error-summary", str(file)]
             return subprocess.run(words, stdout=subprocess.PIPE, text=True, check=False, env=its).stdout
 
     def test_right_calls(self) -> None:
