@@ -1,6 +1,6 @@
 -- The line of a text that is printed.
 use Rattle.std.proofs.Common.{◌≡◌, ℕ, zero, suc, ◌+◌, ◌-◌, ◌<◌, ◌≤◌, Bool, true, false, cond, List, [], ◌∷◌, ◌++◌, filter, length, take, Option, Some, None, MatchOption, inl, inr, refl, subst, ap, ◌∙◌, arith}
-use Rattle.std.specs.Prelude.{String, string_bytes}
+use Rattle.std.specs.Prelude.{IfSome, String, string_bytes}
 use Rattle.std.specs.declared.alloc.Global.{Global}
 use Rattle.tw_source.proofs.ReplyNames.{AreOrigins, ComesFrom, HaveStatements, Procedure, ParserState, ExpandsTo, after_line, at_place, at_start, instr_at, length-append, lines}
 use Rattle.std.specs.List.{slice_get}
@@ -9,9 +9,10 @@ use Rattle.tw_asm.specs.Statement.{Statement, Code, Head, Label, OfVersion, Regi
 use Rattle.tw_diagnostics.specs.FirstHead.{HasNoHead, IsFirstHead, is_head}
 use Rattle.tw_symbols.proofs.RenamedLines.{as_many}
 use Rattle.tw_source.specs.Source.{IsExpanded, plain_or, written}
+use Rattle.tw_source.specs.Program.{IsKept}
 use Rattle.tw_source.specs.Text.{IsFromLine, IsLineOfError}
 use Rattle.tw_symbols.specs.Expansion.{HasNames, IsWrittenAt, written_line}
-use Rattle.tw_symbols.specs.Renamed.{is_written}
+use Rattle.tw_symbols.specs.Renamed.{IsRenamed, is_written}
 use Rattle.tw_verify.specs.declared.rejection.VerifyError.{VerifyError}
 use Rattle.tw_verify.specs.declared.rejection.VerifyError.TheVariants as rejection
 
@@ -32,6 +33,10 @@ none_past (x ∷ xs) (suc k) e = let h = none_past xs k e in omega (arith, h)
 pub expands : (text : List ℕ) (found : Option (String Global)) → IsExpanded text found → ExpandsTo text (plain_or text found)
 expands text None none = inr (none, refl)
 expands text (Some plain) is = inl is
+
+pub expanded : (text : List ℕ) (found : Option (String Global)) → IsKept text found → IfSome found (λ plain. IsRenamed text (string_bytes plain)) → IsExpanded text found
+expanded text None kept is = kept
+expanded text (Some plain) kept is = (kept.0, is)
 
 pub written_at : (text : List ℕ) (found : Option (String Global)) (number : ℕ) → IsExpanded text found → IsWrittenAt text (plain_or text found) number (written found number)
 written_at text None number none = inr (none, refl)

@@ -1,10 +1,12 @@
 -- The program that is read: hex text of its bytes, or assembly text, with names or without.
-use Rattle.std.specs.Prelude.{◌≡◌, ◌⊎◌, ℕ, List, [], IsUtf8, MatchOption, filter, length, Option, Some, None, Ok, Err, String, string_bytes}
+use Rattle.std.specs.Prelude.{◌≡◌, ◌⊎◌, ℕ, List, [], IfSome, IsUtf8, MatchOption, filter, length, Option, Some, None, Ok, Err, String, string_bytes}
 use Rattle.std.specs.Result.{IsErr}
 use Rattle.std.specs.Str.Lines.{lines}
 use Rattle.std.specs.declared.alloc.Global.{Global}
 use Rattle.hex.specs.Hex.{decode_of}
 use Rattle.tw_asm.specs.Answers.{HasFault}
+use Rattle.tw_asm.specs.declared.fault.FaultNo.{FaultNo}
+use Rattle.tw_asm.specs.declared.fault.FaultNo.TheVariants as asm
 use Rattle.tw_asm.specs.Spelling.{EncodesProgram}
 use Rattle.tw_binary.specs.Fault as fault
 use Rattle.tw_code.specs.format.Program.{Versioned}
@@ -13,7 +15,7 @@ use Rattle.tw_order.specs.declared.order.Source.{Source}
 use Rattle.tw_order.specs.declared.order.Source.TheVariants.{Hex, Assembly}
 use Rattle.tw_symbols.specs.Answers.{name_number}
 use Rattle.tw_symbols.specs.Expansion.{ExpandsTo, HasNames}
-use Rattle.tw_symbols.specs.Renamed.{is_written}
+use Rattle.tw_symbols.specs.Renamed.{IsRenamedUpTo, is_written}
 use Rattle.tw_source.specs.Failure.{coded, failed_with, fault_failure}
 use Rattle.tw_source.specs.Input.{digits_in}
 use Rattle.tw_source.specs.NamePlace.{IsNamePlace}
@@ -41,9 +43,17 @@ IsKept text found = MatchOption found (HasNames (lines text) → ⊥) (λ plain.
 abbrev pub plain_in : FaultyText → List ℕ
 plain_in f = plain_or f.text.now f.plain
 
--- hold for what is kept of a text that encodes no program: the text in which its names were replaced has this first fault, or a name error is reported
+-- returns how many lines are read up to a fault; labels are looked for after all lines
+abbrev pub lines_read : FaultNo → ℕ → Option ℕ
+lines_read asm.UnknownLabel line = None
+lines_read asm.LabelNotForward line = None
+lines_read which line = Some line
+
+-- hold for what is kept of a text that encodes no program: its expansion has this first fault, and is the text with its names replaced as far as it was read; or
+-- a name error is reported
 abbrev pub IsFaulty : List ℕ → FaultyText → Type 0
 IsFaulty text f = (f.text.now ≡ text) × IsKept text f.plain × HasFault (plain_in f) f.fault.no f.fault.line
+    × IfSome f.plain (λ plain. IsRenamedUpTo (lines_read f.fault.no f.fault.line) text (string_bytes plain))
 
 abbrev pub IsUnexpanded : List ℕ → UnexpandedText → Type 0
 IsUnexpanded text f = f.text.now ≡ text

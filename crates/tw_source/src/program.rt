@@ -1,28 +1,29 @@
 //! Reads a program.
 
-ghost use Rattle.std.specs.Prelude.{◌≡◌, ◌≢◌, Err, None, Ok, Some, IfErr, IfOk, IsUtf8};
+ghost use Rattle.std.specs.Prelude.{◌≡◌, ◌≢◌, Err, None, Ok, Some, IfErr, IfOk, IfSome, IsUtf8, string_bytes};
 ghost use Rattle.tw_order.specs.declared.order.Source.TheVariants.{Assembly, Hex};
 ghost use Rattle.tw_source.specs.Program.{IsKept, IsFailure, MayHaveDetails, PrintsNone, HasProgram, HasNoProgram, TextHasProgram, source_text};
 ghost use Rattle.tw_source.specs.Reply.{reply};
-ghost use Rattle.tw_source.specs.Source.{IsExpanded, MayBeSource, text_of};
+ghost use Rattle.tw_source.specs.Source.{MayBeSource, text_of};
 ghost use Rattle.tw_source.specs.Source.{plain_or as plain_or_is};
-ghost use Rattle.tw_asm.specs.Answers.{IsLined};
+ghost use Rattle.tw_asm.specs.Answers.{HasFault, IsLined};
 ghost use Rattle.tw_binary.specs.declared.fault.Fault.{Fault as ByteFault};
 ghost use Rattle.tw_binary.specs.Reading.{program_of};
 ghost use Rattle.tw_source.specs.declared.program.NoProgram.TheVariants.{Bytes, NoMemory};
+ghost use Rattle.tw_symbols.specs.Renamed.{IsRenamedUpTo};
 ghost use Rattle.tw_visible.specs.Visible.{HidesNothing};
 
 use crate::details::Details;
 use crate::digits::digits;
 use crate::failure::{Failure, Position, put_failure_line};
-use crate::faulty_text::{FaultyText, fault_details, text_failure};
+use crate::faulty_text::{FaultyText, fault_details, lines_read, text_failure};
 use crate::further::put_further;
 use crate::names::{UnexpandedText, name_details, name_failure};
 use crate::reply::Reply;
 use crate::source::{SourceText, plain_or};
 use hex::FromHexError;
 use std::alloc::{AllocError, Global};
-use tw_asm::{LinedProgram, assemble_lined};
+use tw_asm::{AsmFault, LinedProgram, assemble_lined};
 use tw_binary::{Fault, FaultNo, decode};
 use tw_code::Program;
 use tw_order::Source;
@@ -81,19 +82,27 @@ fn program_in_hex<'a>(alloc: Global, input: &[u8]) -> Result<Program, NoProgram<
     }
 }
 
-/// Returns the number of the line at which the expansion of symbolic assembly isn't this text; `None` if it is, or if the text has no names.
+/// Returns the number of the line at which the expansion of symbolic assembly isn't this text, as `other_line` does; `None` if the text has no names.
 fn wrong_line(
     alloc: Global,
     text: &str,
     plain: &Option<String>,
+    up_to: Option<usize>,
 ) -> Result<Option<usize>, AllocError>
-    requires { IsKept text.now plain.now }
-    ensures { IfOk result (λ line. line ≡ None → IsExpanded text.now plain.now) }
+    ensures { IfOk result (λ line. line ≡ None → IfSome plain.now (λ plain. IsRenamedUpTo up_to text.now (string_bytes plain))) }
 {
     match plain {
-        Some(plain) => other_line(alloc, text, plain.as_str()),
+        Some(plain) => other_line(alloc, text, plain.as_str(), up_to),
         None => Ok(None),
     }
+}
+
+/// Returns the error of a text whose expansion isn't the text at this line.
+fn unexpanded(text: &str, line: usize) -> NoProgram<'_>
+    ensures { IsUtf8 text.entry.now → HasNoProgram Assembly text.entry.now result }
+{
+    let error = NameError::internal(line);
+    NoProgram::Named(UnexpandedText { text, error })
 }
 
 /// Returns the program of a text that was assembled, if its expanded text is this text with its names replaced.
@@ -110,7 +119,7 @@ fn checked<'a>(
     ensures text { IfOk result (λ read. text_of read.source ≡ Some text.entry.now) }
     ensures none { IfErr result (λ why. why ≢ NoMemory → IsUtf8 text.entry.now → HasNoProgram Assembly text.entry.now why) }
 {
-    match wrong_line(alloc, text, &plain) {
+    match wrong_line(alloc, text, &plain, None) {
         Ok(None) => Ok(ReadProgram {
             program: lined.program,
             source: Some(SourceText {
@@ -119,11 +128,21 @@ fn checked<'a>(
                 lines: lined.lines,
             }),
         }),
-        Ok(Some(line)) => {
-            let error = NameError::internal(line);
-            Err(NoProgram::Named(UnexpandedText { text, error }))
-        }
+        Ok(Some(line)) => Err(unexpanded(text, line)),
         Err(_) => Err(NoProgram::NoMemory),
+    }
+}
+
+/// Returns why a text has no program, by the fault of its expanded text if it has names.
+fn faulty<'a>(alloc: Global, text: &'a str, plain: Option<String>, fault: AsmFault) -> NoProgram<'a>
+    requires kept { IsKept text.now plain }
+    requires fault { HasFault (plain_or_is text.now plain) fault.no fault.line }
+    ensures { result ≢ NoMemory → IsUtf8 text.entry.now → HasNoProgram Assembly text.entry.now result }
+{
+    match wrong_line(alloc, text, &plain, lines_read(fault)) {
+        Ok(None) => NoProgram::Text(FaultyText { text, plain, fault }),
+        Ok(Some(line)) => unexpanded(text, line),
+        Err(_) => NoProgram::NoMemory,
     }
 }
 
@@ -143,7 +162,7 @@ fn program_of_plain<'a>(
         Ok(lined) => checked(alloc, text, plain, lined),
         Err(fault) => match fault.no {
             tw_asm::FaultNo::NoMemory => Err(NoProgram::NoMemory),
-            _ => Err(NoProgram::Text(FaultyText { text, plain, fault })),
+            _ => Err(faulty(alloc, text, plain, fault)),
         },
     }
 }

@@ -1,5 +1,6 @@
 -- The loops over a text's lines.
-use Rattle.tw_symbols.proofs.TextNames.{AreTaken, Bor, IsTaken, Line, List, Procedures, [], ap, arith, length, map, map-append, procedures_of, sym, with_line, ℕ, ◌++◌, ◌+◌, ◌∙◌, ◌∷◌, ◌≡◌}
+use Rattle.tw_symbols.proofs.TextNames.{AreTaken, Bor, IsTaken, Line, List, Procedures, [], ap, arith, length, lines, map, map-append, procedures_of, subst, sym, with_line, ℕ, ◌++◌, ◌+◌, ◌<◌, ◌∙◌, ◌∷◌, ◌≡◌}
+use Rattle.tw_symbols.specs.Heads.{HasTooMany}
 use Rattle.tw_symbols.proofs.Walk.{taken_length, taken_more, with_lines_more}
 
 abbrev pub Items : Type 0
@@ -26,3 +27,6 @@ gather_more ls line index p q at (all, are, is) (t, taken, e) =
       taken_more all ls t line are taken,
       e ∙ ap (λ (x : Procedures). with_line x (index + 1) t) is ∙ ap (λ (k : ℕ). with_line (procedures_of all) k t) count ∙ sym (with_lines_more no_procedures 1 all t),
     )
+
+pub too_many : (text : List ℕ) (ls others : List (List ℕ)) (p : Procedures) → lines text ≡ ls ++ others → AreGathered ls p → 64 < length p.heads → HasTooMany text
+too_many text ls others p parts (all, are, is) many = (ls, others, all, parts, are, subst (λ (q : Procedures). 64 < length q.heads) is many)

@@ -1,8 +1,8 @@
 -- A relation between the names before and after a line, if each name that it adds keeps it.
-use Rattle.std.proofs.Common.{[], ◌≡◌, ◌+◌, ◌⊎◌, ℕ, Bool, true, false, cond, inl, inr, List, ◌∷◌, ◌++◌, length, take, Option, Some, None, refl, subst, sym}
-use Rattle.tw_symbols.proofs.TextNames.{Bank, Binding, IsLine, Listed, Names, Origin, Procedures, and_then, at_head, before_colon, begins, begins_first, counted, filter, flat_map, is_listed, is_unnamed, list_name, may_name, name_before, name_register, names_after_constant, names_after_let, names_after_list, nat_lt, number_in, number_of, parameters, pieces, register_of, value_after, with_constant, with_hidden, with_listed, with_register, ◌&&◌}
+use Rattle.std.proofs.Common.{[], ◌≡◌, ◌+◌, ◌-◌, ◌==◌, ◌⊎◌, ℕ, Bool, true, false, cond, inl, inr, List, ◌∷◌, ◌++◌, length, take, Option, Some, None, refl, subst, sym}
+use Rattle.tw_symbols.proofs.TextNames.{Bank, Binding, IsLine, Listed, Names, Origin, Procedures, and_then, at_head, before_colon, begins, begins_first, counted, filter, flat_map, is_listed, is_unnamed, list_name, may_name, name_before, name_register, names_after_reading, names_after_constant, names_after_let, names_after_list, nat_lt, number_in, number_of, parameters, pieces, register_of, value_after, with_constant, with_hidden, with_listed, with_read, with_register, ◌&&◌, Expected}
 use Rattle.tw_symbols.specs.LineNames.{kind_of, makes}
-use Rattle.tw_symbols.specs.Renamed.{AreMade, AreOthers, IsHead, IsMade, OnlyNames}
+use Rattle.tw_symbols.specs.Renamed.{AreMade, AreOperands, AreOthers, IsHead, IsMade, IsOperand, OnlyNames, value_at}
 use Rattle.tw_symbols.specs.declared.line_kind.LineKind.{LineKind}
 use Rattle.tw_symbols.specs.declared.line_kind.LineKind.TheVariants as kind
 use Rattle.tw_symbols.specs.declared.meaning.Bank.TheVariants as bank
@@ -17,6 +17,7 @@ pub record IsStep (R : Names → Names → Type 0) : Type 0 where
   pub constant : (n : Names) (entry : List ℕ × Binding) → R n (record n { constants = n.constants ++ entry ∷ [] })
   pub register : (n : Names) (name : List ℕ) (b : Bank) (number : ℕ) (by : Origin) → (by ≡ origin.Chosen) ⊎ (is_listed b number n.registers ≡ false) → R n (name_register n name b number by)
   pub hidden : (n : Names) (count more : ℕ) → R n (with_hidden n count more)
+  pub read : (n : Names) → R n (record n { read = n.read + 1 })
 
 some_is : (a b : Names) → Some a ≡ Some b → a ≡ b
 some_is a b e = cc
@@ -77,7 +78,7 @@ module _ (R : Names → Names → Type 0) (step : IsStep R) where
 
   -- the names after a head are those that it lists
   pub head_step : (p : Procedures) (number : ℕ) (names : Names) (words plains : List (List ℕ)) (after : Names) → IsHead p number names words plains after → R (at_head names words) after
-  head_step p number names words plains after (_, is, _) = list_step p listed.Parameters (at_head names words) 0 0 (parameters words) after is
+  head_step p number names words plains after (_, _, is, _) = list_step p listed.Parameters (at_head names words) 0 0 (parameters words) after is
 
   -- ---- instructions
 
@@ -90,6 +91,31 @@ module _ (R : Names → Names → Type 0) (step : IsStep R) where
   all_made_step p names [] (plain ∷ plains) after is = absurd is
   all_made_step p names (word ∷ words) [] after is = absurd is
   all_made_step p names (word ∷ words) (plain ∷ plains) after (next, first, more) = step.both names next after (made_step p names word plain next first) (all_made_step p next words plains after more)
+
+  read_step : (names : Names) (index : ℕ) → StepTo names (with_read names index)
+  read_step names index after e = by (nat_lt index names.read) (index == names.read) e
+    where
+      by : (t u : Bool) → cond t (Some names) (cond u (Some (record names { read = names.read + 1 })) None) ≡ Some after → R names after
+      by true u f = subst (R names) (some_is names after f) (step.same names)
+      by false true f = subst (R names) (some_is (record names { read = names.read + 1 }) after f) (step.read names)
+      by false false f = absurd cc
+
+  reading_step : (names : Names) (first number : Option ℕ) → StepTo names (names_after_reading names first number)
+  reading_step names None number after e = absurd cc
+  reading_step names (Some first) None after e = absurd cc
+  reading_step names (Some first) (Some number) after e = read_step names (number - first) after e
+
+  operand_step : (p : Procedures) (names : Names) (place : Expected) (word plain : List ℕ) (after : Names) → IsOperand p names place word plain after → R names after
+  unfolding IsOperand
+  operand_step p names place word plain after (inl (same, _, _)) = stays names after same
+  operand_step p names place word plain after (inr (_, _, _, _, is)) = reading_step names names.first (value_at place plain) after is
+
+  operands_step : (p : Procedures) (names : Names) (places : List Expected) (words plains : List (List ℕ)) (after : Names) → AreOperands p names places words plains after → R names after
+  operands_step p names places [] [] after is = stays names after is
+  operands_step p names places [] (plain ∷ plains) after is = absurd is
+  operands_step p names places (word ∷ words) [] after is = absurd is
+  operands_step p names places (word ∷ words) (plain ∷ plains) after (next, first, more) =
+      step.both names next after (operand_step p names _ word plain next first) (operands_step p next _ words plains after more)
 
   -- ---- a line
 
@@ -111,7 +137,8 @@ module _ (R : Names → Names → Type 0) (step : IsStep R) where
   others_step kind.Registers p number names words plains after (next, more, lists, _, same) head =
       let count = length names.types + length (filter is_unnamed (flat_map pieces words)) in
       subst (R names) (sym same) (step.both names next (with_hidden next count (length more)) (list_step p listed.Registers names (length names.types) 0 (flat_map pieces words) next lists) (step.hidden next count (length more)))
-  others_step (kind.Instruction o) p number names words plains after is head = all_made_step p names (take (makes o) (flat_map pieces words)) (take (makes o) plains) after is.0
+  others_step (kind.Instruction o) p number names words plains after (made, makes_them, are) head =
+      step.both names made after (all_made_step p names (take (makes o) (flat_map pieces words)) (take (makes o) plains) made makes_them) (operands_step p made _ _ _ after are)
   others_step kind.Other p number names words plains after is head = stays names after is.1
 
   -- proves the step of a line from that of a head, if it is one

@@ -30,6 +30,7 @@ stay_step name x = record {
   constant = λ n entry h. h;
   register = λ n other b number by _ h. meaning_more n.registers (other, binding.Register b number by) name x h;
   hidden = λ n count more h. h;
+  read = λ n h. h;
 }
 
 no_head : (a b c d e : Bool) (k : LineKind) → d ≡ false → (k ≡ kind.Head → ⊥) → cond a kind.Names (cond b kind.Constant (cond c kind.Let (cond d kind.Head (cond e kind.Registers k)))) ≡ kind.Head → ⊥
@@ -108,6 +109,7 @@ differ_step = record {
   constant = λ n entry h. h;
   register = λ n name b number by new h. differ_more n.registers name b number by new h;
   hidden = λ n count more h. h;
+  read = λ n h. h;
 }
 
 pub names_differ : NamesDiffer

@@ -1,14 +1,12 @@
 -- Lines that are read one by one beside those of the expansion.
-use Rattle.tw_symbols.proofs.TextNames.{AreLines, AreTaken, Bool, Bor, IsLine, IsRenamed, IsRenamedBy, IsTaken, Line, List, Names, None, Option, Procedures, Some, YieldsList-from_lines, [], ap, append-nil, append_assoc, arith, cond, false, filter, inl, inr, length, length-append, line_words, lines, nat_lt, nat_tests, no_names, procedures_of, refl, subst, suc, sym, true, ℕ, ◌++◌, ◌+◌, ◌<◌, ◌==◌, ◌∙◌, ◌∷◌, ◌≡◌, ◌≤◌}
+use Rattle.tw_symbols.proofs.TextNames.{AreLines, AreTaken, Bool, Bor, IsLine, IsRenamed, IsRenamedBy, IsTaken, Line, List, Names, None, Option, Procedures, Some, YieldsList-from_lines, [], ap, append-nil, append_assoc, arith, cond, false, filter, inl, inr, length, length-append, is_some, line_words, lines, nat_lt, nat_tests, no_names, procedures_of, refl, subst, suc, sym, take, take_all, true, ℕ, ◌++◌, ◌+◌, ◌<◌, ◌==◌, ◌∙◌, ◌∷◌, ◌≡◌, ◌≢◌, ◌≤◌}
 use Rattle.std.specs.Prelude.{MatchOption}
-use Rattle.std.specs.Ordering.{is_lt, nat_cmp, ord_min}
-use Rattle.std.specs.declared.cmp.Ordering.TheVariants.{Equal, Greater, Less}
 use Rattle.std.specs.Str.Iter.{lines_rest, lines_steps}
 use Rattle.std.specs.declared.str.Lines.{Lines}
 use Rattle.std.proofs.lemmas.Iterator.{YieldsList}
 use Rattle.tw_symbols.specs.Answers.{IsBeside}
-use Rattle.tw_symbols.specs.Renamed.{AreFilled, IsFilled, is_written}
-use Rattle.tw_symbols.proofs.Taking.{all_once}
+use Rattle.tw_symbols.specs.Renamed.{AreFilled, AreRead, IsFilled, IsRenamedUpTo, is_written}
+use Rattle.tw_symbols.proofs.Taking.{all_once, taken_front}
 use Rattle.tw_symbols.proofs.Walk.{taken_length, taken_more}
 
 -- ---- one more line
@@ -94,30 +92,47 @@ beside_more p ls ks plain count number names after s t (before, left, parts, y, 
       ),
     )
 
-pub beside_few : (p : Procedures) (plain : List ℕ) (count number : ℕ) (names after : Names) (s t : Lines) → IsBeside p count names s plain number after t → number ≤ count + 1
-beside_few p plain count number names after s t (u, taken, inl (hidden, fills, same, stays)) = omega (arith, same)
-beside_few p plain count number names after s t (u, taken, inr (own, full, more, found, line, k, is, one)) = omega (arith, more)
+-- ---- where the loop ends
 
--- the smaller number
-pub small_min : (a b : ℕ) → a ≤ b → ord_min nat_cmp a b ≡ a
-small_min a b low = by (nat_lt b a) (b == a) refl
+pub come_to : (text plain : List ℕ) (p : Procedures) (ks : List (List ℕ)) (names : Names) (count most : ℕ) (s : Lines) → ks ≡ take most (lines plain) → HasCome p (lines text) ks names count s → IsRenamedBy p text plain (Some most)
+come_to text plain p ks names count most s are_all (before, left, parts, y, (all, are, so_far, counted)) = (before, left, all, names, parts, are, subst (λ (z : List (List ℕ)). AreLines p 1 no_names all z names) are_all so_far)
+
+-- holds if a count isn't passed
+abbrev pub IsWithin : ℕ → Option ℕ → Type 0
+IsWithin count up_to = (most : ℕ) → up_to ≡ Some most → count ≤ most
+
+pub within_more : (count : ℕ) (up_to : Option ℕ) → up_to ≢ Some count → IsWithin count up_to → IsWithin (count + 1) up_to
+within_more count up_to other within most is = by (nat_lt count most) refl
   where
-    by : (t u : Bool) → nat_lt b a ≡ t → cond (is_lt (cond t Less (cond u Equal Greater))) b a ≡ a
-    by true u e = let more : b < a = grind (arith, nat_tests) in absurd (omega (arith, low, more))
-    by false true e = refl
-    by false false e = refl
+    by : (t : Bool) → nat_lt count most ≡ t → count + 1 ≤ most
+    by true e = let low : count < most = grind (arith, nat_tests) in omega (arith, low)
+    by false e =
+        let high : most ≤ count = grind (arith, nat_tests) in
+        let same : most ≡ count = omega (arith, high, within most is) in
+        absurd (other (is ∙ ap (λ (n : ℕ). Some n) same))
 
-pub come_end : (text plain : List ℕ) (p : Procedures) (ks : List (List ℕ)) (names : Names) (count : ℕ) (s t : Lines) (r : Option (Bor (List ℕ))) → ks ≡ lines plain → HasCome p (lines text) ks names count s → r ≡ None → lines_steps s r t
-    → AreFilled names → IsRenamedBy p text plain
-come_end text plain p ks names count s t None all_are (before, left, parts, y, (all, are, so_far, counted)) none k full =
+pub come_all : (text plain : List ℕ) (p : Procedures) (ks : List (List ℕ)) (names : Names) (count : ℕ) (s : Lines) (up_to : Option ℕ) → ks ≡ lines plain → HasCome p (lines text) ks names count s → IsWithin (length ks) up_to → is_some up_to ≡ true
+    → IsRenamedBy p text plain up_to
+come_all text plain p ks names count s None are_all come within some = absurd cc
+come_all text plain p ks names count s (Some most) are_all come within some =
+    let few : length (lines plain) ≤ most = subst (λ (z : List (List ℕ)). length z ≤ most) are_all (within most refl) in
+    come_to text plain p ks names count most s (are_all ∙ sym (take_all most (lines plain) few)) come
+
+pub come_end : (text plain : List ℕ) (p : Procedures) (ks : List (List ℕ)) (names : Names) (count : ℕ) (s t : Lines) (r : Option (Bor (List ℕ))) (up_to : Option ℕ) → ks ≡ lines plain → HasCome p (lines text) ks names count s → r ≡ None
+    → lines_steps s r t → is_some up_to ≡ false → AreFilled names × AreRead names → IsRenamedBy p text plain up_to
+come_end text plain p ks names count s t None None all_are (before, left, parts, y, (all, are, so_far, counted)) none k whole full =
     let end : lines text ≡ before = parts ∙ ap (λ (z : List (List ℕ)). before ++ z) (next_left s t None left y k) ∙ append-nil before in
-    (all, names, subst (AreTaken all) (sym end) are, subst (λ (z : List (List ℕ)). AreLines p 1 no_names all z names) all_are so_far, full)
-come_end text plain p ks names count s t (Some x) all_are so_far none k full = absurd cc
+    (all, names, subst (AreTaken all) (sym end) are, subst (λ (z : List (List ℕ)). AreLines p 1 no_names all z names) all_are so_far, full.0, full.1)
+come_end text plain p ks names count s t None (Some most) all_are so_far none k whole full = absurd cc
+come_end text plain p ks names count s t (Some x) up_to all_are so_far none k whole full = absurd cc
 
-pub by_heads : (text plain : List ℕ) (p : Procedures) → ((all : List Line) × AreTaken all (lines text) × (p ≡ procedures_of all)) → IsRenamedBy p text plain → IsRenamed text plain
-by_heads text plain p (heads, taken, is) (all, after, are, so_far, full) =
+pub by_heads : (text plain : List ℕ) (p : Procedures) (up_to : Option ℕ) → ((all : List Line) × AreTaken all (lines text) × (p ≡ procedures_of all)) → IsRenamedBy p text plain up_to → IsRenamedUpTo up_to text plain
+by_heads text plain p None (heads, taken, is) (all, after, are, so_far, full, done) =
     let same : p ≡ procedures_of all = is ∙ ap procedures_of (all_once heads all (lines text) taken are) in
-    (all, after, are, subst (λ (q : Procedures). AreLines q 1 no_names all (lines plain) after) same so_far, full)
+    (all, after, are, subst (λ (q : Procedures). AreLines q 1 no_names all (lines plain) after) same so_far, full, done)
+by_heads text plain p (Some most) (heads, taken, is) (before, left, all, after, parts, are, so_far) =
+    let front : all ≡ take (length all) heads = taken_front all heads before left are (subst (AreTaken heads) parts taken) in
+    inr (heads, length all, after, taken, subst (λ (ls : List Line). AreLines (procedures_of heads) 1 no_names ls (take most (lines plain)) after) front (subst (λ (q : Procedures). AreLines q 1 no_names all (take most (lines plain)) after) is so_far))
 
 -- ---- as many lines
 
@@ -127,4 +142,4 @@ lines_length p number names all (k ∷ ks) after (u, next, taken, inl (hidden, f
 lines_length p number names all (k ∷ ks) after (u, next, taken, inr (own, full, line, others, parts, one, more)) = rw own (ap suc (lines_length p (number + 1) next others ks after more) ∙ sym (ap length parts))
 
 pub as_many : (text plain : List ℕ) → IsRenamed text plain → length (filter is_written (lines plain)) ≡ length (lines text)
-as_many text plain (all, after, are, is, full) = lines_length (procedures_of all) 1 no_names all (lines plain) after is ∙ taken_length all (lines text) are
+as_many text plain (all, after, are, is, full, done) = lines_length (procedures_of all) 1 no_names all (lines plain) after is ∙ taken_length all (lines text) are

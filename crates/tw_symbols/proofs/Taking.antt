@@ -109,3 +109,12 @@ all_once (x ∷ xs) [] (l ∷ lines) a b = absurd b
 all_once (x ∷ xs) (y ∷ ys) [] a b = absurd a
 all_once (x ∷ xs) (y ∷ ys) (l ∷ lines) (a, more) (b, others) =
     ap (λ (z : Line). z ∷ xs) (taken_once x y l a b) ∙ ap (λ (zs : List Line). y ∷ zs) (all_once xs ys lines more others)
+
+pub taken_front : (xs ys : List Line) (before left : List (List ℕ)) → AreTaken xs before → AreTaken ys (before ++ left) → xs ≡ take (length xs) ys
+taken_front [] [] [] left a b = refl
+taken_front [] (y ∷ ys) [] left a b = refl
+taken_front [] ys (l ∷ before) left a b = absurd a
+taken_front (x ∷ xs) ys [] left a b = absurd a
+taken_front (x ∷ xs) [] (l ∷ before) left a b = absurd b
+taken_front (x ∷ xs) (y ∷ ys) (l ∷ before) left (a, more) (b, others) =
+    ap (λ (z : Line). z ∷ xs) (taken_once x y l a b) ∙ ap (λ (zs : List Line). y ∷ zs) (taken_front xs ys before left more others)

@@ -42,7 +42,7 @@ pub use Rattle.tw_symbols.specs.Expansion.{ExpandsTo, HasNames}
 pub use Rattle.tw_symbols.specs.Heads.{procedures_of, with_head, with_line, with_lines, with_name, with_words}
 pub use Rattle.tw_symbols.specs.LineNames.{argument_of, at_head, bank_of_mode, begins, begins_at, begins_first, counted, expected_of, is_names_line, is_unnamed, list_name, name_before, names_after_constant, names_after_let, names_after_list, number_in, number_of, parameters, procedure_name, register_in, register_of, value_after, value_types}
 pub use Rattle.tw_symbols.specs.Lines.{AreTaken, AreWords, Broken, HasNoHead, IsTail, IsTaken, Line, StartWith, StartsWith, Worded, begins_procedure, has_quote, is_sign, line_words, pieces, pieces_after, some_piece}
-pub use Rattle.tw_symbols.specs.Meanings.{Head, Names, Procedures, Table, above, and_then, is_bank, is_listed, is_name, is_origin, known, lists, may_name, meaning, name_register, no_names, or_else, with_constant, with_hidden, with_listed, with_register}
+pub use Rattle.tw_symbols.specs.Meanings.{Head, Names, Procedures, Table, above, and_then, is_bank, is_listed, is_name, is_origin, known, lists, may_name, meaning, name_register, names_after_reading, no_names, or_else, with_constant, with_hidden, with_listed, with_read, with_register}
 pub use Rattle.tw_symbols.specs.Renamed.{AreLines, IsLine, IsRenamed}
 pub use Rattle.tw_symbols.specs.Seen.{now, seen_entry, seen_names, seen_procedures, seen_table, texts}
 pub use Rattle.tw_symbols.specs.Symbols.{head_names, line_names}

@@ -1,5 +1,5 @@
 -- The results of calls, in terms of the definitions.
-use Rattle.std.specs.Prelude.{◌≡◌, ◌==◌, ◌<◌, ◌+◌, ◌⊎◌, ℕ, Bool, true, false, List, [], ◌∷◌, codes, Option, Some, None, ◌-◌, length, take, drop, IsUtf8}
+use Rattle.std.specs.Prelude.{◌≡◌, ◌==◌, ◌<◌, ◌+◌, ◌⊎◌, ℕ, Bool, true, false, List, [], ◌∷◌, ◌++◌, codes, Option, Some, None, ◌-◌, length, take, drop, IsUtf8}
 use Rattle.tw_symbols.specs.Meanings.{Names, Procedures, lists, no_names}
 use Rattle.std.specs.Str.{bytes_eq}
 use denote.Ref.{Bor}
@@ -8,7 +8,7 @@ use Rattle.std.specs.Str.Lines.{lines}
 use Rattle.std.specs.declared.str.Lines.{Lines as Iterators}
 use Rattle.tw_lexer.specs.Words.{IsBlank, IsBroken}
 use Rattle.tw_symbols.specs.Lines.{AreTaken, IsTaken, Line, StartsWith, line_words, pieces_after}
-use Rattle.tw_symbols.specs.Renamed.{AreFilled, AreLines, IsFilled, IsLine, is_written}
+use Rattle.tw_symbols.specs.Renamed.{AreFilled, AreLines, AreRead, IsFilled, IsLine, is_written}
 use Rattle.tw_symbols.specs.LineNames.{is_names_line}
 use Rattle.tw_symbols.specs.Expansion.{HasNames}
 use Rattle.tw_symbols.specs.declared.line.First as firsts
@@ -69,9 +69,11 @@ abbrev pub IsNamed : Bool → List ℕ → Type 0
 IsNamed true text = HasNames (lines text)
 IsNamed false text = HasNames (lines text) → ⊥
 
--- holds if the second text is the first with its names replaced, by these procedures
-abbrev pub IsRenamedBy : Procedures → List ℕ → List ℕ → Type 0
-IsRenamedBy procedures text plain = (all : List Line) × (after : Names) × AreTaken all (lines text) × AreLines procedures 1 no_names all (lines plain) after × AreFilled after
+-- holds if the second text is the first with its names replaced, by these procedures; or only so many lines are
+abbrev pub IsRenamedBy : Procedures → List ℕ → List ℕ → Option ℕ → Type 0
+IsRenamedBy procedures text plain None = (all : List Line) × (after : Names) × AreTaken all (lines text) × AreLines procedures 1 no_names all (lines plain) after × AreFilled after × AreRead after
+IsRenamedBy procedures text plain (Some count) =
+    (before left : List (List ℕ)) × (all : List Line) × (after : Names) × (lines text ≡ before ++ left) × AreTaken all before × AreLines procedures 1 no_names all (take count (lines plain)) after
 
 -- Holds if a line of an expanded text is as it has to be after so many written lines, whose names are known, and if these many are read after it, with
 -- these names. The text's lines are left in the iterators.

@@ -1,8 +1,9 @@
 -- The procedures of a text.
-use Rattle.std.specs.Prelude.{◌+◌, ℕ, List, [], ◌∷◌, ◌++◌, length, codes, Option, Some, None, is_some, if◌then◌else◌}
+use Rattle.std.specs.Prelude.{◌≡◌, ◌<◌, ◌+◌, ℕ, List, [], ◌∷◌, ◌++◌, length, codes, Option, Some, None, is_some, if◌then◌else◌}
 use Rattle.std.specs.List.{filter_map, flat_map}
 use Rattle.std.specs.Str.{bytes_eq}
-use Rattle.tw_symbols.specs.Lines.{Line, line_words, pieces}
+use Rattle.std.specs.Str.Lines.{lines}
+use Rattle.tw_symbols.specs.Lines.{AreTaken, Line, line_words, pieces}
 use Rattle.tw_symbols.specs.Meanings.{Procedures, Table, meaning}
 use Rattle.tw_symbols.specs.LineNames.{bank_of_mode, procedure_name}
 use Rattle.tw_symbols.specs.declared.meaning.Binding.TheVariants as binding
@@ -33,3 +34,7 @@ with_lines procedures number (line ∷ others) = with_lines (with_line procedure
 
 abbrev pub procedures_of : List Line → Procedures
 procedures_of all = with_lines (record { table = []; heads = [] }) 1 all
+
+-- holds if the first lines of the text have more procedures than a program may have
+abbrev pub HasTooMany : List ℕ → Type 0
+HasTooMany text = (before others : List (List ℕ)) × (all : List Line) × (lines text ≡ before ++ others) × AreTaken all before × (64 < length (procedures_of all).heads)

@@ -191,6 +191,7 @@ at_head names words = record names {
   first = None;
   hidden = 0;
   literals = [];
+  read = 0;
 }
 
 -- ---- lines

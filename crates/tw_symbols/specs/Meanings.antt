@@ -52,14 +52,15 @@ pub record Names : Type 0 where
   pub rights : ℕ
   -- how many value registers the parameters take
   pub values : ℕ
-  -- the first hidden register, after those that the line `regs` lists; how many hidden ones there are; and the words of the literals that fill the first
-  -- of them, in their order
+  -- the first hidden register, after those that the line `regs` lists; how many hidden ones there are; the words of the literals that fill the first
+  -- of them, in their order; and how many of them are read so far
   pub first : Option ℕ
   pub hidden : ℕ
   pub literals : List (List ℕ)
+  pub read : ℕ
 
 abbrev pub no_names : Names
-no_names = record { constants = []; registers = []; types = []; rights = 0; values = 0; first = None; hidden = 0; literals = [] }
+no_names = record { constants = []; registers = []; types = []; rights = 0; values = 0; first = None; hidden = 0; literals = []; read = 0 }
 
 abbrev pub or_else : Option Binding → Option Binding → Option Binding
 or_else None other = other
@@ -124,7 +125,7 @@ with_listed procedures names name in_bank number = if is_listed in_bank number n
 
 -- returns the names after a line `regs` that lists so many registers, and in the expansion so many hidden ones; there are none if a parameter isn't listed
 abbrev pub with_hidden : Names → ℕ → ℕ → Names
-with_hidden names count hidden = record names { first = if nat_lt count names.values then None else Some count; hidden = hidden; literals = [] }
+with_hidden names count hidden = record names { first = if nat_lt count names.values then None else Some count; hidden = hidden; literals = []; read = 0 }
 
 abbrev pub literal_from : Option ℕ → List (List ℕ) → ℕ → Option (List ℕ)
 literal_from None literals number = None
@@ -133,3 +134,11 @@ literal_from (Some first) literals number = if nat_lt number first then None els
 -- returns the literal that fills a value register, if it is a hidden one
 abbrev pub literal_at : Names → ℕ → Option (List ℕ)
 literal_at names number = literal_from names.first names.literals number
+
+-- returns the names after the hidden register of this index is read; the first time only after all before it
+abbrev pub with_read : Names → ℕ → Option Names
+with_read names index = if nat_lt index names.read then Some names else if index == names.read then Some (record names { read = names.read + 1 }) else None
+
+abbrev pub names_after_reading : Names → Option ℕ → Option ℕ → Option Names
+names_after_reading names (Some first) (Some number) = with_read names (number - first)
+names_after_reading names first number = None

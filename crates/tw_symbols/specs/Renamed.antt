@@ -3,16 +3,18 @@
 -- In the place of a literal, a number or a text that is read from a register, the second text has a hidden register. After a line `regs`, lines that begin
 -- with a blank fill the hidden registers with their literals. No other word means one of them.
 use Rattle.std.specs.Prelude.{◌≡◌, ◌==◌, ◌≤◌, ◌+◌, ◌⊎◌, ◌++◌, ℕ, ℤ, Bool, false, true, not, List, [], ◌∷◌, codes, drop, filter, if◌then◌else◌, length, slice_get, take, Option, Some, None, unwrap_or}
-use Rattle.std.specs.List.{flat_map}
+use Rattle.std.specs.List.{flat_map, list_any}
+use Rattle.std.specs.Ordering.{int_eq}
 use Rattle.std.specs.Result.{result_ok}
+use Rattle.std.specs.Str.{bytes_eq}
 use Rattle.std.specs.Str.Lines.{lines}
 use Rattle.tw_code.specs.format.Table.{forms_of}
 use Rattle.tw_code.specs.declared.opcode.Opcode.{Opcode}
 use Rattle.tw_lexer.specs.Digits.{digits_in}
 use Rattle.tw_symbols.specs.Lines.{AreTaken, IsTaken, Line, line_words, pieces}
-use Rattle.tw_symbols.specs.Meanings.{Names, Procedures, and_then, is_name, known, literal_at, no_names, with_hidden, with_listed}
+use Rattle.tw_symbols.specs.Meanings.{Names, Procedures, and_then, is_name, known, literal_at, names_after_reading, no_names, with_hidden, with_listed}
 use Rattle.tw_symbols.specs.LineNames.{at_head, banks_of, compares, expected_in, is_head_name, is_unnamed, kind_of, makes, names_after_constant, names_after_let, names_after_list, number_of, parameters, procedure_name, register_of}
-use Rattle.tw_symbols.specs.Heads.{procedures_of}
+use Rattle.tw_symbols.specs.Heads.{HasTooMany, procedures_of}
 use Rattle.tw_symbols.specs.declared.line_kind.LineKind.{LineKind}
 use Rattle.tw_symbols.specs.declared.line_kind.LineKind.TheVariants as kind
 use Rattle.tw_symbols.specs.declared.meaning.Bank.{Bank}
@@ -59,24 +61,33 @@ abbrev pub begins_quoted : List ℕ → Bool
 begins_quoted [] = false
 begins_quoted (b ∷ word) = b == 34
 
--- holds for two words of the same literal: of one number, or the same quoted text
-abbrev pub IsSame : List ℕ → List ℕ → Type 0
-IsSame word other = ((begins_quoted word ≡ true) × (other ≡ word)) ⊎ ((number : ℤ) × (number_of word ≡ Some number) × (number_of other ≡ Some number))
+abbrev pub same_number : Option ℤ → Option ℤ → Bool
+same_number (Some number) (Some other) = int_eq number other
+same_number number other = false
+
+-- returns whether two words are the same literal: one number, or the same quoted text
+abbrev pub is_same : List ℕ → List ℕ → Bool
+is_same word other = if begins_quoted word then bytes_eq other word else same_number (number_of word) (number_of other)
 
 -- holds if a word is a literal, and is replaced by the hidden register which that fills
-abbrev pub IsLiteral : Names → Expected → List ℕ → List ℕ → Type 0
-IsLiteral names place word plain =
-    (place ≡ asked.Read) × (number : ℕ) × (other : List ℕ) × (value_at place plain ≡ Some number) × (literal_at names number ≡ Some other) × IsSame word other
+abbrev pub IsLiteral : Names → Expected → List ℕ → List ℕ → Names → Type 0
+IsLiteral names place word plain after =
+    (place ≡ asked.Read) × (other : List ℕ) × (and_then (value_at place plain) (literal_at names) ≡ Some other) × (is_same word other ≡ true) × (names_after_reading names names.first (value_at place plain) ≡ Some after)
 
-unfoldable pub IsWord : Procedures → Names → Expected → List ℕ → List ℕ → Type 0
-IsWord procedures names place word plain =
-    ((and_then (value_at place plain) (literal_at names) ≡ None) × (Stays place word plain ⊎ IsReplaced procedures names place word plain)) ⊎ IsLiteral names place word plain
+abbrev pub IsWord : Procedures → Names → Expected → List ℕ → List ℕ → Type 0
+IsWord procedures names place word plain = Stays place word plain ⊎ IsReplaced procedures names place word plain
+
+-- holds for an operand; if it is no literal, it means no hidden register
+unfoldable pub IsOperand : Procedures → Names → Expected → List ℕ → List ℕ → Names → Type 0
+IsOperand procedures names place word plain after =
+    ((after ≡ names) × (and_then (value_at place plain) (literal_at names) ≡ None) × IsWord procedures names place word plain) ⊎ IsLiteral names place word plain after
 
 -- holds for words with these places, one by one; nothing is required of further ones
-abbrev pub AreOperands : Procedures → Names → List Expected → List (List ℕ) → List (List ℕ) → Type 0
-AreOperands procedures names places [] [] = Unit {0}
-AreOperands procedures names places (word ∷ words) (plain ∷ plains) = IsWord procedures names (unwrap_or (slice_get places 0) asked.Nothing) word plain × AreOperands procedures names (drop 1 places) words plains
-AreOperands procedures names places words plains = ⊥
+abbrev pub AreOperands : Procedures → Names → List Expected → List (List ℕ) → List (List ℕ) → Names → Type 0
+AreOperands procedures names places [] [] after = after ≡ names
+AreOperands procedures names places (word ∷ words) (plain ∷ plains) after =
+    (next : Names) × IsOperand procedures names (unwrap_or (slice_get places 0) asked.Nothing) word plain next × AreOperands procedures next (drop 1 places) words plains after
+AreOperands procedures names places words plains after = ⊥
 
 -- Holds if a word is a right register that an instruction fills. A name that means nothing yet means this register from here on, which is above all right
 -- registers of the procedure that have a name.
@@ -93,14 +104,13 @@ AreMade procedures names words plains after = ⊥
 -- ---- lines
 
 abbrev pub IsInstruction : Procedures → Names → Opcode → List (List ℕ) → List (List ℕ) → Names → Type 0
-IsInstruction procedures names o words plains after =
-    AreMade procedures names (take (makes o) words) (take (makes o) plains) after
-    × AreOperands procedures after (drop (makes o) (expected_in (compares o) (banks_of procedures after words) (forms_of o))) (drop (makes o) words) (drop (makes o) plains)
+IsInstruction procedures names o words plains after = (made : Names) × AreMade procedures names (take (makes o) words) (take (makes o) plains) made
+    × AreOperands procedures made (drop (makes o) (expected_in (compares o) (banks_of procedures made words) (forms_of o))) (drop (makes o) words) (drop (makes o) plains) after
 
 -- holds for a head: its words stay, but each name and `:`, and the procedure's name
 abbrev pub IsHead : Procedures → ℕ → Names → List (List ℕ) → List (List ℕ) → Names → Type 0
 IsHead procedures number names words plains after =
-    (is_head_name procedures number (procedure_name words) ≡ true)
+    (names.read ≡ names.hidden) × (is_head_name procedures number (procedure_name words) ≡ true)
     × (names_after_list procedures listed.Parameters (at_head names words) 0 0 (parameters words) ≡ Some after)
     × (plains ≡ take 1 words ++ filter is_unnamed (parameters words))
 
@@ -148,7 +158,7 @@ IsNextRegister names register = (first : ℕ) × (names.first ≡ Some first) ×
 -- holds if the words of a hidden line fill that register with a literal
 abbrev pub IsFilling : Names → List ℕ → List ℕ → List ℕ → Names → Type 0
 IsFilling names opcode register literal after =
-    (opcode ≡ opcode_for literal) × IsNextRegister names register × (after ≡ record names { literals = names.literals ++ literal ∷ [] })
+    (opcode ≡ opcode_for literal) × IsNextRegister names register × (list_any (is_same literal) names.literals ≡ false) × (after ≡ record names { literals = names.literals ++ literal ∷ [] })
 
 abbrev pub IsFilled : Names → List (List ℕ) → Names → Type 0
 IsFilled names (opcode ∷ register ∷ literal ∷ []) after = IsFilling names opcode register literal after
@@ -156,6 +166,10 @@ IsFilled names words after = ⊥
 
 abbrev pub AreFilled : Names → Type 0
 AreFilled names = length names.literals ≡ names.hidden
+
+-- holds if each hidden register is read, too
+abbrev pub AreRead : Names → Type 0
+AreRead names = names.read ≡ names.hidden
 
 -- hold for lines from this number on beside all lines of assembly text, and the names after them
 abbrev pub AreLines : Procedures → ℕ → Names → List Line → List (List ℕ) → Names → Type 0
@@ -167,4 +181,11 @@ AreLines procedures number names all (plain ∷ plains) after = (taken : Line) �
 
 -- holds if the second text is the first with its names and literals replaced
 abbrev pub IsRenamed : List ℕ → List ℕ → Type 0
-IsRenamed text plain = (all : List Line) × (after : Names) × AreTaken all (lines text) × AreLines (procedures_of all) 1 no_names all (lines plain) after × AreFilled after
+IsRenamed text plain = (all : List Line) × (after : Names) × AreTaken all (lines text) × AreLines (procedures_of all) 1 no_names all (lines plain) after × AreFilled after × AreRead after
+
+-- holds if it is; or if so many lines of the second text, or all, are the first lines of the text with their names and literals replaced. A text that has too
+-- many procedures isn't compared then
+abbrev pub IsRenamedUpTo : Option ℕ → List ℕ → List ℕ → Type 0
+IsRenamedUpTo None text plain = IsRenamed text plain
+IsRenamedUpTo (Some count) text plain = HasTooMany text
+    ⊎ ((all : List Line) × (number : ℕ) × (after : Names) × AreTaken all (lines text) × AreLines (procedures_of all) 1 no_names (take number all) (take count (lines plain)) after)

@@ -35,4 +35,5 @@ seen_names n = record {
   first = n.first;
   hidden = n.hidden;
   literals = texts n.literals.items;
+  read = n.read;
 }

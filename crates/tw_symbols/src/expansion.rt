@@ -57,6 +57,11 @@ fn begins_with(words: &[&[u8]], word: &[u8]) -> bool {
     }
 }
 
+/// Returns whether types may follow these words of a line `regs`. After an open quote they would be a part of its text.
+fn takes_types(words: &[&[u8]]) -> bool {
+    !words.iter().any(|word| word.contains(&b'"'))
+}
+
 /// Adds the expansion of a line, and its line feed; and its names.
 fn put_taken<'a>(
     alloc: Global,
@@ -67,11 +72,12 @@ fn put_taken<'a>(
     line: &'a str,
 ) -> Result<(), Rejection<'a>> {
     let taken = take_line(alloc, line)?;
-    if begins_with(&taken.words, b"proc") {
+    let lists = begins_with(&taken.words, b"regs");
+    if lists || begins_with(&taken.words, b"proc") {
         out.close(names)?;
     }
     put_line(alloc, procedures, number, names, out.lines(), &taken.words)?;
-    if begins_with(&taken.words, b"regs") && !out.is_open() {
+    if lists && takes_types(&taken.words) {
         out.open(taken.rest)?;
     } else {
         out.end_line(taken.rest)?;

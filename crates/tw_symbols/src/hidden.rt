@@ -1,17 +1,18 @@
 //! Hidden registers, which hold the numbers and texts among the operands of a procedure.
 
-ghost use Rattle.std.specs.Prelude.{◌≡◌, IfOk, IsTrue, filter, length, option_map, take};
+ghost use Rattle.std.specs.Prelude.{◌≡◌, IfOk, IsTrue, Some, filter, length, option_map, take};
+ghost use Rattle.std.specs.List.{list_any};
 ghost use Rattle.std.specs.Str.Lines.{lines};
 ghost use Rattle.tw_symbols.specs.Expansion.{written_line};
 ghost use Rattle.tw_symbols.specs.Lines.{IsTaken, Line, line_words};
-ghost use Rattle.tw_symbols.specs.Meanings.{literal_at, literal_from};
-ghost use Rattle.tw_symbols.specs.Renamed.{IsFilled, IsFilling, IsNextRegister, IsSame, begins_quoted, is_written, opcode_for};
+ghost use Rattle.tw_symbols.specs.Meanings.{literal_at, literal_from, names_after_reading, with_read};
+ghost use Rattle.tw_symbols.specs.Renamed.{IsFilled, IsFilling, IsNextRegister, begins_quoted, is_same, is_written, opcode_for, same_number};
 ghost use Rattle.tw_symbols.specs.Seen.{now, seen_names, texts};
 
 use crate::assigned::register_of;
 use crate::line::take_line;
 use crate::meaning::Bank;
-use crate::names::Names;
+use crate::names::{Names, REGISTERS};
 use crate::numbers::signed;
 use std::alloc::{AllocError, Global};
 
@@ -25,24 +26,34 @@ pub fn begins_quoted(word: &[u8]) -> bool
     }
 }
 
-/// Returns whether two words are one number.
-fn are_same_number(word: &[u8], other: &[u8]) -> bool
-    ensures { IsTrue result → IsSame word.now other.now }
+/// Returns whether there are two numbers, and they are one.
+fn same_number(number: Option<i64>, other: Option<i64>) -> bool
+    ensures { result ≡ same_number number other }
 {
-    match (signed(word), signed(other)) {
-        (Some(number), Some(same)) => number == same,
+    match (number, other) {
+        (Some(number), Some(other)) => number == other,
         _ => false,
     }
 }
 
 /// Returns whether two words are the same literal: one number, or the same quoted text.
 pub fn is_same(word: &[u8], other: &[u8]) -> bool
-    ensures { IsTrue result → IsSame word.now other.now }
+    ensures { result ≡ is_same word.now other.now }
 {
     if begins_quoted(word) {
         other == word
     } else {
-        are_same_number(word, other)
+        same_number(signed(word), signed(other))
+    }
+}
+
+/// Returns whether a literal is among these.
+fn is_among(literal: &[u8], literals: &[&[u8]]) -> bool
+    ensures { result ≡ list_any (is_same literal.now) (texts literals.now) }
+{
+    match literals {
+        [other, others @ ..] => is_same(literal, other) || is_among(literal, others),
+        [] => false,
     }
 }
 
@@ -63,6 +74,30 @@ pub fn literal_at<'a>(names: &Names<'a>, number: usize) -> Option<&'a [u8]>
     ensures { option_map now result ≡ literal_at (seen_names names.now) number }
 {
     literal_from(names.first, &names.literals, number)
+}
+
+/// Notes that the hidden register of this index is read. Returns whether all before it are.
+fn read_index(names: &mut Names<'_>, index: usize) -> bool
+    ensures { IsTrue result → with_read (seen_names names.old) index ≡ Some (seen_names names.new) }
+{
+    if index < names.read {
+        return true;
+    }
+    if index == names.read && index < REGISTERS {
+        names.read = index + 1;
+        return true;
+    }
+    false
+}
+
+/// Notes that a hidden register is read. Returns whether it is one, and all before it are read.
+pub fn read_hidden(names: &mut Names<'_>, number: Option<usize>) -> bool
+    ensures { IsTrue result → names_after_reading (seen_names names.old) (seen_names names.old).first number ≡ Some (seen_names names.new) }
+{
+    match (names.first, number) {
+        (Some(first), Some(number)) => read_index(names, number.saturating_sub(first)),
+        _ => false,
+    }
 }
 
 /// Returns whether a line of an expanded text is that of a written line: one that is hidden begins with a blank.
@@ -115,7 +150,8 @@ fn is_filling<'a>(
 ) -> Result<bool, AllocError>
     ensures { IfOk result (λ is. IsTrue is → IsFilling (seen_names names.old) opcode.now register.now literal.now (seen_names names.new)) }
 {
-    if opcode == opcode_for(literal) && is_next(names, register) {
+    let is_new = !is_among(literal, &names.literals);
+    if is_new && opcode == opcode_for(literal) && is_next(names, register) {
         names.literals.push(literal)?;
         Ok(true)
     } else {

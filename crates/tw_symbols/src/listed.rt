@@ -219,6 +219,7 @@ pub fn begin_head<'a>(
     names.first = None;
     names.hidden = 0;
     names.literals.clear();
+    names.read = 0;
     Ok(())
 }
 

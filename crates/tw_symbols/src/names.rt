@@ -42,6 +42,8 @@ pub struct Names<'a> {
     pub hidden: usize,
     /// The literals of the first hidden registers, as they are written.
     pub literals: Vec<&'a [u8]>,
+    /// How many hidden registers are read so far.
+    pub read: usize,
     /// Whether a word has meant a register after those that the line `regs` lists.
     pub has_unlisted: bool,
 }
@@ -60,6 +62,7 @@ impl<'a> Names<'a> {
             first: None,
             hidden: 0,
             literals: Vec::new(alloc),
+            read: 0,
             has_unlisted: false,
         }
     }
@@ -75,6 +78,7 @@ impl<'a> Names<'a> {
         };
         self.hidden = hidden;
         self.literals.clear();
+        self.read = 0;
         self.has_unlisted = false;
     }
 }

@@ -1,11 +1,11 @@
 //! The procedures of a text.
 
-ghost use Rattle.std.specs.Prelude.{◌≡◌, ◌≤◌, List, IfOk, OnOk, length, nat_le};
+ghost use Rattle.std.specs.Prelude.{◌≡◌, ◌≤◌, ◌<◌, List, IfOk, OnOk, length, nat_le};
 ghost use Rattle.std.specs.Option.{option_map};
 ghost use Rattle.std.specs.Str.Lines.{lines};
 ghost use Rattle.tw_symbols.specs.Lines.{AreTaken, IsTaken, Line};
 ghost use Rattle.tw_symbols.specs.Seen.{now, seen_procedures, seen_table, texts};
-ghost use Rattle.tw_symbols.specs.Heads.{procedures_of, with_head, with_line, with_name, with_words};
+ghost use Rattle.tw_symbols.specs.Heads.{HasTooMany, procedures_of, with_head, with_line, with_name, with_words};
 
 use crate::heads::{banks_of_modes, procedure_name};
 use crate::line::{may_begin_procedure, take_line};
@@ -110,7 +110,8 @@ fn add_line<'a>(
 
 /// Returns the procedures of a text by their heads, up to the first one past the limit.
 pub fn procedures_of(alloc: Global, text: &str) -> Result<Procedures<'_>, AllocError>
-    ensures { IfOk result (λ procedures. length procedures.heads.items ≤ 64 → (all : List Line) × AreTaken all (lines text.now) × (seen_procedures procedures ≡ procedures_of all)) }
+    ensures all { IfOk result (λ procedures. length procedures.heads.items ≤ 64 → (all : List Line) × AreTaken all (lines text.now) × (seen_procedures procedures ≡ procedures_of all)) }
+    ensures many { IfOk result (λ procedures. 64 < length procedures.heads.items → HasTooMany text.now) }
 {
     let hash = TextHash::new(text);
     let mut procedures = Procedures {

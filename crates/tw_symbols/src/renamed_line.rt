@@ -1,6 +1,6 @@
 //! Compares a line of symbolic assembly with that of its expansion.
 
-ghost use Rattle.std.specs.Prelude.{◌≡◌, ◌++◌, ◌∷◌, IfOk, IfSome, IsTrue, Some, filter, length};
+ghost use Rattle.std.specs.Prelude.{◌≡◌, ◌++◌, ◌∷◌, [], IfOk, IfSome, IsTrue, Some, filter, length};
 ghost use Rattle.tw_symbols.specs.LineNames.{is_unnamed, names_after_list};
 ghost use Rattle.tw_symbols.specs.Renamed.{AreOthers, AreRegisters, IsHead, IsInstruction, IsLine, OnlyNames};
 ghost use Rattle.tw_symbols.specs.Seen.{seen_names, seen_procedures, texts};
@@ -35,18 +35,30 @@ fn are_same(words: &[&[u8]], plains: &[&[u8]]) -> bool
     }
 }
 
-/// Returns the words after these, without each name and `:`.
+/// Returns the words after this one, which isn't there if it is a name and `:`.
+fn after_word<'b, 'a>(word: &[u8], plains: &'b [&'a [u8]]) -> Option<&'b [&'a [u8]]>
+    ensures { IfSome result (λ more. texts plains.now ≡ filter is_unnamed (word.now ∷ []) ++ texts more.now) }
+{
+    if before_colon(word).is_some() {
+        return Some(plains);
+    }
+    match plains {
+        [plain, more @ ..] if *plain == word => Some(more),
+        _ => None,
+    }
+}
+
+/// Returns the words after these, without each name and `:`. A line that isn't a statement may have millions.
 fn after_unnamed<'b, 'a>(words: &[&[u8]], plains: &'b [&'a [u8]]) -> Option<&'b [&'a [u8]]>
     ensures { IfSome result (λ more. texts plains.now ≡ filter is_unnamed (texts words.now) ++ texts more.now) }
 {
-    match words {
-        [] => Some(plains),
-        [word, others @ ..] if before_colon(word).is_some() => after_unnamed(others, plains),
-        [word, others @ ..] => match plains {
-            [plain, more @ ..] if plain == word => after_unnamed(others, more),
-            _ => None,
-        },
+    let mut left = words;
+    let mut more = Some(plains);
+    while let [word, others @ ..] = left {
+        more = after_word(word, more?);
+        left = others;
     }
+    more
 }
 
 /// Returns the words after the first ones, and then these without each name and `:`.
@@ -87,11 +99,12 @@ fn is_head<'a>(
 ) -> Result<bool, AllocError>
     ensures { IfOk result (λ is. IsTrue is → IsHead (seen_procedures procedures.now) number (seen_names names.old) (texts words.now) (texts plains.now) (seen_names names.new)) }
 {
+    let read = names.read == names.hidden;
     let named = taken(check_name(procedures, number, procedure_name(words)))?;
     begin_head(alloc, names, words)?;
     let params = parameters(words);
     let listed = taken(list(procedures, Listed::Parameters, names, 0, params))?;
-    Ok(named && listed && are_listed(first_words(words, 1), params, plains))
+    Ok(read && named && listed && are_listed(first_words(words, 1), params, plains))
 }
 
 /// Adds the names of a line `regs`. Returns whether it has no error.

@@ -1,15 +1,15 @@
 //! Compares the words of an instruction with those of its expansion.
 
-ghost use Rattle.std.specs.Prelude.{◌≡◌, ◌⊎◌, IfOk, IsTrue, Some, option_map};
+ghost use Rattle.std.specs.Prelude.{◌≡◌, IfOk, IsTrue, Some, option_map};
 ghost use Rattle.std.specs.Result.{result_ok};
 ghost use Rattle.tw_lexer.specs.Digits.{digits_in};
 ghost use Rattle.tw_symbols.specs.LineNames.{number_of, register_of};
-ghost use Rattle.tw_symbols.specs.Renamed.{AreMade, AreOperands, IsAt, IsMade, IsReplaced, IsWord, Stays, value_at, value_of};
+ghost use Rattle.tw_symbols.specs.Renamed.{AreMade, AreOperands, IsAt, IsMade, IsOperand, IsWord, value_at, value_of};
 ghost use Rattle.tw_symbols.specs.Meanings.{and_then, literal_at};
 ghost use Rattle.tw_symbols.specs.Seen.{now, seen_names, seen_procedures, texts};
 
 use crate::assigned::register_of;
-use crate::hidden::{is_same, literal_at};
+use crate::hidden::{is_same, literal_at, read_hidden};
 use crate::meaning::{Bank, Binding, Expected, is_bank};
 use crate::names::{Names, add_listed, is_name, known};
 use crate::numbers::{natural, signed};
@@ -103,14 +103,14 @@ fn literal_in<'a>(names: &Names<'a>, number: Option<usize>) -> Option<&'a [u8]>
 }
 
 /// Returns whether a word stays, or is a name and replaced by what it means.
-fn is_kept(
+fn is_word(
     procedures: &Procedures<'_>,
     names: &Names<'_>,
     place: Expected,
     word: &[u8],
     plain: &[u8],
 ) -> bool
-    ensures { IsTrue result → Stays place word.now plain.now ⊎ IsReplaced (seen_procedures procedures.now) (seen_names names.now) place word.now plain.now }
+    ensures { IsTrue result → IsWord (seen_procedures procedures.now) (seen_names names.now) place word.now plain.now }
 {
     if matches!(place, Expected::Nothing) || !is_name(word) {
         return plain == word;
@@ -121,37 +121,40 @@ fn is_kept(
     }
 }
 
-/// Returns whether a word is in its place: as it was, a name's meaning, or the hidden register of a literal.
-#[tactic(auto, unfolding(crate::specs::Renamed::IsWord))]
-fn is_word(
+/// Returns whether an operand is in its place: as it was, a name's meaning, or the hidden register of a literal; and notes that this is read.
+#[tactic(auto, unfolding(crate::specs::Renamed::IsOperand))]
+fn is_operand(
     procedures: &Procedures<'_>,
-    names: &Names<'_>,
+    names: &mut Names<'_>,
     place: Expected,
     word: &[u8],
     plain: &[u8],
 ) -> bool
-    ensures { IsTrue result → IsWord (seen_procedures procedures.now) (seen_names names.now) place word.now plain.now }
+    ensures { IsTrue result → IsOperand (seen_procedures procedures.now) (seen_names names.old) place word.now plain.now (seen_names names.new) }
 {
-    match literal_in(names, value_at(place, plain)) {
-        Some(literal) => matches!(place, Expected::Read) && is_same(word, literal),
-        None => is_kept(procedures, names, place, word, plain),
+    let number = value_at(place, plain);
+    match literal_in(names, number) {
+        Some(literal) => {
+            matches!(place, Expected::Read) && is_same(word, literal) && read_hidden(names, number)
+        }
+        None => is_word(procedures, names, place, word, plain),
     }
 }
 
-/// Returns whether words are in their places.
+/// Returns whether words are in their places, and notes which hidden registers are read.
 pub fn are_operands(
     procedures: &Procedures<'_>,
-    names: &Names<'_>,
+    names: &mut Names<'_>,
     places: &[Expected],
     words: &[&[u8]],
     plains: &[&[u8]],
 ) -> bool
-    ensures { IsTrue result → AreOperands (seen_procedures procedures.now) (seen_names names.now) places.now (texts words.now) (texts plains.now) }
+    ensures { IsTrue result → AreOperands (seen_procedures procedures.now) (seen_names names.old) places.now (texts words.now) (texts plains.now) (seen_names names.new) }
 {
     match (words, plains) {
         ([], []) => true,
         ([word, others @ ..], [plain, more @ ..]) => {
-            is_word(procedures, names, first_expected(places), word, plain)
+            is_operand(procedures, names, first_expected(places), word, plain)
                 && are_operands(procedures, names, after_first(places), others, more)
         }
         _ => false,

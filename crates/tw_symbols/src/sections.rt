@@ -5,7 +5,7 @@ use crate::names::Names;
 use crate::operand_text::put_ended;
 use std::alloc::{AllocError, Global};
 
-/// An expansion in the making. The lines after a line `regs` are kept apart up to the end of their procedure: only there all its literals are known.
+/// An expansion in the making. The lines after a line `regs` are kept apart up to the next head or line `regs`: only there all their literals are known.
 #[derive(Drop)]
 pub struct Sections<'a> {
     whole: Vec<u8>,
@@ -66,11 +66,6 @@ impl<'a> Sections<'a> {
         self.lines.clear();
         self.after_types = None;
         Ok(())
-    }
-
-    /// Returns whether lines are kept apart.
-    pub fn is_open(&self) -> bool {
-        self.after_types.is_some()
     }
 
     /// Returns the text of all procedures that were closed.

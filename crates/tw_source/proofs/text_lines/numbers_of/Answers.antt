@@ -1,14 +1,26 @@
-use Rattle.std.proofs.Common.{◌≡◌, ◌≤◌, ◌++◌, ◌∷◌, ◌∙◌, [], ℕ, List, ap, arith, rules, sym}
+use Rattle.std.proofs.Common.{◌≡◌, ◌<◌, ◌==◌, ◌≤◌, ◌++◌, ◌∷◌, ◌∙◌, [], ℕ, Bool, List, ap, arith, cond, false, refl, rules, sym, true}
 use denote.Ref.{Bor}
 use Rattle.std.proofs.lemmas.Iterator.Consumers.{YieldsList-at, YieldsList-end, YieldsList-from_enumerate, YieldsList-so_far, YieldsList-turn}
 use Rattle.std.proofs.lemmas.Iterator.Splits.{YieldsList-from_lines}
 use Rattle.std.proofs.lemmas.List.{length-append, length-map}
+use Rattle.std.proofs.lemmas.Bool.Decides.{nat_tests}
+use Rattle.std.specs.Ordering.{is_lt, nat_cmp, ord_min}
+use Rattle.std.specs.Prelude.{nat_lt}
 use Rattle.std.specs.Str.Lines.{lines}
+use Rattle.std.specs.declared.cmp.Ordering.TheVariants.{Equal, Greater, Less}
 use Rattle.tw_lexer.proofs.LineLoops.{all_lines, line_turn}
 use Rattle.tw_symbols.proofs.Loops.{lines_in, one_line_in}
-use Rattle.tw_symbols.proofs.RenamedLines.{small_min}
 use Rattle.tw_source.proofs.Tables.{are_numbers, count_from, count_more, few_more, numbers_from, one_more, step}
 use Rattle.tw_source.proofs.text_lines.numbers_of.Goals as goal
+
+-- the smaller number
+small_min : (a b : ℕ) → a ≤ b → ord_min nat_cmp a b ≡ a
+small_min a b low = by (nat_lt b a) (b == a) refl
+  where
+    by : (t u : Bool) → nat_lt b a ≡ t → cond (is_lt (cond t Less (cond u Equal Greater))) b a ≡ a
+    by true u e = let more : b < a = grind (arith, nat_tests) in absurd (omega (arith, low, more))
+    by false true e = refl
+    by false false e = refl
 
 pub loop-index-preserved : goal.loop-index-preserved
 loop-index-preserved c =

@@ -1,7 +1,7 @@
 use borrow.Author.Tests.{tests}
 use Rattle.std.proofs.lemmas.Iterator.Consumers.{YieldsList-from_filter, count_from_yields_List}
 use Rattle.tw_symbols.specs.Renamed.{is_written}
-use Rattle.tw_symbols.proofs.TextNames.{YieldsList-at, YieldsList-from_lines, eqb-true, filter, length, lines, rules, sym, ℕ, ◌∙◌, ◌≡◌}
+use Rattle.tw_symbols.proofs.TextNames.{YieldsList-at, YieldsList-from_lines, eqb-true, filter, length, lines, rules, sym, ◌∙◌, ◌≡◌}
 use Rattle.tw_symbols.proofs.expansion.has_all.Goals as goal
 
 pub returns : goal.returns

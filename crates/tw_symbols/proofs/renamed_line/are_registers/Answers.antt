@@ -1,4 +1,4 @@
-use Rattle.tw_symbols.proofs.TextNames.{List, ap, filter, is_unnamed, length, length-map, now, seen_names, sym, texts, with_hidden, ℕ, ◌++◌, ◌+◌, ◌∙◌, ◌≡◌}
+use Rattle.tw_symbols.proofs.TextNames.{ap, filter, is_unnamed, length, length-map, now, seen_names, sym, texts, with_hidden, ℕ, ◌++◌, ◌+◌, ◌∙◌, ◌≡◌}
 use Rattle.tw_symbols.proofs.WordByWord.{Words, counted_words}
 use Rattle.tw_symbols.proofs.renamed_line.are_registers.Goals as goal
 
