@@ -31,7 +31,7 @@ pub record Way : Type 0 where
   pub may_stop : Bool
 
 abbrev pub way : EachRun → Way
-way run = record { text = text_of run.source.now; verified = run.verified.now; layout = run.layout; limit = run.limit; may_stop = is_some run.seconds }
+way run = record { text = text_of run.source; verified = run.verified; layout = run.layout; limit = run.limit; may_stop = is_some run.seconds }
 
 -- ---- one line
 

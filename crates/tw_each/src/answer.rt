@@ -11,12 +11,11 @@ ghost use Rattle.tw_each.specs.Answers.{IsAnswer, IsFaultAnswer, IsInputsAnswer,
 ghost use Rattle.tw_each.specs.declared.worst.WorstEnd.TheVariants.{Refused};
 
 use crate::numbered::put_labelled_line;
-use crate::runs_line::RunsLine;
 use crate::worst::WorstEnd;
 use std::alloc::{AllocError, Global};
-use std::time::Duration;
+use std::time::{Clock, Duration};
 use tw_code::main_params;
-use tw_in_turn::EndedRun;
+use tw_in_turn::{EndedRun, run_timed};
 use tw_inputs::{InputLine, Place, Scratch, line_fault_text, read_line};
 use tw_pool::OpenError;
 use tw_program_output::error_line;
@@ -27,11 +26,11 @@ use tw_types::{Input, Layout, Param};
 use tw_verify::Verified;
 
 /// A program that is run on many lines, and how.
-#[derive(Clone, Copy)]
+#[derive(Drop)]
 pub struct EachRun<'a> {
     /// The text from which the program was read, if any.
-    pub source: &'a Option<SourceText<'a>>,
-    pub verified: &'a Verified,
+    pub source: Option<SourceText<'a>>,
+    pub verified: Verified,
     pub layout: Layout,
     /// The maximum number of events of each run.
     pub limit: usize,
@@ -47,8 +46,8 @@ pub struct AnswerLine {
 }
 
 /// Returns the parameters for which a line has inputs.
-fn params_of<'a>(run: &EachRun<'a>) -> &'a [Param]
-    ensures { result.now ≡ main_params run.now.verified.now.program }
+fn params_of<'r>(run: &'r EachRun<'_>) -> &'r [Param]
+    ensures { result.now ≡ main_params run.now.verified.program }
 {
     main_params(run.verified.program().procedures())
 }
@@ -74,25 +73,27 @@ fn rejected_line(
     inputs: &[Input],
     why: OpenError,
 ) -> Result<String, AllocError>
-    requires rejected { IsRejection run.now.verified.now.program inputs.now run.now.layout run.now.limit why }
+    requires rejected { IsRejection run.now.verified.program inputs.now run.now.layout run.now.limit why }
     requires other { why ≢ NoMemory }
     ensures { IfOk result (λ line. IsRejectedLine (way run.now) inputs.now (string_bytes line)) }
 {
     let procedures = run.verified.program().procedures();
-    let reply = inputs_refused_reply(alloc, run.source, why.number(), procedures, inputs)?;
+    let reply = inputs_refused_reply(alloc, &run.source, why.number(), procedures, inputs)?;
     error_line(alloc, &reply)
 }
 
 /// Runs the program with these inputs.
-fn inputs_answer<L: RunsLine>(
+fn inputs_answer<C: Clock>(
     alloc: Global,
-    runner: &L,
+    clock: &C,
     run: &EachRun<'_>,
     inputs: &[Input],
 ) -> Result<AnswerLine, AllocError>
     ensures { IfOk result (λ answer. IsInputsAnswer (way run.now) inputs.now (string_bytes answer.line) answer.end) }
 {
-    match runner.run(alloc, run, inputs) {
+    let (verified, layout) = (&run.verified, run.layout);
+    let (limit, seconds) = (run.limit, run.seconds);
+    match run_timed(clock, alloc, verified, inputs, layout, limit, None, seconds) {
         Ok(left) => left_line(alloc, &left),
         Err(OpenError::NoMemory) => Err(AllocError),
         Err(why) => Ok(AnswerLine {
@@ -121,9 +122,9 @@ fn fault_answer(
 }
 
 /// Returns the answer to a line, without its number and id.
-fn line_answer<L: RunsLine>(
+fn line_answer<C: Clock>(
     alloc: Global,
-    runner: &L,
+    clock: &C,
     run: &EachRun<'_>,
     number: usize,
     text: &str,
@@ -131,21 +132,21 @@ fn line_answer<L: RunsLine>(
     scratch: &mut Scratch,
 ) -> Result<AnswerLine, AllocError>
     requires { MatchResult inputs
-        (λ given. AreInputsOf (main_params run.now.verified.now.program) (line_json text.now) given.items)
-        (HasFaultOf (main_params run.now.verified.now.program) (line_json text.now)) }
+        (λ given. AreInputsOf (main_params run.now.verified.program) (line_json text.now) given.items)
+        (HasFaultOf (main_params run.now.verified.program) (line_json text.now)) }
     ensures { IfOk result (λ answer. IsAnswer (way run.now) text.now (string_bytes answer.line) answer.end) }
 {
     match inputs {
-        Ok(inputs) => inputs_answer(alloc, runner, run, &inputs),
+        Ok(inputs) => inputs_answer(alloc, clock, run, &inputs),
         Err(place) => fault_answer(alloc, run, number, text, place, scratch),
     }
 }
 
 /// Appends the answer to the line with this number, and returns its end.
-pub fn put_answer<L: RunsLine>(
+pub fn put_answer<C: Clock>(
     alloc: Global,
     out: &mut Vec<u8>,
-    runner: &L,
+    clock: &C,
     run: &EachRun<'_>,
     number: usize,
     text: &str,
@@ -154,7 +155,7 @@ pub fn put_answer<L: RunsLine>(
     ensures { IfOk result (λ end. (line : List ℕ) × IsAnswer (way run.now) text.now line end × (out.new.items ≡ out.old.items ++ labelled number (line_id text.now) line)) }
 {
     let InputLine { id, inputs } = read_line(alloc, params_of(run), text, scratch)?;
-    let answer = line_answer(alloc, runner, run, number, text, inputs, scratch)?;
+    let answer = line_answer(alloc, clock, run, number, text, inputs, scratch)?;
     put_labelled_line(out, number, &id, answer.line.as_bytes())?;
     Ok(answer.end)
 }

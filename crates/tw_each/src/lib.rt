@@ -4,12 +4,11 @@
 mod answer;
 mod line_count;
 mod lines;
+mod no_clock;
 mod numbered;
 mod pace;
 mod parts;
 mod reply;
-mod runs_line;
-mod shares;
 mod stream;
 mod streamed;
 mod team;

@@ -5,9 +5,9 @@ ghost use Rattle.tw_each.specs.Answers.{AreAnswers, IsLine, IsShortLine, is_blan
 
 use crate::answer::{EachRun, put_answer, put_unread};
 use crate::line_count::LineCount;
-use crate::runs_line::RunsLine;
 use crate::worst::WorstEnd;
 use std::alloc::{AllocError, Global};
+use std::time::Clock;
 use tw_inputs::Scratch;
 use tw_source::{Failure, Position, is_gap};
 
@@ -41,10 +41,10 @@ fn is_blank(line: &[u8]) -> bool
 }
 
 /// Appends the answer to a line that isn't too long, if it isn't blank. Returns its end.
-fn put_short_line<L: RunsLine>(
+fn put_short_line<C: Clock>(
     alloc: Global,
     out: &mut Vec<u8>,
-    runner: &L,
+    clock: &C,
     run: &EachRun<'_>,
     number: usize,
     line: &[u8],
@@ -56,16 +56,16 @@ fn put_short_line<L: RunsLine>(
         return Ok(WorstEnd::Quiet);
     }
     match str::from_utf8(line) {
-        Ok(text) => put_answer(alloc, out, runner, run, number, text, scratch),
+        Ok(text) => put_answer(alloc, out, clock, run, number, text, scratch),
         Err(_) => put_unread(alloc, out, number, other_bytes()),
     }
 }
 
 /// Appends the answer to the line with this number, if it isn't blank. Returns its end.
-fn put_line<L: RunsLine>(
+fn put_line<C: Clock>(
     alloc: Global,
     out: &mut Vec<u8>,
-    runner: &L,
+    clock: &C,
     run: &EachRun<'_>,
     number: usize,
     line: &[u8],
@@ -76,13 +76,13 @@ fn put_line<L: RunsLine>(
     if line.len() > MOST_BYTES {
         return put_unread(alloc, out, number, too_long());
     }
-    put_short_line(alloc, out, runner, run, number, line, scratch)
+    put_short_line(alloc, out, clock, run, number, line, scratch)
 }
 
 /// Runs the program on each line, one after the other, and returns the answers in the order of the lines. `before` lines precede these.
-pub fn answer_lines<L: RunsLine>(
+pub fn answer_lines<C: Clock>(
     alloc: Global,
-    runner: &L,
+    clock: &C,
     run: &EachRun<'_>,
     count: &LineCount,
     before: usize,
@@ -99,7 +99,7 @@ pub fn answer_lines<L: RunsLine>(
         let end = put_line(
             alloc,
             &mut text,
-            runner,
+            clock,
             run,
             number,
             lines[index],

@@ -1,20 +1,17 @@
 //! How a program becomes ready to run on lines, or the reply that rejects it.
 
-ghost use Rattle.std.specs.Prelude.{◌≡◌, IfOk};
+ghost use Rattle.std.specs.Prelude.{IfOk};
 ghost use Rattle.tw_program_output.specs.ErrorJson.{IsJsonReply};
 ghost use Rattle.tw_source.specs.Reply.{reply};
-ghost use Rattle.tw_source.specs.Source.{text_of};
-ghost use Rattle.tw_each.specs.Answers.{way};
 ghost use Rattle.tw_each.specs.Ready.{IsReady};
-ghost use Rattle.tw_each.specs.Reply.{IsTooLongReply, way_of};
+ghost use Rattle.tw_each.specs.Reply.{IsTooLongReply};
 
 use crate::answer::EachRun;
 use crate::lines::too_long;
 use std::alloc::{AllocError, Global};
 use tw_order::{EachOrder, Places, Source};
 use tw_program_output::{Admitted, admit, error_line};
-use tw_source::{ReadProgram, Reply, SourceText, failed_reply, parse_error_reply, read_program};
-use tw_verify::Verified;
+use tw_source::{ReadProgram, Reply, failed_reply, parse_error_reply, read_program};
 
 /// Returns an error's reply as a JSON object.
 pub(crate) fn json_reply(alloc: Global, error: Reply) -> Result<Reply, AllocError>
@@ -28,10 +25,10 @@ pub(crate) fn json_reply(alloc: Global, error: Reply) -> Result<Reply, AllocErro
     })
 }
 
-/// A program that may be run on lines, with the text from which it was read, if from any; or the text that rejects it.
+/// A program that may be run on lines, and how; or the JSON object that rejects it.
 #[derive(Drop)]
 pub(crate) enum Ready<'a> {
-    Run(Option<SourceText<'a>>, Verified),
+    Run(EachRun<'a>),
     Rejected(Reply),
 }
 
@@ -46,37 +43,27 @@ pub(crate) fn read_ready<'a>(
 {
     match read_program(alloc, source, input) {
         Ok(read) => {
-            let ReadProgram {
-                program,
-                source: text,
-            } = read;
+            let ReadProgram { program, source } = read;
             let (places, limit) = (Places::Hidden, Some(order.limit));
-            match admit(alloc, &text, places, limit, order.caps, program)? {
-                Admitted::Run(verified) => Ok(Ready::Run(text, verified)),
-                Admitted::Rejected(error) => Ok(Ready::Rejected(error)),
+            match admit(alloc, &source, places, limit, order.caps, program)? {
+                Admitted::Run(verified) => Ok(Ready::Run(EachRun {
+                    source,
+                    verified,
+                    layout: order.layout,
+                    limit: order.limit.events(),
+                    seconds: order.seconds,
+                })),
+                Admitted::Rejected(error) => {
+                    let reply = json_reply(alloc, error)?;
+                    Ok(Ready::Rejected(reply))
+                }
             }
         }
         Err(why) => {
             let error = parse_error_reply(alloc, &why)?;
-            Ok(Ready::Rejected(error))
+            let reply = json_reply(alloc, error)?;
+            Ok(Ready::Rejected(reply))
         }
-    }
-}
-
-/// Returns how a program is run on lines.
-pub(crate) fn each_run<'a>(
-    source: &'a Option<SourceText<'a>>,
-    order: &EachOrder,
-    verified: &'a Verified,
-) -> EachRun<'a>
-    ensures { way result ≡ way_of (text_of source.entry.now) order.now verified.entry.now }
-{
-    EachRun {
-        source,
-        verified,
-        layout: order.layout,
-        limit: order.limit.events(),
-        seconds: order.seconds,
     }
 }
 

@@ -1,8 +1,10 @@
 //! The threads that answer lines side by side.
 
-ghost use Rattle.std.specs.Prelude.{◌≡◌, ◌≤◌, ◌<◌, IfOk, max, vec_len};
-ghost use Rattle.std.specs.Fork.{AcceptsJobs, GivesJobs};
+ghost use Rattle.std.specs.Prelude.{◌≡◌, ◌≤◌, ℕ, IfOk, length, max, vec_len};
+ghost use Rattle.std.specs.Fork.{AcceptsChunks, GivesChunks};
+ghost use Rattle.tw_each.specs.Shares.{AreChunks};
 
+use crate::answer::EachRun;
 use crate::line_count::LineCount;
 use std::alloc::{AllocError, Global};
 use std::cell::Cell;
@@ -10,7 +12,7 @@ use std::thread;
 use std::thread::Threads;
 
 /// The right to start threads for lines, at most so many at a time. Its handle is seen in this module alone, so whoever has a team and no handle starts
-/// threads by `each_share`. What runs in these threads has no team, since none is `Sync`.
+/// threads by `each_chunk`. What runs in these threads has no team, since none is `Sync`.
 #[derive(Drop)]
 pub(crate) struct LineTeam<'a, H> {
     rt: &'a H,
@@ -38,30 +40,33 @@ impl<'a, H> LineTeam<'a, H> {
     }
 }
 
-/// Calls a function at each share, each call in a thread of its own, one of them in this thread. Returns the results in the order of the shares.
-pub(crate) fn each_share<H, S, X, F>(
+/// Calls a function at each chunk of items, with how many precede it, each call in a thread of its own, one of them in this thread. Returns the results
+/// in the order of the chunks, of which there are at most as many as threads.
+pub(crate) fn each_chunk<H, T, X, F>(
     team: &LineTeam<'_, H>,
-    shares: Vec<S>,
+    alloc: Global,
+    items: &[T],
     call: &F,
 ) -> Result<Vec<X>, AllocError>
 where
     H: Threads + Sync,
-    S: Send + Drop,
+    T: Sync,
     X: Send + Drop,
-    F: Fn(S) -> X + Sync,
-    requires accepts { AcceptsJobs F.Fn call.now shares.items }
-    requires few { vec_len shares ≤ max 1 team.now.jobs }
-    ensures len { IfOk result (λ results. vec_len results ≡ vec_len shares) }
-    ensures each { IfOk result (λ results. GivesJobs F.Fn call.now shares.items results.items) }
+    F: Fn(usize, &[T]) -> X + Sync,
+    requires accepts { (size : ℕ) → AcceptsChunks F.Fn call.now size items.now }
+    ensures few { IfOk result (λ results. vec_len results ≤ max 1 team.now.jobs) }
+    ensures each { IfOk result (λ results. (size : ℕ) × AreChunks size (length items.now) (vec_len results) × GivesChunks F.Fn call.now size items.now results.items) }
 {
-    thread::map_vec(team.rt, shares, call)
+    let size = items.len().div_ceil(team.size()).max(1);
+    thread::map_chunks(team.rt, alloc, items, size, call)
 }
 
-/// A team, and what it needs for lines.
+/// A program that is run on lines, the team that does so, and what it needs.
 #[derive(Clone, Copy)]
-pub(crate) struct LineCrew<'a, H, C> {
+pub(crate) struct LineCrew<'a, 'b, H, C> {
     pub(crate) team: &'a LineTeam<'a, H>,
     pub(crate) clock: &'a C,
     pub(crate) alloc: Global,
     pub(crate) count: &'a LineCount,
+    pub(crate) run: &'a EachRun<'b>,
 }

@@ -5,12 +5,9 @@ ghost use Rattle.tw_each.specs.Answers.{AreAnswers, way};
 ghost use Rattle.tw_each.specs.Shares.{AreMerged};
 ghost use Rattle.tw_each.specs.Worst.{worse};
 
-use crate::answer::EachRun;
 use crate::line_count::LineCount;
 use crate::lines::{Answers, answer_lines};
-use crate::runs_line::ByClock;
-use crate::shares::{Share, shares_of};
-use crate::team::{LineCrew, each_share};
+use crate::team::{LineCrew, each_chunk};
 use crate::worst::WorstEnd;
 use std::alloc::{AllocError, Global};
 use std::thread::Threads;
@@ -42,15 +39,15 @@ fn joined(mut first: Answers, mut rest: Answers) -> Result<Answers, AllocError>
     })
 }
 
-/// Joins the answers to all shares, unless an allocation failed.
-fn merged(alloc: Global, shares: Vec<Result<Answers, AllocError>>) -> Result<Answers, AllocError>
-    ensures { IfOk result (λ all. AreMerged shares.items all.text.items all.worst) }
+/// Joins the answers to all chunks, unless an allocation failed.
+fn merged(alloc: Global, chunks: Vec<Result<Answers, AllocError>>) -> Result<Answers, AllocError>
+    ensures { IfOk result (λ all. AreMerged chunks.items all.text.items all.worst) }
 {
     let mut all = Answers {
         text: Vec::new(alloc),
         worst: WorstEnd::Quiet,
     };
-    for answers in shares {
+    for answers in chunks {
         all = joined(all, answers?)?;
     }
     Ok(all)
@@ -58,35 +55,24 @@ fn merged(alloc: Global, shares: Vec<Result<Answers, AllocError>>) -> Result<Ans
 
 /// Divides the lines among the threads of a team. `before` lines precede these.
 pub(crate) fn divided<H: Threads + Sync, C: Clock + Sync>(
-    crew: &LineCrew<'_, H, C>,
-    run: &EachRun<'_>,
+    crew: &LineCrew<'_, '_, H, C>,
     before: usize,
     lines: &[&[u8]],
 ) -> Result<Answers, AllocError>
     requires { before + length lines.now < 2 ^ 63 }
-    ensures { IfOk result (λ answers. AreAnswers (way run.now) before (map (λ line. line.now) lines.now) answers.text.items answers.worst) }
+    ensures { IfOk result (λ answers. AreAnswers (way crew.now.run.now) before (map (λ line. line.now) lines.now) answers.text.items answers.worst) }
 {
     let LineCrew {
         team,
         clock,
         alloc,
         count,
+        run,
     } = *crew;
-    let threads = team.size().min(lines.len()).max(1);
-    let shares = shares_of(alloc, threads, before, lines)?;
-    let answer = move |share: Share<'_>| -> Result<Answers, AllocError>
-        requires { share.before + length share.lines.now < 2 ^ 63 }
-        ensures { IfOk result (λ answers. AreAnswers (way run.entry.now) share.entry.before (map (λ line. line.now) share.entry.lines.now) answers.text.items answers.worst) }
-    {
-        answer_lines(
-            alloc,
-            &ByClock { clock },
-            run,
-            count,
-            share.before,
-            share.lines,
-        )
-    };
-    let answers = each_share(team, shares, &answer)?;
+    let answer = move |start: usize, chunk: &[&[u8]]| -> Result<Answers, AllocError>
+        requires { before + start + length chunk.now < 2 ^ 63 }
+        ensures { IfOk result (λ answers. AreAnswers (way run.entry.now) (before + start) (map (λ line. line.now) chunk.now) answers.text.items answers.worst) }
+    { answer_lines(alloc, clock, run, count, before + start, chunk) };
+    let answers = each_chunk(team, alloc, lines, &answer)?;
     merged(alloc, answers)
 }

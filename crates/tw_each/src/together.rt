@@ -2,15 +2,16 @@
 
 ghost use Rattle.std.specs.Prelude.{◌≡◌, IfOk};
 ghost use Rattle.tw_source.specs.Reply.{reply};
-ghost use Rattle.tw_each.specs.Ready.{AreEachParts, AreTextParts};
+ghost use Rattle.tw_each.specs.Ready.{AreEachParts};
 ghost use Rattle.tw_each.specs.Reply.{RepliesByEach};
 ghost use Rattle.tw_each.specs.Worst.{close_of as close_of_is};
 
+use crate::answer::EachRun;
 use crate::line_count::LineCount;
 use crate::lines::{Answers, answer_lines};
+use crate::no_clock::NoClock;
 use crate::parts::parts_of;
-use crate::reply::{Ready, each_run, json_reply, read_ready};
-use crate::runs_line::WithoutClock;
+use crate::reply::{Ready, json_reply, read_ready};
 use crate::team::{LineCrew, LineTeam};
 use crate::threads::{LineThreads, divided};
 use crate::worst::close_of;
@@ -18,42 +19,16 @@ use std::alloc::{AllocError, Global};
 use std::thread::Threads;
 use std::time::Clock;
 use tw_order::{EachOrder, Source};
-use tw_source::{Close, Reply, SourceText, cut_inputs, fixed_reply, not_utf8_reply};
-use tw_verify::Verified;
+use tw_source::{Close, Reply, cut_inputs, fixed_reply, not_utf8_reply};
 
-/// A program that may be run on lines, with the text from which it was read, if from any, and the lines; or the reply to what is none.
+/// A program that may be run on lines, and the lines; or the reply to what is none.
 #[derive(Drop)]
 pub(crate) enum EachParts<'a> {
-    Lines(Option<SourceText<'a>>, Verified, Vec<&'a [u8]>),
+    Lines(EachRun<'a>, Vec<&'a [u8]>),
     Replied(Reply),
 }
 
-/// Reads the program of a text and the lines after it. Without a line `inputs` the command line is rejected.
-fn text_parts<'a>(
-    alloc: Global,
-    source: Source,
-    order: &EachOrder,
-    text: &'a [u8],
-) -> Result<EachParts<'a>, AllocError>
-    ensures { IfOk result (AreTextParts source order.now text.entry.now) }
-{
-    let Some((program, lines)) = cut_inputs(text) else {
-        let reply = fixed_reply(alloc, "command line refused\n", Close::CommandLine)?;
-        return Ok(EachParts::Replied(reply));
-    };
-    match read_ready(alloc, source, order, program)? {
-        Ready::Run(text, verified) => {
-            let lines = parts_of(alloc, lines)?;
-            Ok(EachParts::Lines(text, verified, lines))
-        }
-        Ready::Rejected(error) => {
-            let reply = json_reply(alloc, error)?;
-            Ok(EachParts::Replied(reply))
-        }
-    }
-}
-
-/// Reads a program and the lines after it.
+/// Reads a program and the lines after it. Without a line `inputs` the command line is rejected.
 fn each_parts<'a>(
     alloc: Global,
     source: Source,
@@ -62,13 +37,21 @@ fn each_parts<'a>(
 ) -> Result<EachParts<'a>, AllocError>
     ensures { IfOk result (AreEachParts source order.now input.entry.now) }
 {
-    match str::from_utf8(input) {
-        Ok(_) => text_parts(alloc, source, order, input),
-        Err(_) => {
-            let error = not_utf8_reply(alloc)?;
-            let reply = json_reply(alloc, error)?;
-            Ok(EachParts::Replied(reply))
+    let Ok(_) = str::from_utf8(input) else {
+        let error = not_utf8_reply(alloc)?;
+        let reply = json_reply(alloc, error)?;
+        return Ok(EachParts::Replied(reply));
+    };
+    let Some((program, lines)) = cut_inputs(input) else {
+        let reply = fixed_reply(alloc, "command line refused\n", Close::CommandLine)?;
+        return Ok(EachParts::Replied(reply));
+    };
+    match read_ready(alloc, source, order, program)? {
+        Ready::Run(run) => {
+            let lines = parts_of(alloc, lines)?;
+            Ok(EachParts::Lines(run, lines))
         }
+        Ready::Rejected(reply) => Ok(EachParts::Replied(reply)),
     }
 }
 
@@ -96,23 +79,23 @@ pub fn each_reply<H: Threads + Clock + Sync>(
 {
     let LineThreads { rt, alloc, count } = *threads;
     match each_parts(alloc, source, order, input)? {
-        EachParts::Lines(text, verified, lines) => {
+        EachParts::Lines(run, lines) => {
             let team = LineTeam::new(rt, order.jobs);
             let crew = LineCrew {
                 team: &team,
                 clock: rt,
                 alloc,
                 count,
+                run: &run,
             };
-            let run = each_run(&text, order, &verified);
-            let answers = divided(&crew, &run, 0, &lines)?;
+            let answers = divided(&crew, 0, &lines)?;
             Ok(answered_reply(answers))
         }
         EachParts::Replied(reply) => Ok(reply),
     }
 }
 
-/// Like `each_reply`, but answers all lines in this thread, which has no clock: no run is stopped.
+/// Like `each_reply`, but answers all lines in this thread, without a clock.
 pub fn each_reply_in_turn(
     alloc: Global,
     source: Source,
@@ -122,10 +105,9 @@ pub fn each_reply_in_turn(
     ensures { IfOk result (λ r. RepliesByEach source order.now input.now (reply r.text.items r.close)) }
 {
     match each_parts(alloc, source, order, input)? {
-        EachParts::Lines(text, verified, lines) => {
-            let run = each_run(&text, order, &verified);
+        EachParts::Lines(run, lines) => {
             let count = LineCount::new();
-            let answers = answer_lines(alloc, &WithoutClock, &run, &count, 0, &lines)?;
+            let answers = answer_lines(alloc, &NoClock, &run, &count, 0, &lines)?;
             Ok(answered_reply(answers))
         }
         EachParts::Replied(reply) => Ok(reply),

@@ -1,5 +1,5 @@
 -- The end of a run is as its definition says.
-use Rattle.tw_session.proofs.SessionNames.{Bool, Closed, EndsSo, Err, IfOk, Input, IsAtEnd, IsLeftIf, IsOrdered, IsRun, Limit, List, MayOpen, None, Ok, Option, Procedure, RepliesByClose, RepliesByEnd, RepliesByRun, Result, Run, Some, EndedRun, Stopped, ap, eqb-true, false, if◌then◌else◌, inl, inr, length, opened, reached, refl, reply, run_as, run_of, subst, sym, true, unwrap_or, ℕ, ◌++◌, ◌==◌, ◌∙◌, ◌≡◌, ◌≤◌, ◌⊎◌}
+use Rattle.tw_session.proofs.SessionNames.{Bool, Closed, EndsSo, Err, IfOk, Input, IsAtEnd, IsLeftIf, IsOrdered, IsRun, IsRunMade, Limit, List, MayOpen, None, Ok, Option, Procedure, RepliesByClose, RepliesByEnd, Result, Run, Some, EndedRun, Stopped, ap, eqb-true, false, if◌then◌else◌, inl, inr, length, may_be_stopped, opened, reached, refl, reply, run_as, run_of, subst, sym, true, unwrap_or, ℕ, ◌++◌, ◌==◌, ◌∙◌, ◌≡◌, ◌≤◌, ◌⊎◌}
 use Rattle.std.specs.Option.{option_map, option_or}
 use Rattle.std.specs.Result.{IfErr}
 use Rattle.tw_types.specs.declared.ending.Ending.{Ending}
@@ -20,14 +20,13 @@ use Rattle.tw_pool.specs.Turns.{closing_of}
 use Rattle.tw_pool.specs.Openings.{IsRejection}
 use Rattle.tw_pool.specs.declared.open.OpenError.{OpenError}
 use Rattle.tw_pool.specs.PoolView.{PoolView}
-use Rattle.tw_order.specs.Orders.{may_be_stopped}
 use Rattle.tw_order.specs.declared.runs.RunOrder.{RunOrder}
 use Rattle.tw_run_output.specs.Ends.{IsReportAs, end_report}
 use Rattle.tw_run_output.specs.Json.{IsEndLine, members_of, run_line}
 use Rattle.tw_run_output.specs.Over.{IsRunOver}
 use Rattle.tw_run_output.specs.Run.{AreRunDetails, IsRunText, close_of, trace_text}
 use Rattle.tw_source.specs.declared.reply.Reply.{Reply as MadeReply}
-use Rattle.tw_session.specs.Run.{IsRunWatched}
+use Rattle.tw_session.specs.declared.programs.RunRequest.{RunRequest}
 
 -- from how the run has ended by itself, whether it was stopped, and whether the number of events is at its limit
 abbrev closing_by : Option Ending → (stopped full : Bool) → Option Closing
@@ -92,13 +91,7 @@ pub replied : {E : Type 0} (made : Result MadeReply E) (text : Option (List ℕ)
 replied (Ok r) text program order final events cut closing (o, is) h = let t = h o in (events, cut, o.state, closing, t.0, t.1, is, t.2, t.3, t.4)
 replied (Err e) text program order final events cut closing over h = tt
 
--- such an output is a reply of `run`
-pub replied_run : {E : Type 0} (made : Result MadeReply E) (text : Option (List ℕ)) (program : List Procedure) (order : RunOrder) → IfOk made (λ r. RepliesByEnd text program order (reply r.text.items r.close))
-    → IfOk made (λ r. RepliesByRun text program order (reply r.text.items r.close))
-replied_run (Ok r) text program order h = inl h
-replied_run (Err e) text program order h = tt
-
--- and to a closed run
+-- and a reply to a closed run
 pub replied_close : {E : Type 0} (made : Result MadeReply E) (text : Option (List ℕ)) (program : List Procedure) (order : RunOrder) (closed : Closed) → IfOk made (λ r. RepliesByEnd text program order (reply r.text.items r.close))
     → IfOk made (λ r. RepliesByClose text program order closed (reply r.text.items r.close))
 replied_close (Ok r) text program order closed h = inl h
@@ -135,12 +128,12 @@ left_over verified order left cut closing (turns, (p, comes, shut, ended), may) 
     ends stop.NoMemory ended may is = absurd (let never : None ≡ Some closing = is in cc)
     ends (stop.Stopped n) ended may is = subst (IsEndOf order left.outcome.closing) (same is) (stopped_end order left.outcome.closing (may refl))
 
--- what a run leaves that looks at a signal, with the inputs and the limit that are ordered
-pub watched : (made : Result EndedRun OpenError) (verified : TypedProgram) (order : RunOrder) (inputs : List Input) (limit : ℕ) → inputs ≡ order.inputs → limit ≡ order.options.limit
-    → IfOk made (λ left. MayOpen verified.program inputs order.options.layout limit) → IfOk made (IsLeftIf true order.options.seed (opened verified inputs order.options.layout limit))
-    → IfErr made (IsRejection verified.program inputs order.options.layout limit) → IsRunWatched verified order made
-watched (Ok left) verified order inputs limit same most allowed is refused =
-    let runs : List Input → ℕ → Type 0 = λ i l. MayOpen verified.program i order.options.layout l × IsLeftIf true order.options.seed (opened verified i order.options.layout l) left in
-    (subst (λ (l : ℕ). runs order.inputs l) most (subst (λ (i : List Input). runs i limit) same (allowed, is)), tt)
-watched (Err why) verified order inputs limit same most allowed is refused =
-    (tt, subst (λ (l : ℕ). IsRejection verified.program order.inputs order.options.layout l why) most (subst (λ (i : List Input). IsRejection verified.program i order.options.layout limit why) same refused))
+-- what a run in one thread leaves, with the inputs and the limit that are ordered
+pub made_as : (made : Result EndedRun OpenError) (may : Bool) (run : RunRequest) (inputs : List Input) (limit : ℕ) → inputs ≡ run.order.inputs → limit ≡ run.order.options.limit
+    → IfOk made (λ left. MayOpen run.verified.program inputs run.order.options.layout limit) → IfOk made (IsLeftIf may run.order.options.seed (opened run.verified inputs run.order.options.layout limit))
+    → IfErr made (IsRejection run.verified.program inputs run.order.options.layout limit) → IsRunMade may run made
+made_as (Ok left) may run inputs limit same most allowed is refused =
+    let runs : List Input → ℕ → Type 0 = λ i l. MayOpen run.verified.program i run.order.options.layout l × IsLeftIf may run.order.options.seed (opened run.verified i run.order.options.layout l) left in
+    subst (λ (l : ℕ). runs run.order.inputs l) most (subst (λ (i : List Input). runs i limit) same (allowed, is))
+made_as (Err why) may run inputs limit same most allowed is refused =
+    subst (λ (l : ℕ). IsRejection run.verified.program run.order.inputs run.order.options.layout l why) most (subst (λ (i : List Input). IsRejection run.verified.program i run.order.options.layout limit why) same refused)

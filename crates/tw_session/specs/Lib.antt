@@ -8,7 +8,7 @@ pub mod Parts
 pub mod Session
 pub mod Each
 pub mod Clockless
--- The definitions for private clauses: what the code keeps before a program is run.
+-- The definitions for private clauses: what the code keeps before a program is run, and its run.
 pub mod ProgramAction
 -- Names of other crates that several files here use.
 pub mod Names

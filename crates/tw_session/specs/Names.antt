@@ -1,7 +1,7 @@
 -- Passes on what several files here use of other crates.
 pub use Rattle.clap.specs.Words.{Text}
 pub use Rattle.std.specs.Io.KnownBytes.{Appends, Keeps}
-pub use Rattle.std.specs.Prelude.{Bool, Err, IfOk, IsUtf8, List, MatchBool, MatchOption, MatchResult, None, Ok, Option, Result, Some, [], codes, false, is_some, length, nat_eq, nat_lt, string_bytes, take, true, ℕ, ⊤}
+pub use Rattle.std.specs.Prelude.{Bool, Err, IsUtf8, List, MatchBool, MatchOption, MatchResult, None, Ok, Option, Result, Some, [], codes, false, is_some, length, nat_eq, nat_lt, string_bytes, take, true, ℕ, ⊤}
 pub use Rattle.tw_cli.specs.declared.command.NoOrder.{NoOrder}
 pub use Rattle.tw_code.specs.format.Program.{Versioned}
 pub use Rattle.tw_code.specs.machine.Opening.{main_params, reached}

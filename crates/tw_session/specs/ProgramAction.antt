@@ -1,7 +1,11 @@
--- The results of the parts of a session before a program is run.
+-- The results of the parts of a session, up to a run.
 use Rattle.std.specs.Prelude.{◌≡◌, ◌≤◌}
-use Rattle.tw_session.specs.Names.{ℕ, List, Option, length, Text, Versioned, AreEncoded, IsRejectedWord, RejectedWord, AreInputsIn, HasFaultAt, Place, lines_in, PrintsInputWord, Reply, reply, RepliesByCheck, IsDisassembled, RepliesByLines, RepliesByEach}
+use Rattle.tw_session.specs.Names.{ℕ, Bool, List, MatchResult, Result, Option, length, Text, Versioned, AreEncoded, IsRejectedWord, RejectedWord, AreInputsIn, HasFaultAt, Place, lines_in, PrintsInputWord, Reply, reply, RepliesByCheck, IsDisassembled, RepliesByLines, RepliesByEach}
 use Rattle.tw_types.specs.declared.param.Param.{Param}
+use Rattle.tw_in_turn.specs.Stopping.{IsLeftIf}
+use Rattle.tw_in_turn.specs.declared.run.EndedRun.{EndedRun}
+use Rattle.tw_pool.specs.Openings.{IsRejection, MayOpen, opened}
+use Rattle.tw_pool.specs.declared.open.OpenError.{OpenError}
 use Rattle.tw_source.specs.Source.{MayBeSource, text_of}
 use Rattle.tw_session.specs.Run.{RepliesByOpening}
 use Rattle.tw_session.specs.Session.{PrintsFault, RepliesByJsonRun, RepliesIfRun, run_with}
@@ -11,6 +15,7 @@ use Rattle.tw_session.specs.declared.action.GivenInputs.{GivenInputs}
 use Rattle.tw_session.specs.declared.action.GivenInputs.TheVariants as given
 use Rattle.tw_session.specs.declared.programs.Prepared.{Prepared}
 use Rattle.tw_session.specs.declared.programs.Prepared.TheVariants as left
+use Rattle.tw_session.specs.declared.programs.RunRequest.{RunRequest}
 
 -- ---- a program to be read
 
@@ -36,6 +41,19 @@ abbrev pub HasShortTrace : Action → Type 0
 HasShortTrace (Replay order trace) = length trace.now ≤ 16777216
 HasShortTrace action = Unit {0}
 
+-- ---- a run
+
+-- holds for the reply of some run that is requested
+abbrev pub RepliesToRun : RunRequest → Reply → Type 0
+RepliesToRun run r = RepliesByOpening (text_of run.source) run.verified.program run.order r
+
+-- holds for what a run in one thread leaves, which was stopped only if that may be, or for why it isn't opened
+abbrev pub IsRunMade : Bool → RunRequest → Result EndedRun OpenError → Type 0
+IsRunMade may_stop run result =
+    MatchResult result (λ left. MayOpen run.verified.program run.order.inputs run.order.options.layout run.order.options.limit
+    × IsLeftIf may_stop run.order.options.seed (opened run.verified run.order.inputs run.order.options.layout run.order.options.limit) left)
+    (IsRejection run.verified.program run.order.inputs run.order.options.layout run.order.options.limit)
+
 -- ---- an order
 
 -- holds for this reply, after which nothing is left to do
@@ -43,9 +61,8 @@ abbrev pub IsFinishedBy : Reply → Prepared → Type 0
 IsFinishedBy is (left.Finished r) = reply r.text.items r.close ≡ is
 IsFinishedBy is prepared = ⊥
 
--- holds for a reply that satisfies `Answers`; or for a run, with the text from which its program was read, if any, or for runs on lines, if all their
--- replies satisfy `Answers`
+-- holds for a reply that satisfies `Answers`; or for a run, or for runs on lines, if all their replies satisfy `Answers`
 abbrev pub Awaits : (Reply → Type 0) → Prepared → Type 0
 Awaits Answers (left.Finished r) = Answers (reply r.text.items r.close)
-Awaits Answers (left.Run source run) = MayBeSource source run.verified.program × ((r : Reply) → RepliesByOpening (text_of source) run.verified.program run.order r → Answers r)
+Awaits Answers (left.Run run) = MayBeSource run.source run.verified.program × ((r : Reply) → RepliesToRun run r → Answers r)
 Awaits Answers (left.Lines source order input) = (r : Reply) → RepliesByEach source order input.now r → Answers r

@@ -1,120 +1,72 @@
 //! The replies of a single-threaded `run`.
 
 ghost use Rattle.std.specs.Prelude.{◌≡◌, IfOk, map, string_bytes, true};
-ghost use Rattle.tw_code.specs.machine.Inputs.{AreInputsOf};
-ghost use Rattle.tw_in_turn.specs.Stopping.{IsLeftIf};
 ghost use Rattle.tw_order.specs.Orders.{may_be_stopped};
-ghost use Rattle.tw_pool.specs.Openings.{opened};
 ghost use Rattle.tw_source.specs.Reply.{reply};
-ghost use Rattle.tw_session.specs.Run.{IsRunWatched, RepliesByOpening, RepliesByRun};
+ghost use Rattle.tw_session.specs.ProgramAction.{IsRunMade, RepliesToRun};
 ghost use Rattle.tw_session.specs.Clockless.{AnswersWords, MayReplyClockless, clockless_reply, limits_time};
 ghost use Rattle.tw_session.specs.Parts.{seen_given};
-ghost use Rattle.tw_source.specs.Source.{MayBeSource, text_of};
+ghost use Rattle.tw_source.specs.Source.{MayBeSource};
 
 use crate::order::reply_in_turn;
 use crate::parts::Given;
-use crate::run::unopened_reply;
+use crate::programs::RunRequest;
+use crate::run::{run_reply, unopened_reply};
 use crate::shell::unordered_reply;
 use std::alloc::{AllocError, Global};
 use tw_cli::read_order;
 use tw_in_turn::{EndedRun, run_in_turn, run_until};
-use tw_order::{Order, RunOrder};
+use tw_order::Order;
 use tw_pool::OpenError;
-use tw_run_output::ended_reply;
-use tw_source::{Close, Reply, SourceText, fixed_reply};
+use tw_source::{Close, Reply, fixed_reply};
 use tw_stop::StopSignal;
-use tw_verify::Verified;
 
-/// Returns the reply of a finished run.
-fn left_reply(
+/// Returns the reply of a run that was made in this thread, or why it isn't opened.
+pub fn made_reply(
     alloc: Global,
-    source: &Option<SourceText<'_>>,
-    order: &RunOrder,
-    verified: Verified,
-    left: EndedRun,
+    run: RunRequest<'_>,
+    made: Result<EndedRun, OpenError>,
 ) -> Result<Reply, AllocError>
-    requires left { IsLeftIf (may_be_stopped order.now.options) order.now.options.seed (opened verified order.now.inputs order.now.options.layout order.now.options.limit) left }
-    requires inputs { AreInputsOf verified.program order.now.inputs }
-    requires source { MayBeSource source.now verified.program }
-    ensures { IfOk result (λ r. RepliesByRun (text_of source.now) verified.program order.now (reply r.text.items r.close)) }
+    requires made { IsRunMade (may_be_stopped run.order.options) run made }
+    requires source { MayBeSource run.source run.verified.program }
+    ensures { IfOk result (λ r. RepliesToRun run.entry (reply r.text.items r.close)) }
 {
-    match left.closing() {
-        Some(closing) => ended_reply(
-            alloc,
-            source,
-            order,
-            verified,
-            &left.outcome,
-            &left.history,
-            left.cut(),
-            closing,
-        ),
-        None => Err(AllocError),
+    match made {
+        Ok(left) => match left.closing() {
+            Some(closing) => {
+                let cut = left.cut();
+                run_reply(alloc, run, &left.outcome, &left.history, cut, closing)
+            }
+            None => Err(AllocError),
+        },
+        Err(why) => unopened_reply(alloc, &run, why),
     }
 }
 
 /// Opens an accepted program and runs it in this thread, to its end.
-pub fn reply_single_threaded(
-    alloc: Global,
-    source: &Option<SourceText<'_>>,
-    order: &RunOrder,
-    verified: Verified,
-) -> Result<Reply, AllocError>
-    requires { MayBeSource source.now verified.program }
-    ensures { IfOk result (λ r. RepliesByOpening (text_of source.now) verified.program order.now (reply r.text.items r.close)) }
+pub fn reply_single_threaded(alloc: Global, run: RunRequest<'_>) -> Result<Reply, AllocError>
+    requires { MayBeSource run.source run.verified.program }
+    ensures { IfOk result (λ r. RepliesToRun run.entry (reply r.text.items r.close)) }
 {
-    let inputs = order.inputs.as_slice();
-    let limit = order.options.limit.events();
-    match run_in_turn(
-        alloc,
-        &verified,
-        inputs,
-        order.options.layout,
-        limit,
-        order.options.seed,
-    ) {
-        Ok(left) => left_reply(alloc, source, order, verified, left),
-        Err(why) => unopened_reply(alloc, source, order, &verified, why),
-    }
+    let inputs = run.order.inputs.as_slice();
+    let (layout, seed) = (run.order.options.layout, run.order.options.seed);
+    let limit = run.order.options.limit.events();
+    let made = run_in_turn(alloc, &run.verified, inputs, layout, limit, seed);
+    made_reply(alloc, run, made)
 }
 
 /// Opens an accepted program and runs it in this thread, to its end or until the signal is raised.
 pub fn run_until_raised<S: StopSignal>(
     alloc: Global,
-    order: &RunOrder,
-    verified: &Verified,
+    run: &RunRequest<'_>,
     stop: &mut S,
 ) -> Result<EndedRun, OpenError>
-    ensures { IsRunWatched verified.now order.now result }
+    ensures { IsRunMade true run.now result }
 {
-    run_until(
-        alloc,
-        verified,
-        order.inputs.as_slice(),
-        order.options.layout,
-        order.options.limit.events(),
-        order.options.seed,
-        stop,
-    )
-}
-
-/// Returns the reply of such a run.
-pub fn reply_after(
-    alloc: Global,
-    source: &Option<SourceText<'_>>,
-    order: &RunOrder,
-    verified: Verified,
-    made: Result<EndedRun, OpenError>,
-) -> Result<Reply, AllocError>
-    requires stopping { may_be_stopped order.now.options ≡ true }
-    requires made { IsRunWatched verified order.now made }
-    requires source { MayBeSource source.now verified.program }
-    ensures { IfOk result (λ r. RepliesByOpening (text_of source.now) verified.program order.now (reply r.text.items r.close)) }
-{
-    match made {
-        Ok(left) => left_reply(alloc, source, order, verified, left),
-        Err(why) => unopened_reply(alloc, source, order, &verified, why),
-    }
+    let inputs = run.order.inputs.as_slice();
+    let (layout, seed) = (run.order.options.layout, run.order.options.seed);
+    let limit = run.order.options.limit.events();
+    run_until(alloc, &run.verified, inputs, layout, limit, seed, stop)
 }
 
 /// Returns whether an order limits the time of a run.

@@ -1,6 +1,6 @@
 //! A session whose program is run on lines that are read.
 
-ghost use Rattle.std.specs.Prelude.{◌≡◌, Err, List, ℕ, Ok, Option};
+ghost use Rattle.std.specs.Prelude.{List, ℕ, Option};
 ghost use Rattle.std.specs.Thread.{IsSync};
 ghost use Rattle.tw_order.specs.declared.runs.EachOrder.{EachOrder as SpecOrder};
 ghost use Rattle.tw_order.specs.declared.order.Source.{Source as ReadAs};
@@ -21,26 +21,19 @@ use tw_each::{LineCount, LineThreads, StreamError, Streamed, close_of, stream_ea
 use tw_order::{EachOrder, Order, Source};
 use tw_workers::Gate;
 
-/// Ends a session whose lines were answered, or whose program was rejected.
-fn finish<W: Write>(streamed: Streamed, writer: &mut W) -> Status
-    ensures { (source : ReadAs) (order : SpecOrder) (input : List ℕ) (from left old : Option (List ℕ)) → Streams source order input from left old (W.contents writer.old) (Ok streamed)
+/// Ends a session whose lines were answered, or not all, or whose program was rejected.
+fn finish<W: Write>(made: Result<Streamed, StreamError>, writer: &mut W) -> Status
+    ensures { (source : ReadAs) (order : SpecOrder) (input : List ℕ) (from left old : Option (List ℕ)) → Streams source order input from left old (W.contents writer.old) made
         → EndsEach source order input from left old (W.contents writer.new) result }
 {
-    match streamed {
-        Streamed::Answered(worst) => Status::Ended(close_of(worst)),
-        Streamed::Rejected(reply) => write_reply(Ok(reply), writer),
-    }
-}
-
-/// Ends a session whose lines weren't all answered.
-fn break_off<W: Write>(why: StreamError, writer: &mut W) -> Status
-    ensures { (source : ReadAs) (order : SpecOrder) (input : List ℕ) (from left old : Option (List ℕ)) → Streams source order input from left old (W.contents writer.old) (Err why)
-        → EndsEach source order input from left old (W.contents writer.new) result }
-{
-    match why {
-        StreamError::Read => Status::ReadFailed,
-        StreamError::Write => Status::WriteFailed,
-        StreamError::NoMemory => write_memory(writer),
+    match made {
+        Ok(Streamed::Answered(worst)) => Status::Ended(close_of(worst)),
+        Ok(Streamed::Rejected(reply)) => write_reply(Ok(reply), writer),
+        Err(why) => match why {
+            StreamError::Read => Status::ReadFailed,
+            StreamError::Write => Status::WriteFailed,
+            StreamError::NoMemory => write_memory(writer),
+        },
     }
 }
 
@@ -100,10 +93,8 @@ where
         alloc: rt.alloc(),
         count: &count,
     };
-    match obey_each(&threads, gate, source, order, program, reader, writer) {
-        Ok(streamed) => finish(streamed, writer),
-        Err(why) => break_off(why, writer),
-    }
+    let made = obey_each(&threads, gate, source, order, program, reader, writer);
+    finish(made, writer)
 }
 
 /// Like `session`, for a program and lines that are read apart from it. The answer to a line is written as soon as it and those before it are there. For

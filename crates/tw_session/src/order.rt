@@ -1,14 +1,14 @@
 //! Replies of a session to an order and what it reads.
 
-ghost use Rattle.std.specs.Prelude.{◌≡◌, ◌≤◌, IfOk, false, length};
+ghost use Rattle.std.specs.Prelude.{◌≡◌, ◌≤◌, IfOk, false, length, true};
 ghost use Rattle.std.specs.Thread.{IsSync};
 ghost use Rattle.tw_source.specs.Reply.{reply};
-ghost use Rattle.tw_session.specs.Run.{IsRunWatched, RepliesByOpening};
-ghost use Rattle.tw_source.specs.Source.{MayBeSource, text_of};
+ghost use Rattle.tw_source.specs.Source.{MayBeSource};
 ghost use Rattle.tw_session.specs.Parts.{seen, seen_given};
+ghost use Rattle.tw_session.specs.ProgramAction.{IsRunMade, RepliesToRun};
 ghost use Rattle.tw_session.specs.Session.{MayReplyOn, MayReplyTo};
 
-use crate::in_turn::{reply_after, reply_single_threaded, run_until_raised};
+use crate::in_turn::{made_reply, reply_single_threaded, run_until_raised};
 use crate::json::{in_form, rendering_of};
 use crate::line_threads::lines_reply;
 use crate::parts::{Given, Parts};
@@ -22,10 +22,9 @@ use std::thread::{Threads, join};
 use std::time::Clock;
 use tw_each::each_reply_in_turn;
 use tw_in_turn::EndedRun;
-use tw_order::{Order, RunOrder};
+use tw_order::Order;
 use tw_pool::OpenError;
-use tw_source::{Reply, SourceText};
-use tw_verify::Verified;
+use tw_source::Reply;
 use tw_workers::Gate;
 
 /// Runs an accepted program in one thread, while the observer monitors its turns in another.
@@ -33,10 +32,9 @@ fn run_watched<H: Threads + Wait + Clock + Sync, G: Gate + Sync>(
     rt: &H,
     alloc: Global,
     gate: &G,
-    order: &RunOrder,
-    verified: &Verified,
+    run: &RunRequest<'_>,
 ) -> Result<EndedRun, OpenError>
-    ensures { IsRunWatched verified.now order.now result }
+    ensures { IsRunMade true run.now result }
 {
     let turns = Turns::new();
     let turns = &turns;
@@ -45,10 +43,10 @@ fn run_watched<H: Threads + Wait + Clock + Sync, G: Gate + Sync>(
     { gate.monitor(rt, turns) };
     let work = move || -> Result<EndedRun, OpenError>
         requires { IsSync H.row }
-        ensures { IsRunWatched verified.entry.now order.entry.now result }
+        ensures { IsRunMade true run.entry.now result }
     {
-        let mut signal = TurnSignal::new(rt, turns, order.options.seconds);
-        let made = run_until_raised(alloc, order, verified, &mut signal);
+        let mut signal = TurnSignal::new(rt, turns, run.order.options.seconds);
+        let made = run_until_raised(alloc, run, &mut signal);
         turns.end();
         made
     };
@@ -61,20 +59,18 @@ fn run_as_ordered<H: Threads + Wait + Clock + Sync, G: Gate + Sync>(
     rt: &H,
     alloc: Global,
     gate: &G,
-    source: &Option<SourceText<'_>>,
-    ordered: RunRequest,
+    run: RunRequest<'_>,
 ) -> Result<Reply, AllocError>
-    requires { MayBeSource source.now ordered.verified.program }
-    ensures { IfOk result (λ r. RepliesByOpening (text_of source.now) ordered.verified.program ordered.order (reply r.text.items r.close)) }
+    requires { MayBeSource run.source run.verified.program }
+    ensures { IfOk result (λ r. RepliesToRun run.entry (reply r.text.items r.close)) }
 {
-    let RunRequest { order, verified } = ordered;
-    if !order.options.in_turn {
-        reply_threaded(rt, alloc, gate, source, &order, verified)
-    } else if order.options.may_be_stopped() {
-        let made = run_watched(rt, alloc, gate, &order, &verified);
-        reply_after(alloc, source, &order, verified, made)
+    if !run.order.options.in_turn {
+        reply_threaded(rt, alloc, gate, run)
+    } else if run.order.options.may_be_stopped() {
+        let made = run_watched(rt, alloc, gate, &run);
+        made_reply(alloc, run, made)
     } else {
-        reply_single_threaded(alloc, source, &order, verified)
+        reply_single_threaded(alloc, run)
     }
 }
 
@@ -92,7 +88,7 @@ fn text_reply<H: Threads + Wait + Clock + Sync, G: Gate + Sync>(
 {
     match prepare(alloc, order, parts) {
         Ok(Prepared::Finished(reply)) => Ok(reply),
-        Ok(Prepared::Run(source, run)) => run_as_ordered(rt, alloc, gate, &source, run),
+        Ok(Prepared::Run(run)) => run_as_ordered(rt, alloc, gate, run),
         Ok(Prepared::Lines(source, order, input)) => {
             lines_reply(rt, alloc, gate, source, &order, input)
         }
@@ -107,10 +103,7 @@ fn text_in_turn(alloc: Global, order: Order, parts: Parts<'_>) -> Result<Reply, 
 {
     match prepare(alloc, order, parts) {
         Ok(Prepared::Finished(reply)) => Ok(reply),
-        Ok(Prepared::Run(source, run)) => {
-            let RunRequest { order, verified } = run;
-            reply_single_threaded(alloc, &source, &order, verified)
-        }
+        Ok(Prepared::Run(run)) => reply_single_threaded(alloc, run),
         Ok(Prepared::Lines(source, order, input)) => {
             each_reply_in_turn(alloc, source, &order, input)
         }

@@ -13,9 +13,10 @@ use tw_source::{Reply, SourceText};
 use tw_types::{Input, Items};
 use tw_verify::Verified;
 
-/// An accepted program that is to be run, and its order.
+/// An accepted program that is to be run, with the text from which it was read, if from any, and its order.
 #[derive(Drop)]
-pub struct RunRequest {
+pub struct RunRequest<'a> {
+    pub source: Option<SourceText<'a>>,
     pub order: RunOrder,
     pub verified: Verified,
 }
@@ -25,8 +26,8 @@ pub struct RunRequest {
 pub enum Prepared<'a> {
     /// Nothing but to reply.
     Finished(Reply),
-    /// To run a program, which was read from this text, if from any.
-    Run(Option<SourceText<'a>>, RunRequest),
+    /// To run a program.
+    Run(RunRequest<'a>),
     /// To run a program on the lines after it.
     Lines(Source, EachOrder, &'a [u8]),
 }
@@ -46,7 +47,11 @@ pub fn prepare_run<'a>(
     match admit(alloc, &source, places, limit, options.caps, program)? {
         Admitted::Run(verified) => {
             let order = RunOrder { options, inputs };
-            Ok(Prepared::Run(source, RunRequest { order, verified }))
+            Ok(Prepared::Run(RunRequest {
+                source,
+                order,
+                verified,
+            }))
         }
         Admitted::Rejected(reply) => Ok(Prepared::Finished(reply)),
     }

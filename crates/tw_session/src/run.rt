@@ -7,21 +7,22 @@ ghost use Rattle.tw_in_turn.specs.InTurn.{HasEnded};
 ghost use Rattle.tw_code.specs.machine.Inputs.{AreInputsOf};
 ghost use Rattle.tw_pool.specs.Openings.{IsRejection};
 ghost use Rattle.tw_source.specs.Reply.{reply};
-ghost use Rattle.tw_session.specs.Run.{RepliesByClose, RepliesByOpening, run_as, threads_failed};
+ghost use Rattle.tw_run_output.specs.Over.{IsRunOver};
+ghost use Rattle.tw_session.specs.ProgramAction.{RepliesToRun};
+ghost use Rattle.tw_session.specs.Run.{IsRun, RepliesByClose, RepliesByEnd, run_as, threads_failed};
 ghost use Rattle.tw_source.specs.Source.{MayBeSource, text_of};
 
+use crate::programs::RunRequest;
 use std::alloc::{AllocError, Global};
 use std::sync::Wait;
 use std::thread::Threads;
 use std::time::Clock;
 use tw_host::Closed;
-use tw_order::RunOrder;
-use tw_pool::{Closing, OpenError};
+use tw_pool::{Closing, Final, History, OpenError};
 use tw_replay_output::inputs_refused_reply;
 use tw_run_output::ended_reply;
-use tw_source::{Failure, Position, Reply, SourceText, failed_reply};
+use tw_source::{Failure, Position, Reply, failed_reply};
 use tw_stop::Deadline;
-use tw_verify::Verified;
 use tw_workers::{Gate, Timed, run};
 
 /// Returns why a run has ended, unless it was stopped although it may not be.
@@ -47,33 +48,54 @@ fn threads_reply(alloc: Global) -> Result<Reply, AllocError>
     failed_reply(alloc, Failure::coded(b'X', 1, Position::Nowhere))
 }
 
+/// Returns the reply of a run that ended so, with the local instructions of a task that was cut off.
+pub(crate) fn run_reply(
+    alloc: Global,
+    run: RunRequest<'_>,
+    outcome: &Final,
+    history: &History,
+    cut: u64,
+    closing: Closing,
+) -> Result<Reply, AllocError>
+    requires over { (o : IsRunOver run.verified.program run.order outcome.now history.now.events closing) × IsRun run.verified.program run.order history.now.events cut o.state closing }
+    requires inputs { AreInputsOf run.verified.program run.order.inputs }
+    requires source { MayBeSource run.source run.verified.program }
+    ensures { IfOk result (λ r. RepliesByEnd (text_of run.entry.source) run.entry.verified.program run.entry.order (reply r.text.items r.close)) }
+{
+    let (source, order) = (run.source, run.order);
+    ended_reply(
+        alloc,
+        &source,
+        &order,
+        run.verified,
+        outcome,
+        history,
+        cut,
+        closing,
+    )
+}
+
 /// Returns the reply of a run whose seats were all returned, with the local instructions of tasks that were cut off.
 fn closed_reply(
     alloc: Global,
-    source: &Option<SourceText<'_>>,
-    order: &RunOrder,
-    verified: Verified,
+    run: RunRequest<'_>,
     closed: Closed,
     cut: u64,
 ) -> Result<Reply, AllocError>
-    requires closed { (seats : List SeatEvents) × Closes (run_as verified order.now) seats closed }
-    requires threads { order.now.options.in_turn ≡ false }
-    requires inputs { AreInputsOf verified.program order.now.inputs }
-    requires source { MayBeSource source.now verified.program }
-    ensures { IfOk result (λ r. RepliesByClose (text_of source.now) verified.program order.now closed (reply r.text.items r.close)) }
+    requires closed { (seats : List SeatEvents) × Closes (run_as run.verified run.order) seats closed }
+    requires threads { run.order.options.in_turn ≡ false }
+    requires inputs { AreInputsOf run.verified.program run.order.inputs }
+    requires source { MayBeSource run.source run.verified.program }
+    ensures { IfOk result (λ r. RepliesByClose (text_of run.entry.source) run.entry.verified.program run.entry.order closed (reply r.text.items r.close)) }
 {
     match closed {
         Closed::Ended {
             history,
             outcome,
             by_seat: _,
-        } => match stop_reason(outcome.closing(), order.options.may_be_stopped()) {
+        } => match stop_reason(outcome.closing(), run.order.options.may_be_stopped()) {
             None => threads_reply(alloc),
-            Some(closing) => {
-                ended_reply(
-                    alloc, source, order, verified, &outcome, &history, cut, closing,
-                )
-            }
+            Some(closing) => run_reply(alloc, run, &outcome, &history, cut, closing),
         },
         Closed::Differs { .. } => threads_reply(alloc),
     }
@@ -82,22 +104,20 @@ fn closed_reply(
 /// Returns the reply to a run that isn't opened.
 pub fn unopened_reply(
     alloc: Global,
-    source: &Option<SourceText<'_>>,
-    order: &RunOrder,
-    verified: &Verified,
+    run: &RunRequest<'_>,
     why: OpenError,
 ) -> Result<Reply, AllocError>
-    requires refused { IsRejection verified.now.program order.now.inputs order.now.options.layout order.now.options.limit why }
-    ensures { IfOk result (λ r. RepliesByOpening (text_of source.now) verified.now.program order.now (reply r.text.items r.close)) }
+    requires refused { IsRejection run.now.verified.program run.now.order.inputs run.now.order.options.layout run.now.order.options.limit why }
+    ensures { IfOk result (λ r. RepliesToRun run.now (reply r.text.items r.close)) }
 {
     match why {
         OpenError::NoMemory => Err(AllocError),
         _ => inputs_refused_reply(
             alloc,
-            source,
+            &run.source,
             why.number(),
-            verified.program().procedures(),
-            order.inputs.as_slice(),
+            run.verified.program().procedures(),
+            run.order.inputs.as_slice(),
         ),
     }
 }
@@ -107,31 +127,19 @@ fn reply_observed<H: Threads + Wait + Clock + Sync, G: Gate + Sync>(
     rt: &H,
     alloc: Global,
     gate: &G,
-    source: &Option<SourceText<'_>>,
-    order: &RunOrder,
-    verified: Verified,
+    request: RunRequest<'_>,
 ) -> Result<Reply, AllocError>
-    requires turns { order.now.options.in_turn ≡ false }
-    requires source { MayBeSource source.now verified.program }
-    ensures { IfOk result (λ r. RepliesByOpening (text_of source.now) verified.program order.now (reply r.text.items r.close)) }
+    requires turns { request.order.options.in_turn ≡ false }
+    requires source { MayBeSource request.source request.verified.program }
+    ensures { IfOk result (λ r. RepliesToRun request.entry (reply r.text.items r.close)) }
 {
-    let inputs = order.inputs.as_slice();
-    match run(
-        rt,
-        alloc,
-        &verified,
-        inputs,
-        order.options.layout,
-        order.options.limit.events(),
-        gate,
-    ) {
-        Ok((closed, memory)) => {
-            if memory {
-                return Err(AllocError);
-            }
-            closed_reply(alloc, source, order, verified, closed, gate.cut())
-        }
-        Err(why) => unopened_reply(alloc, source, order, &verified, why),
+    let (verified, inputs) = (&request.verified, request.order.inputs.as_slice());
+    let layout = request.order.options.layout;
+    let limit = request.order.options.limit.events();
+    match run(rt, alloc, verified, inputs, layout, limit, gate) {
+        Ok((_, true)) => Err(AllocError),
+        Ok((closed, false)) => closed_reply(alloc, request, closed, gate.cut()),
+        Err(why) => unopened_reply(alloc, &request, why),
     }
 }
 
@@ -140,20 +148,18 @@ pub fn reply_threaded<H: Threads + Wait + Clock + Sync, G: Gate + Sync>(
     rt: &H,
     alloc: Global,
     gate: &G,
-    source: &Option<SourceText<'_>>,
-    order: &RunOrder,
-    verified: Verified,
+    run: RunRequest<'_>,
 ) -> Result<Reply, AllocError>
-    requires turns { order.now.options.in_turn ≡ false }
-    requires source { MayBeSource source.now verified.program }
-    ensures { IfOk result (λ r. RepliesByOpening (text_of source.now) verified.program order.now (reply r.text.items r.close)) }
+    requires turns { run.order.options.in_turn ≡ false }
+    requires source { MayBeSource run.source run.verified.program }
+    ensures { IfOk result (λ r. RepliesToRun run.entry (reply r.text.items r.close)) }
 {
-    match order.options.seconds {
-        None => reply_observed(rt, alloc, gate, source, order, verified),
+    match run.order.options.seconds {
+        None => reply_observed(rt, alloc, gate, run),
         Some(seconds) => {
             let deadline = Deadline::after(rt, seconds);
             let timed = Timed::new(gate, &deadline);
-            reply_observed(rt, alloc, &timed, source, order, verified)
+            reply_observed(rt, alloc, &timed, run)
         }
     }
 }

@@ -10,7 +10,7 @@ returns-in-Ok-eq0 g c =
     let long : length c.read.new.buf ≡ length c.loop.chunk.items = c.read.auto.buf ∙ ap length c.as_mut_slice.ensures.value in
     let some : 0 < length c.read.new.buf = omega (arith, long, c.loop.invariant.0) in
     let end = at_end _ _ c.read.result c.in-Ok-eq0.field-0 c.read.new.buf c.read.ensures.bytes c.in-Ok-eq0.is c.in-Ok-eq0.field-0-test some in
-    all_answered (way c.args.work.now.run.now) c.loop.answered c.loop.begun.items (g.R.Read.remaining c.args.reader.now) (g.R.Read.remaining c.loop.reader) (g.R.Read.remaining c.read.new.self)
+    all_answered (way c.args.crew.now.run.now) c.loop.answered c.loop.begun.items (g.R.Read.remaining c.args.reader.now) (g.R.Read.remaining c.loop.reader) (g.R.Read.remaining c.read.new.self)
     (g.W.Write.contents c.args.writer.now) (g.W.Write.contents c.loop.writer) (g.W.Write.contents c.finish.new.writer) c.finish.result c.loop.invariant.1 end.0 end.1
     (λ bytes at. c.finish.ensures bytes (at.0, c.deref.ensures.value ∙ at.1))
 
@@ -26,19 +26,19 @@ returns-in_err-answered-in-Ok g c =
     let after = g.R.Read.remaining c.read.new.self in
     let read = subst (λ (room : List ℕ). Consumes before after (take c.in-Ok.count room)) (sym whole) c.in-Ok.ensures.bytes.0 in
     let p = err_from_is_err_and c.from_residual-in_err-answered-in-Ok.result c.from_residual-in_err-answered-in-Ok.ensures.1 in
-    rw (p.1, p.2) (chunk_stops (way c.args.work.now.run.now) c.loop.answered c.loop.begun.items c.take_chunk.new.begun.items (take c.in-Ok.count c.deref-in-Ok.result.now)
+    rw (p.1, p.2) (chunk_stops (way c.args.crew.now.run.now) c.loop.answered c.loop.begun.items c.take_chunk.new.begun.items (take c.in-Ok.count c.deref-in-Ok.result.now)
     (g.R.Read.remaining c.args.reader.now) before after (g.W.Write.contents c.args.writer.now) (g.W.Write.contents c.loop.writer) (g.W.Write.contents c.take_chunk.new.writer) c.in_err-answered-in-Ok.field-0.0
     c.loop.invariant.1 read c.in_err-answered-in-Ok.ensures)
 
 pub returns-in-Err-2 : goal.returns-in-Err-2
-returns-in-Err-2 g c = read_stops (way c.args.work.now.run.now) c.loop.answered c.loop.begun.items _ _ _ _ _ Read c.loop.invariant.1 c.in-Err-2.ensures.bytes
+returns-in-Err-2 g c = read_stops (way c.args.crew.now.run.now) c.loop.answered c.loop.begun.items _ _ _ _ _ Read c.loop.invariant.1 c.in-Err-2.ensures.bytes
 
 pub returns : goal.returns
-returns g c = read_stops (way c.args.work.now.run.now) c.loop.answered c.loop.begun.items _ _ _ _ _ Read c.loop.invariant.1 (keeps_same (g.R.Read.remaining c.loop.reader))
+returns g c = read_stops (way c.args.crew.now.run.now) c.loop.answered c.loop.begun.items _ _ _ _ _ Read c.loop.invariant.1 (keeps_same (g.R.Read.remaining c.loop.reader))
 
 pub loop-preserved : goal.loop-preserved
 loop-preserved g c =
-    let w = way c.args.work.now.run.now in
+    let w = way c.args.crew.now.run.now in
     let long : length c.read.new.buf ≡ length c.loop.chunk.items = c.read.auto.buf ∙ ap length c.as_mut_slice.ensures.value in
     let some : 0 < length c.read.new.buf = omega (arith, long, c.loop.invariant.0) in
     let room = whole_room c.read.new.buf c.loop.chunk.items c.loop.chunk.len (c.read.auto.buf ∙ c.as_mut_slice.ensures.len) in

@@ -6,4 +6,4 @@ use Rattle.tw_each.proofs.stream.answer_stream.Given as goal
 abbrev pub invariant-loop : goal.invariant-loop
 invariant-loop g l =
     (0 < length l.chunk.items)
-    × IsAsFar (way l.work.run.now) l.answered l.begun.items (g.R.Read.remaining l.fn.reader) (g.R.Read.remaining l.reader) (g.W.Write.contents l.fn.writer) (g.W.Write.contents l.writer)
+    × IsAsFar (way l.crew.run.now) l.answered l.begun.items (g.R.Read.remaining l.fn.reader) (g.R.Read.remaining l.reader) (g.W.Write.contents l.fn.writer) (g.W.Write.contents l.writer)

@@ -6,7 +6,7 @@ abbrev pub invariant-loop-done : goal.invariant-loop-done
 invariant-loop-done g l =
     (l.done ≤ length l.lines)
     × ((bad : WorstEnd) × (l.worst ≡ (worse l.answered.worst bad))
-    × AreWritten (way l.work.run.now) l.answered.number (map (λ line. line.now) (take l.done l.lines)) (g.W.Write.contents l.fn.writer) (g.W.Write.contents l.writer) bad)
+    × AreWritten (way l.crew.run.now) l.answered.number (map (λ line. line.now) (take l.done l.lines)) (g.W.Write.contents l.fn.writer) (g.W.Write.contents l.writer) bad)
 
 abbrev pub decreases-loop-done : goal.decreases-loop-done
 decreases-loop-done g l = length l.lines - l.done

@@ -1,10 +1,9 @@
-use Rattle.tw_session.proofs.SessionNames.{Input, IsLeftIf, List, opened, subst, ℕ}
-use Rattle.tw_order.specs.Orders.{may_be_stopped}
+use Rattle.tw_session.proofs.SessionNames.{may_be_stopped}
+use Rattle.tw_session.proofs.Ran.{made_as}
 use Rattle.tw_session.proofs.in_turn.reply_single_threaded.Goals as goal
 
-pub left_reply-requires-clause-left : goal.left_reply-requires-clause-left
-left_reply-requires-clause-left c =
-    let order = c.args.order.now in
-    let may = may_be_stopped order.options in
-    let runs : List Input → ℕ → Type 0 = λ inputs limit. IsLeftIf may order.options.seed (opened c.args.verified inputs order.options.layout limit) c.in-Ok.left in
-    subst (λ (limit : ℕ). runs order.inputs limit) c.events-limit.ensures.value (subst (λ (inputs : List Input). runs inputs c.events-limit.result) c.as_slice-inputs.ensures (c.in-Ok.ensures.left may))
+pub made_reply-requires-clause-made : goal.made_reply-requires-clause-made
+made_reply-requires-clause-made c =
+    let made = c.run_in_turn-made in
+    let may = may_be_stopped c.args.run.order.options in
+    made_as made.result may c.args.run c.as_slice-inputs.result.now c.events-limit.result c.as_slice-inputs.ensures c.events-limit.ensures.value made.ensures.allowed (made.ensures.left may) made.ensures.refused
