@@ -3,7 +3,7 @@
 ghost use Rattle.std.specs.Prelude.{◌≡◌, map, string_bytes};
 ghost use Rattle.std.specs.Str.{bytes_eq};
 ghost use Rattle.std.specs.List.{list_any};
-ghost use Rattle.tw_files.specs.Input.{has_word as has_word_is, is_untraced as is_untraced_is, reads_trace as reads_trace_is, requests_help as requests_help_is};
+ghost use Rattle.tw_files.specs.Input.{has_word as has_word_is, reads_trace as reads_trace_is, requests_help as requests_help_is};
 
 /// Returns whether an argument of a command is this word.
 fn is_word(word: &str, other: &String) -> bool
@@ -31,13 +31,6 @@ pub fn reads_trace(command: &str) -> bool
     ensures { result ≡ reads_trace_is command.now }
 {
     command == "replay" || command == "picture"
-}
-
-/// Returns whether a program's file has no trace for a command, by the part of it before the trace.
-pub fn is_untraced(command: &str, program: &[u8], before: &[u8]) -> bool
-    ensures { result ≡ is_untraced_is command.now program.now before.now }
-{
-    !reads_trace(command) || before.len() == program.len()
 }
 
 /// Returns whether the arguments of a command request its help.

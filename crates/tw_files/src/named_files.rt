@@ -2,7 +2,7 @@
 
 ghost use Rattle.std.specs.Prelude.{◌≡◌, MatchOption};
 ghost use Rattle.std.specs.Option.{option_map};
-ghost use Rattle.tw_files.specs.Input.{HasEventsTwice, HasInputsTwice, IsTwice, draws_run as draws_run_is, events_name as events_name_is, expects_trace as expects_trace_is, file_beside as file_beside_is, follows_inputs as follows_inputs_is, has_lines as has_lines_is, joined_inputs as joined_inputs_is, opens_files as opens_files_is, program_path as program_path_is, separate_events as separate_events_is, separate_inputs as separate_inputs_is, separate_lines as separate_lines_is, takes_input as takes_input_is, takes_program as takes_program_is};
+ghost use Rattle.tw_files.specs.Input.{HasEventsTwice, HasInputsTwice, IsTwice, draws_run as draws_run_is, events_name as events_name_is, file_beside as file_beside_is, follows_inputs as follows_inputs_is, has_lines as has_lines_is, joined_inputs as joined_inputs_is, opens_files as opens_files_is, program_path as program_path_is, separate_events as separate_events_is, separate_inputs as separate_inputs_is, separate_lines as separate_lines_is, takes_input as takes_input_is, takes_program as takes_program_is};
 ghost use Rattle.tw_files.specs.Seen.{seen};
 
 use crate::arguments::{has_word, reads_trace, requests_help};
@@ -88,13 +88,6 @@ impl<'a> Naming<'a> {
         }
     }
 
-    /// Returns whether a command reads a trace: `replay`, or one with `--events`.
-    fn expects_trace(&self, command: &str) -> bool
-        ensures { result ≡ expects_trace_is command.now (seen self.now) }
-    {
-        command == "replay" || has_word("--events", &self.others)
-    }
-
     /// Returns the file of the trace, for a command that reads one: the named one, or standard input.
     fn events_name(&self, command: &str, is_untraced: bool) -> Option<&'a str>
         ensures { option_map (λ path. path.now) result ≡ events_name_is command.now is_untraced (seen self.now) }
@@ -103,7 +96,7 @@ impl<'a> Naming<'a> {
             None
         } else if self.events.is_some() {
             self.events
-        } else if is_untraced && self.expects_trace(command) {
+        } else if is_untraced && (command == "replay" || has_word("--events", &self.others)) {
             Some(STANDARD_INPUT)
         } else {
             None
@@ -144,26 +137,6 @@ impl<'a> Naming<'a> {
             && !requests_help(&self.others)
     }
 
-    /// Returns the file of inputs if the program's file has inputs, too.
-    fn inputs_twice(&self, program: &[u8]) -> Option<&'a str>
-        ensures { MatchOption result (HasInputsTwice (seen self.now) program.now → ⊥) (λ path. HasInputsTwice (seen self.now) program.now) }
-    {
-        match self.separate_inputs() {
-            Some(path) if has_inputs(program) => Some(path),
-            _ => None,
-        }
-    }
-
-    /// Returns the file of the trace if the program's file has a trace, too.
-    fn events_twice(&self, command: &str, is_untraced: bool) -> Option<&'a str>
-        ensures { MatchOption result (HasEventsTwice command.now is_untraced (seen self.now) → ⊥) (λ path. HasEventsTwice command.now is_untraced (seen self.now)) }
-    {
-        match self.separate_events(command, is_untraced) {
-            Some(path) if !is_untraced => Some(path),
-            _ => None,
-        }
-    }
-
     /// Returns which file that arguments name doesn't fit the program's, and why.
     pub fn misfit(
         &self,
@@ -175,12 +148,12 @@ impl<'a> Naming<'a> {
             ((HasInputsTwice (seen self.now) program.now → ⊥) × (HasEventsTwice command.now is_untraced (seen self.now) → ⊥))
             (λ found. IsTwice command.now is_untraced (seen self.now) program.now found.1) }
     {
-        if let Some(path) = self.inputs_twice(program) {
-            return Some((path, Misfit::InputsTwice));
-        }
-        match self.events_twice(command, is_untraced) {
-            Some(path) => Some((path, Misfit::EventsTwice)),
-            None => None,
+        match self.separate_inputs() {
+            Some(path) if has_inputs(program) => Some((path, Misfit::InputsTwice)),
+            _ => match self.separate_events(command, is_untraced) {
+                Some(path) if !is_untraced => Some((path, Misfit::EventsTwice)),
+                _ => None,
+            },
         }
     }
 }

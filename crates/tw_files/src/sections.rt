@@ -4,7 +4,7 @@ ghost use Rattle.std.specs.Prelude.{◌≡◌, ℕ, List, length, MatchOption};
 ghost use Rattle.tw_report.specs.History.{AreParts};
 ghost use Rattle.tw_files.specs.Input.{HasEvents, HasNoEvents, begins_inputs as begins_inputs_is, has_inputs as has_inputs_is, is_untraced as is_untraced_is};
 
-use crate::arguments::is_untraced;
+use crate::arguments::reads_trace;
 use tw_report::cut_history;
 
 /// Returns whether a line of a program's file is `inputs`, after which inputs follow.
@@ -51,5 +51,5 @@ pub fn has_no_trace(command: &str, program: &[u8]) -> bool
     ensures { (before after : List ℕ) × AreParts program.now before after × (result ≡ is_untraced_is command.now program.now before) }
 {
     let (before, _events) = cut_history(program);
-    is_untraced(command, program, before)
+    !reads_trace(command) || before.len() == program.len()
 }

@@ -1,12 +1,12 @@
 -- The machine values of a `Loose` and of a `Handle`. Assumes `Logic`.
 use Rattle.tw_handles.proofs.Names.{Al, Global, Good, List, None, Option, Some, [], and_tt, ghosts, handle_tells, refl, slot_owns, subst, ℕ, ◌++◌, ◌∷◌, ◌≡◌}
 use mathlib.Core.Bool.{true, ◌&&◌}
-use lib.Dec.{T}
+use lib.Dec.{T, lit<}
 use seplogic.Ra.Ura.{Ura}
 use Rattle.tw_handles.proofs.Walks.{Goal, Item, Laws, Logic, Ptr, R, RattleType, RawPtr, SProp, Seq, Step, Testable, Val, Valss, WT, bare, block_ptr, dnil, drop, fact_use, feq_i, feq_l, fjoin, fpack, fpick, fsplit, fst∗, given, guard_i, has_ty, impl, in_a_block, layout, learn, lies_at, move, never, nothing, null_ptr, of_list, ptr_val, sem, snd∗, step, tnil, use1, vcons, via, vnil, vnull, vptr, vstruct, ‵, ◌$◌}
 use denote.Memory.{lone}
 use denote.Struct.Struct.{within}
-use denote.Struct.Owning.{shape}
+use denote.Struct.Owning.{shape, to}
 use Rattle.core.specs.declared.alloc.Allocator.{Ghosts}
 use Rattle.std_alloc.specs.Box.Ownership.{box_owns}
 use Rattle.tw_handles.specs.contracts.loose.Loose as loose
@@ -15,8 +15,6 @@ use Rattle.std.proofs.alloc.Global.TheLaws as heap_laws
 use Rattle.tw_handles.specs.contracts.handle.Handle as slot
 use Rattle.std.proofs.GlobalToken.{dealloc_token-Testable}
 use base.Fraction.{full_share}
-use denote.Struct.Owning.{to}
-use lib.Dec.{lit<}
 
 abbrev pub both : Val → Val → Val
 both v w = vstruct (vcons v (vcons w vnil))

@@ -1,9 +1,9 @@
 //! Caps on the runs of a loaded program.
 
-ghost use Rattle.std.specs.Prelude.{◌≡◌, IfOk, slice_get, unwrap_or};
-ghost use Rattle.tw_order.specs.Orders.{greatest_cap};
+ghost use Rattle.std.specs.Prelude.{◌≡◌, IfOk};
 ghost use Rattle.tw_handles.specs.Caps.{IsDecided, listed_caps};
 
+use crate::running::option_at;
 use std::alloc::{AllocError, Global};
 use tw_order::{Caps, EventLimit};
 use tw_program_output::is_within_caps;
@@ -12,28 +12,18 @@ use tw_verify::Verified;
 /// How many caps there are.
 pub(crate) const CAPS: usize = 7;
 
-/// Returns the cap at this index of a list.
-fn cap_at(numbers: &[u64], index: usize) -> u64
-    ensures { result ≡ unwrap_or (slice_get numbers.now index) greatest_cap }
-{
-    match numbers.get(index) {
-        Some(cap) => *cap,
-        None => u64::MAX,
-    }
-}
-
 /// Returns the caps of a list, in the order of the fields. It has no cap for those that it lacks.
 pub(crate) fn caps_of(numbers: &[u64]) -> Caps
     ensures { result ≡ listed_caps numbers.now }
 {
     Caps {
-        tasks: cap_at(numbers, 0),
-        instructions: cap_at(numbers, 1),
-        data: cap_at(numbers, 2),
-        bytes: cap_at(numbers, 3),
-        budget: cap_at(numbers, 4),
-        members: cap_at(numbers, 5),
-        rules: cap_at(numbers, 6),
+        tasks: option_at(numbers, 0, u64::MAX),
+        instructions: option_at(numbers, 1, u64::MAX),
+        data: option_at(numbers, 2, u64::MAX),
+        bytes: option_at(numbers, 3, u64::MAX),
+        budget: option_at(numbers, 4, u64::MAX),
+        members: option_at(numbers, 5, u64::MAX),
+        rules: option_at(numbers, 6, u64::MAX),
     }
 }
 

@@ -1,6 +1,6 @@
 //! Texts that a handle holds.
 
-ghost use Rattle.std.specs.Prelude.{◌≡◌, IfOk, Some, length, option_map};
+ghost use Rattle.std.specs.Prelude.{◌≡◌, IfOk, None, Some, length, option_map};
 ghost use Rattle.tw_handles.specs.Codes.{done};
 ghost use Rattle.tw_handles.specs.Texts.{IsTextKept, text_in};
 
@@ -42,7 +42,8 @@ fn text_out(held: Held) -> Option<Vec<u8>>
 
 /// Takes the text out of a handle, which is null then. For callers that aren't C.
 pub fn take_text(alloc: Global, text: &mut Handle) -> Option<Vec<u8>>
-    ensures { option_map (λ v. v.items) result ≡ text_in text.old.held }
+    ensures taken { option_map (λ v. v.items) result ≡ text_in text.old.held }
+    ensures null { text.new.held ≡ None }
 {
     match text.take(alloc) {
         Some(whole) => text_out(Box::into_inner(whole)),

@@ -50,16 +50,13 @@ without_line v = record { verdict = v; line = 0; word = 0; column = 0 }
 abbrev pub letter : ℕ → ℕ → Verdict
 letter which number = record { letter = which; number = number; engines = 0; workers = 0; procedure = 0; place = 0 }
 
-abbrev pub at_line : ℕ → ℕ → ℕ → (ℕ × ℕ) → SourceVerdict
-at_line which number line at = record { verdict = letter which number; line = line; word = at.0; column = at.1 }
-
 -- ---- errors
 
 -- returns an error in numbers: its code, and its position in the bytes or in the text
 abbrev pub in_numbers : ErrorCode → Position → SourceVerdict
 in_numbers code position.Nowhere = without_line (letter code.letter code.number)
 in_numbers code (position.Byte offset) = without_line (record { letter = code.letter; number = code.number; engines = 0; workers = 0; procedure = 0; place = offset })
-in_numbers code (position.Line line word column) = at_line code.letter code.number line (word, column)
+in_numbers code (position.Line line word column) = record { verdict = letter code.letter code.number; line = line; word = word; column = column }
 in_numbers code (position.Place procedure place line) = without_line (record { letter = code.letter; number = code.number; engines = 0; workers = 0; procedure = procedure; place = place })
 in_numbers code (position.Input input) = without_line (letter code.letter code.number)
 in_numbers code (position.Event event) = without_line (letter code.letter code.number)

@@ -1,7 +1,7 @@
 //! Verdicts on texts that encode no program.
 
 ghost use Rattle.std.specs.Prelude.{◌≡◌, ◌⊎◌};
-ghost use Rattle.tw_verdict.specs.Source.{IsUnreadable, at_line as at_line_is, failure_in_numbers, in_numbers, without_line as without_line_is};
+ghost use Rattle.tw_verdict.specs.Source.{IsUnreadable, failure_in_numbers, in_numbers, without_line as without_line_is};
 ghost use Rattle.tw_verdict.specs.Verdict.{no_memory as no_memory_is};
 
 use crate::verdict::{Verdict, refused_at};
@@ -42,18 +42,6 @@ pub fn without_line(verdict: Verdict) -> SourceVerdict
     }
 }
 
-/// Makes a verdict of a letter, a code, and a position in a text.
-fn at_line(letter: u8, number: u8, line: usize, at: (usize, usize)) -> SourceVerdict
-    ensures { result ≡ at_line_is letter number line at }
-{
-    SourceVerdict {
-        verdict: refused_at(letter, number, 0, 0),
-        line,
-        word: at.0,
-        column: at.1,
-    }
-}
-
 /// Returns an error in numbers.
 fn in_numbers(code: ErrorCode, position: Position) -> SourceVerdict
     ensures { result ≡ in_numbers code position }
@@ -64,7 +52,12 @@ fn in_numbers(code: ErrorCode, position: Position) -> SourceVerdict
             without_line(refused_at(letter, number, 0, 0))
         }
         Position::Byte(offset) => without_line(refused_at(letter, number, 0, offset)),
-        Position::Line { line, word, column } => at_line(letter, number, line, (word, column)),
+        Position::Line { line, word, column } => SourceVerdict {
+            verdict: refused_at(letter, number, 0, 0),
+            line,
+            word,
+            column,
+        },
         Position::Place {
             procedure,
             place,

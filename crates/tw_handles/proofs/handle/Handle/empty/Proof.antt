@@ -1,12 +1,11 @@
 -- `empty` makes a slot that is null.
 use Rattle.tw_handles.proofs.Names.{List, Option, [], handle_tells, leaves, proved_at, refl, subst, sym, ◌++◌, ◌∷◌, ◌≡◌}
 use Rattle.tw_handles.proofs.Walks.{ !, Goes-dropped, None, R, SProp, Stays, Val, WpFn, agg, alloc_all, and_then, by, emp, ent, enter, fact, fact_i, fjoin, free_all, fsplit, ftrue, get, id⊢, keep, lit, look_at, move, no_more, nothing, null_ptr, owns, pass_all, plain, qed, raw, returns, sets, split, stay_dropped, suffices, tables, types_at, use0, vnull, walk_of, yes, ‵, ◌$◌, ◌∵◌, ◌⊛◌}
-use Rattle.tw_handles.proofs.Values.{both, Z, slot_in_none}
+use Rattle.tw_handles.proofs.Values.{both, Z, slot_in_none, heap_al, nowhere_good}
 use Rattle.tw_handles.specs.contracts.handle.Handle.empty.{ended, clauses}
 use Rattle.tw_handles.specs.contracts.handle.Handle.empty.Key.{name as #self}
 use Rattle.tw_handles.proofs.handle.Handle.empty.Statement.{statement}
 use Rattle.tw_handles.proofs.handle.Handle.empty.Code as code
-use Rattle.tw_handles.proofs.Values.{heap_al, nowhere_good}
 
 pub empty_spec : {M : Type 1} → statement M
 empty_spec 𝓤 𝓛 𝓜 𝓡 wired =

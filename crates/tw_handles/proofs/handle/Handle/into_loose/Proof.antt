@@ -4,8 +4,7 @@ use Rattle.tw_handles.proofs.Walks.{ !, Goes-dropped, None, R, RattleType, SProp
 use types.Match.{live}
 use Rattle.core.proofs.option.Made.{Some-of, none_of}
 use Rattle.std.proofs.alloc.Global.TheLaws as heap_laws
-use Rattle.tw_handles.proofs.Values.{both, Loose, loose_good, loose_in, Z, Sl, slot_out}
-use Rattle.tw_handles.proofs.Values.{nowhere_good, tested}
+use Rattle.tw_handles.proofs.Values.{both, Loose, loose_good, loose_in, Z, Sl, slot_out, nowhere_good, tested}
 use Rattle.tw_handles.specs.contracts.handle.Handle.into_loose.{ended, clauses}
 use Rattle.tw_handles.specs.contracts.handle.Handle.into_loose.Key.{name as #self}
 use Rattle.tw_handles.proofs.handle.Handle.into_loose.Statement.{statement}
