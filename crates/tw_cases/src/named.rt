@@ -11,19 +11,21 @@ use tw_symbols::{expanded_text, other_line};
 
 /// Returns the bytes of a case's word as text.
 fn word_text(alloc: Global, word: &str) -> Result<String, Complaint> {
-    match String::from_utf8(unescaped(alloc, word)?) {
-        Ok(text) => Ok(text),
-        Err(_) => Err(Complaint::WordBytes),
-    }
+    String::from_utf8(unescaped(alloc, word)?).map_err(|_| Complaint::WordBytes)
 }
 
-/// Returns the output of a case that compares a text with another one that is to be its expansion, after a line `becomes`: the line at which it isn't.
+/// Returns the output of a case that compares a text with another one that is to be its expansion, after a line `becomes`: the line at which it isn't. If
+/// the other one ends with a line `..`, only the lines before that are compared.
 pub fn renamed_text(alloc: Global, texts: &str) -> Result<String, Complaint> {
     let texts = word_text(alloc, texts)?;
     let Some((text, plain)) = texts.as_str().split_once("\nbecomes\n") else {
         return Err(Complaint::Names);
     };
-    match other_line(alloc, text, plain)? {
+    let (plain, up_to) = match plain.strip_suffix("\n..") {
+        Some(front) => (front, Some(front.lines().count())),
+        None => (plain, None),
+    };
+    match other_line(alloc, text, plain, up_to)? {
         Some(line) => Ok(format!(in alloc; "another at line {line}")?),
         None => Ok("renamed".to_string(alloc)?),
     }
@@ -75,8 +77,6 @@ pub fn alike_text<R: AllocGlobal + Files>(rt: &R, files: &str) -> Result<String,
 
 /// Returns the encoding of the program of a case's assembly text, or complains.
 fn bytes_of(alloc: Global, text: &str) -> Result<Vec<u8>, Complaint> {
-    match assemble(alloc, text) {
-        Ok(program) => Ok(encode(alloc, &program)?),
-        Err(_) => Err(Complaint::Assembly),
-    }
+    let program = assemble(alloc, text).map_err(|_| Complaint::Assembly)?;
+    Ok(encode(alloc, &program)?)
 }
