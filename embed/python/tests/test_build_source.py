@@ -313,6 +313,7 @@ class Hostile(unittest.TestCase):
             ("ints that double", "X0 = 3\n" + "".join(f"X{number + 1} = X{number} * X{number}\n" for number in range(40)), 7, 6, "64 bits"),
             ("texts that double", "X0 = 'ab'\n" + "".join(f"X{number + 1} = X{number} + X{number}\n" for number in range(40)), 13, 7, "4096 bytes"),
             ("a text of texts", "X = " + "'" + "a" * 4000 + "'" + " + 'a'" * 200 + "\n", 1, 5, "4096 bytes"),
+            ("turns past a C size", self.LEAF.format("0").replace("    return 0\n", "    for n in range(-5, 9223372036854775807):\n        a = n\n    return a\n"), 3, 14, "has 9223372036854775812"),
             ("powers", "X = 2 ** 64 ** 64\n", 1, 10, "64 bits"),
             ("a large power", "X = (2 ** 62) ** 64\n", 1, 5, "64 bits"),
             ("300,000 bytes", "#" * 300_000, 1, 1, "at most|the most"),

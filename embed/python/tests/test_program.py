@@ -594,8 +594,8 @@ class Stops(unittest.TestCase):
         self.assertEqual([it.end for it in reports], ["limit"] * 3)
         before = threading.active_count()
         reports = yuglemit.map(yuglemit.load(ENDLESS), [()] * 50, limit=1_000_000)
-        with self.assertRaises(KeyboardInterrupt):
-            threading.Timer(0.2, lambda: os.kill(os.getpid(), signal.SIGINT)).start()
+        with self.assertRaises(KeyboardInterrupt):  # sent to this thread, which waits: under valgrind another one may get what is sent to all
+            threading.Timer(0.2, signal.pthread_kill, (threading.get_ident(), signal.SIGINT)).start()
             next(reports)
         del reports
         self.assertLessEqual(threads_left(before), before)

@@ -342,7 +342,7 @@ def _counted(body: Body, node: ast.For, over: ast.expr, most: Optional[int]) -> 
 
 def _constant_range(body: Body, name: str, node: ast.expr, counted: range, most: int) -> _Shape:
     """Returns the shape of a loop whose turns are known. It has a limit if the machine's loops make more."""
-    turns = len(counted) if counted else 0
+    turns = (counted[-1] - counted.start) // counted.step + 1 if counted else 0  # (len takes no more than a C size)
     if not 1 <= turns <= most:
         body.fail(f"this loop makes 1 to {most} turns, and {body.source.shown(node)} has {turns}: put one loop in another for more", node)
     end = counted.start + counted.step * turns
