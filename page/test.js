@@ -59,12 +59,13 @@ class Reader {
     async size(width, height = 900) { await this.page.ask("Emulation.setDeviceMetricsOverride", {width, height, deviceScaleFactor: 1, mobile: width < 600}); return this.pause(); }
     async scheme(value) { await this.page.ask("Emulation.setEmulatedMedia", {features: [{name: "prefers-color-scheme", value}]}); return this.pause(); }
     async go(to) { await this.page.ask("Page.navigate", {url: "about:blank"}); await this.page.ask("Page.navigate", {url: to}); await this.page.until('document.body?.dataset.state === "ready"', 60000); }
-    // Opens the page without saved contents. They are cleared in the new document, since the old one may save them until it is gone, and a large one
-    // is gone late.
+    // Opens the page without saved contents. The old document saves nothing any more: it could do so until it is gone, and a large one is gone late. The
+    // contents are cleared in the new one. A database is deleted when nothing has it open, and not by a document that is left earlier.
     async forget() {
-        const {identifier} = await this.page.ask("Page.addScriptToEvaluateOnNewDocument", {source: "try { localStorage.clear(); indexedDB.deleteDatabase('yuglemit own'); } catch {}"});
+        await this.js("Storage.prototype.setItem = IDBObjectStore.prototype.put = () => {}; 0");
+        const {identifier} = await this.page.ask("Page.addScriptToEvaluateOnNewDocument", {source: "try { localStorage.clear(); indexedDB.deleteDatabase('yuglemit own').onsuccess = () => { window.isEmpty = true; }; } catch {}"});
         await this.page.ask("Page.navigate", {url: "about:blank"});
-        for (let again = 0; again === 0 || again < 9 && await this.js('document.querySelector("#pick [value^=own]") !== null'); again++) { await pause(300); await this.go(address); }
+        for (let again = 0; again === 0 || again < 9 && await this.js('document.querySelector("#pick [value^=own]") !== null'); again++) { await pause(300); await this.go(address); await this.page.until("window.isEmpty === true"); }
         await this.page.ask("Page.removeScriptToEvaluateOnNewDocument", {identifier});
     }
     // Waits until the address has contents that meet a test, and returns it.
