@@ -146,7 +146,6 @@ TOOLS = (
     Tool("fuzz", "fuzz/main.py", "fuzz tests of the library and the program, by their arguments"),
     Tool("believe", "proofs/believe/main.py", "prints the definitions on which a promise depends"),
     Tool("editor", "sources/editor.py", "the files of editors and shells in script/install"),
-    Tool("prooftime", "proofs/prooftime.py", "what proofs cost, by crate and by function"),
     Tool("alone", "proofs/alone.py", "a crate over unproved sources"),
     Tool("bodies", "proofs/bodies.py", "wrong bodies under contracts, and how many were refused"),
     Tool("release", "release/release.py", "makes the release, and compares it"),

@@ -82,14 +82,8 @@ def block(keys: str) -> files.Case:
 class Reading(unittest.TestCase):
     def test_a_file(self) -> None:
         book = read(FILE)
-        self.assertEqual(
-            [case.row for case in book.cases],
-            [
-                "short | decode | @seven with 1=03 | F04 at byte 1",
-                "long | tw run --text | proc control\\n\\n  regs\\nRET\\n | 0  / out 0 int 7 / quiet",
-                "last_one | errors run --limit 5 | nothing",
-            ],
-        )
+        rows = ["short | decode | @seven with 1=03 | F04 at byte 1", "long | tw run --text | proc control\\n\\n  regs\\nRET\\n | 0  / out 0 int 7 / quiet"]
+        self.assertEqual([case.row for case in book.cases], [*rows, "last_one | errors run --limit 5 | nothing"])
         self.assertEqual([made.row for made in book.lets.values()], ["let seven = 0102", "let main = proc control / regs"])
         self.assertEqual([case.words for case in book.cases], ["Two words of a group in two lines.", "It is about something.", "Another group."])
         self.assertEqual([case.first for case in book.cases], [8, 10, 25])

@@ -15,6 +15,11 @@ def folder() -> Path:
     return Path(found).resolve().parent.parent
 
 
+def identity(kit: Path) -> str:
+    """Returns the toolchain's version, as `rt version` prints it."""
+    return (kit / "KIT-ID").read_text(encoding="utf-8").strip()
+
+
 def rtlib(kit: Path) -> Any:
     """Returns the module by which rt knows the words of checks and builds."""
     sys.dont_write_bytecode = True

@@ -149,10 +149,7 @@ class Writer:
         return code
 
     def statements(self, size: int) -> list[Instr]:
-        code: list[Instr] = []
-        for _ in range(size):
-            code += self.statement()
-        return code
+        return [instr for _ in range(size) for instr in self.statement()]
 
     def statement(self) -> list[Instr]:
         makers = [self.compute, self.compute, self.literal, self.new, self.use, self.give_up, self.copy, self.insert, self.look, self.measure]
@@ -198,9 +195,7 @@ class Writer:
         if self.loops or self.chance.random() < 0.5:
             return self.compute()
         rights, mine = dict(self.rights), set(self.mine)
-        code: list[Instr] = []
-        for place in sorted(rights):
-            code += self.dispose(place)
+        code = [instr for place in sorted(rights) for instr in self.dispose(place)]
         self.rights, self.mine = rights, mine
         return [self.condition(len(code) + 1), *code, Instr("RET")]
 

@@ -55,18 +55,7 @@ void __wrap_free(void *old) {
 
 /* ---- All handles of a run */
 
-typedef struct handles {
-    yuglemit_program program, other;
-    yuglemit_inputs inputs;
-    yuglemit_container container;
-    yuglemit_stop stop;
-    yuglemit_report report;
-    yuglemit_text text;
-} handles;
-
-#define NO_HANDLES {{NULL}, {NULL}, {NULL}, {NULL}, {NULL}, {NULL}, {NULL}}
-
-static void free_all(handles *all) {
+void free_all(handles *all) {
     yuglemit_program_free(all->program);
     yuglemit_program_free(all->other);
     yuglemit_inputs_free(all->inputs);
@@ -264,20 +253,18 @@ static void check_told(void) {
     static const struct { const char *source, *begin; uint64_t most; } rows[] = {
         {"proc control write int\nregs int\nINT v0 7\nRET\n", "refused V10", 1000}, {"TWB", "F03: ", 1000}, {"5", "H01: ", 1000}, {"version 4\nproc control\nregs\nRET\n", "H02: ", 9}};
     for (size_t k = 0; k < sizeof rows / sizeof *rows; k++) {
-        yuglemit_program program = {NULL};
-        yuglemit_text words = {NULL};
+        handles all = NO_HANDLES;
         yuglemit_verdict verdict = YUGLEMIT_VERDICT;
         yuglemit_load_options options = YUGLEMIT_LOAD_OPTIONS;
         char room[2000] = {0};
         options.most_bytes = rows[k].most;
-        uint8_t code = yuglemit_load_told((const uint8_t *)rows[k].source, strlen(rows[k].source), YUGLEMIT_ANY_FORMAT, &options, &program, &verdict, &words);
-        check(code == YUGLEMIT_REJECTED && !program.at && yuglemit_text_copy(&words, (uint8_t *)room, sizeof room - 1) == 0, "a refused program has words");
+        uint8_t code = yuglemit_load_told((const uint8_t *)rows[k].source, strlen(rows[k].source), YUGLEMIT_ANY_FORMAT, &options, &all.program, &verdict, &all.text);
+        check(code == YUGLEMIT_REJECTED && !all.program.at && yuglemit_text_copy(&all.text, (uint8_t *)room, sizeof room - 1) == 0, "a refused program has words");
         check(!strncmp(room, rows[k].begin, strlen(rows[k].begin)), rows[k].begin);
         options.most_bytes = 1000;
-        code = yuglemit_load_told((const uint8_t *)rows[3].source, strlen(rows[3].source), YUGLEMIT_TEXT, &options, &program, &verdict, &words);
-        check(code == 0 && program.at, "an accepted one has none");
-        yuglemit_program_free(program);
-        yuglemit_text_free(words);
+        code = yuglemit_load_told((const uint8_t *)rows[3].source, strlen(rows[3].source), YUGLEMIT_TEXT, &options, &all.program, &verdict, &all.text);
+        check(code == 0 && all.program.at, "an accepted one has none");
+        free_all(&all);
     }
 }
 

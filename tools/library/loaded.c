@@ -44,19 +44,16 @@ static void check_load(yuglemit_program *program) {
 static void check_damaged(void) {
     for (size_t k = 0; k < program_length; k++) {
         for (unsigned mask = 1; mask < 256; mask *= 4) {
-            yuglemit_program program = {NULL};
-            yuglemit_inputs inputs = {NULL};
-            yuglemit_report report = {NULL};
+            handles all = NO_HANDLES;
             yuglemit_verdict verdict = YUGLEMIT_VERDICT;
             program_bytes[k] ^= (uint8_t)mask;
-            yuglemit_load(program_bytes, program_length, &program, &verdict);
+            yuglemit_load(program_bytes, program_length, &all.program, &verdict);
             program_bytes[k] ^= (uint8_t)mask;
-            check((verdict.letter == 0) == (program.at != NULL), "the handle is full if the verdict accepts");
-            uint8_t code = run(&program, &inputs, LIMIT, &report);
+            check((verdict.letter == 0) == (all.program.at != NULL), "the handle is full if the verdict accepts");
+            uint8_t code = run(&all.program, &all.inputs, LIMIT, &all.report);
             check((code == YUGLEMIT_NO_PROGRAM) == (verdict.letter != 0), "a run needs a program");
-            check((code == 0) == (report.at != NULL), "a report comes of a run");
-            yuglemit_program_free(program);
-            yuglemit_report_free(report);
+            check((code == 0) == (all.report.at != NULL), "a report comes of a run");
+            free_all(&all);
         }
     }
 }
@@ -79,44 +76,40 @@ static int is_size(size_t size) { return size >= 8 && size % 8 == 0; }
 static void check_caps(void) {
     static const char text[] = "proc control\nregs int text\nNEW d0 d1 cont int\nDROPR d1\nNEW d2 d3 int\nSTORE d2 v0\nINS d0 v0 d3 there\nJMP done\nthere:\nDROPR d3\ndone:\nDROPW d0\n"
                                "RULE 1 0 any\nRET\n\nproc leaf\nregs\nRET\n";
-    yuglemit_program program = {NULL};
-    yuglemit_inputs inputs = {NULL};
-    yuglemit_report report = {NULL};
-    yuglemit_stop no_stop = {NULL};
+    handles all = NO_HANDLES;
     yuglemit_verdict verdict = YUGLEMIT_VERDICT;
     yuglemit_bounds b = YUGLEMIT_BOUNDS;
     uint64_t budget = 0;
     numbers caps = {.at = {0}}, options = {.at = {0}}, load = {.at = {0}};
-    yuglemit_load_source((const uint8_t *)text, sizeof text - 1, YUGLEMIT_TEXT, &program, &verdict);
-    check(yuglemit_program_bounds(&program, 0, &b) == 0 && yuglemit_program_budget(&program, 0, &budget) == 0, "bounds and a budget");
+    yuglemit_load_source((const uint8_t *)text, sizeof text - 1, YUGLEMIT_TEXT, &all.program, &verdict);
+    check(yuglemit_program_bounds(&all.program, 0, &b) == 0 && yuglemit_program_budget(&all.program, 0, &budget) == 0, "bounds and a budget");
     caps.caps = (yuglemit_caps){sizeof(yuglemit_caps), b.tasks, b.instructions, b.data, b.bytes, budget, b.members, b.rules};
     options.options = (yuglemit_options)YUGLEMIT_OPTIONS;
     load.load = (yuglemit_load_options)YUGLEMIT_LOAD_OPTIONS;
     for (size_t k = 1; k <= sizeof(yuglemit_caps) / 8; k++) {
         caps.at[0] = 8 * k;
-        check(yuglemit_run_within(&program, &inputs, &options.options, &caps.caps, &no_stop, &report) == 0, "caps at the bounds");
+        check(yuglemit_run_within(&all.program, &all.inputs, &options.options, &caps.caps, &all.stop, &all.report) == 0, "caps at the bounds");
         if (k == sizeof(yuglemit_caps) / 8) break;
         caps.at[k]--;
-        check(yuglemit_run_within(&program, &inputs, &options.options, &caps.caps, &no_stop, &report) == 0, "a cap that isn't given");
+        check(yuglemit_run_within(&all.program, &all.inputs, &options.options, &caps.caps, &all.stop, &all.report) == 0, "a cap that isn't given");
         caps.at[0] += 8;
-        check(yuglemit_run_within(&program, &inputs, &options.options, &caps.caps, &no_stop, &report) == YUGLEMIT_ABOVE_CAP, "O07: a bound above its cap");
+        check(yuglemit_run_within(&all.program, &all.inputs, &options.options, &caps.caps, &all.stop, &all.report) == YUGLEMIT_ABOVE_CAP, "O07: a bound above its cap");
         caps.at[k]++;
     }
     for (size_t k = 0; k <= sizeof caps + 2; k++) {
         size_t size = k <= sizeof caps ? k : SIZE_MAX - 7 * (k - sizeof caps - 1);
         caps.at[0] = size;
-        uint8_t code = yuglemit_run_within(&program, &inputs, &options.options, &caps.caps, &no_stop, &report);
+        uint8_t code = yuglemit_run_within(&all.program, &all.inputs, &options.options, &caps.caps, &all.stop, &all.report);
         check(code == (is_size(size) && size <= sizeof(yuglemit_caps) ? YUGLEMIT_DONE : YUGLEMIT_NO_SIZE), "caps of a size");
         options.at[0] = size;
-        code = yuglemit_run(&program, &inputs, &options.options, &no_stop, &report);
+        code = yuglemit_run(&all.program, &all.inputs, &options.options, &all.stop, &all.report);
         check(code == (is_size(size) && size <= sizeof(yuglemit_options) ? YUGLEMIT_DONE : YUGLEMIT_NO_SIZE), "options of a size");
         options.at[0] = sizeof(yuglemit_options);
         load.at[0] = size;
-        code = yuglemit_load_with((const uint8_t *)text, sizeof text - 1, YUGLEMIT_TEXT, &load.load, &program, &verdict);
+        code = yuglemit_load_with((const uint8_t *)text, sizeof text - 1, YUGLEMIT_TEXT, &load.load, &all.program, &verdict);
         check(code == (is_size(size) && size <= sizeof(yuglemit_load_options) ? YUGLEMIT_DONE : YUGLEMIT_NO_SIZE), "options of a load");
     }
-    yuglemit_report_free(report);
-    yuglemit_program_free(program);
+    free_all(&all);
 }
 
 enum { BOUNDS, ORDER, RUN_ORDER, METER, KINDS };
@@ -134,55 +127,46 @@ static uint8_t write_numbers(int kind, const yuglemit_program *program, const yu
 static void check_written(const yuglemit_program *program) {
     static const size_t counts[KINDS] = {7, 3, 3, 6};
     yuglemit_options options = YUGLEMIT_OPTIONS;
-    yuglemit_inputs inputs = {NULL};
-    yuglemit_stop no_stop = {NULL};
-    yuglemit_report report = {NULL};
+    handles all = NO_HANDLES;
     numbers part = {.at = {sizeof(yuglemit_order), 99}};
-    check(yuglemit_input_text(&inputs, (const uint8_t *)"41", 2) == 0 && run(program, &inputs, LIMIT, &report) == 0, "a run without its order");
-    check(write_numbers(RUN_ORDER, program, &report, &part) == YUGLEMIT_NO_ORDER && part.at[1] == 99, "has none");
+    check(yuglemit_input_text(&all.inputs, (const uint8_t *)"41", 2) == 0 && run(program, &all.inputs, LIMIT, &all.report) == 0, "a run without its order");
+    check(write_numbers(RUN_ORDER, program, &all.report, &part) == YUGLEMIT_NO_ORDER && part.at[1] == 99, "has none");
     options.order = 1;
-    check(yuglemit_run(program, &inputs, &options, &no_stop, &report) == 0, "a run with its order");
+    check(yuglemit_run(program, &all.inputs, &options, &all.stop, &all.report) == 0, "a run with its order");
     for (int kind = 0; kind < KINDS; kind++) {
         numbers whole = {.at = {8 * (counts[kind] + 1)}};
-        check(write_numbers(kind, program, &report, &whole) == 0, "all numbers");
+        check(write_numbers(kind, program, &all.report, &whole) == 0, "all numbers");
         for (size_t size = 0; size <= sizeof part; size++) {
             for (size_t k = 1; k < MOST; k++) part.at[k] = 99;
             part.at[0] = size;
-            check(write_numbers(kind, program, &report, &part) == (is_size(size) ? YUGLEMIT_DONE : YUGLEMIT_NO_SIZE), "a struct of a size");
+            check(write_numbers(kind, program, &all.report, &part) == (is_size(size) ? YUGLEMIT_DONE : YUGLEMIT_NO_SIZE), "a struct of a size");
             for (size_t k = 1; k < MOST; k++) check(part.at[k] == (is_size(size) && k < size / 8 && k <= counts[kind] ? whole.at[k] : 99), "a number is written, or stays");
         }
     }
-    yuglemit_inputs_free(inputs);
-    yuglemit_report_free(report);
+    free_all(&all);
 }
 
 /* One handle for two parameters. */
 static void check_one_handle(yuglemit_program *program) {
-    yuglemit_inputs inputs = {NULL};
-    yuglemit_report report = {NULL};
-    yuglemit_stop stop = {NULL};
-    yuglemit_container container = {NULL};
+    handles all = NO_HANDLES;
     yuglemit_options options = YUGLEMIT_OPTIONS;
     check(yuglemit_program_share(program, program) == YUGLEMIT_ONE_HANDLE && program->at, "a program shared into itself");
-    check(yuglemit_input_text(&inputs, (const uint8_t *)"41", 2) == 0 && yuglemit_stop_new(&stop) == 0, "inputs and a flag");
-    check(yuglemit_stop_share(&stop, &stop) == YUGLEMIT_ONE_HANDLE, "a flag shared into itself");
-    check(yuglemit_run(program, (yuglemit_inputs *)(void *)program, &options, &stop, &report) == YUGLEMIT_NO_INPUTS, "a program as its inputs");
-    check(yuglemit_run(program, &inputs, &options, &stop, (yuglemit_report *)(void *)program) == YUGLEMIT_ONE_HANDLE, "a report over its program");
-    check(yuglemit_run(program, &inputs, &options, &stop, (yuglemit_report *)(void *)&inputs) == YUGLEMIT_ONE_HANDLE, "over its inputs");
-    check(yuglemit_run(program, &inputs, &options, &stop, (yuglemit_report *)(void *)&stop) == YUGLEMIT_ONE_HANDLE, "over its flag");
-    check(yuglemit_run(program, &inputs, &options, &stop, &report) == 0, "a run");
-    yuglemit_text *text = (yuglemit_text *)(void *)&report;
-    check(yuglemit_print_report(&report, text) == YUGLEMIT_ONE_HANDLE && yuglemit_print_trace(&report, text) == YUGLEMIT_ONE_HANDLE
-              && yuglemit_print_json(&report, text) == YUGLEMIT_ONE_HANDLE, "a text over its report");
+    check(yuglemit_input_text(&all.inputs, (const uint8_t *)"41", 2) == 0 && yuglemit_stop_new(&all.stop) == 0, "inputs and a flag");
+    check(yuglemit_stop_share(&all.stop, &all.stop) == YUGLEMIT_ONE_HANDLE, "a flag shared into itself");
+    check(yuglemit_run(program, (yuglemit_inputs *)(void *)program, &options, &all.stop, &all.report) == YUGLEMIT_NO_INPUTS, "a program as its inputs");
+    check(yuglemit_run(program, &all.inputs, &options, &all.stop, (yuglemit_report *)(void *)program) == YUGLEMIT_ONE_HANDLE, "a report over its program");
+    check(yuglemit_run(program, &all.inputs, &options, &all.stop, (yuglemit_report *)(void *)&all.inputs) == YUGLEMIT_ONE_HANDLE, "over its inputs");
+    check(yuglemit_run(program, &all.inputs, &options, &all.stop, (yuglemit_report *)(void *)&all.stop) == YUGLEMIT_ONE_HANDLE, "over its flag");
+    check(yuglemit_run(program, &all.inputs, &options, &all.stop, &all.report) == 0, "a run");
+    yuglemit_text *text = (yuglemit_text *)(void *)&all.report;
+    check(yuglemit_print_report(&all.report, text) == YUGLEMIT_ONE_HANDLE && yuglemit_print_trace(&all.report, text) == YUGLEMIT_ONE_HANDLE
+              && yuglemit_print_json(&all.report, text) == YUGLEMIT_ONE_HANDLE, "a text over its report");
     yuglemit_ending ending = YUGLEMIT_ENDING;
-    check(yuglemit_report_ending(&report, &ending) == 0 && ending.outputs == 1, "the report is as it was");
-    check(yuglemit_container_new(&container, 'i', 'i') == 0, "a container");
-    check(yuglemit_input_container((yuglemit_inputs *)(void *)&container, &container) == YUGLEMIT_ONE_HANDLE, "a container into itself");
-    check(yuglemit_input_container(&inputs, &container) == 0 && yuglemit_input_container(&inputs, &container) == 0 && container.at, "and into inputs, then an empty one");
-    yuglemit_container_free(container);
-    yuglemit_inputs_free(inputs);
-    yuglemit_stop_free(stop);
-    yuglemit_report_free(report);
+    check(yuglemit_report_ending(&all.report, &ending) == 0 && ending.outputs == 1, "the report is as it was");
+    check(yuglemit_container_new(&all.container, 'i', 'i') == 0, "a container");
+    check(yuglemit_input_container((yuglemit_inputs *)(void *)&all.container, &all.container) == YUGLEMIT_ONE_HANDLE, "a container into itself");
+    check(yuglemit_input_container(&all.inputs, &all.container) == 0 && yuglemit_input_container(&all.inputs, &all.container) == 0 && all.container.at, "and into inputs, then an empty one");
+    free_all(&all);
 }
 
 /* Each code has a name and words of its own. */
@@ -241,37 +225,31 @@ static void *run_given(void *given) {
 /* One program, its inputs and one report, read by several threads at once. */
 static void check_readers(const yuglemit_program *program) {
     pthread_t threads[THREADS];
-    yuglemit_inputs inputs = {NULL};
-    yuglemit_report report = {NULL};
-    yuglemit_stop stop = {NULL};
-    given_to_all all = {program, &inputs, &stop};
-    check(yuglemit_input_text(&inputs, (const uint8_t *)"41", 2) == 0 && run(program, &inputs, LIMIT, &report) == 0, "a run");
-    check(yuglemit_stop_new(&stop) == 0, "a flag");
-    for (int k = 0; k < THREADS; k++) check(pthread_create(&threads[k], &small, k % 2 ? read_report : run_given, k % 2 ? (void *)&report : &all) == 0, "a thread");
-    for (int k = 0; k < RUNS; k++) check(yuglemit_stop_raise(&stop) == 0, "the flag is raised under their hands");
+    handles all = NO_HANDLES;
+    given_to_all given = {program, &all.inputs, &all.stop};
+    check(yuglemit_input_text(&all.inputs, (const uint8_t *)"41", 2) == 0 && run(program, &all.inputs, LIMIT, &all.report) == 0, "a run");
+    check(yuglemit_stop_new(&all.stop) == 0, "a flag");
+    for (int k = 0; k < THREADS; k++) check(pthread_create(&threads[k], &small, k % 2 ? read_report : run_given, k % 2 ? (void *)&all.report : &given) == 0, "a thread");
+    for (int k = 0; k < RUNS; k++) check(yuglemit_stop_raise(&all.stop) == 0, "the flag is raised under their hands");
     for (int k = 0; k < THREADS; k++) {
         void *wrong = NULL;
         pthread_join(threads[k], &wrong);
         check(!wrong, "what a thread reads");
     }
-    yuglemit_inputs_free(inputs);
-    yuglemit_report_free(report);
-    yuglemit_stop_free(stop);
+    free_all(&all);
 }
 
 /* What a thread does with its own handle of the program. */
 static void *work(void *given) {
     yuglemit_program *program = given;
-    yuglemit_inputs inputs = {NULL};
-    yuglemit_report report = {NULL};
-    size_t wrong = yuglemit_input_text(&inputs, (const uint8_t *)"41", 2);
+    handles all = NO_HANDLES;
+    size_t wrong = yuglemit_input_text(&all.inputs, (const uint8_t *)"41", 2);
     for (int k = 0; k < RUNS; k++) {
         yuglemit_ending ending = {sizeof ending, 0, 0, 9};
-        wrong += run(program, &inputs, LIMIT, &report);
-        wrong += yuglemit_report_ending(&report, &ending) || ending.status;
+        wrong += run(program, &all.inputs, LIMIT, &all.report);
+        wrong += yuglemit_report_ending(&all.report, &ending) || ending.status;
     }
-    yuglemit_inputs_free(inputs);
-    yuglemit_report_free(report);
+    free_all(&all);
     yuglemit_program_free(*program);
     program->at = NULL;
     return wrong ? given : NULL;

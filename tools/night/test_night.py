@@ -9,9 +9,7 @@ import os
 import re
 import shutil
 import subprocess
-import tempfile
 import unittest
-from pathlib import Path
 from unittest import mock
 
 from tools import ROOT, entry
@@ -242,10 +240,10 @@ class RecordTest(unittest.TestCase):
                 self.assertEqual(record.faults({"one": ROW}, {"one": ROW._replace(passed=6)}, (tool,)), found)
 
     def test_quick_runs_and_failures_are_no_rows(self) -> None:
-        with tempfile.TemporaryDirectory() as name:
-            rows = [{"outcome": outcome, "whole": whole, **ROW._asdict()} for outcome, whole in ((OK, True), (OK, False), (FAILED, True), (LEFT_OUT, True))]
-            Path(name, "results").write_text("".join(json.dumps(row) + "\n" for row in rows), encoding="utf-8")
-            self.assertEqual(record.read_results(Path(name)), [ROW])
+        folder = folder_of(self)
+        rows = [{"outcome": outcome, "whole": whole, **ROW._asdict()} for outcome, whole in ((OK, True), (OK, False), (FAILED, True), (LEFT_OUT, True))]
+        (folder / "results").write_text("".join(json.dumps(row) + "\n" for row in rows), encoding="utf-8")
+        self.assertEqual(record.read_results(folder), [ROW])
 
     def test_the_sum_is_that_of_sources_and_files(self) -> None:
         tool = next(tool for tool in TOOLS if tool.name == "orders")

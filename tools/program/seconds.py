@@ -134,10 +134,9 @@ def on_terminal(turns: str) -> None:
         ran = in_time(Window(3.0, 6.0, 4.5), lambda: run(command(turns, "--seconds", "3"), stderr=theirs))
     finally:
         os.close(theirs)
-    printed = os.read(ours, 65536)
-    os.close(ours)
+        printed = read_to_end(ours)
     expect("status and report", (ran.status, ran.output), (4, STOPPED))
-    if b" events so far" not in printed or not printed.endswith(b"\r\x1b[K"):
+    if " events so far" not in printed or not printed.endswith("\r\x1b[K"):
         raise Wrong(f"progress is {printed!r}")
 
 

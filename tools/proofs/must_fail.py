@@ -22,6 +22,8 @@ from pathlib import Path
 from typing import Iterable
 
 from tools import ROOT
+from tools.common import kit as toolchain
+
 
 def mutants_in(root: Path) -> dict[str, list[Path]]:
     """Returns the mutants that CI leaves out, by their crates' names."""
@@ -138,11 +140,6 @@ def attempt(root: Path, kit: str, names: list[str]) -> list[str]:
     return [it for name in names for it in left[name]]
 
 
-def kit_id() -> str:
-    """Returns the toolchain's version."""
-    return subprocess.run(["rt", "version"], check=True, stdout=subprocess.PIPE, text=True).stdout.strip()
-
-
 def chosen(root: Path, kit: str, words: list[str], is_anew: bool) -> list[str]:
     """Returns the crates to try, by the words of the command line."""
     every = list(mutants_in(root))
@@ -166,7 +163,7 @@ def main(words: list[str]) -> int:
     if given.check:
         return check(ROOT)
     stop_on_changes(ROOT, "mutants are tried on", "tools/proofs/must-fail")
-    kit = kit_id()
+    kit = toolchain.identity(toolchain.folder())
     names = chosen(ROOT, kit, given.names, given.anew)
     left = attempt(ROOT, kit, names) if names else []
     asked = [name for name, files in mutants_in(ROOT).items() for _ in files if name in given.names or not given.names]

@@ -1,10 +1,10 @@
 # SPDX-License-Identifier: Apache-2.0
 """Tests of ./dev bodies."""
 
-import tempfile
 import unittest
 from pathlib import Path
 
+from tools.common.testing import folder_of, put
 from tools.proofs import bodies
 from tools.proofs.bodies import Row
 
@@ -14,12 +14,10 @@ plants crate=low planted-in=4 untested=1 no-ensures=0 proves=1 same=2 refused=30
 LOW = Row("low", "0.2", 30, 2, 1, 13)
 
 
-def made(name: str) -> Path:
+def made(test: unittest.TestCase) -> Path:
     """Returns a folder with the crates `high` and `low`."""
-    root = Path(name)
-    for folder in ("release", "crates/low/src", "crates/high/src"):
-        (root / folder).mkdir(parents=True)
-    (root / "VERSION").write_text("0.2\n")
+    root = folder_of(test)
+    put(root, {"VERSION": "0.2\n", "release/BODIES": "", "crates/low/src/lib.rt": "", "crates/high/src/lib.rt": ""})
     return root
 
 
@@ -35,14 +33,12 @@ class OfBodies(unittest.TestCase):
         self.assertEqual(bodies.row_of(str(LOW)), LOW)
 
     def test_a_new_row_replaces_that_of_its_crate(self) -> None:
-        with tempfile.TemporaryDirectory() as name:
-            root = made(name)
-            bodies.note(root, [Row("gone", "0.1", 1, 1, 1, 1), LOW._replace(version="0.1")])
-            bodies.note(root, [LOW])
-            self.assertEqual(bodies.noted_rows(root), [LOW])
+        root = made(self)
+        bodies.note(root, [Row("gone", "0.1", 1, 1, 1, 1), LOW._replace(version="0.1")])
+        bodies.note(root, [LOW])
+        self.assertEqual(bodies.noted_rows(root), [LOW])
 
     def test_the_report_has_sums_and_what_is_missing(self) -> None:
-        with tempfile.TemporaryDirectory() as name:
-            root = made(name)
-            bodies.note(root, [LOW, LOW._replace(name="high", version="0.1")])
-            self.assertEqual(bodies.report(root).splitlines()[2:], ["all 0.2 60 refused 4 equal 2 through 26 unjudged", "none of 0.2: high"])
+        root = made(self)
+        bodies.note(root, [LOW, LOW._replace(name="high", version="0.1")])
+        self.assertEqual(bodies.report(root).splitlines()[2:], ["all 0.2 60 refused 4 equal 2 through 26 unjudged", "none of 0.2: high"])

@@ -31,7 +31,7 @@ from pathlib import Path
 from typing import Any, Iterable, Mapping
 
 from tools import ROOT
-from tools.common.kit import folder as kit_folder
+from tools.common.kit import folder as kit_folder, identity as kit_id
 from tools.night import record
 from tools.proofs import must_fail
 
@@ -156,11 +156,6 @@ def what_is_proved(root: Path) -> str:
 
 
 # ---- The builds
-
-
-def kit_id(kit: Path) -> str:
-    """Returns the toolchain's version, as `rt version` prints it."""
-    return (kit / "KIT-ID").read_text(encoding="utf-8").strip()
 
 
 def copy_committed(root: Path, tree: Path, with_checks: bool) -> None:

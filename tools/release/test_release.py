@@ -8,11 +8,11 @@ import hashlib
 import io
 import shutil
 import tarfile
-import tempfile
 import unittest
 from pathlib import Path
 
 from tools import ROOT
+from tools.common import kit
 from tools.common.testing import folder_of, put, replace, said
 from tools.night import record
 from tools.proofs import must_fail
@@ -117,7 +117,8 @@ class OfMutants(WithRepository):
         super().setUp()
         self.edit("tools/proofs/must-fail/low/three.edit", MUTANT.replace("2", "3"))
         self.printed = "must-fail low/two.edit: refused, as it must be: src/lib.rt:2\nmust-fail low/three.edit: refused, as it must be\n"
-        replace(self, must_fail, ROOT=self.root, kit_id=lambda: "kit", stop_on_changes=lambda *words: None)
+        replace(self, kit, folder=lambda: self.root, identity=lambda kit: "kit")
+        replace(self, must_fail, ROOT=self.root, stop_on_changes=lambda *words: None)
         replace(self, must_fail, copy_mutants=lambda *words: None, output_of=lambda *words: self.printed)
 
     def attempt(self) -> list[str]:
@@ -247,13 +248,12 @@ class OfRelease(unittest.TestCase):
         self.assertEqual(release.functions_in(text), 3)
 
     def test_a_log_that_failed_is_no_gate(self) -> None:
-        with tempfile.TemporaryDirectory() as name:
-            log = Path(name) / "log"
-            log.write_text("rt: ok\n12 passed, 0 failed\n\n")
-            self.assertEqual(release.last_line(log), "12 passed, 0 failed")
-            for text in ("12 passed, 1 failed\n", "", "12 passed, 0 failed\nstopped\n"):
-                log.write_text(text)
-                self.assertRaises(SystemExit, release.last_line, log)
+        log = folder_of(self) / "log"
+        log.write_text("rt: ok\n12 passed, 0 failed\n\n")
+        self.assertEqual(release.last_line(log), "12 passed, 0 failed")
+        for text in ("12 passed, 1 failed\n", "", "12 passed, 0 failed\nstopped\n"):
+            log.write_text(text)
+            self.assertRaises(SystemExit, release.last_line, log)
 
 
 class OfPackages(unittest.TestCase):
@@ -263,15 +263,13 @@ class OfPackages(unittest.TestCase):
         self.assertEqual(len(data), 8 + 60 + 4 + 60 + 2)
 
     def test_a_tar_archive_has_no_trace_of_its_maker(self) -> None:
-        with tempfile.TemporaryDirectory() as name:
-            folder = Path(name) / "tree"
-            (folder / "bin").mkdir(parents=True)
-            (folder / "bin/tw").write_text("x")
-            (folder / "bin/tw").chmod(0o700)
-            (folder / "link").symlink_to("bin/tw")
-            first = package.tar_of(folder, ".")
-            (folder / "bin/tw").touch()
-            self.assertEqual(package.tar_of(folder, "."), first)
+        folder = folder_of(self)
+        put(folder, {"bin/tw": "x"})
+        (folder / "bin/tw").chmod(0o700)
+        (folder / "link").symlink_to("bin/tw")
+        first = package.tar_of(folder, ".")
+        (folder / "bin/tw").touch()
+        self.assertEqual(package.tar_of(folder, "."), first)
         with tarfile.open(fileobj=io.BytesIO(first)) as archive:
             found = {it.name: (it.mode, it.uid, it.mtime, it.issym()) for it in archive if not it.isdir()}
         self.assertEqual(found["./bin/tw"], (0o755, 0, package.EPOCH, False))

@@ -1,10 +1,7 @@
 # SPDX-License-Identifier: Apache-2.0
 """Tests of ./dev walks on a small repository."""
 
-import pathlib
-import tempfile
-
-from tools.common.testing import Table, put
+from tools.common.testing import Table, folder_of, put
 from tools.sources import walks
 
 MAIN = """/// Begins.
@@ -62,9 +59,9 @@ DOCUMENT = """# A document
 class Walks(Table):
     def faults(self, old: str, new: str) -> list[str]:
         """Returns what is wrong with the document's walks after an edit."""
-        with tempfile.TemporaryDirectory() as room:
-            put(pathlib.Path(room), {"top/src/main.rt": MAIN, "top/src/parts.rt": PARTS})
-            return list(walks.faults_of(walks.walks_of(DOCUMENT.replace(old, new)), pathlib.Path(room)))
+        room = folder_of(self)
+        put(room, {"top/src/main.rt": MAIN, "top/src/parts.rt": PARTS})
+        return list(walks.faults_of(walks.walks_of(DOCUMENT.replace(old, new)), room))
 
     def test_walks_are_paragraphs_in_bold(self) -> None:
         """Text before the first walk and after the section has no steps; options and types are none."""

@@ -1,12 +1,10 @@
 # SPDX-License-Identifier: Apache-2.0
 """Tests of ./dev words on small texts."""
 
-import pathlib
-import tempfile
 import unittest
 from unittest import mock
 
-from tools.common.testing import Table, put, replace
+from tools.common.testing import Table, folder_of, put, replace
 from tools.sources import words
 
 
@@ -66,17 +64,21 @@ class Documents(Table):
         self.compare(found, *((it, it, 1) for it in ("C.md", "B.md#c", "#b", "../docs/none.png")))
 
 
+def dead_names(test: unittest.TestCase, text: str, files: dict[str, str]) -> list[tuple[int, str]]:
+    """Returns what a document of docs/ names that isn't there, in a folder with these files."""
+    root = folder_of(test)
+    put(root, files)
+    words.code_of.cache_clear()
+    words.first_parts.cache_clear()
+    test.addCleanup(words.first_parts.cache_clear)
+    with mock.patch.object(words, "ROOT", root):
+        return [(it.line, it.text) for it in words.dead_code("docs/D.md", words.markdown_lines(text))]
+
+
 class Code(Table):
     def found(self, text: str) -> list[tuple[int, str]]:
-        with tempfile.TemporaryDirectory() as folder:
-            source = {"b.rt": "/// Calls gone.\npub fn one(x: u8) {}\nenum Two { Three }\n", "c.antt": "abbrev pub four : T\nfour = five\n"}
-            put(pathlib.Path(folder, "crates/tw_a"), {**{f"src/{name}": text for name, text in source.items()}, "specs/machine/D.antt": "six : T\n"})
-            words.code_of.cache_clear()
-            words.first_parts.cache_clear()
-            self.addCleanup(words.first_parts.cache_clear)
-            lines = words.markdown_lines(text)
-            with mock.patch.object(words, "ROOT", pathlib.Path(folder)):
-                return [(it.line, it.text) for it in words.dead_code("docs/A.md", lines)]
+        source = {"b.rt": "/// Calls gone.\npub fn one(x: u8) {}\nenum Two { Three }\n", "c.antt": "abbrev pub four : T\nfour = five\n"}
+        return dead_names(self, text, {**{f"crates/tw_a/src/{name}": it for name, it in source.items()}, "crates/tw_a/specs/machine/D.antt": "six : T\n"})
 
     def test_sources(self) -> None:
         self.compare(
@@ -97,13 +99,8 @@ class Code(Table):
 
 class Files(Table):
     def found(self, text: str) -> list[tuple[int, str]]:
-        """Returns what a document of docs/ names that isn't there."""
-        with tempfile.TemporaryDirectory() as folder:
-            put(pathlib.Path(folder), dict.fromkeys(("docs/more/A.md", "tools/a.py", "crates/tw_a/proofs/B.antt", "crates/tw_code/specs/machine/C.antt"), ""))
-            words.first_parts.cache_clear()
-            self.addCleanup(words.first_parts.cache_clear)
-            with mock.patch.object(words, "ROOT", pathlib.Path(folder)):
-                return [(it.line, it.text) for it in words.dead_code("docs/D.md", words.markdown_lines(text))]
+        files = ("docs/more/A.md", "tools/a.py", "crates/tw_a/proofs/B.antt", "crates/tw_code/specs/machine/C.antt")
+        return dead_names(self, text, dict.fromkeys(files, ""))
 
     def test_files(self) -> None:
         self.compare(

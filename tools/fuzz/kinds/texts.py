@@ -354,12 +354,8 @@ class RenamedTest(FuzzTest):
 
 
 @dataclass(frozen=True)
-class WrongNameTest(TextTest):
+class WrongNameTest(NamesTest):
     """A symbolic assembly with one error of names or signs: its code, its line, and the word that the diagnostic of a name begins with."""
-
-    @property
-    def words(self) -> list[str]:
-        return ["asm", "--names"]
 
     @property
     def text(self) -> str:

@@ -17,9 +17,9 @@ A name that several crates have means the highest one's. Needs Python 3.8.
 
 import re
 from collections.abc import Iterable
+from itertools import takewhile
 
 from tools import ROOT
-
 from tools.proofs.believe.definitions import CRATES, Definition, Item, Use, fail, read, uses_of_definition
 from tools.proofs.believe.promises import Promise, promise, renamed
 from tools.proofs.believe.sources import TypeItem, fields_named, shown_type, uses_of_type
@@ -130,12 +130,7 @@ def in_order(items: set[Item]) -> list[tuple[str, list[Item]]]:
 
 def head_of(file: str) -> str:
     """Returns the comment at the head of a file."""
-    lines: list[str] = []
-    for line in read(file).splitlines():
-        if not line.startswith(("--", "//!")):
-            break
-        lines.append(line)
-    return "\n".join(lines) + "\n" if lines else ""
+    return "".join(f"{line}\n" for line in takewhile(lambda line: line.startswith(("--", "//!")), read(file).splitlines()))
 
 
 def renamed_in(group: list[Item]) -> list[str]:

@@ -445,10 +445,8 @@ def uses_of_type(item: TypeItem, named: set[str]) -> list[Use]:
 
 def uses_of_trait(item: TypeItem) -> list[Use]:
     where, (start, end) = item.code, item.range
-    uses: list[Use] = []
-    for term in re.findall(r"^ *ghost \w+: \{(.*)\};", where.text[start:end], re.M):
-        uses += uses_of_term(where, term, {"Self"}, {}, where.names, where.modules, {item.name: item})
-    return uses
+    terms = re.findall(r"^ *ghost \w+: \{(.*)\};", where.text[start:end], re.M)
+    return [use for term in terms for use in uses_of_term(where, term, {"Self"}, {}, where.names, where.modules, {item.name: item})]
 
 
 def uses_of_model(item: TypeItem, model: ModelOf, text: str) -> list[Use]:
