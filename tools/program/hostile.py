@@ -1,9 +1,8 @@
 # SPDX-License-Identifier: Apache-2.0
 """Runs the command tw on the worst inputs of each kind, of 16 MiB, under each command that takes them. There are heads, names, constants, labels,
 comments, one line, line ends, digits, quotes, hex text, traces, inputs, lines of JSON, and a cycle of 300,000 rules. Prints a line an input, with the
-most seconds of processor time and the most memory of its commands, and ends with `N passed, M failed`. A command fails that takes more than
-3 seconds of processor time in each of three runs (0.5 for assembly text with an error near its top), more than 40 times the input's memory (at
-least 64 MB; 96 for a program with the most instructions that there may be, whose text may be short), or that says more than 64 KB of why it refuses.
+most seconds of processor time and the most memory of its commands, and ends with `N passed, M failed`. A command fails that takes more processor
+time in each of three runs than the input allows, more than 40 times its memory, or that says more than 64 KB of why it refuses.
 
   ./dev hostile [--only WORD] [--commands N]    the inputs whose names have a word; at most so many commands of each
 
@@ -12,6 +11,7 @@ Needs Python 3.9, and 100 MB in the folder for temporary files. It takes some mi
 
 import argparse
 import itertools
+import multiprocessing
 import os
 import re
 import resource
@@ -28,11 +28,12 @@ from tools.program import collisions
 WHOLE = 16 * 1024 * 1024  # bytes of the longest input
 SECONDS = 3.0  # more processor time fails
 EARLY = 0.5  # .. where the first error is near the top of assembly text
+COMPARED = 5.0  # .. where a million names, labels or lines are read, and again beside their expansion
 STOPPED = 10  # seconds of processor time after which a command is stopped
 TIMES = 40  # more memory than so many inputs of this size fails
 TRIES = 3  # a command that takes more time is run again, up to so many times in all: a busy machine's memory is slow
 FLOOR = 64.0  # MB that any command may take
-GREATEST = 96.0  # MB for a program of 262,144 instructions, the most there may be, however short its text
+GREATEST = 128.0  # MB for a program of 262,144 instructions, the most there may be, however short its text
 COLLIDING = 100_000  # names that collide
 FEW = 10  # more commands have answers of both kinds
 REASON = 64 * 1024  # more bytes of an error fail, but for a listing
@@ -62,7 +63,8 @@ TAKES = "version 2\nproc control closed cont int write int\nregs int\nDROPR d0\n
 
 # How the answer of a command begins that doesn't reject its input.
 ANSWERS = {"asm": r"[0-9a-f]|proc |version |names|\{", "check": r"accepted|proc |\{", "disasm": r"proc |version |\{", "picture": "<svg"}
-REFUSED = r"refused |\{|command line refused|input"
+REFUSED = r"refused |not enabled |\{|command line refused|input"
+LISTED = rf"{REFUSED}|procedure 0\n"  # with --places
 
 Maker = Callable[[int], str]
 
@@ -186,7 +188,7 @@ def names() -> Iterator[Input]:
     """Constants, registers and labels."""
     yield Input("constants", TEXT, numbered("names\n", "const c% = 1\n", RETURNS))
     yield Input("long names", TEXT, numbered("names\n", "const " + "n" * 50 + "% = 1\n", RETURNS))
-    yield Input("let", TEXT, numbered(NAMED, "let n% = d1\n", "RET\n"))
+    yield Input("let", TEXT, numbered(NAMED, "let n% = d1\n", "RET\n"), seconds=COMPARED)
     yield Input("NEW with names", TEXT, numbered(NAMED, "NEW n% m% int\n", "RET\n"))
     yield Input("one name", TEXT, padded(NAMED, "INT one 1\n", "RET\n"))
     yield Input("names that mean nothing", TEXT, padded(NAMED, "INT two 1\n", "RET\n"))
@@ -194,9 +196,9 @@ def names() -> Iterator[Input]:
     yield Input("labels that collide", TEXT, colliding("proc control\nregs\n", "%:\n", "RET\n"))
     yield Input("labels that collide after names", TEXT, colliding(NAMED, "%:\n", "RET\n"))
     yield Input("labels", TEXT, numbered("proc control\nregs\n", "l%:\n", "RET\n"))
-    yield Input("labels after names", TEXT, numbered(NAMED, "l%:\n", "RET\n"))
+    yield Input("labels after names", TEXT, numbered(NAMED, "l%:\n", "RET\n"), seconds=COMPARED)
     yield Input("labels of four letters", TEXT, lettered("proc control\nregs\n", "%:\n", "RET\n"))
-    yield Input("labels of four letters after names", TEXT, lettered(NAMED, "%:\n", "RET\n"))
+    yield Input("labels of four letters after names", TEXT, lettered(NAMED, "%:\n", "RET\n"), seconds=COMPARED)
     yield Input("skips to labels", TEXT, numbered("proc control\nregs\n", "JMP l%\nl%:\n", "RET\n"))
     yield Input("skips to one label", TEXT, padded("proc control\nregs\n", "JMP end\n", "end:\nRET\n"))
 
@@ -213,7 +215,7 @@ def lines() -> Iterator[Input]:
     yield Input("instructions in one line", TEXT, padded("proc control\nregs\n", "RET ", "\n"))
     yield Input("spaces", TEXT, padded("", " ", RETURNS))
     yield Input("line ends", TEXT, padded("", "\n", RETURNS))
-    yield Input("line ends after names", TEXT, padded("names\n", "\n", RETURNS))
+    yield Input("line ends after names", TEXT, padded("names\n", "\n", RETURNS), seconds=COMPARED)
     yield Input("lines of a blank after names", TEXT, padded("names\n", " \n", RETURNS))
     yield Input("line ends and an error", TEXT, padded(RETURNS, "\n", "x\n"))
     yield Input("carriage returns", TEXT, padded("", "\r", "\n" + RETURNS))
@@ -349,7 +351,7 @@ def faults(words: str, use: Use, size: int, given: Input) -> list[str]:
     most = max(given.floor, TIMES * size / (1 << 20))
     is_listed = "--places" in words
     repeats = {"--places", "--plain"} & {*words.split()}  # the input's lines, whatever they are
-    form = REFUSED if use.status in (1, 2) else r"(?!quiet\n)" if repeats else ANSWERS.get(words.split()[0], "")
+    form = (LISTED if is_listed else REFUSED) if use.status in (1, 2) else r"(?!quiet\n)" if repeats else ANSWERS.get(words.split()[0], "")
     tried = (
         (use.status < 0, f"ended by signal {-use.status}"),
         (use.seconds > given.seconds, f"{use.seconds:.1f} s where {given.seconds:.1f} are allowed"),
@@ -360,16 +362,24 @@ def faults(words: str, use: Use, size: int, given: Input) -> list[str]:
     return [output for is_so, output in tried if is_so]
 
 
+def write_input(given: Input, source: Path) -> None:
+    """Writes an input, in a process of its own: the memory of the one that runs a command would count as the command's."""
+    maker = multiprocessing.get_context("fork").Process(target=lambda: source.write_bytes(given.make(WHOLE).encode()))
+    maker.start()
+    maker.join()
+    assert maker.exitcode == 0
+
+
 def try_input(program: str, given: Input, most: int, room: Path, statuses: set[int]) -> tuple[int, int]:
     """Runs so many commands on an input, and prints its line and one of each command that fails. Returns how many passed and failed."""
     source, output = room / "input", room / "output"
-    data = given.make(WHOLE).encode()
-    source.write_bytes(data)
+    write_input(given, source)
+    size = source.stat().st_size
     uses = [(words, least_used(program, words.split(), source, output, given.seconds)) for words in given.commands[:most]]
-    found = [(words, faults(words, use, len(data), given)) for words, use in uses]
+    found = [(words, faults(words, use, size, given)) for words, use in uses]
     statuses |= {use.status for _, use in uses}
     slowest, largest = max(use.seconds for _, use in uses), max(use.megabytes for _, use in uses)
-    print(f"{given.name}: {slowest:.2f} s, {largest:.0f} MB, of {len(data) / (1 << 20):.1f} MiB", flush=True)
+    print(f"{given.name}: {slowest:.2f} s, {largest:.0f} MB, of {size / (1 << 20):.1f} MiB", flush=True)
     for words, wrong in found:
         if wrong:
             print(f"    FAILED {words}: {', '.join(wrong)}", flush=True)

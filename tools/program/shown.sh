@@ -3,7 +3,7 @@
 # Runs each command `$ ./tw ..` that README.md, docs/, examples/sessions.txt and orders.txt there show, and those of tools/program/scripted.txt, which open files
 # or use the shell, and compares its standard output with what is shown below it. After an error, standard error has to name its explanation. Also
 # compares the commands that `./tw --help` and the program list, and checks that the files for editors and shells are up to date. Prints each
-# difference, and fails if there is one.
+# difference, and fails if there is one; with --first it ends at the first one.
 root=$(readlink -f "$0") && root=${root%/tools/*}
 room=$(mktemp -d)
 trap 'rm -rf "$room"' EXIT
@@ -12,6 +12,7 @@ ln -s "$root/examples" "$root/bench" "$root/CHANGELOG.md" "$root/tw" "$room"
 # The marker ends the last command.
 { cat "$room/shown.txt" "$root/examples/sessions.txt" "$root/examples/orders.txt" "$root/tools/program/scripted.txt"; echo '$ '; } >"$room/all"
 program=$("$root/script/pick.sh" tw_main) || exit
+first=${1:-}
 cd "$room" || exit
 
 compare() {
@@ -23,6 +24,7 @@ compare() {
     differ=$((differ + 1))
     echo "\$ $command"
     diff wanted printed && cat errors
+    [ -z "$first" ] || exit 1
 }
 
 compare_all() {

@@ -20,9 +20,11 @@ import subprocess
 import sys
 import tempfile
 import time
+from concurrent.futures import ThreadPoolExecutor
 from dataclasses import dataclass
 from functools import cache
 from pathlib import Path
+from queue import SimpleQueue
 
 from tools import ROOT
 from tools.common.program import ARCHIVE, LIBRARY, found
@@ -32,11 +34,14 @@ from tools.proofs.breaks import Place, built, names_of, write_broken
 SECONDS = 900 * float(os.environ.get("PATIENCE", "1"))
 TIMES = 5
 
+# The edits that are tried at once have a copy each.
+COPIES = max(1, (os.cpu_count() or 1) - 1)
+
 # The command that tests each part, its quick tests first. @LIBRARY@, @ARCHIVE@ and @MODULE@ are the libraries and the page's module.
 TESTS = {
-    "main": "./dev shown && ./dev progress",
+    "main": "./dev shown --first && ./dev progress",
     "host": "crates/tw_host_cases/out/tw_host_cases <out/host_cases >out/host_said; head -n 1 out/host_said; grep -qxFf out/host_wanted out/host_said",
-    "script": "./dev shown",
+    "script": "./dev shown --first",
     "release": "python3 -B -m unittest -f tools.release.test_release",
     "cases": "python3 -B -m unittest -f tools.cases.test_cases",
     "python": "export PYTHONPATH=$PWD/embed/python YUGLEMIT_LIBRARY=@LIBRARY@ && cd embed/python/tests && "
@@ -381,6 +386,19 @@ def attempt(mutant: Mutant, folder: Path, seconds: float) -> bool:
     return not passes
 
 
+def attempts(mutants: list[Mutant], copies: SimpleQueue[Path], most: dict[str, float]) -> list[tuple[Mutant, bool]]:
+    """Tries edits, as many at once as there are copies. Returns of each whether the tests fail."""
+
+    def attempted(mutant: Mutant) -> bool:
+        folder = copies.get()
+        is_killed = attempt(mutant, folder, most[mutant.part])
+        copies.put(folder)
+        return is_killed
+
+    with ThreadPoolExecutor(copies.qsize()) as pool:
+        return list(zip(mutants, pool.map(attempted, mutants)))
+
+
 def chosen(words: list[str]) -> list[Mutant]:
     unknown = [word for word in words if word not in TESTS and word not in [mutant.name for mutant in MUTANTS]]
     if unknown:
@@ -428,10 +446,12 @@ def main(words: list[str]) -> int:
     mutants = chosen([word for word in words if word != "--table"])
     parts = list(dict.fromkeys(mutant.part for mutant in mutants))
     with tempfile.TemporaryDirectory() as name:
-        folder = Path(name)
-        copy_repository(folder)
-        most = times_of(parts, folder)
-        results = [(mutant, attempt(mutant, folder, most[mutant.part])) for mutant in mutants if mutant.part in most]
+        copies: SimpleQueue[Path] = SimpleQueue()
+        for number in range(COPIES):
+            copies.put(Path(name) / str(number))
+            copy_repository(Path(name) / str(number))
+        most = times_of(parts, Path(name) / "0")
+        results = attempts([mutant for mutant in mutants if mutant.part in most], copies, most)
     if "--table" in words:
         table(results)
     killed = sum(is_killed for _, is_killed in results)
