@@ -1,5 +1,5 @@
 -- Goals, resolved one by one.
-use Rattle.tw_asm.proofs.AsmNames.{AllByRecursion, AsmFault, Drafted, Instr, List, Placed, Procedure, Section, [], ap, arith, drop, flat_map, get_or, inl, inr, length, map, map-append, map-id, refl, split_at, subst, suc, sym, take, ℕ, ◌++◌, ◌+◌, ◌<◌, ◌∙◌, ◌∷◌, ◌≡◌}
+use Rattle.tw_asm.proofs.AsmNames.{AllByRecursion, AsmFault, Drafted, Instr, List, None, Placed, Procedure, Section, [], ap, arith, drop, flat_map, get_or, inl, inr, length, map, map-append, map-id, refl, split_at, subst, suc, sym, take, ℕ, ◌++◌, ◌+◌, ◌<◌, ◌∙◌, ◌∷◌, ◌≡◌}
 use Rattle.tw_asm.specs.reading.Goals.{AreLinkedCode, AreLinkedProcedures, FirstUnlinked, Goal, HasLabelsWithin, IsLinked, IsLinkedProcedure, IsUnlinked, goals_in, section_goals}
 
 abbrev goal_at : List Placed → ℕ → Drafted → Goal
@@ -32,6 +32,11 @@ unlinked_there labels place (x ∷ drafts) [] d others f l here = absurd l
 unlinked_there labels place (x ∷ drafts) (j ∷ code) d others f l here =
     let e : place + suc (length drafts) ≡ (place + 1) + length drafts = omega arith in
     inr ((j, l.0), unlinked_there labels (place + 1) drafts code d others f l.1 (subst (λ (k : ℕ). IsUnlinked (goal_at labels k d) f) e here))
+
+pub found_last : (goals : List Goal) (f : AsmFault) → FirstUnlinked goals f → f.found ≡ None
+found_last [] f u = absurd u
+found_last (goal ∷ goals) f (inl u) = u.4
+found_last (goal ∷ goals) f (inr u) = found_last goals f u.1
 
 unlinked_front : (goals others : List Goal) (f : AsmFault) → FirstUnlinked goals f → FirstUnlinked (goals ++ others) f
 unlinked_front [] others f u = absurd u

@@ -1,5 +1,5 @@
 -- A text has one first fault.
-use Rattle.tw_asm.proofs.AsmNames.{AnyShortName, Bare, Begins, Code, Contains, EncodesInLimits, FaultNo, First, GoalFault, HasStatement, HasWords, HaveStatements, InBody, Instr, IsEmpty, IsEndFault, IsExpected, IsFirstFault, IsFirstGoalFault, IsLine, IsLineFault, IsUnfinished, Label, LineFault, List, MayBegin, NamesLabel, Option, ParserState, Stage, Statement, Version, Word, [], after_line, ap, arith, at_start, cases_lt, drop, first_word_once, inl, inr, labels_ahead, length, line_once, lines, not_forward, refl, situation, situation_from, slice_get, subst, suc, sym, take, unknown, zero, ℕ, ◌++◌, ◌+◌, ◌<◌, ◌∙◌, ◌∷◌, ◌≡◌, ◌≤◌, ◌⊎◌}
+use Rattle.tw_asm.proofs.AsmNames.{AnyShortName, Bare, Begins, Code, Contains, EncodesInLimits, FaultNo, First, GoalFault, HasStatement, HasWords, HaveStatements, InBody, Instr, IsEmpty, IsEndFault, IsExpected, IsFirstFault, IsFirstGoalFault, IsLine, IsLineFault, IsUnfinished, Label, LineFault, List, MayBegin, NamesLabel, Option, ParserState, Some, Stage, Statement, Version, Word, [], after_line, ap, arith, at_start, cases_lt, drop, first_word_once, inl, inr, labels_ahead, length, line_once, lines, not_forward, refl, situation, situation_from, slice_get, subst, suc, sym, take, unknown, zero, ℕ, ◌++◌, ◌+◌, ◌<◌, ◌∙◌, ◌∷◌, ◌≡◌, ◌≤◌, ◌⊎◌}
 use Rattle.tw_asm.specs.declared.statement.First.TheVariants as first
 use Rattle.tw_asm.specs.declared.fault.FaultNo.TheVariants as fault
 use Rattle.tw_asm.proofs.Begins.{line_begins}
@@ -162,9 +162,10 @@ line_fault_at k l t u line next which at e f g h =
 
 one_line_fault : (number : ℕ) (s : ParserState) (before after : List (List ℕ)) (line next : List ℕ) (others more : List (List ℕ)) (said also_said : List (Option Statement)) (k l : ℕ) (t u : ParserState) (a b : FaultNo) (m n : ℕ)
     → before ++ (line ∷ others) ≡ after ++ (next ∷ more) → HaveStatements number s before said → HaveStatements number s after also_said → k ≡ length before + number → l ≡ length after + number
-    → situation_from number s said ≡ t → situation_from number s also_said ≡ u → LineFault k t line a m → LineFault l u next b n → (a ≡ b) × (m ≡ n)
+    → situation_from number s said ≡ t → situation_from number s also_said ≡ u → LineFault k t line a m → LineFault l u next b n → (a ≡ b) × (m ≡ n) × (k ≡ l)
 one_line_fault number s [] [] line next others more [] [] k l t u a b m n e h j ke le te ue f g =
-    line_faults k t line a b m n f (line_fault_at k l t u line next b n (omega (arith, ke, le)) (sym ue ∙ te) (sym (head_line_is line next others more e)) g)
+    let same = line_faults k t line a b m n f (line_fault_at k l t u line next b n (omega (arith, ke, le)) (sym ue ∙ te) (sym (head_line_is line next others more e)) g) in
+    (same.0, same.1, omega (arith, ke, le))
 one_line_fault number s [] [] line next others more (x ∷ said) also_said k l t u a b m n e h j ke le te ue f g = absurd h
 one_line_fault number s [] [] line next others more [] (y ∷ also_said) k l t u a b m n e h j ke le te ue f g = absurd j
 one_line_fault number s [] (second ∷ after) line next others more [] [] k l t u a b m n e h j ke le te ue f g = absurd j
@@ -196,8 +197,8 @@ next_said number s (first ∷ before) line more (x ∷ said) (y ∷ also_said) h
     (r.0, subst (λ (t : ParserState). HasStatement (situation_from (number + 1) t also_said) line r.0) (both_alike number s first x y h.0 l.0) r.1)
 
 -- no line has a fault if all lines are allowed
-no_line_fault : {Z : Type 0} (text : List ℕ) (which : FaultNo) (at : ℕ) (said : List (Option Statement)) → HaveStatements 1 at_start (lines text) said → IsLineFault text which at → Z
-no_line_fault text which at said h f =
+no_line_fault : {Z : Type 0} (text : List ℕ) (which : FaultNo) (at : ℕ) (found : Option ℕ) (said : List (Option Statement)) → HaveStatements 1 at_start (lines text) said → IsLineFault text which at found → Z
+no_line_fault text which at found said h f =
     let next = next_said 1 at_start f.before f.line f.others said f.said (subst (λ (ls : List (List ℕ)). HaveStatements 1 at_start ls said) f.parts h) f.say in
     absurd (line_no_fault (length f.before + 1) (situation f.said) f.line next.0 which at next.1 f.wrong)
 
@@ -244,18 +245,20 @@ one_goal_fault text a b m n f g =
 
 -- ---- the first fault
 
-pub one_first_fault : (text : List ℕ) (which other : FaultNo) (line number : ℕ) → IsFirstFault text which line → IsFirstFault text other number → (which ≡ other) × (line ≡ number)
-one_first_fault text which other line number (inl f) (inl g) =
-    one_line_fault 1 at_start f.before g.before f.line g.line f.others g.others f.said g.said (length f.before + 1) (length g.before + 1) (situation f.said) (situation g.said) which other line number
-    (sym f.parts ∙ g.parts) f.say g.say refl refl refl refl f.wrong g.wrong
-one_first_fault text which other line number (inl f) (inr (inl g)) = no_line_fault text which line g.said g.say f
-one_first_fault text which other line number (inl f) (inr (inr g)) = no_line_fault text which line g.0.said g.0.say f
-one_first_fault text which other line number (inr (inl f)) (inl g) = no_line_fault text other number f.said f.say g
-one_first_fault text which other line number (inr (inr f)) (inl g) = no_line_fault text other number f.0.said f.0.say g
-one_first_fault text which other line number (inr (inl f)) (inr (inl g)) = (
+pub one_first_fault : (text : List ℕ) (which other : FaultNo) (line number : ℕ) (found last : Option ℕ) → IsFirstFault text which line found → IsFirstFault text other number last → (which ≡ other) × (line ≡ number) × (found ≡ last)
+one_first_fault text which other line number found last (inl f) (inl g) =
+    let same = one_line_fault 1 at_start f.before g.before f.line g.line f.others g.others f.said g.said (length f.before + 1) (length g.before + 1) (situation f.said) (situation g.said) which other line number
+    (sym f.parts ∙ g.parts) f.say g.say refl refl refl refl f.wrong g.wrong in
+    (same.0, same.1, f.found_is ∙ ap (λ (n : ℕ). Some n) same.2 ∙ sym g.found_is)
+one_first_fault text which other line number found last (inl f) (inr (e, inl g)) = no_line_fault text which line found g.said g.say f
+one_first_fault text which other line number found last (inl f) (inr (e, inr g)) = no_line_fault text which line found g.0.said g.0.say f
+one_first_fault text which other line number found last (inr (e, inl f)) (inl g) = no_line_fault text other number last f.said f.say g
+one_first_fault text which other line number found last (inr (e, inr f)) (inl g) = no_line_fault text other number last f.0.said f.0.say g
+one_first_fault text which other line number found last (inr (e, inl f)) (inr (o, inl g)) = (
   f.number ∙ sym g.number,
   unfinished_once (situation g.said) line number (subst (λ (t : ParserState). IsUnfinished t line) (same_end 1 at_start (lines text) f.said g.said f.say g.say) f.unfinished) g.unfinished,
+  e ∙ sym o,
 )
-one_first_fault text which other line number (inr (inl f)) (inr (inr g)) = no_end_fault text which other line number f g
-one_first_fault text which other line number (inr (inr f)) (inr (inl g)) = no_end_fault text other which number line g f
-one_first_fault text which other line number (inr (inr f)) (inr (inr g)) = one_goal_fault text which other line number f g
+one_first_fault text which other line number found last (inr (e, inl f)) (inr (o, inr g)) = no_end_fault text which other line number f g
+one_first_fault text which other line number found last (inr (e, inr f)) (inr (o, inl g)) = no_end_fault text other which number line g f
+one_first_fault text which other line number found last (inr (e, inr f)) (inr (o, inr g)) = let same = one_goal_fault text which other line number f g in (same.0, same.1, e ∙ sym o)

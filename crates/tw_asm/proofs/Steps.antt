@@ -122,7 +122,7 @@ one_more ls line p q read a r e =
 
 -- the next line has the fault
 pub fault_there : (text : List ℕ) (before : List (List ℕ)) (line : List ℕ) (others : List (List ℕ)) (p : Progress) (which : FaultNo) (at : ℕ)
-    → lines text ≡ before ++ (line ∷ others) → AreTextRead before p → LineFault (length before + 1) (situation_of p) line which at → IsLineFault text which at
+    → lines text ≡ before ++ (line ∷ others) → AreTextRead before p → LineFault (length before + 1) (situation_of p) line which at → IsLineFault text which at (Some (length before + 1))
 fault_there text before line others p which at parts a f = record {
   before = before;
   line = line;
@@ -131,17 +131,21 @@ fault_there text before line others p which at parts a f = record {
   said = said_by a.reads;
   say = lines_say 1 outset before a.reads a.are_read;
   wrong = subst (λ (s : ParserState). LineFault (length before + 1) s line which at) (ap situation_of a.progress ∙ situation_is 1 outset before a.reads a.are_read) f;
+  found_is = refl;
 }
 
 -- the text may not end there
 pub not_finished : (text : List ℕ) (p : Progress) (f : AsmFault) → AreTextRead (lines text) p → IsNotFinished p f → AreNotRead text f
 not_finished text p f a (inl m) = inl m
-not_finished text p f a (inr e) = inr (inr (record {
-  said = said_by a.reads;
-  say = lines_say 1 outset (lines text) a.reads a.are_read;
-  number = e.0;
-  unfinished = subst (λ (s : ParserState). IsUnfinished s f.line) (ap situation_of a.progress ∙ situation_is 1 outset (lines text) a.reads a.are_read) e.1;
-}))
+not_finished text p f a (inr e) = inr (inr (
+  e.2,
+  record {
+    said = said_by a.reads;
+    say = lines_say 1 outset (lines text) a.reads a.are_read;
+    number = e.0;
+    unfinished = subst (λ (s : ParserState). IsUnfinished s f.line) (ap situation_of a.progress ∙ situation_is 1 outset (lines text) a.reads a.are_read) e.1;
+  },
+))
 
 pub match_more : {A E : Type 0} {P Q : A → Type 0} {R S : E → Type 0} (r : Result A E) → ((a : A) → P a → Q a) → ((e : E) → R e → S e) → MatchResult r P R → MatchResult r Q S
 match_more (Ok a) good bad m = good a m
@@ -156,10 +160,10 @@ items_more items item p q e a t =
     subst (λ (ls : List (List ℕ)). AreTextRead ls q) (sym (map-append (λ (x : ℕ × Bor (List ℕ)). x.1.now) items (item ∷ []))) (taken_more (map (λ (x : ℕ × Bor (List ℕ)). x.1.now) items) item.1.now item.0 p q e a t)
 
 pub line_stopped : (text : List ℕ) (before : List (List ℕ)) (line : List ℕ) (index : ℕ) (p : Progress) (f : AsmFault) → IsAtLine (lines text) before index line → AreTextRead before p
-    → IsMemory f ⊎ LineFault (index + 1) (situation_of p) line f.no f.line → IsMemory f ⊎ IsLineFault text f.no f.line
+    → IsMemory f ⊎ LineFault (index + 1) (situation_of p) line f.no f.line → IsMemory f ⊎ IsLineFault text f.no f.line (Some (index + 1))
 line_stopped text before line index p f s a (inl m) = inl m
 line_stopped text before line index p f s a (inr x) =
-    inr (fault_there text before line s.others p f.no f.line s.parts a (subst (λ (k : ℕ). LineFault (k + 1) (situation_of p) line f.no f.line) s.index_is x))
+    inr (subst (λ (k : ℕ). IsLineFault text f.no f.line (Some (k + 1))) (sym s.index_is) (fault_there text before line s.others p f.no f.line s.parts a (subst (λ (k : ℕ). LineFault (k + 1) (situation_of p) line f.no f.line) s.index_is x)))
 
 pub lines_end : (ls : List (List ℕ)) (items : List (ℕ × Bor (List ℕ))) (p : Progress) → map (λ (item : ℕ × Bor (List ℕ)). (item.0, item.1.now)) items ≡ enumerate_from 0 ls → AreTextRead (map (λ item. item.1.now) items) p → AreTextRead ls p
 lines_end ls items p e a = subst (λ (x : List (List ℕ)). AreTextRead x p) (all_lines ls items e) a

@@ -148,7 +148,7 @@ finished version sections all head_line section c = ((refl, positive (length sec
 
 pub not_finished_there : (version : Version) (sections : List Section) (head_line : ℕ) (section : Section) (f : AsmFault) → IsNotClosed (Within section) head_line f → IsNotFinished (progress version sections head_line (Within section)) f
 not_finished_there version sections head_line section f (inl m) = inl m
-not_finished_there version sections head_line section f (inr e) = inr (e.0.0, inr (λ outset. outset, e.1, e.0.1))
+not_finished_there version sections head_line section f (inr e) = inr (e.0.0, inr (λ outset. outset, e.1, e.0.1), e.0.2)
 
 -- ---- the first word of a list
 

@@ -170,13 +170,13 @@ hold text program s =
     let held = lines_hold 1 at_start (lines text) (s.front ++ s.words) (program_said program.version s.front s.version_is (procedures_said program.version program.procedures s.words s.procedures_are)) s.lines_are says in
     (held.said, held.hold)
 
-no_line_fault : (text : List ℕ) (which : FaultNo) (at : ℕ) (held : List (Option Statement)) → LinesHold 1 at_start (lines text) held → IsLineFault text which at → ⊥
-no_line_fault text which at held h f =
+no_line_fault : (text : List ℕ) (which : FaultNo) (at : ℕ) (found : Option ℕ) (held : List (Option Statement)) → LinesHold 1 at_start (lines text) held → IsLineFault text which at found → ⊥
+no_line_fault text which at found held h f =
     let next = next_says 1 at_start f.before f.line f.others held f.said (subst (λ (ls : List (List ℕ)). LinesHold 1 at_start ls held) f.parts h) f.say in
     line_no_fault (length f.before + 1) (situation f.said) f.line next.0 which at next.1 f.wrong
 
 -- a text with a fault denotes no program
-pub fault_none : (text : List ℕ) (which : FaultNo) (at : ℕ) (program : Versioned) → IsFirstFault text which at → EncodesProgram program text → ⊥
-fault_none text which at program (inl f) s = let h = hold text program s in no_line_fault text which at h.0 h.1 f
-fault_none text which at program (inr (inl f)) s = let h = hold text program s in finished (situation f.said) at (ends_whole 1 at_start (lines text) h.0 f.said h.1 f.say) f.unfinished
-fault_none text which at program (inr (inr f)) s = let h = hold text program s in no_goal_fault 1 at_start (lines text) h.0 f.0.said f.0.index f.0.line which h.1 f.0.say f.0.line_is f.0.wrong
+pub fault_none : (text : List ℕ) (which : FaultNo) (at : ℕ) (found : Option ℕ) (program : Versioned) → IsFirstFault text which at found → EncodesProgram program text → ⊥
+fault_none text which at found program (inl f) s = let h = hold text program s in no_line_fault text which at found h.0 h.1 f
+fault_none text which at found program (inr (e, inl f)) s = let h = hold text program s in finished (situation f.said) at (ends_whole 1 at_start (lines text) h.0 f.said h.1 f.say) f.unfinished
+fault_none text which at found program (inr (e, inr f)) s = let h = hold text program s in no_goal_fault 1 at_start (lines text) h.0 f.0.said f.0.index f.0.line which h.1 f.0.say f.0.line_is f.0.wrong

@@ -141,8 +141,8 @@ pub data LineFault (number : ℕ) (s : ParserState) (line : List ℕ) : FaultNo 
   instructions : (i : Instr) (words : List Word) → s.stage ≡ InBody → IsLine words line → EncodesInLimits s.version (Code i) words
       → 4096 ≤ s.instructions → LineFault number s line fault.Limit number
 
--- the first line that isn't allowed
-pub record IsLineFault (text : List ℕ) (no : FaultNo) (at : ℕ) : Type 0 where
+-- the first line that isn't allowed, and is read last
+pub record IsLineFault (text : List ℕ) (no : FaultNo) (at : ℕ) (found : Option ℕ) : Type 0 where
   pub before : List (List ℕ)
   pub line : List ℕ
   pub others : List (List ℕ)
@@ -150,6 +150,7 @@ pub record IsLineFault (text : List ℕ) (no : FaultNo) (at : ℕ) : Type 0 wher
   pub said : List (Option Statement)
   pub say : HaveStatements 1 at_start before said
   pub wrong : LineFault (length before + 1) (situation said) line no at
+  pub found_is : found ≡ Some (length before + 1)
 
 -- holds if there is no procedure, or the last one has no instruction
 abbrev pub IsUnfinished : ParserState → ℕ → Type 0
@@ -196,6 +197,6 @@ pub record IsGoalFault (text : List ℕ) (no : FaultNo) (at : ℕ) : Type 0 wher
 abbrev pub IsFirstGoalFault : List ℕ → FaultNo → ℕ → Type 0
 IsFirstGoalFault text which at = IsGoalFault text which at × ((other : FaultNo) (number : ℕ) → IsGoalFault text other number → at ≤ number)
 
--- holds if this is the first fault of the text, and the number of its line, from 1
-abbrev pub IsFirstFault : List ℕ → FaultNo → ℕ → Type 0
-IsFirstFault text which at = IsLineFault text which at ⊎ (IsEndFault text which at ⊎ IsFirstGoalFault text which at)
+-- holds if this is the first fault of the text, the number of its line, from 1, and that of the line which was read last when it was found, if not all were
+abbrev pub IsFirstFault : List ℕ → FaultNo → ℕ → Option ℕ → Type 0
+IsFirstFault text which at found = IsLineFault text which at found ⊎ ((found ≡ None) × (IsEndFault text which at ⊎ IsFirstGoalFault text which at))

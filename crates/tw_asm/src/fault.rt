@@ -1,6 +1,6 @@
 //! Faults of assembly texts.
 
-ghost use Rattle.std.specs.Prelude.{◌≡◌};
+ghost use Rattle.std.specs.Prelude.{◌≡◌, None};
 ghost use Rattle.tw_asm.specs.Fault.{fault_number};
 ghost use Rattle.tw_asm.specs.declared.fault.FaultNo.TheVariants.{NoMemory};
 
@@ -47,19 +47,23 @@ pub struct AsmFault {
     /// The number of the word at which the line stops, from 1, or 0 if it is at none.
     pub word: usize,
     pub due: Due,
+    /// The number of the line that was read last when the fault was found, or `None` if all were.
+    pub found: Option<usize>,
 }
 
 impl AsmFault {
-    /// Makes a fault of a line.
+    /// Makes a fault of a line, found after all lines.
     pub(crate) fn new(no: FaultNo, line: usize, word: usize, due: Due) -> AsmFault
         ensures no { result.no ≡ no }
         ensures line { result.line ≡ line }
+        ensures found { result.found ≡ None }
     {
         AsmFault {
             no,
             line,
             word,
             due,
+            found: None,
         }
     }
 
@@ -73,6 +77,7 @@ impl AsmFault {
             line: 0,
             word: 0,
             due: Due::Nothing,
+            found: None,
         }
     }
 }

@@ -348,7 +348,15 @@ fn read_lines<'a>(alloc: Global, text: &'a str) -> Result<Reading<'a>, AsmFault>
     };
     for (index, line) in text.lines().enumerate() {
         if !is_plainly_blank(line) {
-            reading = take_line(alloc, reading, index + 1, line)?;
+            reading = match take_line(alloc, reading, index + 1, line) {
+                Ok(next) => next,
+                Err(fault) => {
+                    return Err(AsmFault {
+                        found: Some(index + 1),
+                        ..fault
+                    });
+                }
+            };
         }
     }
     Ok(reading)

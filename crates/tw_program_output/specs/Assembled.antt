@@ -1,5 +1,5 @@
 -- Assembling: the bytes of an assembly text, or the expanded text of symbolic assembly.
-use Rattle.std.specs.Prelude.{◌≡◌, ◌⊎◌, ◌++◌, ℕ, List, codes}
+use Rattle.std.specs.Prelude.{◌≡◌, ◌⊎◌, ◌++◌, ℕ, List, Option, codes}
 use Rattle.hex.specs.Hex.{encode_lower}
 use Rattle.tw_asm.specs.Answers.{HasFault}
 use Rattle.tw_asm.specs.Spelling.{EncodesProgram}
@@ -23,7 +23,7 @@ IsFaultReply which line r = (at : ℕ × ℕ) × (r ≡ failed (fault_failure wh
 abbrev pub RepliesByText : List ℕ → (Versioned → Reply → Type 0) → Reply → Type 0
 RepliesByText input Answers r =
     RepliesByUtf8 input (((program : Versioned) × EncodesProgram program input × Answers program r)
-    ⊎ ((which : FaultNo) × (line : ℕ) × HasFault input which line × IsFaultReply which line r)) r
+    ⊎ ((which : FaultNo) × (line : ℕ) × (found : Option ℕ) × HasFault input which line found × IsFaultReply which line r)) r
 
 -- holds for a program's bytes, in hex digits
 abbrev pub IsWritten : Versioned → Reply → Type 0

@@ -5,8 +5,6 @@ use Rattle.std.specs.Str.Lines.{lines}
 use Rattle.std.specs.declared.alloc.Global.{Global}
 use Rattle.hex.specs.Hex.{decode_of}
 use Rattle.tw_asm.specs.Answers.{HasFault}
-use Rattle.tw_asm.specs.declared.fault.FaultNo.{FaultNo}
-use Rattle.tw_asm.specs.declared.fault.FaultNo.TheVariants as asm
 use Rattle.tw_asm.specs.Spelling.{EncodesProgram}
 use Rattle.tw_binary.specs.Fault as fault
 use Rattle.tw_code.specs.format.Program.{Versioned}
@@ -43,17 +41,11 @@ IsKept text found = MatchOption found (HasNames (lines text) → ⊥) (λ plain.
 abbrev pub plain_in : FaultyText → List ℕ
 plain_in f = plain_or f.text.now f.plain
 
--- returns how many lines are read up to a fault; labels are looked for after all lines
-abbrev pub lines_read : FaultNo → ℕ → Option ℕ
-lines_read asm.UnknownLabel line = None
-lines_read asm.LabelNotForward line = None
-lines_read which line = Some line
-
 -- hold for what is kept of a text that encodes no program: its expansion has this first fault, and is the text with its names replaced as far as it was read; or
 -- a name error is reported
 abbrev pub IsFaulty : List ℕ → FaultyText → Type 0
-IsFaulty text f = (f.text.now ≡ text) × IsKept text f.plain × HasFault (plain_in f) f.fault.no f.fault.line
-    × IfSome f.plain (λ plain. IsRenamedUpTo (lines_read f.fault.no f.fault.line) text (string_bytes plain))
+IsFaulty text f = (f.text.now ≡ text) × IsKept text f.plain × HasFault (plain_in f) f.fault.no f.fault.line f.fault.found
+    × IfSome f.plain (λ plain. IsRenamedUpTo f.fault.found text (string_bytes plain))
 
 abbrev pub IsUnexpanded : List ℕ → UnexpandedText → Type 0
 IsUnexpanded text f = f.text.now ≡ text

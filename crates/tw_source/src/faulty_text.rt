@@ -2,7 +2,7 @@
 
 ghost use Rattle.std.specs.Prelude.{◌≡◌, IfOk};
 ghost use Rattle.tw_source.specs.Failure.{fault_failure as fault_failure_is};
-ghost use Rattle.tw_source.specs.Program.{IsFailure, lines_read, plain_in};
+ghost use Rattle.tw_source.specs.Program.{IsFailure, plain_in};
 ghost use Rattle.tw_source.specs.Source.{written};
 ghost use Rattle.tw_source.specs.declared.program.NoProgram.TheVariants.{Text};
 ghost use Rattle.tw_visible.specs.Visible.{HidesNothing};
@@ -27,16 +27,6 @@ pub struct FaultyText<'a> {
     /// The expanded text, if it has names.
     pub plain: Option<String>,
     pub fault: AsmFault,
-}
-
-/// Returns how many lines of an expansion are read up to its fault; `None` if all are, since labels are looked for at the end.
-pub(crate) fn lines_read(fault: AsmFault) -> Option<usize>
-    ensures { result ≡ lines_read fault.no fault.line }
-{
-    match fault.no {
-        FaultNo::UnknownLabel | FaultNo::LabelNotForward => None,
-        _ => Some(fault.line),
-    }
 }
 
 /// Returns whether both texts have a line with these numbers, and the same one.

@@ -16,7 +16,7 @@ ghost use Rattle.tw_visible.specs.Visible.{HidesNothing};
 use crate::details::Details;
 use crate::digits::digits;
 use crate::failure::{Failure, Position, put_failure_line};
-use crate::faulty_text::{FaultyText, fault_details, lines_read, text_failure};
+use crate::faulty_text::{FaultyText, fault_details, text_failure};
 use crate::further::put_further;
 use crate::names::{UnexpandedText, name_details, name_failure};
 use crate::reply::Reply;
@@ -136,10 +136,10 @@ fn checked<'a>(
 /// Returns why a text has no program, by the fault of its expanded text if it has names.
 fn faulty<'a>(alloc: Global, text: &'a str, plain: Option<String>, fault: AsmFault) -> NoProgram<'a>
     requires kept { IsKept text.now plain }
-    requires fault { HasFault (plain_or_is text.now plain) fault.no fault.line }
+    requires fault { HasFault (plain_or_is text.now plain) fault.no fault.line fault.found }
     ensures { result ≢ NoMemory → IsUtf8 text.entry.now → HasNoProgram Assembly text.entry.now result }
 {
-    match wrong_line(alloc, text, &plain, lines_read(fault)) {
+    match wrong_line(alloc, text, &plain, fault.found) {
         Ok(None) => NoProgram::Text(FaultyText { text, plain, fault }),
         Ok(Some(line)) => unexpanded(text, line),
         Err(_) => NoProgram::NoMemory,

@@ -47,7 +47,7 @@ IsLinked goal i = IsLinkedTo goal.labels goal.place goal.draft.goal goal.draft.i
 
 -- holds if the goal has this fault, at the instruction's line
 abbrev pub IsUnlinked : Goal → AsmFault → Type 0
-IsUnlinked goal f = (name : List ℕ) × (goal.draft.goal ≡ Some name) × IsNoGoal goal.labels goal.place name f.no × (f.line ≡ goal.draft.number)
+IsUnlinked goal f = (name : List ℕ) × (goal.draft.goal ≡ Some name) × IsNoGoal goal.labels goal.place name f.no × (f.line ≡ goal.draft.number) × (f.found ≡ None)
 
 abbrev pub AreLinkedCode : List Goal → List Instr → Type 0
 AreLinkedCode [] [] = Unit {0}

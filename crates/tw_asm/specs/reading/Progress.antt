@@ -180,7 +180,7 @@ abbrev pub IsMemory : AsmFault → Type 0
 IsMemory f = (f.no ≡ fault.NoMemory) × (f.line ≡ 0)
 
 abbrev pub IsLimit : AsmFault → ℕ → Type 0
-IsLimit f at = (f.no ≡ fault.Limit) × (f.line ≡ at)
+IsLimit f at = (f.no ≡ fault.Limit) × (f.line ≡ at) × (f.found ≡ None)
 
 abbrev pub IsEmptyAt : Place → Type 0
 IsEmptyAt AtStart = ⊥
@@ -241,14 +241,14 @@ pub record AreTextRead (ls : List (List ℕ)) (p : Progress) : Type 0 where
 
 abbrev pub LinesAreRead : List ℕ → Result readings.Reading AsmFault → Type 0
 LinesAreRead text (Ok reading) = AreTextRead (lines text) (seen_reading reading)
-LinesAreRead text (Err f) = IsMemory f ⊎ IsLineFault text f.no f.line
+LinesAreRead text (Err f) = IsMemory f ⊎ IsLineFault text f.no f.line f.found
 
 -- holds if the last section is complete too
 abbrev pub AreFinished : Progress → List Section → Type 0
 AreFinished p all = IsWhole (situation_of p) × (all ≡ ended p.sections p.place)
 
 abbrev pub IsNotFinished : Progress → AsmFault → Type 0
-IsNotFinished p f = IsMemory f ⊎ ((f.no ≡ fault.Limit) × IsUnfinished (situation_of p) f.line)
+IsNotFinished p f = IsMemory f ⊎ ((f.no ≡ fault.Limit) × IsUnfinished (situation_of p) f.line × (f.found ≡ None))
 
 -- the text may end, and has this version and these procedures
 pub record HasSections (text : List ℕ) (version : Version) (all : List Section) : Type 0 where
@@ -259,4 +259,4 @@ pub record HasSections (text : List ℕ) (version : Version) (all : List Section
   pub sections_are : all ≡ ended p.sections p.place
 
 abbrev pub AreNotRead : List ℕ → AsmFault → Type 0
-AreNotRead text f = IsMemory f ⊎ (IsLineFault text f.no f.line ⊎ IsEndFault text f.no f.line)
+AreNotRead text f = IsMemory f ⊎ (IsLineFault text f.no f.line f.found ⊎ ((f.found ≡ None) × IsEndFault text f.no f.line))

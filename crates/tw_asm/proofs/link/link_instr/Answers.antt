@@ -6,4 +6,4 @@ returns-in-Ok c = rw c.in-Some.is (c.in-Ok.skip, c.in-Ok.ensures.0, c.in-Ok.ensu
 
 pub returns-in-Err : goal.returns-in-Err
 returns-in-Err c =
-    inr (c.in-Some.name.now, ap bytes_of c.in-Some.is, subst (IsNoGoal (map seen_label c.args.labels.now.entries) c.args.place c.in-Some.name.now) (sym c.new.ensures.no) c.in-Err.ensures, c.new.ensures.line)
+    inr (c.in-Some.name.now, ap bytes_of c.in-Some.is, subst (IsNoGoal (map seen_label c.args.labels.now.entries) c.args.place c.in-Some.name.now) (sym c.new.ensures.no) c.in-Err.ensures, c.new.ensures.line, c.new.ensures.found)

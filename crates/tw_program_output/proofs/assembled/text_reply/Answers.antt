@@ -8,4 +8,4 @@ returns-in-Ok c = IfOk-weaker _ _ _ (λ (r : Reply) h. inl (c.utf8.text, inl (c.
 pub returns-in_default : goal.returns-in_default
 returns-in_default c =
     let fault = c.in-Err.fault in
-    IfOk-weaker _ _ _ (λ (r : Reply) h. inl (c.utf8.text, inr (fault.no, fault.line, fault_has c.args.text.now fault.no fault.line c.in_default.not-NoMemory c.in-Err.ensures, h))) c.fault_reply.ensures
+    IfOk-weaker _ _ _ (λ (r : Reply) h. inl (c.utf8.text, inr (fault.no, fault.line, fault.found, fault_has c.args.text.now fault.no fault.line fault.found c.in_default.not-NoMemory c.in-Err.ensures, h))) c.fault_reply.ensures

@@ -10,4 +10,4 @@ checked-requires-clause-lined c = subst (λ (t : List ℕ). IsLined t (Ok c.in-O
 pub faulty-requires-clause-fault : goal.faulty-requires-clause-fault
 faulty-requires-clause-fault c =
     let fault = c.in-Err.fault in
-    subst (λ (t : List ℕ). HasFault t fault.no fault.line) c.plain_or.ensures (fault_has c.plain_or.result.now fault.no fault.line c.in_default.not-NoMemory c.in-Err.ensures)
+    subst (λ (t : List ℕ). HasFault t fault.no fault.line fault.found) c.plain_or.ensures (fault_has c.plain_or.result.now fault.no fault.line fault.found c.in_default.not-NoMemory c.in-Err.ensures)
