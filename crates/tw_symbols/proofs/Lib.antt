@@ -15,4 +15,6 @@ pub mod NameSteps
 pub mod OwnNames
 pub mod WordByWord
 pub mod NoHeads
+pub mod Labels
+pub mod LiteralWords
 mod TextNames

@@ -16,7 +16,7 @@ pub record IsStep (R : Names → Names → Type 0) : Type 0 where
   pub both : (a b c : Names) → R a b → R b c → R a c
   pub constant : (n : Names) (entry : List ℕ × Binding) → R n (record n { constants = n.constants ++ entry ∷ [] })
   pub register : (n : Names) (name : List ℕ) (b : Bank) (number : ℕ) (by : Origin) → (by ≡ origin.Chosen) ⊎ (is_listed b number n.registers ≡ false) → R n (name_register n name b number by)
-  pub hidden : (n : Names) (count more : ℕ) → R n (with_hidden n count more)
+  pub hidden : (n : Names) (count : ℕ) (more : List (List ℕ)) → R n (with_hidden n count more)
   pub read : (n : Names) → R n (record n { read = n.read + 1 })
 
 some_is : (a b : Names) → Some a ≡ Some b → a ≡ b
@@ -107,7 +107,7 @@ module _ (R : Names → Names → Type 0) (step : IsStep R) where
 
   operand_step : (p : Procedures) (names : Names) (place : Expected) (word plain : List ℕ) (after : Names) → IsOperand p names place word plain after → R names after
   unfolding IsOperand
-  operand_step p names place word plain after (inl (same, _, _)) = stays names after same
+  operand_step p names place word plain after (inl (same, _, _, _)) = stays names after same
   operand_step p names place word plain after (inr (_, _, _, _, is)) = reading_step names names.first (value_at place plain) after is
 
   operands_step : (p : Procedures) (names : Names) (places : List Expected) (words plains : List (List ℕ)) (after : Names) → AreOperands p names places words plains after → R names after
@@ -134,9 +134,9 @@ module _ (R : Names → Names → Type 0) (step : IsStep R) where
   others_step kind.Constant p number names words plains after is head = absurd is
   others_step kind.Let p number names words plains after is head = absurd is
   others_step kind.Head p number names words plains after is head = head refl is
-  others_step kind.Registers p number names words plains after (next, more, lists, _, same) head =
+  others_step kind.Registers p number names words plains after (next, more, lists, _, _, same) head =
       let count = length names.types + length (filter is_unnamed (flat_map pieces words)) in
-      subst (R names) (sym same) (step.both names next (with_hidden next count (length more)) (list_step p listed.Registers names (length names.types) 0 (flat_map pieces words) next lists) (step.hidden next count (length more)))
+      subst (R names) (sym same) (step.both names next (with_hidden next count more) (list_step p listed.Registers names (length names.types) 0 (flat_map pieces words) next lists) (step.hidden next count more))
   others_step (kind.Instruction o) p number names words plains after (made, makes_them, are) head =
       step.both names made after (all_made_step p names (take (makes o) (flat_map pieces words)) (take (makes o) plains) made makes_them) (operands_step p made _ _ _ after are)
   others_step kind.Other p number names words plains after is head = stays names after is.1

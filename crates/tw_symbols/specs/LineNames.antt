@@ -189,7 +189,7 @@ at_head names words = record names {
   rights = 0;
   values = length (value_types (parameters words));
   first = None;
-  hidden = 0;
+  hidden = [];
   literals = [];
   read = 0;
 }

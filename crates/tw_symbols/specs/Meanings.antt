@@ -52,15 +52,15 @@ pub record Names : Type 0 where
   pub rights : ℕ
   -- how many value registers the parameters take
   pub values : ℕ
-  -- the first hidden register, after those that the line `regs` lists; how many hidden ones there are; the words of the literals that fill the first
+  -- the first hidden register, after those that the line `regs` lists; the types of all hidden ones; the words of the literals that fill the first
   -- of them, in their order; and how many of them are read so far
   pub first : Option ℕ
-  pub hidden : ℕ
+  pub hidden : List (List ℕ)
   pub literals : List (List ℕ)
   pub read : ℕ
 
 abbrev pub no_names : Names
-no_names = record { constants = []; registers = []; types = []; rights = 0; values = 0; first = None; hidden = 0; literals = []; read = 0 }
+no_names = record { constants = []; registers = []; types = []; rights = 0; values = 0; first = None; hidden = []; literals = []; read = 0 }
 
 abbrev pub or_else : Option Binding → Option Binding → Option Binding
 or_else None other = other
@@ -123,8 +123,9 @@ with_listed procedures names name in_bank number = if is_listed in_bank number n
 
 -- ---- hidden registers, which hold the numbers and texts among the operands of a procedure
 
--- returns the names after a line `regs` that lists so many registers, and in the expansion so many hidden ones; there are none if a parameter isn't listed
-abbrev pub with_hidden : Names → ℕ → ℕ → Names
+-- returns the names after a line `regs` that lists so many registers, and in the expansion hidden ones of these types; there are none if a parameter isn't
+-- listed
+abbrev pub with_hidden : Names → ℕ → List (List ℕ) → Names
 with_hidden names count hidden = record names { first = if nat_lt count names.values then None else Some count; hidden = hidden; literals = []; read = 0 }
 
 abbrev pub literal_from : Option ℕ → List (List ℕ) → ℕ → Option (List ℕ)

@@ -33,7 +33,7 @@ seen_names n = record {
   rights = n.rights;
   values = n.values;
   first = n.first;
-  hidden = n.hidden;
+  hidden = texts n.hidden.items;
   literals = texts n.literals.items;
   read = n.read;
 }

@@ -50,7 +50,7 @@ pub fn is_named(alloc: Global, text: &str) -> Result<bool, AllocError>
 }
 
 /// Returns whether the first of a line's words is this one.
-fn begins_with(words: &[&[u8]], word: &[u8]) -> bool {
+pub fn begins_with(words: &[&[u8]], word: &[u8]) -> bool {
     match words {
         [first, ..] => *first == word,
         [] => false,

@@ -1,16 +1,17 @@
 //! Hidden registers, which hold the numbers and texts among the operands of a procedure.
 
-ghost use Rattle.std.specs.Prelude.{◌≡◌, IfOk, IsTrue, Some, filter, length, option_map, take};
-ghost use Rattle.std.specs.List.{list_any};
+ghost use Rattle.std.specs.Prelude.{◌≡◌, IfOk, IsTrue, Some, filter, length, option_map, slice_get, take};
+ghost use Rattle.std.specs.List.{list_all, list_any};
 ghost use Rattle.std.specs.Str.Lines.{lines};
 ghost use Rattle.tw_symbols.specs.Expansion.{written_line};
 ghost use Rattle.tw_symbols.specs.Lines.{IsTaken, Line, line_words};
 ghost use Rattle.tw_symbols.specs.Meanings.{literal_at, literal_from, names_after_reading, with_read};
-ghost use Rattle.tw_symbols.specs.Renamed.{IsFilled, IsFilling, IsNextRegister, begins_quoted, is_same, is_written, opcode_for, same_number};
+ghost use Rattle.tw_symbols.specs.Renamed.{AreHidden, IsFilled, IsFilling, IsNextRegister, begins_quoted, is_same, is_type, is_written, opcode_for, same_number, type_for};
 ghost use Rattle.tw_symbols.specs.Seen.{now, seen_names, texts};
 
 use crate::assigned::register_of;
 use crate::line::take_line;
+use crate::literals::is_literal;
 use crate::meaning::Bank;
 use crate::names::{Names, REGISTERS};
 use crate::numbers::signed;
@@ -129,6 +130,61 @@ pub fn opcode_for(literal: &[u8]) -> &'static [u8]
     }
 }
 
+/// Returns the type of a register that may hold a literal.
+pub fn type_for(literal: &[u8]) -> &'static [u8]
+    ensures { result.now ≡ type_for literal.now }
+{
+    if begins_quoted(literal) {
+        b"text"
+    } else {
+        b"int"
+    }
+}
+
+/// Returns the type of the next hidden register, if there is one.
+fn next_type<'a>(names: &Names<'a>) -> Option<&'a [u8]>
+    ensures { option_map now result ≡ slice_get (seen_names names.now).hidden (length (seen_names names.now).literals) }
+{
+    names.hidden.get(names.literals.len()).copied()
+}
+
+/// Returns whether the next hidden register has the type of a literal.
+fn has_type(names: &Names<'_>, literal: &[u8]) -> bool
+    ensures { IsTrue result → slice_get (seen_names names.now).hidden (length (seen_names names.now).literals) ≡ Some (type_for literal.now) }
+{
+    match next_type(names) {
+        Some(word) => word == type_for(literal),
+        None => false,
+    }
+}
+
+/// Returns whether a word is the type of a hidden register.
+fn is_type(word: &[u8]) -> bool
+    ensures { result ≡ is_type word.now }
+{
+    word == b"int".as_slice() || word == b"text".as_slice()
+}
+
+/// Returns whether each word is the type of a hidden register.
+fn are_types(words: &[&[u8]]) -> bool
+    ensures { result ≡ list_all is_type (texts words.now) }
+{
+    match words {
+        [word, others @ ..] => is_type(word) && are_types(others),
+        [] => true,
+    }
+}
+
+/// Returns whether the last of so many types may be those of hidden registers.
+pub fn are_hidden(count: usize, words: &[&[u8]]) -> bool
+    ensures { IsTrue result → AreHidden count (texts words.now) }
+{
+    match words {
+        [] => true,
+        _ => count <= REGISTERS && are_types(words),
+    }
+}
+
 /// Returns whether a word is the next hidden register.
 fn is_next(names: &Names<'_>, register: &[u8]) -> bool
     ensures { IsTrue result → IsNextRegister (seen_names names.now) register.now }
@@ -143,6 +199,7 @@ fn is_next(names: &Names<'_>, register: &[u8]) -> bool
 
 /// Returns whether an instruction of these words fills the next hidden register with a literal, and adds that.
 fn is_filling<'a>(
+    alloc: Global,
     names: &mut Names<'a>,
     opcode: &[u8],
     register: &[u8],
@@ -150,8 +207,14 @@ fn is_filling<'a>(
 ) -> Result<bool, AllocError>
     ensures { IfOk result (λ is. IsTrue is → IsFilling (seen_names names.old) opcode.now register.now literal.now (seen_names names.new)) }
 {
+    let is_one = is_literal(alloc, literal)?;
     let is_new = !is_among(literal, &names.literals);
-    if is_new && opcode == opcode_for(literal) && is_next(names, register) {
+    if is_one
+        && is_new
+        && has_type(names, literal)
+        && opcode == opcode_for(literal)
+        && is_next(names, register)
+    {
         names.literals.push(literal)?;
         Ok(true)
     } else {
@@ -160,11 +223,15 @@ fn is_filling<'a>(
 }
 
 /// Returns whether these words of a hidden line fill the next hidden register with a literal, and adds that.
-fn are_filled<'a>(names: &mut Names<'a>, words: &[&'a [u8]]) -> Result<bool, AllocError>
+fn are_filled<'a>(
+    alloc: Global,
+    names: &mut Names<'a>,
+    words: &[&'a [u8]],
+) -> Result<bool, AllocError>
     ensures { IfOk result (λ is. IsTrue is → IsFilled (seen_names names.old) (texts words.now) (seen_names names.new)) }
 {
     match words {
-        [opcode, register, literal] => is_filling(names, opcode, register, literal),
+        [opcode, register, literal] => is_filling(alloc, names, opcode, register, literal),
         _ => Ok(false),
     }
 }
@@ -178,5 +245,5 @@ pub fn is_filled<'a>(
     ensures { IfOk result (λ is. IsTrue is → (taken : Line) × IsTaken taken plain.now × IsFilled (seen_names names.old) (line_words taken) (seen_names names.new)) }
 {
     let taken = take_line(alloc, plain)?;
-    are_filled(names, &taken.words)
+    are_filled(alloc, names, &taken.words)
 }

@@ -7,6 +7,7 @@
 mod assigned;
 mod called;
 mod expansion;
+mod hash;
 mod heads;
 mod hidden;
 mod instruction;

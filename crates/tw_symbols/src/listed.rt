@@ -217,7 +217,7 @@ pub fn begin_head<'a>(
     names.registers.clear();
     names.rights = 0;
     names.first = None;
-    names.hidden = 0;
+    names.hidden.clear();
     names.literals.clear();
     names.read = 0;
     Ok(())
@@ -252,6 +252,6 @@ pub fn put_registers<'a>(
     list(procedures, Listed::Registers, names, first, words)?;
     put_all(out, &names.types)?;
     let listed = put_unnamed(out, words)?;
-    names.list_hidden(first.saturating_add(listed), 0);
+    names.list_hidden(first.saturating_add(listed), &[])?;
     Ok(())
 }

@@ -1,7 +1,11 @@
 //! Numbers and texts as operands, which are expanded to hidden registers.
 
+ghost use Rattle.std.specs.Prelude.{◌≡◌, ◌==◌, ◌&&◌, ◌↔◌, IfOk, IsTrue, None, length, nat_le};
+ghost use Rattle.tw_symbols.specs.Renamed.{IsLiteral, IsQuotedText, NeedsNoRegister};
+ghost use Rattle.tw_symbols.specs.Seen.{seen_names};
+
 use crate::assigned::{LAST_REGISTER, register_of};
-use crate::hidden::{begins_quoted, is_same, opcode_for};
+use crate::hidden::{is_same, opcode_for, type_for};
 use crate::meaning::{Bank, Binding, Expected};
 use crate::names::{Names, REGISTERS, known};
 use crate::numbers::{natural, signed};
@@ -12,23 +16,33 @@ use std::alloc::{AllocError, Global};
 use tw_lexer::{put, put_numbered, quoted_text};
 use tw_types::Text;
 
+/// Returns whether a register may hold a text, and nothing follows it.
+fn is_whole(text: &str, rest: &[u8]) -> bool
+    ensures { result ≡ (length rest.now == 0) && nat_le (length text.now) 4096 }
+{
+    rest.is_empty() && text.len() <= Text::MAX_LEN
+}
+
 /// Returns whether a word is a quoted text that a register may hold.
-fn is_text(alloc: Global, word: &[u8]) -> Result<bool, AllocError> {
+fn is_text(alloc: Global, word: &[u8]) -> Result<bool, AllocError>
+    ensures { IfOk result (λ is. IsTrue is ↔ IsQuotedText word.now) }
+{
     let Ok(quoted) = str::from_utf8(word) else {
         return Ok(false);
     };
     match quoted_text(alloc, quoted.as_bytes())? {
-        Some((text, rest)) => Ok(rest.is_empty() && text.as_str().len() <= Text::MAX_LEN),
+        Some((text, rest)) => Ok(is_whole(text.as_str(), rest)),
         None => Ok(false),
     }
 }
 
 /// Returns whether a word is a number or a text that a register may hold.
-fn is_literal(alloc: Global, word: &[u8]) -> Result<bool, AllocError> {
-    if begins_quoted(word) {
-        is_text(alloc, word)
-    } else {
-        Ok(signed(word).is_some())
+pub fn is_literal(alloc: Global, word: &[u8]) -> Result<bool, AllocError>
+    ensures { IfOk result (λ is. IsTrue is ↔ IsLiteral word.now) }
+{
+    match signed(word) {
+        Some(_) => Ok(true),
+        None => is_text(alloc, word),
     }
 }
 
@@ -38,7 +52,9 @@ pub fn first_for(
     names: &Names<'_>,
     asked: Expected,
     word: &[u8],
-) -> Result<Option<usize>, AllocError> {
+) -> Result<Option<usize>, AllocError>
+    ensures { IfOk result (λ first. first ≡ None → NeedsNoRegister (seen_names names.now) asked word.now) }
+{
     match asked {
         Expected::Read if is_literal(alloc, word)? => Ok(names.first),
         _ => Ok(None),
@@ -138,14 +154,7 @@ pub fn put_literal<'a>(
 /// Adds the types of the hidden registers.
 pub fn put_types(out: &mut Vec<u8>, literals: &[&[u8]]) -> Result<(), AllocError> {
     for literal in literals {
-        put(
-            out,
-            if begins_quoted(literal) {
-                " text"
-            } else {
-                " int"
-            },
-        )?;
+        put_plain(out, type_for(literal))?;
     }
     Ok(())
 }

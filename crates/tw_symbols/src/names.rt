@@ -6,17 +6,17 @@ ghost use Rattle.std.specs.Char.{digit_value};
 ghost use Rattle.tw_symbols.specs.Answers.{lists_entry};
 ghost use Rattle.tw_symbols.specs.Meanings.{above, is_name, is_register_word, known, may_name, meaning, no_names, with_constant, with_hidden, with_listed, with_register, is_listed, lists};
 ghost use Rattle.tw_symbols.specs.declared.meaning.Binding.TheVariants.{Constant};
-ghost use Rattle.tw_symbols.specs.Seen.{seen_names, seen_procedures, seen_table};
+ghost use Rattle.tw_symbols.specs.Seen.{seen_names, seen_procedures, seen_table, texts};
 
+use crate::hash::NameHash;
 use crate::meaning::{Bank, Binding, Origin, is_bank, is_origin};
 use crate::procedures::Procedures;
 use crate::rejection::{NameNo, Rejection};
 use indexmap::IndexMap;
 use std::alloc::{AllocError, Global};
-use tw_lexer::TextHash;
 
 /// Names and their meanings.
-pub type Table<'a> = IndexMap<&'a [u8], Binding, TextHash>;
+pub type Table<'a> = IndexMap<&'a [u8], Binding, NameHash>;
 
 /// The longest name, in bytes.
 const MAX_NAME: usize = 64;
@@ -38,8 +38,8 @@ pub struct Names<'a> {
     pub values: usize,
     /// The first hidden register, after those that the line `regs` lists; none if that lists too few for the parameters.
     pub first: Option<usize>,
-    /// How many hidden registers the expanded line `regs` has.
-    pub hidden: usize,
+    /// The types of the hidden registers in the expanded line `regs`.
+    pub hidden: Vec<&'a [u8]>,
     /// The literals of the first hidden registers, as they are written.
     pub literals: Vec<&'a [u8]>,
     /// How many hidden registers are read so far.
@@ -50,7 +50,7 @@ pub struct Names<'a> {
 
 impl<'a> Names<'a> {
     /// Makes tables of names without any, with the hash function of a text's names.
-    pub fn new(alloc: Global, hash: TextHash) -> Names<'a>
+    pub fn new(alloc: Global, hash: NameHash) -> Names<'a>
         ensures { seen_names result ≡ no_names }
     {
         Names {
@@ -60,26 +60,27 @@ impl<'a> Names<'a> {
             rights: 0,
             values: 0,
             first: None,
-            hidden: 0,
+            hidden: Vec::new(alloc),
             literals: Vec::new(alloc),
             read: 0,
             has_unlisted: false,
         }
     }
 
-    /// Notes a line `regs` that lists so many registers, and in the expansion so many hidden ones.
-    pub fn list_hidden(&mut self, count: usize, hidden: usize)
-        ensures { seen_names self.new ≡ with_hidden (seen_names self.old) count hidden }
+    /// Notes a line `regs` that lists so many registers, and in the expansion hidden ones of these types.
+    pub fn list_hidden(&mut self, count: usize, hidden: &[&'a [u8]]) -> Result<(), AllocError>
+        ensures { OnOk result (seen_names self.new ≡ with_hidden (seen_names self.old) count (texts hidden.now)) }
     {
         self.first = if count < self.values {
             None
         } else {
             Some(count)
         };
-        self.hidden = hidden;
         self.literals.clear();
         self.read = 0;
         self.has_unlisted = false;
+        self.hidden.clear();
+        self.hidden.extend_from_slice(hidden)
     }
 }
 

@@ -1,7 +1,6 @@
 //! The expansion of operands.
 
-ghost use Rattle.std.specs.Prelude.{◌≡◌, drop, length, slice_get, take, unwrap_or};
-ghost use Rattle.tw_symbols.specs.declared.meaning.Expected.TheVariants.{Nothing};
+ghost use Rattle.std.specs.Prelude.{◌≡◌, drop, length, take};
 ghost use Rattle.tw_symbols.specs.Seen.{texts};
 
 use crate::literals::{check_listed, first_for, put_literal};
@@ -168,9 +167,7 @@ fn put_operand<'a>(
 }
 
 /// Returns what the first of these operands has to be.
-pub fn first_expected(asked: &[Expected]) -> Expected
-    ensures { result ≡ unwrap_or (slice_get asked.now 0) Nothing }
-{
+pub fn first_expected(asked: &[Expected]) -> Expected {
     match asked {
         [first, ..] => *first,
         [] => Expected::Nothing,
@@ -178,9 +175,7 @@ pub fn first_expected(asked: &[Expected]) -> Expected
 }
 
 /// Returns what the operands after the first have to be.
-pub fn after_first(asked: &[Expected]) -> &[Expected]
-    ensures { result.now ≡ drop 1 asked.now }
-{
+pub fn after_first(asked: &[Expected]) -> &[Expected] {
     match asked {
         [_, others @ ..] => others,
         [] => asked,

@@ -7,6 +7,7 @@ ghost use Rattle.tw_symbols.specs.Lines.{AreTaken, IsTaken, Line};
 ghost use Rattle.tw_symbols.specs.Seen.{now, seen_procedures, seen_table, texts};
 ghost use Rattle.tw_symbols.specs.Heads.{HasTooMany, procedures_of, with_head, with_line, with_name, with_words};
 
+use crate::hash::NameHash;
 use crate::heads::{banks_of_modes, procedure_name};
 use crate::line::{may_begin_procedure, take_line};
 use crate::meaning::{Bank, Binding};
@@ -15,7 +16,6 @@ use crate::pieces::pieces_of;
 use indexmap::IndexMap;
 use std::alloc::{AllocError, Global};
 use tw_code::Program;
-use tw_lexer::TextHash;
 
 /// A procedure: the banks of its parameters, and the line at which it begins.
 #[derive(Drop)]
@@ -30,7 +30,7 @@ pub struct Head {
 #[derive(Drop)]
 pub struct Procedures<'a> {
     /// The hash function of the text's names.
-    pub hash: TextHash,
+    pub hash: NameHash,
     pub table: Table<'a>,
     pub heads: Vec<Head>,
 }
@@ -113,7 +113,7 @@ pub fn procedures_of(alloc: Global, text: &str) -> Result<Procedures<'_>, AllocE
     ensures all { IfOk result (λ procedures. length procedures.heads.items ≤ 64 → (all : List Line) × AreTaken all (lines text.now) × (seen_procedures procedures ≡ procedures_of all)) }
     ensures many { IfOk result (λ procedures. 64 < length procedures.heads.items → HasTooMany text.now) }
 {
-    let hash = TextHash::new(text);
+    let hash = NameHash::new(text);
     let mut procedures = Procedures {
         hash,
         table: IndexMap::with_hasher(alloc, hash),

@@ -18,14 +18,14 @@ use std::str::Lines;
 fn are_filled(names: &Names<'_>) -> bool
     ensures { IsTrue result → AreFilled (seen_names names.now) }
 {
-    names.literals.len() == names.hidden
+    names.literals.len() == names.hidden.len()
 }
 
 /// Returns whether each hidden register of the last procedure is filled and read.
 fn are_done(names: &Names<'_>) -> bool
     ensures { IsTrue result → AreFilled (seen_names names.now) × AreRead (seen_names names.now) }
 {
-    are_filled(names) && names.read == names.hidden
+    are_filled(names) && names.read == names.hidden.len()
 }
 
 /// Returns whether a line has this expansion, and adds its names.

@@ -8,6 +8,7 @@ ghost use Rattle.tw_symbols.specs.declared.meaning.Listed.TheVariants.{Registers
 
 use crate::assigned::{add_const, add_let};
 use crate::heads::{parameters, procedure_name};
+use crate::hidden::are_hidden;
 use crate::instruction::{banks_of, compares, expected_in, makes};
 use crate::line_kind::{LineKind, kind_of};
 use crate::listed::{begin_head, check_name, list};
@@ -17,23 +18,10 @@ use crate::operand_text::{count, expected_after, first_words, words_after};
 use crate::pieces::pieces_of;
 use crate::procedures::Procedures;
 use crate::rejection::taken;
-use crate::renamed_words::{are_made, are_operands};
+use crate::renamed_words::{are_made, are_operands, are_same};
 use std::alloc::{AllocError, Global};
 use tw_code::Opcode;
 use tw_lexer::before_colon;
-
-/// Returns whether the words are the same.
-fn are_same(words: &[&[u8]], plains: &[&[u8]]) -> bool
-    ensures { IsTrue result → texts plains.now ≡ texts words.now }
-{
-    match words {
-        [] => plains.is_empty(),
-        [word, others @ ..] => match plains {
-            [plain, more @ ..] => plain == word && are_same(others, more),
-            [] => false,
-        },
-    }
-}
 
 /// Returns the words after this one, which isn't there if it is a name and `:`.
 fn after_word<'b, 'a>(word: &[u8], plains: &'b [&'a [u8]]) -> Option<&'b [&'a [u8]]>
@@ -99,7 +87,7 @@ fn is_head<'a>(
 ) -> Result<bool, AllocError>
     ensures { IfOk result (λ is. IsTrue is → IsHead (seen_procedures procedures.now) number (seen_names names.old) (texts words.now) (texts plains.now) (seen_names names.new)) }
 {
-    let read = names.read == names.hidden;
+    let read = names.read == names.hidden.len();
     let named = taken(check_name(procedures, number, procedure_name(words)))?;
     begin_head(alloc, names, words)?;
     let params = parameters(words);
@@ -124,7 +112,7 @@ fn are_registers<'a>(
     procedures: &Procedures<'_>,
     names: &mut Names<'a>,
     words: &[&'a [u8]],
-    plains: &[&[u8]],
+    plains: &[&'a [u8]],
 ) -> Result<bool, AllocError>
     ensures { IfOk result (λ is. IsTrue is → AreRegisters (seen_procedures procedures.now) (seen_names names.old) (texts words.now) (texts plains.now) (seen_names names.new)) }
 {
@@ -132,8 +120,8 @@ fn are_registers<'a>(
         return Ok(false);
     };
     let listed = add_registers(procedures, names, words)?;
-    names.list_hidden(plains.len() - more.len(), more.len());
-    Ok(listed)
+    names.list_hidden(plains.len() - more.len(), more)?;
+    Ok(listed && are_hidden(plains.len(), more))
 }
 
 /// Returns whether these are an instruction's operands with their names replaced, and adds the names that it makes.
@@ -154,7 +142,15 @@ fn is_instruction<'a>(
     let places = expected_in(alloc, compares(opcode), banks, opcode.forms())?;
     let left = expected_after(&places, made);
     let others = words_after(words, made);
-    Ok(filled && are_operands(procedures, names, left, others, words_after(plains, made)))
+    let replaced = are_operands(
+        alloc,
+        procedures,
+        names,
+        left,
+        others,
+        words_after(plains, made),
+    )?;
+    Ok(filled && replaced)
 }
 
 /// Adds the names of a line that has no words in assembly text. Returns whether it is such a line.
@@ -183,7 +179,7 @@ fn are_others<'a>(
     number: usize,
     names: &mut Names<'a>,
     words: &[&'a [u8]],
-    plains: &[&[u8]],
+    plains: &[&'a [u8]],
 ) -> Result<bool, AllocError>
     ensures { IfOk result (λ is. IsTrue is → AreOthers kind (seen_procedures procedures.now) number (seen_names names.old) (texts words.now) (texts plains.now) (seen_names names.new)) }
 {
@@ -207,7 +203,7 @@ fn is_begun<'a>(
     names: &mut Names<'a>,
     first: &'a [u8],
     words: &[&'a [u8]],
-    plains: &[&[u8]],
+    plains: &[&'a [u8]],
 ) -> Result<bool, AllocError>
     ensures { IfOk result (λ is. IsTrue is → IsLine (seen_procedures procedures.now) number (seen_names names.old) (first.now ∷ texts words.now) (texts plains.now) (seen_names names.new)) }
 {
@@ -229,7 +225,7 @@ pub fn is_line<'a>(
     number: usize,
     names: &mut Names<'a>,
     words: &[&'a [u8]],
-    plains: &[&[u8]],
+    plains: &[&'a [u8]],
 ) -> Result<bool, AllocError>
     ensures { IfOk result (λ is. IsTrue is → IsLine (seen_procedures procedures.now) number (seen_names names.old) (texts words.now) (texts plains.now) (seen_names names.new)) }
 {

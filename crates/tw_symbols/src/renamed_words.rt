@@ -1,22 +1,24 @@
 //! Compares the words of an instruction with those of its expansion.
 
 ghost use Rattle.std.specs.Prelude.{◌≡◌, IfOk, IsTrue, Some, option_map};
+ghost use Rattle.std.specs.Fmt.{signed_decimal};
 ghost use Rattle.std.specs.Result.{result_ok};
 ghost use Rattle.tw_lexer.specs.Digits.{digits_in};
-ghost use Rattle.tw_symbols.specs.LineNames.{number_of, register_of};
+ghost use Rattle.tw_symbols.specs.LineNames.{register_of};
 ghost use Rattle.tw_symbols.specs.Renamed.{AreMade, AreOperands, IsAt, IsMade, IsOperand, IsWord, value_at, value_of};
 ghost use Rattle.tw_symbols.specs.Meanings.{and_then, literal_at};
 ghost use Rattle.tw_symbols.specs.Seen.{now, seen_names, seen_procedures, texts};
 
 use crate::assigned::register_of;
 use crate::hidden::{is_same, literal_at, read_hidden};
+use crate::literals::first_for;
 use crate::meaning::{Bank, Binding, Expected, is_bank};
 use crate::names::{Names, add_listed, is_name, known};
-use crate::numbers::{natural, signed};
-use crate::operand_text::{after_first, first_expected};
+use crate::numbers::natural;
 use crate::procedures::Procedures;
 use crate::rejection::taken;
-use std::alloc::AllocError;
+use itoa::Buffer;
+use std::alloc::{AllocError, Global};
 
 /// Returns whether a word of assembly text is this register.
 fn is_register(plain: &[u8], bank: Bank, number: usize) -> bool
@@ -38,14 +40,12 @@ fn is_natural(plain: &[u8], most: u64, number: usize) -> bool
     }
 }
 
-/// Returns whether a word of assembly text is this signed number.
+/// Returns whether a word of assembly text is this signed number in decimal.
 fn is_signed(plain: &[u8], number: i64) -> bool
-    ensures { IsTrue result → number_of plain.now ≡ Some number }
+    ensures { IsTrue result → plain.now ≡ signed_decimal number }
 {
-    match signed(plain) {
-        Some(found) => found == number,
-        None => false,
-    }
+    let mut digits = Buffer::new();
+    plain == digits.format(number).as_bytes()
 }
 
 /// Returns whether a word, read in such a place, is what a name means.
@@ -124,40 +124,62 @@ fn is_word(
 /// Returns whether an operand is in its place: as it was, a name's meaning, or the hidden register of a literal; and notes that this is read.
 #[tactic(auto, unfolding(crate::specs::Renamed::IsOperand))]
 fn is_operand(
+    alloc: Global,
     procedures: &Procedures<'_>,
     names: &mut Names<'_>,
     place: Expected,
     word: &[u8],
     plain: &[u8],
-) -> bool
-    ensures { IsTrue result → IsOperand (seen_procedures procedures.now) (seen_names names.old) place word.now plain.now (seen_names names.new) }
+) -> Result<bool, AllocError>
+    ensures { IfOk result (λ is. IsTrue is → IsOperand (seen_procedures procedures.now) (seen_names names.old) place word.now plain.now (seen_names names.new)) }
 {
     let number = value_at(place, plain);
     match literal_in(names, number) {
         Some(literal) => {
-            matches!(place, Expected::Read) && is_same(word, literal) && read_hidden(names, number)
+            let read = matches!(place, Expected::Read) && is_same(word, literal);
+            Ok(read && read_hidden(names, number))
         }
-        None => is_word(procedures, names, place, word, plain),
+        None => {
+            let first = first_for(alloc, names, place, word)?;
+            Ok(first.is_none() && is_word(procedures, names, place, word, plain))
+        }
+    }
+}
+
+/// Returns whether the words are the same.
+pub fn are_same(words: &[&[u8]], plains: &[&[u8]]) -> bool
+    ensures { IsTrue result → texts plains.now ≡ texts words.now }
+{
+    match words {
+        [] => plains.is_empty(),
+        [word, others @ ..] => match plains {
+            [plain, more @ ..] => plain == word && are_same(others, more),
+            [] => false,
+        },
     }
 }
 
 /// Returns whether words are in their places, and notes which hidden registers are read.
 pub fn are_operands(
+    alloc: Global,
     procedures: &Procedures<'_>,
     names: &mut Names<'_>,
     places: &[Expected],
     words: &[&[u8]],
     plains: &[&[u8]],
-) -> bool
-    ensures { IsTrue result → AreOperands (seen_procedures procedures.now) (seen_names names.old) places.now (texts words.now) (texts plains.now) (seen_names names.new) }
+) -> Result<bool, AllocError>
+    ensures { IfOk result (λ is. IsTrue is → AreOperands (seen_procedures procedures.now) (seen_names names.old) places.now (texts words.now) (texts plains.now) (seen_names names.new)) }
 {
-    match (words, plains) {
-        ([], []) => true,
-        ([word, others @ ..], [plain, more @ ..]) => {
-            is_operand(procedures, names, first_expected(places), word, plain)
-                && are_operands(procedures, names, after_first(places), others, more)
+    match (places, words, plains) {
+        ([], _, _) => Ok(are_same(words, plains)),
+        (_, [], []) => Ok(true),
+        ([place, left @ ..], [word, others @ ..], [plain, more @ ..]) => {
+            Ok(
+                is_operand(alloc, procedures, names, *place, word, plain)?
+                    && are_operands(alloc, procedures, names, left, others, more)?,
+            )
         }
-        _ => false,
+        _ => Ok(false),
     }
 }
 

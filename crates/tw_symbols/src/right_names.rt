@@ -1,6 +1,6 @@
 //! The names of right registers, line by line.
 
-use crate::expansion::is_named;
+use crate::expansion::{begins_with, is_named};
 use crate::line::{is_plainly_blank, take_line};
 use crate::meaning::{Bank, Binding};
 use crate::names::{Names, Table};
@@ -28,18 +28,10 @@ pub struct RightNames<'a> {
     reader: Option<Reader<'a>>,
 }
 
-/// Returns whether the words of a line begin a procedure, so that names of right registers are forgotten.
-fn begins_with_proc(words: &[&[u8]]) -> bool {
-    match words {
-        [first, ..] => *first == b"proc".as_slice(),
-        [] => false,
-    }
-}
-
 /// Returns whether a line begins a procedure, so that names of right registers are forgotten.
 fn begins_procedure(alloc: Global, line: &str) -> Result<bool, AllocError> {
     let taken = take_line(alloc, line)?;
-    Ok(begins_with_proc(&taken.words))
+    Ok(begins_with(&taken.words, b"proc"))
 }
 
 /// Returns the names of registers that have none.

@@ -1,5 +1,5 @@
 use Rattle.std.proofs.Common.{length}
-use Rattle.tw_symbols.proofs.renamed_line.+are_same.Given as goal
+use Rattle.tw_symbols.proofs.renamed_words.+are_same.Given as goal
 
 abbrev pub decreases-are_same : goal.decreases-are_same
 decreases-are_same l = length l.words.now
