@@ -42,7 +42,7 @@ pub fn stream_each<H: Threads + Clock + Sync, R: Read, W: Write>(
     }
     match read_ready(alloc, source, order, input)? {
         Ready::Run(run) => {
-            let team = LineTeam::new(rt, order.jobs);
+            let team = LineTeam::of(rt, order);
             let crew = LineCrew {
                 team: &team,
                 clock: rt,

@@ -10,6 +10,7 @@ use std::alloc::{AllocError, Global};
 use std::cell::Cell;
 use std::thread;
 use std::thread::Threads;
+use tw_order::EachOrder;
 
 /// The right to start threads for lines, at most so many at a time. Its handle is seen in this module alone, so whoever has a team and no handle starts
 /// threads by `each_chunk`. What runs in these threads has no team, since none is `Sync`.
@@ -21,13 +22,13 @@ pub(crate) struct LineTeam<'a, H> {
 }
 
 impl<'a, H> LineTeam<'a, H> {
-    /// Takes the number of threads that an order allows.
-    pub(crate) fn new(rt: &'a H, jobs: usize) -> LineTeam<'a, H>
-        ensures { result.jobs ≡ jobs }
+    /// Makes the team of an order, by the number of threads that this allows.
+    pub(crate) fn of(rt: &'a H, order: &EachOrder) -> LineTeam<'a, H>
+        ensures { result.jobs ≡ order.now.jobs }
     {
         LineTeam {
             rt,
-            jobs,
+            jobs: order.jobs,
             alone: Cell::new(()),
         }
     }

@@ -80,7 +80,7 @@ pub fn each_reply<H: Threads + Clock + Sync>(
     let LineThreads { rt, alloc, count } = *threads;
     match each_parts(alloc, source, order, input)? {
         EachParts::Lines(run, lines) => {
-            let team = LineTeam::new(rt, order.jobs);
+            let team = LineTeam::of(rt, order);
             let crew = LineCrew {
                 team: &team,
                 clock: rt,
