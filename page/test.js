@@ -527,7 +527,7 @@ async function millions(reader) {
 
 // One's own program is never lost: by a link, by an example, by Undo, by closing the page at once.
 async function own(reader) {
-    await reader.forget(); await reader.key("Shift");
+    const begun = Date.now(); await reader.forget(); await reader.key("Shift");
     const first = await reader.value("text"), mine = first.replace("; Doubles a number twice.", "; Mine, and nobody else's."), other = `${address}#p=${zlib.deflateRawSync(JSON.stringify({text: "proc control\nregs\nRET\n", inputs: [], layout: [1, 1, 1, 100], event: 0, example: ""})).toString("base64url")}`;
     await reader.write("text", mine);
     say((await reader.js('document.getElementById("pick").selectedOptions[0].textContent')).startsWith("Mine, and nobody else's."), "the list doesn't know it", await reader.value("pick"));
@@ -545,7 +545,8 @@ async function own(reader) {
     say((await reader.value("text")) === first, "no Undo of an edit", await reader.value("text"));
     await reader.click("#redo");
     say((await reader.value("text")) === first.replace("answer", "result"), "no Redo");
-    const listed = await reader.js('[...document.querySelectorAll("#pick option")].map(it => [it.value, it.textContent]).filter(([value]) => value.startsWith("own"))');
+    // A busy browser may bring back programs of an earlier part. Numbers are times.
+    const listed = await reader.js(`[...document.querySelectorAll("#pick option")].map(it => [it.value, it.textContent]).filter(([value]) => +value.replace("own ", "") >= ${begun})`);
     say(listed.length === 2, "not two changed examples", listed);
     say(await reader.js('document.querySelectorAll("#pick optgroup[label=\'Your own programs\']").length') === 0, "a change makes an own program");
     await reader.choose("pick", listed.find(([, title]) => title.startsWith("Mine"))[0]);

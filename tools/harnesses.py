@@ -43,7 +43,7 @@ class Tool(NamedTuple):
     # Whether CI runs the short form; whether it may run beside another one, since it measures no time.
     in_ci: bool = True
     is_beside: bool = False
-    # Whether fewer things than before are no fault, since the program decides how many there are.
+    # Whether fewer things than before are no fault, down to `least`, since the program or the sources decide how many there are.
     may_fall: bool = False
 
     @property
@@ -93,11 +93,11 @@ TOOLS = (
     Tool("scale", "sources/scale.py", "how many lines each group of crates has, and its ceiling", Run("--check", 3), depends="sources/ceilings.txt"),
     Tool("walks", "sources/walks.py", "that each step of a walk of docs/ARCHITECTURE.md is called by one before", Run("--check", 30)),
     Tool("edits", "proofs/mutants.py --list", "that what mutants edit is there", Run("", 100)),
-    Tool("edits_of_proofs", "proofs/must_fail.py --check", "that what mutants of proofs edit is there", Run("", 20)),
+    Tool("edits_of_proofs", "proofs/must_fail.py --check", "that what mutants of proofs edit is there", Run("", 20), may_fall=True),
     Tool("plot", "./bench/test_plot.py", "the plot of bench/", Run("", 1)),
-    Tool("lint", "sources/lint.sh", "shell scripts and Python, by shellcheck, mypy and pyflakes", Run("", 200), needs="shellcheck mypy pyflakes3", is_beside=True),
+    Tool("lint", "sources/lint.sh", "shell scripts and Python, by shellcheck, mypy and pyflakes", Run("", 290), needs="shellcheck mypy pyflakes3", is_beside=True, may_fall=True),
     # Of the program and the library.
-    Tool("test", "tests.py", "the tests of the tools", Run("", 300), tests=BOTH, is_beside=True),
+    Tool("test", "tests.py", "the tests of the tools", Run("", 420), tests=BOTH, is_beside=True, may_fall=True),
     Tool("twins", "sources/twins.py", "expansions and copies of examples", Run("--check", 80), tests=PROGRAM),
     Tool("manual", "sources/manual.py", "docs/tw.1 against the help texts", Run("--check", 35), tests=PROGRAM),
     Tool("shown", "program/shown.sh", "every command that documents show", Run("", 200), tests=PROGRAM),
@@ -122,7 +122,7 @@ TOOLS = (
     Tool("prices", "program/prices.py", "the seconds of the dearest instructions and events, by which runs are bounded", Run("ADD", 1), Run("", 40), "tw_embed", shard=3, in_ci=False),
     Tool("load", "program/orders.py --load", "a large run many times", Run("3", 3), Run("100", 100), PROGRAM, depends="./bench/load.tw", limit=1800, shard=5, in_ci=False),
     Tool("hostile", "program/hostile.py", "time and memory of the worst inputs", Run("--commands 1", 100), Run("", 900), PROGRAM, limit=3600, shard=4, in_ci=False),
-    Tool("refused", "program/refused.py", "a run for each failing allocation", Run("--most 60", 500), Run("", 2000), PROGRAM, "cc", "program/refuse.c", 3600, 5, False, True, True),
+    Tool("refused", "program/refused.py", "a run for each failing allocation", Run("--most 60", 500), Run("", 5600), PROGRAM, "cc", "program/refuse.c", 3600, 5, False, True, True),
     Tool("many", "program/many.sh", "the engines of docs/MANY.md", Run("threads", 1), Run("", 20), BOTH, depends="./examples/many ./embed/python", limit=2400, shard=5, in_ci=False),
     Tool("callers", "library/callers.sh", "C, C++ and Rust with hostile calls, under valgrind and with sanitizers", Run("--quick", 35), Run("", 40), "libyuglemit.a", "cc c++ objcopy",
          "library ./embed", 3600, 0, False, True),
@@ -137,7 +137,7 @@ TOOLS = (
     Tool("packaged", "release/packaged.sh", "the packages", None, Run("", 10), BOTH, "unshare mmdebstrap", "./embed release", limit=2400, shard=1, in_ci=False),
     Tool("released", "release/released.sh", "a clean clone, and the commands of docs/HOSTING.md", None, Run("", 10), BOTH, depends="./script ./docs/HOSTING.md", limit=1200, shard=6, in_ci=False),
     Tool("mutants", "proofs/mutants.py", "that tests notice edits of what no contract holds", None,
-         Run("--table main script release cases python build cpp rust page", 100), BOTH, "node rt", "./script ./embed ./page", limit=3600, shard=2, in_ci=False, is_beside=True),
+         Run("--table main terminal script release cases python build cpp rust page", 100), BOTH, "node rt", "./script ./embed ./page", limit=3600, shard=2, in_ci=False, is_beside=True),
     Tool("wakes", "proofs/mutants.py host", "that cases notice each place that doesn't wake", None, Run("", 20), "tw_host_cases", "rt", limit=3600, shard=2, in_ci=False),
     Tool("must_fail", "proofs/must_fail.py", "that the mutants which CI leaves out are rejected", None, Run("", 20), "tw_main", "rt", "proofs/must-fail", 10800, 6, False),
     Tool("planted", "night/planted.py", "that harnesses fail on a program that always rejects, on one that is always quiet, and on others", Run("", 40), tests=BOTH, needs="cc",

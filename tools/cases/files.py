@@ -93,11 +93,6 @@ class Case:
         return CRATES[self.kind.split(" ")[0] in HOST_KINDS]
 
     @property
-    def is_scarce(self) -> bool:
-        """Returns whether the case holds all addresses."""
-        return self.kind.split(" ")[0] in SCARCE_KINDS
-
-    @property
     def row(self) -> str:
         """Returns the line that the program reads."""
         return row_of(self.name, self.kind, self.given, self.wanted)
@@ -304,8 +299,7 @@ class Reader:
             if text:
                 yield key, Value([text], place, place)
             else:
-                value = self.take_value()
-                yield key, Value(value.lines, place, self.at)
+                yield key, Value(self.take_value().lines, place, self.at)
 
     def add_case(self, made: Case) -> None:
         made.group = self.group

@@ -1,4 +1,3 @@
-# SPDX-License-Identifier: Apache-2.0
 """Checks the JSON that cases expect against docs/COMMAND.schema.json, without a program.
 
     ./dev json_cases

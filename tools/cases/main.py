@@ -17,7 +17,7 @@ import sys
 from pathlib import Path
 
 from tools import ROOT
-from tools.cases.files import CRATES, Book, Case, Fault, answer_text, lets_of, read_book, unknown_names, unused_lets
+from tools.cases.files import CRATES, SCARCE_KINDS, Book, Case, Fault, answer_text, lets_of, read_book, unknown_names, unused_lets
 from tools.cases.runs import LONG, Program, Progress, Result, Runner, Times, run_all, shown_failure
 
 CASES = ROOT / "cases"
@@ -148,7 +148,7 @@ def run_cases(book: Book, programs: dict[str, Program], cases: list[Case]) -> li
 def possible(cases: list[Case], programs: dict[str, Program], patterns: list[str]) -> list[Case]:
     """Returns the cases without those that an unverified build can't run, or takes long for, unless they are named."""
     unverified = [case for case in cases if programs[case.crate].is_unverified]
-    scarce = [case for case in unverified if case.is_scarce]
+    scarce = [case for case in unverified if case.kind.split(" ")[0] in SCARCE_KINDS]
     if scarce:
         print(f"tw: {len(scarce)} cases are short of memory, which an unverified build can't be, and are left out", file=sys.stderr)
     long = [case for case in unverified if case.name.startswith(LONG) and case.name not in patterns and case not in scarce]

@@ -129,13 +129,11 @@ class Runner:
         assert stream is not None
         lead = f"let mark_{mark}: ".encode()
         said = b""
-        while True:
-            line = stream.readline()
+        for line in iter(stream.readline, b""):
             if line.startswith(lead):
                 return said.decode(errors="replace").removesuffix("\n")
-            if not line:
-                return None
             said += line
+        return None
 
 
 class Times:
@@ -234,10 +232,7 @@ class Progress:
 
 def first_difference(left: str, right: str) -> int:
     """Returns the first column at which two texts differ."""
-    for column, (one, other) in enumerate(zip(left, right)):
-        if one != other:
-            return column
-    return min(len(left), len(right))
+    return next((column for column, (one, other) in enumerate(zip(left, right)) if one != other), min(len(left), len(right)))
 
 
 def window(text: str, column: int, width: int) -> tuple[str, int]:

@@ -241,14 +241,10 @@ class Running(unittest.TestCase):
         book = self.write(text)
         for name, made in cases.made_files(book).items():
             (self.room / name).write_text(made, encoding="utf-8")
-        with (
-            mock.patch.multiple(cases, ROOT=self.room, CASES=self.room / "cases", ROWS=self.room, DATA=self.room / "tw_cases/data"),
-            mock.patch.dict(os.environ, {"CI": ci, "COLUMNS": "100"}),
-            contextlib.redirect_stdout(io.StringIO()) as said,
-            contextlib.redirect_stderr(said),
-        ):
-            programs = [f"{crate}={kind}:{self.program}" for crate in files.CRATES]
-            return cases.run_command(book, [*programs, *words]), said.getvalue()
+        programs = [f"{crate}={kind}:{self.program}" for crate in files.CRATES]
+        folders = mock.patch.multiple(cases, ROOT=self.room, CASES=self.room / "cases", ROWS=self.room, DATA=self.room / "tw_cases/data")
+        with folders, mock.patch.dict(os.environ, {"CI": ci, "COLUMNS": "100"}):
+            return said(cases.run_command, book, [*programs, *words])
 
     def test_all_as_expected(self) -> None:
         text = "# W.\n" + "".join(f"c{number} | layout | {number} | {number}\n" for number in range(100))

@@ -1,4 +1,3 @@
-# SPDX-License-Identifier: Apache-2.0
 """Tests of ./dev json_cases and ./dev json_runs on wrong objects."""
 
 import pathlib

@@ -1,7 +1,8 @@
 # shellcheck shell=sh
-# SPDX-License-Identifier: Apache-2.0
-# Counts checks, for the scripts of tools/ that read this file. What a check says is in $room/log.
+# Counts checks, for the scripts of tools/ that read this file. Makes their folder $room, and removes it at the end. What a check says is in $room/log.
 passed=0 failed=0
+room=$(mktemp -d) || exit
+trap 'rm -rf "$room"' EXIT
 
 # Reports a check: whether it holds (0), what it is, and what else there is to say.
 report() {

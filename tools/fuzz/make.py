@@ -26,10 +26,6 @@ FIRST = ["ADD", "SUB", "MUL", "DIV", "REM", "CAT", "LEN", "SHOW", "READI", "COPY
 COMPUTING = (FIRST, FIRST + [name for name in FIFTH if name not in ("JTLT", "LAST")])
 
 
-def is_any(_: Type) -> bool:
-    return True
-
-
 def is_scalar(type_: Type) -> bool:
     return len(type_) == 1
 
@@ -108,14 +104,10 @@ class Writer:
     def free(self) -> list[int]:
         return [place for place in range(16) if place not in self.rights]
 
-    def holding(self, modes: tuple[int, ...], mine: bool, is_of: Callable[[Type], bool] = is_any) -> list[int]:
+    def holding(self, modes: tuple[int, ...], mine: bool, is_of: Callable[[Type], bool] = lambda _: True) -> list[int]:
         """Returns right registers of these modes, on data of such types."""
         found = [place for place in (self.mine if mine else self.rights) if self.rights[place][0] in modes]
         return sorted(place for place in found if is_of(self.rights[place][1]))
-
-    def any_type(self) -> Type:
-        types = main_types(self.version) + more_types(self.version)
-        return self.chance.choice(types + [(INT,), (TEXT,), (INT,)])
 
     def own(self, place: int, right: Right) -> None:
         self.rights[place] = right
@@ -158,7 +150,7 @@ class Writer:
         if self.version >= 4:
             makers += [self.put, self.put, self.read_entry]
         if self.version >= 5:
-            makers += [self.last]
+            makers += [lambda: [Instr("LAST")]]
         if self.head.kind == 0:
             makers += [self.start] * 6 + [self.new]
         return self.chance.choice(makers)()
@@ -208,9 +200,6 @@ class Writer:
         self.loops, self.turns = self.loops - 1, self.turns // turns
         return [Instr("REPEAT", (turns,)), *code, Instr("END")]
 
-    def last(self) -> list[Instr]:
-        return [Instr("LAST")]
-
     # --- Instructions on data
 
     def new(self) -> list[Instr]:
@@ -218,7 +207,7 @@ class Writer:
         if len(free) < 4:
             return self.compute()
         write, read = (free[0], free[1]) if self.chance.random() < 0.6 else self.chance.sample(free, 2)
-        type_ = self.any_type()
+        type_ = self.chance.choice(main_types(self.version) + more_types(self.version) + [(INT,), (TEXT,), (INT,)])
         self.own(write, (WRITE, type_))
         self.own(read, (REF, type_))
         return [Instr("NEW", (write, read, type_))]
@@ -419,11 +408,6 @@ def other_operand(chance: random.Random, form: str, version: int) -> int | str |
     return {"s": chance.randrange(6), "k": chance.choice([1, 2, 3, 1000]), "p": chance.randrange(5), "a": chance.randrange(3)}[form]
 
 
-def other_instr(chance: random.Random, version: int) -> Instr:
-    name = chance.choice(sorted(instructions_of(version)))
-    return Instr(name, tuple(other_operand(chance, form, version) for form in FORMS[name][1]))
-
-
 def damaged_code(chance: random.Random, code: tuple[Instr, ...], version: int) -> tuple[Instr, ...]:
     """Returns code with an instruction changed, dropped, doubled, exchanged or put in."""
     place = chance.randrange(len(code))
@@ -441,7 +425,8 @@ def damaged_code(chance: random.Random, code: tuple[Instr, ...], version: int) -
         return tuple(swapped)
     if kind == 5:
         return (*code[:place], here, *code[place:])
-    return (*code[:place], other_instr(chance, version), *code[place:])
+    name = chance.choice(sorted(instructions_of(version)))
+    return (*code[:place], Instr(name, tuple(other_operand(chance, form, version) for form in FORMS[name][1])), *code[place:])
 
 
 def damaged(chance: random.Random, made: Program, times: int) -> Program:

@@ -1,4 +1,3 @@
-# SPDX-License-Identifier: Apache-2.0
 """Reads where a text has an error off the lines that are printed: for ./dev json_runs and tools/fuzz/kinds/texts.py."""
 
 import re

@@ -124,8 +124,7 @@ class MachineTest(unittest.TestCase):
         manual = (ROOT / "docs" / "FORMAT.md").read_text(encoding="utf-8")
         shown = manual.split("--engines 2 --workers 2 --stats\n")[1].split("\n```")[0].split("\n")
         events = (ROOT / "examples" / "pipeline.history").read_text(encoding="utf-8").split("\nevents\n")[1].split("\n")
-        machine = Machine(PIPELINE, (2, 1, 2))
-        machine.open([39])
+        machine = Machine(PIPELINE, (2, 1, 2), [39])
         for line in events:
             if line and line != "end":
                 machine.make(event_of(line))
@@ -141,8 +140,7 @@ class MachineTest(unittest.TestCase):
         self.assertEqual([read_int(text) for text in ("0", "-5", "-0", "007", "+1", "", str(2**63))], [0, -5, None, None, None, None, None])
 
     def causes(self, program: Program, *events: tuple[str | int, ...]) -> str:
-        machine = Machine(program, (1, 1, 1))
-        machine.open([])
+        machine = Machine(program, (1, 1, 1), [])
         try:
             for event in events:
                 machine.make(event)
@@ -205,19 +203,17 @@ class RulesTest(unittest.TestCase):
         for registers, texts in (((1,), 4), ((2,), 5)):
             program = main_of(*code, registers=registers)
             self.assertEqual([bound(program, COUNTED[name]) for name in ("members", "bytes")], [2, texts * 4096])
-        machine = Machine(main_of(params=(Param(2, (4, 2)), Param(4, (2,)), Param(2, (3, 1)))), (1, 1, 1))
         by_text: dict[str, Scalar] = {"a": "b", "c": "d"}
         by_int: dict[int, Scalar] = {1: 7}
-        machine.open([by_text, by_int])
+        machine = Machine(main_of(params=(Param(2, (4, 2)), Param(4, (2,)), Param(2, (3, 1)))), (1, 1, 1), [by_text, by_int])
         self.assertEqual(machine.held(), {"members": 3, "bytes": 5 * 4096})
 
     def test_bounds_of_maps(self) -> None:
         """A value is a member; a MINS of one text at another has two texts, a MADD at an int none, a register of texts one."""
         both = replace(main_of(Instr("MINS", (0, 1, 1, 0)), Instr("MADD", (1, 0, 0))).main, registers=(1, 2))
         self.assertEqual([bound(Program((both,)), COUNTED[name]) for name in ("members", "bytes")], [2, 3 * 4096])
-        machine = Machine(main_of(params=(Param(2, (6, 2)), Param(4, (5, 3)))), (1, 1, 1))
         texts: dict[str, Scalar] = {"a": "b", "c": "d"}
-        machine.open([texts])
+        machine = Machine(main_of(params=(Param(2, (6, 2)), Param(4, (5, 3)))), (1, 1, 1), [texts])
         self.assertEqual(machine.held(), {"members": 2, "bytes": 4 * 4096})
 
     def test_sums_wrap(self) -> None:
@@ -229,8 +225,7 @@ class RulesTest(unittest.TestCase):
         main = main_of(Instr("RULE", (1, 0, 0, (0,))), Instr("PUT", (1, 0, 0, (0,))), registers=(2,)).main
         program = Program((main, callee))
         self.assertEqual(bound(program, COUNTED["bytes"]), 7 * 4096)
-        machine = Machine(program, (1, 1, 1))
-        machine.open([])
+        machine = Machine(program, (1, 1, 1), [])
         texts = [machine.held()["bytes"] // 4096]
         for event in ("take e0", "call e0", "call e0", "end e0", "take e0", "end e0", "release e0 1", "take e0"):
             machine.make(event_of(event))
@@ -253,7 +248,7 @@ class RulesTest(unittest.TestCase):
         ends = set()
         for seed in range(40):
             machine = orders.run_at_random(random.Random(seed), RunTest(RACE, (), (1, 1, 2)), (1, 1, 2))
-            self.assertTrue(machine.is_over and machine.has_contested)
+            self.assertTrue(machine.is_over and machine.contested)
             ends.add(report_lines(machine, True)[1])
         self.assertEqual(ends, {"  at 0 int 1", "  at 0 int 2"})
         test = orders.OrdersTest(RACE, (), (1, 1, 2))

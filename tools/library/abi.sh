@@ -1,5 +1,4 @@
 #!/bin/sh
-# SPDX-License-Identifier: Apache-2.0
 # Builds each earlier release's own tests of C, C++ and Rust, from git and with their own headers, and runs them with a newer library. With the
 # same number of the ABI (embed/ABI) they are linked as they were then, and have to pass. With another the loader has to refuse their caller; and
 # linked with the newer library they have to pass except for the numbers whose meaning changed with the number of the ABI (`changed`, below). Also checks
@@ -10,8 +9,6 @@
 #
 # Needs git with all commits, Python 3.9, C and C++ compilers (cc, c++) and ld. Rust's tests are left out if cargo isn't installed.
 root=$(readlink -f "$0") && root=${root%/tools/*}
-room=$(mktemp -d)
-trap 'rm -rf "$room"' EXIT
 # shellcheck source=tools/common/report.sh
 . "$root/tools/common/report.sh"
 read -r abi since <"$root/embed/ABI"

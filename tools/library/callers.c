@@ -1,4 +1,3 @@
-/* SPDX-License-Identifier: Apache-2.0 */
 /* Makes large and hostile calls over handles: `callers PROGRAM [SIZE]`, where PROGRAM holds the bytes of examples/read_number.twn, which takes a text
  * and writes the text of the next number, and SIZE is how many bytes the large sources have, 16 MiB if it isn't given. Refuses each request for
  * memory in turn, too. It is this file with loaded.c, whose calls are made with little stack. Links with
@@ -79,8 +78,6 @@ static uint8_t load(handles *all, const uint8_t *source, size_t length, uint8_t 
     yuglemit_verdict verdict = YUGLEMIT_VERDICT;
     return yuglemit_load_source(source, length, format, &all->program, &verdict);
 }
-
-static void make_each(handles *all);
 
 /* ---- Each request for memory is refused in turn */
 

@@ -1,4 +1,3 @@
-/* SPDX-License-Identifier: Apache-2.0 */
 /* What callers.c and loaded.c share. */
 #include "../../embed/yuglemit.h"
 

@@ -1,5 +1,4 @@
 #!/bin/sh
-# SPDX-License-Identifier: Apache-2.0
 # Compiles and runs the examples and tests of C, C++ and Rust on the library, hostile calls included (tools/library/callers.c): under
 # valgrind, and with the caller's side under AddressSanitizer with UndefinedBehaviorSanitizer, and under ThreadSanitizer. Compiles the C
 # examples as C99 and as C++17, and links two copies of the library into one program. Prints a line for each; ends with `N passed, 0 failed`.
@@ -9,8 +8,6 @@
 #
 # Needs cc and c++ with sanitizers, objcopy and Python 3.9. What needs valgrind or cargo is left out if it isn't installed.
 root=$(readlink -f "$0") && root=${root%/tools/*}
-room=$(mktemp -d)
-trap 'rm -rf "$room"' EXIT
 large=16777216
 # shellcheck source=tools/common/report.sh
 . "$root/tools/common/report.sh"

@@ -1,4 +1,3 @@
-/* SPDX-License-Identifier: Apache-2.0 */
 /* Measures how much stack calls of the library take: makes them in a thread, and prints how many bytes below the caller's frame were written.
  * Fails if they are more than the 64 KiB that yuglemit.h asks for. The arguments are those of tw, for which the session is kept in a handle too,
  * and standard input is the input. The stack ends at a page that can't be touched.

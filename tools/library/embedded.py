@@ -1,4 +1,3 @@
-# SPDX-License-Identifier: Apache-2.0
 """Compares the library's examples with the program tw: ./dev embedded says how."""
 
 import os

@@ -1,5 +1,4 @@
 #!/bin/sh
-# SPDX-License-Identifier: Apache-2.0
 # Builds the library's examples in C, C++ and Rust. Makes the commands of examples/sessions.txt by them and by the Python module, and compares text
 # and status with the program tw (which runs by --in-turn). Prints each that differs, ends with `N same, 0 differ`, and fails if one does.
 #

@@ -1,4 +1,3 @@
-/* SPDX-License-Identifier: Apache-2.0 */
 /* Hostile calls over handles, made in threads with a stack of 64 KiB, or of 96 with a sanitizer. callers.c has the program and others. */
 #include "callers.h"
 #include <pthread.h>

@@ -1,4 +1,3 @@
-# SPDX-License-Identifier: Apache-2.0
 """Compares programs that are loaded once with the program tw: ./dev loaded says how."""
 
 import subprocess

@@ -1,5 +1,4 @@
 #!/bin/sh
-# SPDX-License-Identifier: Apache-2.0
 # Runs programs that are loaded once, by the library's handles: hostile calls (tools/library/callers.c) and the tests of C++ (embed/cpp/test.cpp, if
 # there is a compiler c++), under valgrind if it is there. Then runs every example by embed/c/loaded.c, whose outputs and status are compared
 # with those of the program tw, as are the input words that both reject. Ends with `N same, 0 differ`, and fails if a check fails or one

@@ -31,6 +31,8 @@ class TableTest(unittest.TestCase):
 
     def test_each_harness_has_to_count_something(self) -> None:
         self.assertEqual([tool.name for tool in TOOLS for run in (tool.short, tool.whole) if run and not run.least], [])
+        rows = record.rows_at_hand()
+        self.assertEqual([tool.name for tool in TOOLS if tool.may_fall and (tool.whole or tool.short or Run()).least < 0.9 * rows[tool.name].passed], [])
 
     def test_each_tool_in_python_is_called_with_its_arguments(self) -> None:
         for file in dict.fromkeys(tool.file.split()[0] for tool in TOOLS):

@@ -1,4 +1,3 @@
-# SPDX-License-Identifier: Apache-2.0
 """Makes names that collide where the hash of names has a fixed seed, for the worst inputs of ./dev hostile.
 
 Each name starts at one of the first groups of a table, so that finding one passes all before it. Names hashed with the text they are in don't collide.

@@ -1,4 +1,3 @@
-# SPDX-License-Identifier: Apache-2.0
 """Sends every code point wherever `tw` echoes a stranger's text, and finds no hidden character in what it prints: none that controls a terminal, except
 line feeds, and none that changes the direction of text. Where a text is printed whole, it is as docs/FORMAT.md says, and JSON is read back as it was.
 
@@ -166,8 +165,7 @@ MOST_BYTES = {"odd_file": 200}
 
 def texts(count: int, seed: str) -> list[str]:
     """Returns texts that have all code points; with a few texts, some of them, and a hidden one in each."""
-    drawn = random.Random(seed)
-    points = drawn.sample(POINTS, len(POINTS))
+    points = random.Random(seed).sample(POINTS, len(POINTS))
     most = -(-len(points) // count) if count >= 5000 else 100
     made = [points[at * most:at * most + most] for at in range(count)]
     return ["".join([*map(chr, some), HIDDEN[at % len(HIDDEN)]]) for at, some in enumerate(made)]

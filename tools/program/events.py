@@ -1,4 +1,3 @@
-# SPDX-License-Identifier: Apache-2.0
 """Counts the instructions of an event with valgrind's callgrind. In turn they depend on the program alone, in threads on who comes first, too.
 
     ./dev events            prints them for each row, and those of bench/events.csv
@@ -54,14 +53,10 @@ def committed() -> dict[str, float]:
         return {row["row"]: float(row["instructions"]) for row in csv.DictReader(lines)}
 
 
-def most_of(row: str) -> float:
-    """Returns by how much a row may rise."""
-    return MOST_IN_THREADS if row.endswith("in threads") else MOST
-
-
 def risen(rows: dict[str, float], figures: dict[str, float]) -> list[str]:
     """Returns a line for each row that takes more than it may, or has no figure."""
-    return [f"events: {row}: {count:.0f}, before {figures.get(row, 0):.0f}" for row, count in rows.items() if count > most_of(row) * figures.get(row, 0)]
+    most = {row: figures.get(row, 0) * (MOST_IN_THREADS if row.endswith("in threads") else MOST) for row in rows}
+    return [f"events: {row}: {count:.0f}, before {figures.get(row, 0):.0f}" for row, count in rows.items() if count > most[row]]
 
 
 def main(words: list[str]) -> int:

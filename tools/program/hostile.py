@@ -1,4 +1,3 @@
-# SPDX-License-Identifier: Apache-2.0
 """Runs the command tw on the worst inputs of each kind, of 16 MiB, under each command that takes them. There are heads, names, constants, labels,
 comments, one line, line ends, digits, quotes, hex text, traces, inputs, lines of JSON, and a cycle of 300,000 rules. Prints a line an input, with the
 most seconds of processor time and the most memory of its commands, and ends with `N passed, M failed`. A command fails that takes more processor

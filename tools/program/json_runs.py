@@ -1,4 +1,3 @@
-# SPDX-License-Identifier: Apache-2.0
 """Compares `--json` of each command with what the command prints without it, for all cases, all examples and all codes.
 
 Each object has to agree with the printed lines, and to fit docs/COMMAND.schema.json (checked if the module jsonschema is there). Prints
@@ -132,36 +131,15 @@ def check_object(options: tuple[str, ...], text: str) -> dict[str, Any]:
     return found
 
 
-def asm_object(options: tuple[str, ...], text: str) -> dict[str, Any]:
-    """Returns what the object of an assembled text has to say."""
-    if "--plain" in options:
-        return {"status": "assembled", "text": text}
-    return {"status": "assembled", "bytes": text.removesuffix("\n")}
-
-
-def disasm_object(options: tuple[str, ...], text: str) -> dict[str, Any]:
-    """Returns what the object of a disassembled program has to say."""
-    if "--places" in options:
-        return {"status": "disassembled", "listing": text.splitlines()}
-    return {"status": "disassembled", "text": text}
-
-
-def explain_object(options: tuple[str, ...], text: str) -> dict[str, Any]:
-    """Returns what the object of an explanation has to say."""
-    found = {"status": "explained", "text": text}
-    return found | ({"code": text.split(":")[0]} if options else {})
-
-
 # Makes the object of each command of the options and what is printed.
 OBJECTS: dict[str, Callable[[tuple[str, ...], str], dict[str, Any]]] = {
     "run": lambda _options, text: report_object(text),
     "replay": lambda _options, text: report_object(text),
     "check": check_object,
-    "asm": asm_object,
-    "disasm": disasm_object,
-    "explain": explain_object,
+    "asm": lambda options, text: {"status": "assembled", "text": text} if "--plain" in options else {"status": "assembled", "bytes": text.removesuffix("\n")},
+    "disasm": lambda options, text: {"status": "disassembled", "listing": text.splitlines()} if "--places" in options else {"status": "disassembled", "text": text},
+    "explain": lambda options, text: {"status": "explained", "text": text} | ({"code": text.split(":")[0]} if options else {}),
 }
-
 
 # First lines of errors. The groups are the members of their object.
 FIRST_LINES = tuple(re.compile(pattern) for pattern in (
@@ -309,8 +287,7 @@ def main(words: list[str]) -> int:
         failed += bool(wrong)
         for fault in wrong:
             print(f"{session.name}: {session.command}: {fault}")
-    compared = ", ".join(f"{counts[command]} of {command}" for command in COMMANDS)
-    print(f"{compared} compared")
+    print(", ".join(f"{counts[command]} of {command}" for command in COMMANDS), "compared")
     if not schemas:
         print(UNCHECKED)
     print(f"{sum(counts.values()) - failed} same, {failed} differ")

@@ -1,5 +1,4 @@
 #!/bin/sh
-# SPDX-License-Identifier: Apache-2.0
 # Runs a program on 10,000 inputs by each engine of docs/MANY.md, on this machine over loopback, kills a worker in the middle, and compares
 # the tables, which have to be the same. Tests what examples/many/*.sh have to survive. Prints a line for each case, ends with
 # `N passed, M failed`, and fails if one does.
@@ -22,7 +21,6 @@ print(next(port for port in random.sample(range(20000, 32000), 1000) if all(is_f
 PYTHONPATH=$root/embed/python${PYTHONPATH:+:$PYTHONPATH}
 export PYTHONPATH PYTHONDONTWRITEBYTECODE=1
 [ $# -gt 0 ] || set -- scripts lines threads processes dask mpi parallel ssh slurm
-room=$(mktemp -d)
 started=''
 # shellcheck source=tools/common/report.sh
 . "$root/tools/common/report.sh"

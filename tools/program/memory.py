@@ -1,4 +1,3 @@
-# SPDX-License-Identifier: Apache-2.0
 """Runs examples and hostile programs with as much memory as docs/HOSTING.md says for their bounds: ./dev memory [--only TEXT]
 
 The bounds are those of `tw check --bounds --limit`, and the memory is limited as by `ulimit -v`. A run fails if it ends with `memory` or by a

@@ -1,4 +1,3 @@
-// SPDX-License-Identifier: Apache-2.0
 // Preloaded into a program: each of its first three threads ends before the next begins, or has 20 milliseconds. So `malloc` makes only one
 // arena for them, as on a busy machine. ./dev scarce builds and uses it.
 #define _GNU_SOURCE

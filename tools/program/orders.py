@@ -1,4 +1,3 @@
-# SPDX-License-Identifier: Apache-2.0
 """Runs a program in several layouts and orders of events, and says whether its outputs and its end are the same. What is run in threads is replayed on
 the reference machine, with the same report and status; and nothing may be on standard error, such as late wakes.
 

@@ -1,4 +1,3 @@
-# SPDX-License-Identifier: Apache-2.0
 """Measures what the dearest instructions and events take, and compares it with the prices by which a run's seconds are bounded.
 
     ./dev prices            all rows

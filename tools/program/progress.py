@@ -1,4 +1,3 @@
-# SPDX-License-Identifier: Apache-2.0
 """Checks what `tw` prints on a terminal: its progress on standard error, and colours.
 
 A run of some seconds prints once a second how many events there are so far, and --each how many lines are answered, and at which rate.
@@ -7,6 +6,7 @@ pipe, or of a short run whose program comes late. A rejected command line prints
 reads a terminal says so first, except with --help. Prints each that differs, ends with `N as wanted, M not`, and fails if one differs.
 """
 
+import contextlib
 import os
 import pty
 import re
@@ -60,15 +60,10 @@ def run(words: list[str], text: str, on_terminal: bool = True, late: float = 0.0
     first: list[float] = []
 
     def listen() -> None:
-        while True:
-            try:
-                more = os.read(ours, 4096)
-            except OSError:
-                return
-            if not more:
-                return
-            first.append(time.monotonic())
-            printed.append(more)
+        with contextlib.suppress(OSError):
+            while more := os.read(ours, 4096):
+                first.append(time.monotonic())
+                printed.append(more)
 
     begun = time.monotonic()
     process = subprocess.Popen([program(), "run", "--text", "--limit=1000000", *words], stdin=subprocess.PIPE, stdout=subprocess.PIPE, stderr=theirs, env=COLOURED)
@@ -89,11 +84,6 @@ def tasks(count: int) -> str:
     return LONG % (min(count, 1000), (count + 999) // 1000)
 
 
-def each_text(lines: int) -> str:
-    """Returns a program and so many lines of inputs."""
-    return EACH + "inputs\n" + "[]\n" * lines
-
-
 class Work(NamedTuple):
     """A text for each count, from the least to the most, and the arguments of the command that runs it."""
 
@@ -104,7 +94,7 @@ class Work(NamedTuple):
 
 
 TASKS = Work(tasks, 16, MOST_TASKS, [])
-LINES = Work(each_text, 1000, MOST_LINES, ["--each"])
+LINES = Work(lambda lines: EACH + "inputs\n" + "[]\n" * lines, 1000, MOST_LINES, ["--each"])
 
 
 def run_long(work: Work, words: list[str], on_terminal: bool, is_printed: bool) -> tuple[int, Answer, Took]:
@@ -200,16 +190,13 @@ def long_faults() -> list[str]:
 
 def short_faults() -> list[str]:
     """Returns what is wrong with short runs, likewise."""
-    faults: list[str] = []
     rows: list[tuple[str, list[str], float, Answer]] = [
         ("a short run whose program comes late", [], 3.5, Answer("", "out 0 int 7\nquiet\n", 0)),
         ("--each without lines", ["--each"], 0.0, Answer(NO_LINES, "command line refused\n", 2)),
         ("a refused command line", ["--workers=17"], 0.0, Answer(REFUSED, "command line refused\n", 2)),
     ]
-    for name, words, late, expected in rows:
-        got, _ = run(words, SHORT, late=late)
-        faults.append("" if got == expected else f"{name}: {got}")
-    return faults
+    found = [(name, run(words, SHORT, late=late)[0], expected) for name, words, late, expected in rows]
+    return ["" if got == expected else f"{name}: {got}" for name, got, expected in found]
 
 
 def read_terminal(words: list[str]) -> Answer:

@@ -1,4 +1,3 @@
-/* SPDX-License-Identifier: Apache-2.0 */
 /* Refuses one request of a program: the one whose number, from 1, is in REFUSE. Requests are those for memory, or, where KIND is
    `thread`, those for threads. If REPORT names a file, it gets the number of requests, written anew at each, since a
    program with threads may end without its destructors. Built and loaded by ./dev refused. */
@@ -40,37 +39,33 @@ static int is_refused(int is_thread) {
     return number == refused;
 }
 
+/* Sets `real` to the C library's function of this name. */
+#define REAL(name) \
+    static __typeof__(&name) real; \
+    if (!real) \
+        real = (__typeof__(&name))dlsym(RTLD_NEXT, #name)
+
 void *malloc(size_t size) {
-    static void *(*real)(size_t);
-    if (!real)
-        real = (void *(*)(size_t))dlsym(RTLD_NEXT, "malloc");
+    REAL(malloc);
     return is_refused(0) ? NULL : real(size);
 }
 
 void *realloc(void *old, size_t size) {
-    static void *(*real)(void *, size_t);
-    if (!real)
-        real = (void *(*)(void *, size_t))dlsym(RTLD_NEXT, "realloc");
+    REAL(realloc);
     return is_refused(0) ? NULL : real(old, size);
 }
 
 void *aligned_alloc(size_t alignment, size_t size) {
-    static void *(*real)(size_t, size_t);
-    if (!real)
-        real = (void *(*)(size_t, size_t))dlsym(RTLD_NEXT, "aligned_alloc");
+    REAL(aligned_alloc);
     return is_refused(0) ? NULL : real(alignment, size);
 }
 
 int posix_memalign(void **out, size_t alignment, size_t size) {
-    static int (*real)(void **, size_t, size_t);
-    if (!real)
-        real = (int (*)(void **, size_t, size_t))dlsym(RTLD_NEXT, "posix_memalign");
+    REAL(posix_memalign);
     return is_refused(0) ? 12 : real(out, alignment, size);
 }
 
 int pthread_create(pthread_t *thread, const pthread_attr_t *attributes, void *(*run)(void *), void *argument) {
-    static int (*real)(pthread_t *, const pthread_attr_t *, void *(*)(void *), void *);
-    if (!real)
-        real = (int (*)(pthread_t *, const pthread_attr_t *, void *(*)(void *), void *))dlsym(RTLD_NEXT, "pthread_create");
+    REAL(pthread_create);
     return is_refused(1) ? EAGAIN : real(thread, attributes, run, argument);
 }

@@ -1,4 +1,3 @@
-# SPDX-License-Identifier: Apache-2.0
 """Runs a command once for each request for memory that it makes, with that request refused, and for each thread. It has to end with `memory` and
 status 5, or as it does otherwise. Prints how often each command ended in which way, and ends with `N passed, M failed`.
 

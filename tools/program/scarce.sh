@@ -1,5 +1,4 @@
 #!/bin/sh
-# SPDX-License-Identifier: Apache-2.0
 # Runs each case of a session that is short of memory in a process of its own, on one processor. The first threads of the process end before the
 # next ones begin, so that `malloc` makes one arena for them, as it does by chance on a busy machine. Prints what differs, and ends with
 # `N passed, M failed`; it fails if one does.
@@ -9,14 +8,12 @@
 # It needs a C compiler and taskset.
 root=$(readlink -f "$0") && root=${root%/tools/*}
 rows=$root/crates/tw_cases/stdin
-room=$(mktemp -d) || exit
-trap 'rm -rf "$room"' EXIT
+# shellcheck source=tools/common/report.sh
+. "$root/tools/common/report.sh"
 program=$("$root/script/pick.sh" tw_cases) || exit
 cc -O2 -shared -fPIC -o "$room/one_arena.so" "$root/tools/program/one_arena.c" -ldl || exit
 # The first processor that this process may use.
 first=$(taskset -cp $$ | sed 's/.*: //; s/[-,].*//') || exit
-# shellcheck source=tools/common/report.sh
-. "$root/tools/common/report.sh"
 for _ in $(seq "${1:-1}"); do
     for name in $(sed -n 's/^\(long_[a-z_]*\) | scarce .*/\1/p' "$rows"); do
         grep -E "^let |^$name " "$rows" >"$room/rows"

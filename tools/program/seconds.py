@@ -1,4 +1,3 @@
-# SPDX-License-Identifier: Apache-2.0
 """Checks that `tw run --seconds N` and Ctrl-C stop runs: ./dev seconds
 
 Runs that take minutes are stopped after a second and not before: in turn, by a seed, in threads, on a terminal; and a line of --each, while the
@@ -140,9 +139,8 @@ def on_terminal(turns: str) -> None:
         raise Wrong(f"progress is {printed!r}")
 
 
-def quick_answer(line: int) -> dict[str, object]:
-    """Returns the object of a line that asks for no turns."""
-    return {"line": line, "events": 9, "instructions": 7, "kinds": ["int"], "outputs": [0], "status": "quiet"}
+# The object of a line that asks for no turns, without its number.
+QUICK: dict[str, object] = {"events": 9, "instructions": 7, "kinds": ["int"], "outputs": [0], "status": "quiet"}
 
 
 def each(jobs: int, least: float) -> Callable[[str], None]:
@@ -153,7 +151,7 @@ def each(jobs: int, least: float) -> Callable[[str], None]:
         ran = in_time(Window(least, 6.0, 4.0), lambda: run(words, lines))
         answers = ran.output.splitlines()
         expect("lines", len(answers), 5)
-        wanted = [stopped_answer(answers[line - 1]) | {"line": line} if line in (2, 4) else quick_answer(line) for line in range(1, 6)]
+        wanted = [(stopped_answer(answers[line - 1]) if line in (2, 4) else QUICK) | {"line": line} for line in range(1, 6)]
         expect("status and answers", (ran.status, list(map(json.loads, answers))), (4, wanted))
     return check
 

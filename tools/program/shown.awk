@@ -1,4 +1,3 @@
-# SPDX-License-Identifier: Apache-2.0
 # Writes what documents show to a folder: awk -f tools/program/shown.awk -v folder=DIR README.md docs/*.md. There shown.txt has each
 # command `$ ./tw ..` in a block of code, with the lines below it, except the script's own `build` and `test`. A
 # block after the words "into `sum.twn`" is the file sum.twn; a command `$ sed -i .. sum.twn` in a block makes sum_2.twn of it, and

@@ -1,5 +1,4 @@
 #!/bin/sh
-# SPDX-License-Identifier: Apache-2.0
 # Runs each command `$ ./tw ..` that README.md, docs/, examples/sessions.txt and orders.txt there show, and those of tools/program/scripted.txt, which open files
 # or use the shell, and compares its standard output with what is shown below it. After an error, standard error has to name its explanation. Also
 # compares the commands that `./tw --help` and the program list, and checks that the files for editors and shells are up to date. Prints each
@@ -10,7 +9,7 @@ trap 'rm -rf "$room"' EXIT
 awk -f "$root/tools/program/shown.awk" -v folder="$room" "$root/README.md" "$root"/docs/*.md
 ln -s "$root/examples" "$root/bench" "$root/CHANGELOG.md" "$root/tw" "$room"
 # The marker ends the last command.
-{ cat "$room/shown.txt" "$root/examples/sessions.txt" "$root/examples/orders.txt" "$root/tools/program/scripted.txt"; echo '$ '; } >"$room/all"
+{ cat "$root/tools/program/scripted.txt" "$room/shown.txt" "$root/examples/sessions.txt" "$root/examples/orders.txt"; echo '$ '; } >"$room/all"
 program=$("$root/script/pick.sh" tw_main) || exit
 first=${1:-}
 cd "$room" || exit

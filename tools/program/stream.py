@@ -1,4 +1,3 @@
-# SPDX-License-Identifier: Apache-2.0
 """Checks that `tw run --each` answers each line as soon as it is read: ./dev stream [--short]
 
 Writes a line, waits for its answer, and writes the next, with one job and with four, also lines with ids. Sends bytes that aren't UTF-8, and ends the process by signals.

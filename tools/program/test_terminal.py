@@ -1,4 +1,3 @@
-# SPDX-License-Identifier: Apache-2.0
 """Tests of ./tw and of an installed tw at a terminal: pages of help have its width, Ctrl-C stops a run, and what is typed is printed without hidden
 characters. Elsewhere an installed tw becomes its program."""
 

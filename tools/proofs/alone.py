@@ -1,4 +1,3 @@
-# SPDX-License-Identifier: Apache-2.0
 """Checks the crate in whose folder it is called, with the crates below taken from their sources, as they are and unproved.
 
 This is for the first minutes in a fresh clone, where `rt check` would prove all of those first. It takes the arguments of `rt check`. With

@@ -1,4 +1,3 @@
-# SPDX-License-Identifier: Apache-2.0
 """Builds a program of this repository, unproved, with places of its sources broken. One build has all breaks: each asks whether it is the one that
 is tried, and the number of that one is written into the program. For ./dev mutants."""
 

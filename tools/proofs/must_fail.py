@@ -1,4 +1,3 @@
-# SPDX-License-Identifier: Apache-2.0
 """Tries the mutants of tools/proofs/must-fail, which CI leaves out: the prover has to reject each.
 
 A mutant costs a proof of its crate, so CI tries those of crates/NAME/must-fail alone. This copies the others into a clone of what is committed, and
@@ -98,11 +97,6 @@ def note(root: Path, kit: str, names: Iterable[str]) -> None:
 # ---- The prover
 
 
-def rejected_in(output: str) -> set[str]:
-    """Returns the mutants that the toolchain reports as rejected, as CRATE/FILE."""
-    return set(re.findall(r"(?m)^(?:rt: )?must-fail (\S+): refused, as it must be", output))
-
-
 def output_of(tree: Path, *words: str) -> str:
     """Runs a command of the toolchain in a folder, and returns what it prints."""
     return subprocess.run(["rt", *words], cwd=tree, stdin=subprocess.DEVNULL, stdout=subprocess.PIPE, stderr=subprocess.STDOUT, text=True).stdout
@@ -134,7 +128,7 @@ def attempt(root: Path, kit: str, names: list[str]) -> list[str]:
         copy_mutants(root, tree, names)
         output = output_of(tree, "must-fail", *names)
     print(output, end="", flush=True)
-    rejected, mutants = rejected_in(output), mutants_in(root)
+    rejected, mutants = set(re.findall(r"(?m)^(?:rt: )?must-fail (\S+): refused, as it must be", output)), mutants_in(root)
     left = {name: [it for it in (f"{name}/{file.name}" for file in mutants[name]) if it not in rejected] for name in names}
     note(root, kit, [name for name in names if not left[name]])
     return [it for name in names for it in left[name]]

@@ -4,11 +4,11 @@ ends with `N killed, M survive`. It fails if a mutant survives that isn't said t
 fail without an edit, whose mutants aren't tried.
 
     ./dev mutants                  all of them, in some ten minutes
-    ./dev mutants NAME..           these, or those of a part: main, host, script, release, cases, python, build, cpp, rust, page
+    ./dev mutants NAME..           these, or those of a part: main, terminal, host, script, release, cases, python, build, cpp, rust, page
     ./dev mutants --list           their names; like each call, it fails if an edit's text isn't in its file once
     ./dev mutants --table NAME..   prints a table of Markdown at the end
 
-The page's tests need node. The parts `main` and `host` are built once, unproved, with all their edits (tools/proofs/breaks.py), which takes some
+The page's tests need node. Parts of `BUILT` are built once for each crate, unproved, with all its edits (tools/proofs/breaks.py), which takes some
 minutes and needs the toolchain. Cases have to notice those of the host (./dev wakes) as `late wakes N`, or since a run takes too long.
 """
 
@@ -35,26 +35,25 @@ SECONDS = 900 * float(os.environ.get("PATIENCE", "1"))
 TIMES = 5
 
 # The edits that are tried at once have a copy each.
-COPIES = max(1, (os.cpu_count() or 1) - 1)
+COPIES = max(1, len(os.sched_getaffinity(0)) - 1)
 
 # The command that tests each part, its quick tests first. @LIBRARY@, @ARCHIVE@ and @MODULE@ are the libraries and the page's module.
 TESTS = {
-    "main": "./dev shown --first && ./dev progress",
+    "main": "./dev shown --first",
+    "terminal": "./dev progress",
     "host": "crates/tw_host_cases/out/tw_host_cases <out/host_cases >out/host_said; head -n 1 out/host_said; grep -qxFf out/host_wanted out/host_said",
     "script": "./dev shown --first",
     "release": "python3 -B -m unittest -f tools.release.test_release",
     "cases": "python3 -B -m unittest -f tools.cases.test_cases",
-    "python": "export PYTHONPATH=$PWD/embed/python YUGLEMIT_LIBRARY=@LIBRARY@ && cd embed/python/tests && "
-    "python3 -B -m unittest -f test_inputs test_errors test_map test_program && python3 -B -m unittest discover -f -p 'test_*.py'",
+    "python": "export PYTHONPATH=$PWD/embed/python YUGLEMIT_LIBRARY=@LIBRARY@ && cd embed/python/tests && python3 -B -m unittest -f test_[eip]*.py test_[!beip]*.py test_b*.py",
     "build": "export PYTHONPATH=$PWD/embed/python YUGLEMIT_LIBRARY=@LIBRARY@ && cd embed/python/tests && python3 -B -m unittest -f test_build_loops test_build_lines test_build",
     "cpp": "c++ -std=c++17 -pthread -I embed -o out/cpp_test embed/cpp/test.cpp @ARCHIVE@ && out/cpp_test examples",
     "rust": "cd embed/rust && YUGLEMIT_FOLDER=$(dirname @ARCHIVE@) CARGO_TARGET_DIR=../../out/rust cargo test --offline --quiet",
     "page": "node page/machine_test.js @MODULE@ page examples",
 }
 
-
 # The crates of the parts that are built, and the kinds of cases that turn or run a host.
-BUILT = {"main": "tw_main", "host": "tw_host_cases"}
+BUILT = {"main": "tw_main", "terminal": "tw_main", "host": "tw_host_cases"}
 OF_HOSTS = ("turns ", "rounds ", "stops ", "drives", "threads ", "woken ")
 
 
@@ -135,7 +134,7 @@ MUTANTS = (
     Mutant("long_files_are_cut", "main", MAIN + "system_files.rt", "MOST_BYTES as u64 + 1", "MOST_BYTES as u64 + (if @long_files_are_cut@ { 0 } else { 1 })"),
     Mutant("missing_files_have_no_reason", "main", MAIN + "hints.rt", "        ErrorKind::NotFound =>", "        ErrorKind::NotFound if !@missing_files_have_no_reason@ =>"),
     Mutant("folders_have_no_reason", "main", MAIN + "hints.rt", "        ErrorKind::IsADirectory =>", "        ErrorKind::IsADirectory if !@folders_have_no_reason@ =>"),
-    Mutant("terminals_are_read_silently", "main", MAIN + "tool.rt", "if stdin.is_terminal() {", "if stdin.is_terminal() && !@terminals_are_read_silently@ {"),
+    Mutant("terminals_are_read_silently", "terminal", MAIN + "tool.rt", "if stdin.is_terminal() {", "if stdin.is_terminal() && !@terminals_are_read_silently@ {"),
     Mutant("errors_have_no_hint", "main", MAIN + "hints.rt", "            print_error_hint(alloc, stderr, answered, &failure)\n", "            if @errors_have_no_hint@ { Ok(()) } else { print_error_hint(alloc, stderr, answered, &failure) }\n"),
     Mutant("hex_text_has_no_hint", "main", MAIN + "hints.rt", "if answered.reads_input && ", "if answered.reads_input && !@hex_text_has_no_hint@ && "),
     Mutant("files_are_standard_input", "main", MAIN + "tool.rt", "is_each, misnamed, false, &writer)", "is_each, misnamed, @files_are_standard_input@, &writer)"),
@@ -144,9 +143,9 @@ MUTANTS = (
     Mutant("comments_hide_no_names", "main", MAIN + "symbolic.rt", "line.split(';').next().unwrap_or(\"\").trim()", "(if @comments_hide_no_names@ { line } else { line.split(';').next().unwrap_or(\"\") }).trim()"),
     Mutant("any_twn_has_names", "main", MAIN + "symbolic.rt", "Ok(text) if !begins_with_names(text) =>", "Ok(text) if !@any_twn_has_names@ && !begins_with_names(text) =>"),
     Mutant("rejected_words_say_nothing", "main", MAIN + "tool.rt", "                self.complain(&complaint);\n", "                if !@rejected_words_say_nothing@ {\n                    self.complain(&complaint);\n                }\n"),
-    Mutant("quiet_runs_print", "main", MAIN + "progress_printer.rt", "!self.is_quiet && self", "(!self.is_quiet || @quiet_runs_print@) && self"),
-    Mutant("pipes_get_progress", "main", MAIN + "progress_printer.rt", "&& self.stderr.is_terminal()\n", "&& (self.stderr.is_terminal() || @pipes_get_progress@)\n"),
-    Mutant("progress_at_each_look", "main", MAIN + "progress_printer.rt", "if second <= self.printed {", "if second <= self.printed && !@progress_at_each_look@ {"),
+    Mutant("quiet_runs_print", "terminal", MAIN + "progress_printer.rt", "!self.is_quiet && self", "(!self.is_quiet || @quiet_runs_print@) && self"),
+    Mutant("pipes_get_progress", "terminal", MAIN + "progress_printer.rt", "&& self.stderr.is_terminal()\n", "&& (self.stderr.is_terminal() || @pipes_get_progress@)\n"),
+    Mutant("progress_at_each_look", "terminal", MAIN + "progress_printer.rt", "if second <= self.printed {", "if second <= self.printed && !@progress_at_each_look@ {"),
     *(Mutant(name, "host", place.file, place.old, place.new) for place in WAKES for name in names_of((place,))[1:]),
     # The script: what it answers itself, and the program that it calls.
     Mutant("versions_are_the_programs", "script", "tw", 'echo "tw $(cat "$root/VERSION")"', "echo tw"),
@@ -278,27 +277,22 @@ MUTANTS = (
 def copy_repository(folder: Path) -> None:
     """Copies the tracked files, and the programs that are unpacked or built."""
     names = subprocess.run(["git", "ls-files", "-z"], cwd=ROOT, stdout=subprocess.PIPE, check=True).stdout.decode().split("\0")
-    for name in filter(None, names):
+    for name in filter(None, [*names, "crates/tw_main/out/tw_main"]):
         if (ROOT / name).is_file():
             (folder / name).parent.mkdir(parents=True, exist_ok=True)
             shutil.copy2(ROOT / name, folder / name)
-    for kept in ("out/release", "out/unverified"):
-        if (ROOT / kept).is_dir():
-            shutil.copytree(ROOT / kept, folder / kept)
-    program = Path("crates/tw_main/out/tw_main")
-    if (ROOT / program).exists():
-        (folder / program).parent.mkdir(parents=True, exist_ok=True)
-        shutil.copy2(ROOT / program, folder / program)
+    for kept in filter(Path.is_dir, (ROOT / "out/release", ROOT / "out/unverified")):
+        shutil.copytree(kept, folder / "out" / kept.name)
 
 
-def places_of(part: str) -> tuple[Place, ...]:
-    """Returns the edits of a part that is built, each of which asks whether it is tried."""
-    return tuple(dict.fromkeys(Place(mutant.file, mutant.old, mutant.new) for mutant in MUTANTS if mutant.part == part))
+def places_of(crate: str) -> tuple[Place, ...]:
+    """Returns the edits of a crate that is built, each of which asks whether it is tried."""
+    return tuple(dict.fromkeys(Place(mutant.file, mutant.old, mutant.new) for mutant in MUTANTS if BUILT.get(mutant.part) == crate))
 
 
 @cache
-def with_edits(part: str) -> bytes:
-    return built(BUILT[part], places_of(part))
+def with_edits(crate: str) -> bytes:
+    return built(crate, places_of(crate))
 
 
 def write_cases(folder: Path) -> None:
@@ -314,7 +308,7 @@ def put_built(folder: Path, part: str, name: str) -> None:
     """Puts the program in which an edit is tried into the copy, newer than its sources there; without a name no edit is."""
     program = folder / "crates" / BUILT[part] / "out" / BUILT[part]
     program.parent.mkdir(parents=True, exist_ok=True)
-    write_broken(program, with_edits(part), names_of(places_of(part)).index(name))
+    write_broken(program, with_edits(BUILT[part]), names_of(places_of(BUILT[part])).index(name))
     if part == "host":
         write_cases(folder)
 

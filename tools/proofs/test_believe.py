@@ -3,6 +3,7 @@
 import unittest
 from unittest import mock
 
+from tools.harnesses import TOOLS
 from tools.proofs import mutants
 from tools.proofs.believe import main as believe
 
@@ -18,3 +19,7 @@ class FaultsTest(unittest.TestCase):
     def test_an_edit_whose_text_is_gone_is_found(self) -> None:
         with mock.patch.object(mutants, "MUTANTS", (mutants.Mutant("gone", "script", "tw", "no line has this", ""),)):
             self.assertRaisesRegex(SystemExit, "^mutants: gone: tw has its text 0 times$", mutants.main, ["--list"])
+
+    def test_nights_try_the_edits_of_each_part(self) -> None:
+        tried = " ".join(f"{tool.file} {tool.whole.words}" for tool in TOOLS if tool.name in ("mutants", "wakes") and tool.whole)
+        self.assertEqual({*tried.split()} & {*mutants.TESTS}, {mutant.part for mutant in mutants.MUTANTS})

@@ -1,14 +1,12 @@
 #!/bin/sh
-# SPDX-License-Identifier: Apache-2.0
 # Tests what ./tw does of its own: `./tw install` and its removal, help pages, statuses, completions, and the Python package of a clone. Works in a
 # fresh clone of the committed files, with nothing in the environment but PATH=/usr/bin:/bin. Prints each check, ends with `N passed, M failed`,
 # and fails if one does. It needs no toolchain, but a release of these sources. Completions of zsh are left out if it isn't installed.
 root=$(readlink -f "$0") && root=${root%/tools/*}
-room=$(mktemp -d)
-trap 'chmod -R u+w "$room"; rm -rf "$room"' EXIT
-clone=$room/clone home=$room/home prefix=$room/prefix
 # shellcheck source=tools/common/report.sh
 . "$root/tools/common/report.sh"
+trap 'chmod -R u+w "$room"; rm -rf "$room"' EXIT
+clone=$room/clone home=$room/home prefix=$room/prefix
 mkdir "$home"
 git clone -q --no-hardlinks --depth 1 "file://$root" "$clone" || exit
 

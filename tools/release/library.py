@@ -1,4 +1,3 @@
-# SPDX-License-Identifier: Apache-2.0
 """Builds the static library where `rt ci` has proved it: library.py KIT TREE OUT, where TREE holds the crates. Puts libtw_embed.a into OUT, and
 module.bc, the largest module that the toolchain's clang was handed for it, of which page/build.sh makes the page."""
 

@@ -1,4 +1,3 @@
-# SPDX-License-Identifier: Apache-2.0
 """Links the library: link_library.py KIT OUT, where OUT has libtw_embed.a. Writes libyuglemit.so and libyuglemit.a there.
 
 Both hold the proved archive and the three functions over malloc from which its memory comes, and export the calls of

@@ -1,4 +1,3 @@
-# SPDX-License-Identifier: Apache-2.0
 """Writes the packages into dist/: package.py [deb] [wheel] [sdist] [crate] [tar], or all five.
 
 Each holds what `./tw install` installs, or the library alone (wheel, sdist and crate). The version is the file VERSION's. No tool but tw is
@@ -79,11 +78,7 @@ def add_member(archive: tarfile.TarFile, path: Path, name: str) -> None:
         member.mode = 0o755
     elif member.isfile():
         member.mode = 0o644
-    if member.isfile():
-        with path.open("rb") as data:
-            archive.addfile(member, data)
-    else:
-        archive.addfile(member)
+    archive.addfile(member, io.BytesIO(path.read_bytes()) if member.isfile() else None)
 
 
 def tar_of(folder: Path, top: str) -> bytes:
@@ -156,9 +151,8 @@ def write_deb(room: Path) -> Path:
 
 def write_tar(room: Path) -> Path:
     """Writes an archive of what `./tw install` installs, which may be unpacked anywhere."""
-    base = plain(room)
     archive = DIST / f"yuglemit-{VERSION}-x86_64-linux.tar.gz"
-    archive.write_bytes(tar_of(base, f"yuglemit-{VERSION}"))
+    archive.write_bytes(tar_of(plain(room), f"yuglemit-{VERSION}"))
     return archive
 
 
@@ -210,8 +204,7 @@ def record_of(files: dict[str, bytes]) -> bytes:
 
 def write_wheel(room: Path) -> Path:
     """Writes the Python wheel, which has the library in it."""
-    library = plain(room) / "lib" / f"libyuglemit.so.{VERSION}"
-    files = wheel_files(library)
+    files = wheel_files(plain(room) / "lib" / f"libyuglemit.so.{VERSION}")
     files[f"yuglemit-{VERSION}.dist-info/RECORD"] = record_of(files)
     wheel = DIST / f"yuglemit-{VERSION}-py3-none-{PLATFORM}.whl"
     with zipfile.ZipFile(wheel, "w", zipfile.ZIP_DEFLATED, compresslevel=9) as archive:

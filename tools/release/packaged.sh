@@ -1,5 +1,4 @@
 #!/bin/sh
-# SPDX-License-Identifier: Apache-2.0
 # Tests the packages that `./tw package` writes, in minimal Debian systems that have no toolchain and no network. In one without a compiler the Debian
 # package and the wheel are installed and used. In one with g++, CMake, pkg-config and cargo programs in C, C++ and Rust are built.
 # Prints each check, and fails if one does. It needs root, mmdebstrap and a mirror of Debian.
@@ -9,7 +8,6 @@
 root=$(readlink -f "$0") && root=${root%/tools/*}
 version=$(cat "$root/VERSION")
 read -r abi _ <"$root/embed/ABI"
-room=$(mktemp -d)
 # shellcheck source=tools/common/report.sh
 . "$root/tools/common/report.sh"
 

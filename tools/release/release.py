@@ -1,4 +1,3 @@
-# SPDX-License-Identifier: Apache-2.0
 """Makes release/ from what `rt ci` has proved: the program, the libraries, the runners of the cases, the page, the manual, and MANIFEST.
 
   ./dev release               runs CI (`rt ci`) on the committed files, builds everything in two folders, compares, and writes release/
@@ -108,24 +107,21 @@ def version_of(root: Path) -> str:
     return (root / "VERSION").read_text(encoding="utf-8").strip()
 
 
-# Where the library's version is a number, as 29000 for 0.29.
+# Where the version is, and where the library's is a number, as 29000 for 0.29.
+VERSIONS = {"crates/tw_cli/src/help.rt": r'const VERSION: &str = "(.*)";', "CHANGELOG.md": r"(?m)^## ([0-9.]+)"}
 NUMBERS = {"crates/tw_embed/src/lib.rt": r"const VERSION: u32 = ([0-9_]+);", "embed/yuglemit.h": r"YUGLEMIT_VERSION_NUMBER (\d+)"}
 
 
 def version_faults(root: Path) -> list[str]:
     """Returns what names another version than VERSION: the constants of program, library and header, and the newest section of CHANGELOG.md."""
     version, faults = version_of(root), []
-    places = {"crates/tw_cli/src/help.rt": r'const VERSION: &str = "(.*)";', "CHANGELOG.md": r"(?m)^## ([0-9.]+)"}
-    for name, pattern in places.items():
-        found = re.search(pattern, (root / name).read_text(encoding="utf-8"))
-        if not found or found[1] != version:
-            faults.append(f"{name} has version {found[1] if found else 'none'}, and VERSION {version}")
     major, minor, patch = [*map(int, version.split(".")), 0, 0][:3]
-    number = major * 1_000_000 + minor * 1_000 + patch
-    for name, pattern in NUMBERS.items():
-        counted = re.search(pattern, (root / name).read_text(encoding="utf-8"))
-        if not counted or int(counted[1]) != number:
-            faults.append(f"{name} has number {counted[1] if counted else 'none'}, and VERSION {version}")
+    number = str(major * 1_000_000 + minor * 1_000 + patch)
+    for what, expected, places in (("version", version, VERSIONS), ("number", number, NUMBERS)):
+        for name, pattern in places.items():
+            found = re.search(pattern, (root / name).read_text(encoding="utf-8"))
+            if not found or found[1].replace("_", "") != expected:
+                faults.append(f"{name} has {what} {found[1] if found else 'none'}, and VERSION {version}")
     return faults
 
 
@@ -242,8 +238,10 @@ def strip(kit: Path, room: Path, file: Path) -> None:
     subprocess.run([str(tool), "--strip-all", "--remove-section=.comment", str(file)], check=True)
 
 
-def collect(kit: Path, tree: Path, to: Path) -> None:
-    """Copies what was built in a tree to a folder, under the names that release/ has, stripped."""
+def build_others(kit: Path, tree: Path, to: Path) -> Path:
+    """Builds what isn't a program in a tree, and copies all to a folder, under the names that release/ has, stripped; returns the folder."""
+    build_library(kit, tree)
+    build_page(tree)
     to.mkdir()
     for crate, name in PROGRAMS.items():
         shutil.copyfile(tree / f"crates/{crate}/out/{crate}", to / name)
@@ -252,6 +250,7 @@ def collect(kit: Path, tree: Path, to: Path) -> None:
         shutil.copyfile(tree / f"crates/{LIBRARY}/out/{name}", to / name)
     shutil.copyfile(tree / "page/out" / PAGE, to / PAGE)
     build_manual(tree, to / MANUAL)
+    return to
 
 
 def build_first(kit: Path, room: Path, with_checks: bool) -> tuple[Path, str]:
@@ -259,10 +258,7 @@ def build_first(kit: Path, room: Path, with_checks: bool) -> tuple[Path, str]:
     tree = room / "first"
     copy_committed(ROOT, tree, with_checks)
     gate = run_ci(tree, room / "ci.log")
-    build_library(kit, tree)
-    build_page(tree)
-    collect(kit, tree, room / "files-first")
-    return room / "files-first", gate
+    return build_others(kit, tree, room / "files-first"), gate
 
 
 def rebuild_programs(tree: Path) -> None:
@@ -279,10 +275,7 @@ def build_second(kit: Path, room: Path) -> Path:
     rebuild_programs(tree)
     shutil.rmtree(tree / f"crates/{LIBRARY}/out")
     shutil.rmtree(tree / "page/out")
-    build_library(kit, tree)
-    build_page(tree)
-    collect(kit, tree, room / "files-second")
-    return room / "files-second"
+    return build_others(kit, tree, room / "files-second")
 
 
 # ---- The files
@@ -328,17 +321,6 @@ def stop_on_changes(root: Path) -> None:
     must_fail.stop_on_changes(root, "a release is made of", "page", "script", "tools", "embed", "examples")
 
 
-def stop_on_untried_mutants(root: Path, kit: Path) -> None:
-    """Ends if a mutant that CI leaves out isn't noted as rejected on these sources."""
-    untried = must_fail.untried(root, kit_id(kit))
-    stop_on_differences(untried, "first run ./dev must_fail, since these crates' mutants weren't rejected on these sources")
-
-
-def stop_on_record() -> None:
-    """Ends if a harness hasn't passed with this version or the one before it, or passed fewer things than in the release before."""
-    stop_on_differences(record.faults(record.rows_at_hand(), record.rows_before()), "first ./dev night and ./dev record")
-
-
 # ---- The commands
 
 
@@ -347,8 +329,8 @@ def make(gate_log: str | None, once: bool) -> None:
     stop_on_changes(ROOT)
     stop_on_differences(version_faults(ROOT), "the version isn't one")
     kit = kit_folder()
-    stop_on_untried_mutants(ROOT, kit)
-    stop_on_record()
+    stop_on_differences(must_fail.untried(ROOT, kit_id(kit)), "first run ./dev must_fail, since these crates' mutants weren't rejected on these sources")
+    stop_on_differences(record.faults(record.rows_at_hand(), record.rows_before()), "first ./dev night and ./dev record")
     gate = last_line(Path(gate_log)) if gate_log else None
     with tempfile.TemporaryDirectory() as name:
         room = Path(name)

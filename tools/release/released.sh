@@ -1,14 +1,11 @@
 #!/bin/sh
-# SPDX-License-Identifier: Apache-2.0
 # Tries what a user of the release meets: makes a clean clone of the committed files, and there, with nothing in the environment but
 # PATH=/usr/bin:/bin, runs commands, `./tw test`, `./tw install` and the blocks of docs/HOSTING.md.
 # Prints each check with its processor time, ends with `N passed, M failed`, and fails if one does. It needs no toolchain.
 root=$(readlink -f "$0") && root=${root%/tools/*}
-room=$(mktemp -d)
-trap 'rm -rf "$room"' EXIT
-clone=$room/clone
 # shellcheck source=tools/common/report.sh
 . "$root/tools/common/report.sh"
+clone=$room/clone
 
 # Sets `used` to the processor milliseconds that all commands have used so far. The clock isn't read, since a machine may do other things too.
 count_used() {

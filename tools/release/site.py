@@ -1,4 +1,3 @@
-# SPDX-License-Identifier: Apache-2.0
 """Makes the manual as a site: all documents as HTML, contents by reader, and a search that needs no server.
 
     ./dev site FOLDER           writes the site into a new folder; open its index.html
@@ -60,11 +59,9 @@ def title_of(text: str) -> Optional[str]:
 
 def documents_of(root: Path) -> list[Document]:
     """Returns the documents of a repository, without forms for forges and copies for cases."""
-    found = []
-    for path in sorted(it for it in files_here() if it.endswith(".md") and not it.startswith(".") and "/data/" not in it):
-        text = (root / path).read_text(encoding="utf-8")
-        found.append(Document(path, name_of(path), title_of(text) or name_of(path), text))
-    return found
+    paths = sorted(it for it in files_here() if it.endswith(".md") and not it.startswith(".") and "/data/" not in it)
+    texts = {path: (root / path).read_text(encoding="utf-8") for path in paths}
+    return [Document(path, name_of(path), title_of(text) or name_of(path), text) for path, text in texts.items()]
 
 
 def groups_of(documents: list[Document]) -> list[tuple[str, list[Document]]]:

@@ -1,4 +1,3 @@
-# SPDX-License-Identifier: Apache-2.0
 """Tests of ./dev release, ./dev must_fail, tools/release/package.py and script/sources.sh."""
 
 import contextlib
@@ -71,8 +70,7 @@ class OfARepository(WithRepository):
         self.assertEqual(release.manifest_at_hand(self.root), self.manifest)
 
     def test_unproved_files_are_no_release(self) -> None:
-        unproved = dataclasses.replace(self.manifest, gate=release.UNPROVED)
-        self.edit("release/MANIFEST", unproved.text())
+        self.edit("release/MANIFEST", dataclasses.replace(self.manifest, gate=release.UNPROVED).text())
         self.assertEqual(release.staleness(self.root), ["its files aren't proved"])
 
     def test_a_change_makes_stale_what_is_built_on_it(self) -> None:

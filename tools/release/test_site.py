@@ -1,4 +1,3 @@
-# SPDX-License-Identifier: Apache-2.0
 """Tests of ./dev site: Markdown to HTML, pages, links and the search."""
 
 import json

@@ -1,4 +1,3 @@
-# SPDX-License-Identifier: Apache-2.0
 """Makes the example of docs/ADDING.md, the instruction MIN, in a copy of the sources, and checks it without a proof.
 
     ./dev adding            makes it, builds the program unverified and runs MIN; some minutes

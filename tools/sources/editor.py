@@ -1,4 +1,3 @@
-# SPDX-License-Identifier: Apache-2.0
 """Writes what follows from the program into the files of script/install by which editors show assembly text (tw.vim, tw.tmLanguage.json), and shells
 complete the arguments of tw (tw.bash, tw.zsh): names of instructions, words of lines, commands, options, codes and inputs.
 

@@ -1,4 +1,3 @@
-# SPDX-License-Identifier: Apache-2.0
 """Writes the rows of instructions that follow from a row of the table, crates/tw_code/specs/format/Table.antt, and a variant of instr.rt.
 
     ./dev instruction_rows --make     writes them into opcode.rt, sink.rt, operands.rt, the table itself, tw_asm and tw_symbols
@@ -45,11 +44,6 @@ class Row(NamedTuple):
     def skips(self) -> bool:
         """Returns whether its last operand is a skip."""
         return self.forms[-1:] == ("Skip",)
-
-    @property
-    def takes_memory(self) -> bool:
-        """Returns whether reading its operands allocates."""
-        return bool({"Literal", "Args"} & set(self.forms))
 
 
 def fields_of(text: str, enum: str) -> dict[str, tuple[str, ...]]:
@@ -162,7 +156,7 @@ def literal(row: Row) -> str:
 def making_rows(rows: list[Row]) -> Iterator[str]:
     """Yields the rows that make instructions without text and arguments."""
     for row in rows:
-        if not row.takes_memory:
+        if not {"Literal", "Args"} & set(row.forms):  # which take memory when they are read
             yield f"        Opcode::{row.opcode} => {'Instr::Ret' if row.kind == 'Ret' else literal(row)},"
 
 

@@ -1,4 +1,3 @@
-# SPDX-License-Identifier: Apache-2.0
 """Checks that docs/ADDING.md names each file of code and definitions that a new instruction touches, and that each instruction has its row in each.
 
     ./dev instructions --check        fails if a row is missing, or a file that names an instruction is in no list

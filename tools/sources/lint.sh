@@ -1,5 +1,4 @@
 #!/bin/sh
-# SPDX-License-Identifier: Apache-2.0
 # Checks what is tracked: shell scripts by shellcheck (warnings and errors), Python by mypy --strict and pyflakes. Prints what they find, and ends
 # with how many files passed; it fails if one didn't. ./dev night runs it.
 #

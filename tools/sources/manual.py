@@ -1,4 +1,3 @@
-# SPDX-License-Identifier: Apache-2.0
 """Compares the manual page docs/tw.1 with the help texts that tw prints.
 
     ./dev manual --check    prints what differs, and fails if anything does
@@ -48,16 +47,11 @@ def file_in(sentence: str) -> str | None:
 # --- The manual page
 
 
-def arguments_of(line: str) -> list[str]:
-    """Returns the arguments of a macro. One between quotes may have blanks."""
-    return [quoted or bare for quoted, bare in re.findall(r'"([^"]*)"|(\S+)', line)]
-
-
 def plain(line: str) -> str:
-    """Returns a line as it is shown, without fonts."""
+    """Returns a line as it is shown, without fonts. An argument of a macro may have blanks if it is between quotes."""
     macro = re.match(r"\.(BI|BR|IB|IR|RB|RI|B|I) (.*)", line)
     if macro:
-        line = ("" if len(macro[1]) == 2 else " ").join(arguments_of(macro[2]))
+        line = ("" if len(macro[1]) == 2 else " ").join(quoted or bare for quoted, bare in re.findall(r'"([^"]*)"|(\S+)', macro[2]))
     return re.sub(r"\\f.|\\c", "", line).replace("\\-", "-").replace("\\(dq", '"')
 
 
@@ -85,8 +79,7 @@ def named_files(page: str) -> dict[str, str]:
 def takers_in(text: str, commands: Iterable[str]) -> set[str]:
     """Returns the commands that the sentences "For .." of an entry name."""
     sentences = " ".join(re.findall(r"\bFor ([^.]*)\.", text))
-    words = set(re.findall(r"(?<![\w-])\w+", sentences))
-    return words & set(commands)
+    return set(re.findall(r"(?<![\w-])\w+", sentences)) & set(commands)
 
 
 # --- The comparison

@@ -1,4 +1,3 @@
-# SPDX-License-Identifier: Apache-2.0
 """Prints how many lines of code, definitions and proofs the crates have, and compares each group of crates.txt with its ceiling.
 
     ./dev scale             a line for each crate and each group; fails if a group is above its ceiling

@@ -1,4 +1,3 @@
-# SPDX-License-Identifier: Apache-2.0
 """Draws which crate depends on which: the diagram of docs/ARCHITECTURE.md, and its table of crates.
 
     ./dev stacks            prints the diagram

@@ -1,4 +1,3 @@
-# SPDX-License-Identifier: Apache-2.0
 """Tests of ./dev instruction_rows on copies of the sources."""
 
 import shutil

@@ -1,4 +1,3 @@
-# SPDX-License-Identifier: Apache-2.0
 """Tests of ./dev instructions in a small repository."""
 
 from tools.common.testing import Table, folder_of, put, replace, said

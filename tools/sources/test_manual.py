@@ -1,4 +1,3 @@
-# SPDX-License-Identifier: Apache-2.0
 """Tests of ./dev manual on small texts."""
 
 from tools.common.testing import Table

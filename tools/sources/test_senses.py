@@ -1,4 +1,3 @@
-# SPDX-License-Identifier: Apache-2.0
 """Tests of what ./dev words asks of documents: senses, homes, cells and ceilings."""
 
 import unittest

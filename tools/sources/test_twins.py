@@ -1,4 +1,3 @@
-# SPDX-License-Identifier: Apache-2.0
 """Tests of ./dev twins in a small repository."""
 
 import unittest

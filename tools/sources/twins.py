@@ -1,4 +1,3 @@
-# SPDX-License-Identifier: Apache-2.0
 """Keeps what is made from examples/ and the documents like its source.
 
     ./dev twins --check    fails if a file is stale, and names it

@@ -1,4 +1,3 @@
-# SPDX-License-Identifier: Apache-2.0
 """Checks the walks of docs/ARCHITECTURE.md: each function that they name is called by one that they name before it. So a reader finds each step from
 one before.
 

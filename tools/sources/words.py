@@ -1,4 +1,3 @@
-# SPDX-License-Identifier: Apache-2.0
 """Checks the words of this repository against docs/STYLE.md. Docstrings of Python count as comments.
 
     ./dev words            prints what is wrong, and fails if anything is
@@ -425,11 +424,6 @@ def risen(now: dict[str, int], before: dict[str, int]) -> Iterator[str]:
             yield f"{name}: {count}, at most {before.get(name, 0)} (./dev words {'--words' if name.endswith(': words') else '--sources'} lists them)"
 
 
-def documents_here() -> dict[str, list[Line]]:
-    """Reads the Markdown files."""
-    return {path: markdown_lines((ROOT / path).read_text(encoding="utf-8")) for path in tracked([".md"])}
-
-
 def texts_here() -> dict[str, str]:
     """Reads the Markdown files as they are, with the copies that cases read."""
     return {path: (ROOT / path).read_text(encoding="utf-8") for path in files_here() if path.endswith(".md") and (ROOT / path).is_file()}
@@ -465,7 +459,8 @@ def useless_exceptions() -> Iterator[Finding]:
 
 def check() -> int:
     """Checks everything, and returns the exit status."""
-    wrong = [*markdown_findings(documents_here()), *useless_exceptions()]
+    documents = {path: markdown_lines((ROOT / path).read_text(encoding="utf-8")) for path in tracked([".md"])}
+    wrong = [*markdown_findings(documents), *useless_exceptions()]
     show(wrong)
     before: dict[str, int] = json.loads(COUNTS.read_text(encoding="utf-8"))
     comments, words = counts_of(sources_here()), senses.words_by_group(texts_here())

@@ -31,11 +31,6 @@ WRONG_OBJECTS = {
 STATUSES = {"refused": 1, "limit": 4, "stopped": 4, "stuck": 3}
 
 
-def worst_status(answers: list[str]) -> int:
-    """Returns the status after these answers."""
-    return next((status for end, status in STATUSES.items() if any(answer.endswith(f'"status":"{end}"}}') for answer in answers)), 0)
-
-
 @dataclass(frozen=True)
 class Line:
     """A line as JSON, and its inputs or the first words of its error; neither if it is blank. With the id of its answer, if any."""
@@ -86,7 +81,8 @@ class EachTest(RunTest):
         status, text = answer
         got = text.split("\n")
         cut = [line[:len(other)] if other.endswith("column ") else line for line, other in zip(got, expected)]
-        if status != worst_status(got):
+        worst = next((after for end, after in STATUSES.items() if any(line.endswith(f'"status":"{end}"}}') for line in got)), 0)
+        if status != worst:
             return f"status: {status} of {text[:300]!r}"
         return difference("each", "\n".join([*expected, ""]), "\n".join([*cut, *got[len(expected):]]))
 

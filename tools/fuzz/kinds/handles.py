@@ -366,7 +366,7 @@ class HandlesTest(RunTest):
         if answer:
             expect("a report of no run", NO_REPORT, native.raw_report_ending(report, ending))
             return
-        machine = run_in_turn(self.program, list(self.inputs), self.layout, self.limit)
+        machine = run_in_turn(self.program, self.inputs, self.layout, self.limit)
         expect("ending", 0, native.raw_report_ending(report, ending))
         expect("ending", (machine.events, len(machine.outputs), status_of(machine)), tuple(ending))
         self.compare_meter(native, report, machine)
@@ -404,8 +404,7 @@ class HandlesTest(RunTest):
             if not answer:
                 expect("its ending", 0, native.raw_report_ending(report, ending))
                 expect("its ending", (0, 8), (ending[0], ending[2]))
-                opened = Machine(self.program, self.layout)
-                opened.open(list(self.inputs))
+                opened = Machine(self.program, self.layout, self.inputs)
                 self.compare_meter(native, report, opened)
                 self.compare_run_order(native, report, opened)
         finally:

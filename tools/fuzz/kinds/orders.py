@@ -13,7 +13,7 @@ from tools.fuzz.oracle.bounds import needs
 from tools.fuzz.oracle.code import CALLS, LOCAL, VAL, Instr, Program
 from tools.fuzz.common import Corpus, FuzzTest, RunTest, difference
 from tools.fuzz.library import Library
-from tools.fuzz.oracle.machine import Event, Layout, Machine, locals_ahead, run_in_turn
+from tools.fuzz.oracle.machine import Event, Layout, Machine, actors_of, locals_ahead, run_in_turn
 from tools.fuzz.oracle.report import report_lines, split_circle, status_of
 from tools.fuzz.kinds.runs import has_targets, run_test
 
@@ -67,11 +67,6 @@ def order_line(program: Program) -> str:
     return line_of(first_copy_insertion(program))
 
 
-def run_line(machine: Machine) -> str:
-    """Returns the line of `run --order`."""
-    return line_of(machine.contested) if machine.contested or machine.is_over else "order may show after the last event"
-
-
 # --- Random orders
 
 
@@ -99,9 +94,8 @@ def idle_events(machine: Machine, actor: str) -> list[Event]:
 
 def run_at_random(chance: random.Random, test: RunTest, layout: Layout) -> Machine:
     """Makes a run whose events are in a random order, up to the limit. Some actors are much slower than others."""
-    machine = Machine(test.program, layout)
-    machine.open(list(test.inputs))
-    actors = [f"{letter}{number}" for letter, count in zip("esw", layout) for number in range(count)]
+    machine = Machine(test.program, layout, test.inputs)
+    actors = actors_of(layout)
     weights = [chance.choice([1, 1, 5, 30]) for _ in actors]
     while machine.events < test.limit and not machine.is_over:
         actor = chance.choices(actors, weights)[0]
@@ -146,24 +140,25 @@ class OrdersTest(RunTest):
 
     def certificate_fault(self, library: Library) -> str | None:
         """Compares the last line of `run --order`."""
-        machine = run_in_turn(self.program, list(self.inputs), self.layout, self.limit)
+        machine = run_in_turn(self.program, self.inputs, self.layout, self.limit)
         words = ["run", "--in-turn", "--order", "--limit", str(self.limit), *self.options, *self.words]
-        return difference("run --order", run_line(machine), library.session(words, self.hex)[1].splitlines()[-1])
+        line = line_of(machine.contested) if machine.contested or machine.is_over else "order may show after the last event"
+        return difference("run --order", line, library.session(words, self.hex)[1].splitlines()[-1])
 
     def runs(self) -> list[Machine]:
         """Makes a run in turn, and one in a random order for each layout."""
         chance = random.Random(self.seed)
         at_random = [run_at_random(chance, self, layout) for layout in self.layouts(chance)]
-        return [run_in_turn(self.program, list(self.inputs), self.layout, self.limit), *at_random]
+        return [run_in_turn(self.program, self.inputs, self.layout, self.limit), *at_random]
 
     def orders_fault(self, library: Library) -> str | None:
         runs = self.runs()
         over = [machine for machine in runs if machine.is_over]
-        if not any(machine.has_contested for machine in runs):
+        if not any(machine.contested for machine in runs):
             return self.reports_fault(library, over)
         if first_copy_insertion(self.program) is None:
             return "an insertion is contested, though none is by a copy"
-        return None if all(machine.has_contested for machine in over) else "one order contests an insertion, another that ends doesn't"
+        return None if all(machine.contested for machine in over) else "one order contests an insertion, another that ends doesn't"
 
     def reports_fault(self, library: Library, over: list[Machine]) -> str | None:
         """Compares the reports of runs that contest no insertion, and a run by the library."""
@@ -183,7 +178,7 @@ class OrdersTest(RunTest):
         return difference(f"run, status {status}", report, "\n".join(split_circle(text)[0]))
 
     def case(self) -> list[str]:
-        machine = run_in_turn(self.program, list(self.inputs), self.layout, self.limit)
+        machine = run_in_turn(self.program, self.inputs, self.layout, self.limit)
         words = ["run", "--in-turn", "--limit", str(self.limit), *self.options, *self.words]
         return self.case_of(words, status_of(machine), "\n".join(report_lines(machine, True)))
 

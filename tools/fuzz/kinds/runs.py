@@ -32,8 +32,7 @@ def has_targets(program: Program, layout: Layout) -> bool:
 
 def replayed(test: RunTest, text: str) -> tuple[Machine, dict[str, int]]:
     """Makes the events of a run's trace. Returns also how much more it held at any time than at first."""
-    machine = Machine(test.program, test.layout)
-    machine.open(list(test.inputs))
+    machine = Machine(test.program, test.layout, test.inputs)
     first = machine.held()
     most = dict.fromkeys(first, 0)
     for event in split_trace(text)[0]:
@@ -128,10 +127,9 @@ class InTurnTest(RunTest):
         return ["run", "--in-turn", *seed, "--trace", "--limit", str(self.limit), *self.options, *self.words]
 
     def run(self) -> Machine:
-        given = list(self.inputs)
         if self.seed:
-            return run_by_seed(self.program, given, self.layout, self.limit, self.seed)
-        return run_in_turn(self.program, given, self.layout, self.limit)
+            return run_by_seed(self.program, self.inputs, self.layout, self.limit, self.seed)
+        return run_in_turn(self.program, self.inputs, self.layout, self.limit)
 
     def expected(self) -> tuple[Machine, str]:
         machine = self.run()
@@ -173,8 +171,7 @@ class ThreadsTest(InTurnTest):
         if status not in (0, 3, 4):
             return f"run in threads: status {status}: {text[:200]}"
         events, report = split_trace(text)
-        machine = Machine(self.program, self.layout)
-        machine.open(list(self.inputs))
+        machine = Machine(self.program, self.layout, self.inputs)
         for number, event in enumerate(events, 1):
             try:
                 machine.make(event)
@@ -187,7 +184,7 @@ class ThreadsTest(InTurnTest):
         why = difference("run in threads", "\n".join(report_lines(machine, True)), "\n".join(lines)) or circle_fault(machine, circle)
         if why or status != status_of(machine):
             return why or f"run in threads: status {status}, expected {status_of(machine)}"
-        other = run_in_turn(self.program, list(self.inputs), self.layout, self.limit)
+        other = run_in_turn(self.program, self.inputs, self.layout, self.limit)
         if other.has_refused or not other.is_over or not machine.is_over:
             return None
         return difference("in turn and in threads", "\n".join(report_lines(other, True)), "\n".join(lines))
@@ -210,8 +207,7 @@ class HistoryTest(RunTest):
     events: tuple[Event, ...] = ()
 
     def expected(self) -> tuple[int, str, Machine]:
-        machine = Machine(self.program, self.layout)
-        machine.open(list(self.inputs))
+        machine = Machine(self.program, self.layout, self.inputs)
         for number, event in enumerate(self.events, 1):
             try:
                 machine.make(event)
@@ -247,16 +243,12 @@ class HistoryTest(RunTest):
         return lines[:at] + ["events", *(f"    {line}" for line in trace_text(list(self.events)).splitlines()[1:-1])] + lines[at:]
 
 
-def other_number(chance: random.Random, number: int) -> int:
-    return max(0, chance.choice([number - 1, number + 1, 0, 1, 2, number * 2]))
-
-
 def other_event(chance: random.Random, event: Event) -> Event:
     """Returns an event of another actor or with another number."""
     place = chance.randrange(1, len(event))
     found = event[place]
     if isinstance(found, int):
-        number = other_number(chance, found)
+        number = max(0, chance.choice([found - 1, found + 1, 0, 1, 2, found * 2]))
         return (*event[:place], max(1, number) if event[0] == "local" else number, *event[place + 1:])
     letter = found[0] if event[0] in ("ask", "release", "deliver") else chance.choice("ew")
     return (event[0], f"{letter}{chance.randrange(4)}", *event[2:])
@@ -308,8 +300,7 @@ def possible_events(machine: Machine) -> list[Event]:
 
 def random_trace(chance: random.Random, test: RunTest, most: int) -> list[Event]:
     """Makes events in a random order: those that the machine makes, and at the end perhaps one that it doesn't."""
-    machine = Machine(test.program, test.layout)
-    machine.open(list(test.inputs))
+    machine = Machine(test.program, test.layout, test.inputs)
     while machine.events < most:
         events = possible_events(machine)
         chance.shuffle(events)
@@ -364,7 +355,7 @@ class StatsTest(HistoryTest):
             return None
         words = ["run", "--in-turn", "--trace", "--stats", "--limit", str(self.limit), *self.options, *self.words]
         _, text = library.session(words, self.hex)
-        machine = run_in_turn(self.program, list(self.inputs), self.layout, self.limit)
+        machine = run_in_turn(self.program, self.inputs, self.layout, self.limit)
         expected = trace_text([made.event for made in machine.made]) + "\n".join(
             report_lines(machine, True) + stats_lines(machine, budgets(self.program), actors_of(self.layout))
         )

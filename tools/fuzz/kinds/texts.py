@@ -52,8 +52,7 @@ class TextTest(FuzzTest):
 
     def more(self, library: Library) -> str | None:
         """Compares the text that `disasm` writes, and what that assembles to."""
-        hex_text = encode(self.program).hex()
-        _, text = library.session(["disasm"], hex_text)
+        _, text = library.session(["disasm"], encode(self.program).hex())
         _, again = library.session(["asm"], text)
         return difference("disasm", disassembled(self.program), text) or difference("asm of disasm", hex_line(self.program), again)
 

@@ -246,8 +246,7 @@ class Paths:
 
     def onward(self, place: int, typing: Typing, loops: tuple[tuple[int, Typing], ...]) -> Iterator[tuple[int, Typing, tuple[tuple[int, Typing], ...]]]:
         """Yields where a path continues: each loop remembers its first place, and the typing there."""
-        code = self.procedure.code
-        instr = code[place]
+        instr = self.procedure.code[place]
         here = under(self.program, self.procedure, instr, typing)
         if here.codes or instr.name == "RET":
             return
@@ -288,13 +287,9 @@ def value_faults(procedure: Procedure) -> list[tuple[int, int]]:
     return faults + [(0, 2) for value, register in zip(values, procedure.registers) if value != register]
 
 
-def is_main(procedure: Procedure) -> bool:
-    return procedure.kind == 0 and all(param.mode != VAL and param.type in make.main_types(4) for param in procedure.params)
-
-
 def refusal(program: Program) -> Refusal | None:
     """Returns the first error of a program, if it has one."""
-    if not is_main(program.main):
+    if program.main.kind or any(param.mode == VAL or param.type not in make.main_types(4) for param in program.main.params):
         return Refusal(16, 0, 0)
     for number, procedure in enumerate(program.procedures):
         found = min(structure_faults(procedure.code), default=None)  # the first place with a fault, and its lowest code

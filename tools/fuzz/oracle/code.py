@@ -403,14 +403,11 @@ def with_procedure(program: Program, number: int, procedure: Procedure) -> Progr
     return replace(program, procedures=(*program.procedures[:number], procedure, *program.procedures[number + 1:]))
 
 
-def is_called(program: Program, number: int) -> bool:
-    return any(instr.name in CALLS and instr.number(0) == number for each in program.procedures for instr in each.code)
-
-
 def smaller(program: Program) -> Iterator[Program]:
     """Yields programs with a procedure or some instructions less, or lower numbers."""
     last = len(program.procedures) - 1
-    if last > 0 and not is_called(program, last):
+    called = {instr.number(0) for each in program.procedures for instr in each.code if instr.name in CALLS}
+    if last > 0 and last not in called:
         yield replace(program, procedures=program.procedures[:-1])
     for number, procedure in enumerate(program.procedures):
         length = len(procedure.code)

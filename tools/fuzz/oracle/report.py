@@ -17,11 +17,6 @@ def datum_text(machine: Machine, number: int) -> str:
     return f"{type_text(made.type)} {'closed' if made.is_closed else 'open'} {made.count}"
 
 
-def entry_text(type_: tuple[int, ...], value: Scalar) -> str:
-    """Returns a value of a map."""
-    return f"{type_text((entry_of(type_),))} {scalar_text(value)}"
-
-
 def output_lines(machine: Machine) -> list[str]:
     lines: list[str] = []
     for place, number in enumerate(machine.outputs):
@@ -30,7 +25,8 @@ def output_lines(machine: Machine) -> list[str]:
         for subscript, member in made.sorted_members() if made else []:
             lines.append(f"  at {scalar_text(subscript)} {datum_text(machine, member)}")
         if made and is_map(made.type):
-            lines += [f"  at {scalar_text(subscript)} {entry_text(made.type, value)}" for subscript, value in made.sorted_entries()]
+            of = type_text((entry_of(made.type),))
+            lines += [f"  at {scalar_text(subscript)} {of} {scalar_text(value)}" for subscript, value in made.sorted_entries()]
     return lines
 
 
@@ -125,8 +121,7 @@ KINDS = ("take", "local", "call", "end", "ask", "deliver", "release")
 def counted(machine: Machine) -> list[str]:
     """Returns the lines of statistics up to the procedures', by counting the events that were made."""
     words = [str(made.event[0]) for made in machine.made]
-    lines = ["numbers", f"events {len(words)}"]
-    return lines + [f"{kind} {words.count(kind)}" for kind in KINDS]
+    return ["numbers", f"events {len(words)}", *(f"{kind} {words.count(kind)}" for kind in KINDS)]
 
 
 def procedure_lines(machine: Machine, budgets: list[int]) -> list[str]:
@@ -160,14 +155,12 @@ class Chain:
         self.longest = 0
 
     def add(self, made: Made) -> None:
-        waits = [self.of_task.get(made.task, 0) if made.task else 0]
+        waits = [self.of_task.get(made.task, 0), self.of_datum.get(made.closed, 0)]
         word = made.event[0]
         if word in ("ask", "release"):
             waits.append(self.of_rule.get(made.rule, 0))
         if word == "release":
             waits.append(self.of_parts.get(made.rule, 0))
-        if made.closed:
-            waits.append(self.of_datum.get(made.closed, 0))
         length = max(waits) + weight(made.event)
         self.note(made, length)
 

@@ -1,4 +1,3 @@
-# SPDX-License-Identifier: Apache-2.0
 """Definitions: the files of specs/ and proofs/, and the meaning of a name in one of them.
 
 A name is found as the prover finds it: what is bound beside it, what the file defines, what its `use` lines bring in. What a clause
@@ -290,27 +289,19 @@ def bound(scope: Scope, words: list[str]) -> set[str]:
     names: set[str] = set()
     for at, word in enumerate(words):
         if word == "λ":
-            end = at + 1
-            while end < len(words) and words[end] != ".":
-                end += 1
+            end = next((k for k in range(at + 1, len(words)) if words[k] == "."), len(words))
             inner = words[at + 1:end]
             # A binder with a type has its names before the colon.
             names |= bound_in_pattern(scope, inner[:inner.index(":")] if ":" in inner else inner)
         elif word in ("(", "{"):
-            end = at + 1
-            while end < len(words) and words[end][0] not in '"(){}[],;.:=':
-                end += 1
+            end = next((k for k in range(at + 1, len(words)) if words[k][0] in '"(){}[],;.:='), len(words))
             if end > at + 1 and end < len(words) and words[end] == ":":
                 names.update(words[at + 1:end])
         elif word == "let":
-            end = at + 1
-            while words[end] not in ("=", ":"):
-                end += 1
+            end = next(k for k in range(at + 1, len(words)) if words[k] in ("=", ":"))
             names |= bound_in_pattern(scope, words[at + 1:end])
         elif word == "↦":
-            start = at - 1
-            while start >= 0 and words[start] not in ("[", "|"):
-                start -= 1
+            start = next((k for k in range(at - 1, -1, -1) if words[k] in ("[", "|")), -1)
             names |= bound_in_pattern(scope, words[start + 1:at])
     return names
 
@@ -362,13 +353,9 @@ def sequencing(scope: Scope, text: str) -> list[Use]:
     return [meaning for meaning in meanings if isinstance(meaning, (Item, str))]
 
 
-def dots_apart(text: str) -> str:
-    """A blank separates the dot of a binder from the name before it."""
-    return re.sub(r"\.(?=\s|$)", " . ", text)
-
-
 def words_of(text: str) -> list[str]:
-    return WORD.findall(dots_apart(text))
+    """Returns the words of a text. The dot of a binder is one apart from the name before it."""
+    return WORD.findall(re.sub(r"\.(?=\s|$)", " . ", text))
 
 
 def fields_of(item: Definition) -> Iterator[tuple[str, set[str]]]:

@@ -1,4 +1,3 @@
-# SPDX-License-Identifier: Apache-2.0
 """Prints what must be believed of a public promise, as one text to read from top to bottom. It has the definitions that its clauses reach,
 lowest first, each once, below the name of its file. The promise itself follows, the names of the toolchain's library, and the number of
 lines of these definitions.
@@ -128,11 +127,6 @@ def in_order(items: set[Item]) -> list[tuple[str, list[Item]]]:
     return groups
 
 
-def head_of(file: str) -> str:
-    """Returns the comment at the head of a file."""
-    return "".join(f"{line}\n" for line in takewhile(lambda line: line.startswith(("--", "//!")), read(file).splitlines()))
-
-
 def renamed_in(group: list[Item]) -> list[str]:
     """Returns the imports by which the items of one file use names under others."""
     lines: list[str] = []
@@ -163,7 +157,7 @@ def shown(root: Promise, items: set[Item], library: set[str]) -> None:
     for file, group in in_order(items):
         print(f"==== {file}\n")
         if file not in begun:
-            print(head_of(file))
+            print("".join(f"{line}\n" for line in takewhile(lambda line: line.startswith(("--", "//!")), read(file).splitlines())))
         begun.add(file)
         if renamed_in(group):
             print("\n".join(renamed_in(group)) + "\n")
@@ -196,10 +190,7 @@ def promise_named(name: str) -> Promise:
 
 def table(names: Iterable[str]) -> list[str]:
     """The rows of the table in docs/PROOFS.md, the smallest first."""
-    rows: list[tuple[tuple[int, int, int], str]] = []
-    for name in names:
-        title = "`" + name.replace(" ", "`, clause `") + "`"
-        rows.append((sizes(reached(promise_named(name))[0]), title))
+    rows = [(sizes(reached(promise_named(name))[0]), "`" + name.replace(" ", "`, clause `") + "`") for name in names]
     return [f"| {title} | {definitions:,} | {types:,} | {files:,} |" for (definitions, types, files), title in sorted(rows)]
 
 

@@ -1,4 +1,3 @@
-# SPDX-License-Identifier: Apache-2.0
 """Promises: the clauses of a call or a theorem, and the invariant of a type."""
 
 import re

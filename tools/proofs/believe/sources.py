@@ -1,4 +1,3 @@
-# SPDX-License-Identifier: Apache-2.0
 """Code: the types, constants and functions of src/, what Rust sees there, and what the terms of a contract name."""
 
 import re

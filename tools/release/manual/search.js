@@ -1,4 +1,3 @@
-// SPDX-License-Identifier: Apache-2.0
 // @ts-check
 // Searches the manual: the sections of index.js that have a word beginning with each word of the query. Headings count more than text.
 
