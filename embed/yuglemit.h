@@ -30,7 +30,7 @@ extern "C" {
 #endif
 
 /* The version: 1,000,000 times major, 1,000 times minor, and patch. The call returns that of the library. */
-#define YUGLEMIT_VERSION_NUMBER 33000
+#define YUGLEMIT_VERSION_NUMBER 34000
 uint32_t yuglemit_version(void);
 
 /* ---- Codes. A call returns 0 or the code of an error. No code is an exit status, a letter or a kind, and memory that runs out is one code. */

@@ -11,7 +11,7 @@ pub(crate) struct CommandHelp<'a> {
 }
 
 /// The program's version, which the newest section of CHANGELOG.md names.
-pub(crate) const VERSION: &str = "0.33";
+pub(crate) const VERSION: &str = "0.34";
 
 pub(crate) const ABOUT: &str =
     "Yuglemit assembles, checks and runs dataflow programs on a proved task host. Its manual is `man tw`.";

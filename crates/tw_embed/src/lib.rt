@@ -50,12 +50,12 @@ use std::alloc::Global;
 use tw_handles::Handle;
 
 /// The version: major, minor and patch, three digits each.
-const VERSION: u32 = 33_000;
+const VERSION: u32 = 34_000;
 
 /// Returns the version of the library, as `YUGLEMIT_VERSION_NUMBER` of the header it is made for.
 #[unsafe(no_mangle)]
 pub extern "C" fn yuglemit_version() -> u32
-    ensures { result ≡ 33000 }
+    ensures { result ≡ 34000 }
 {
     VERSION
 }
