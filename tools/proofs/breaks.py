@@ -79,6 +79,7 @@ def built(crate: str, places: tuple[Place, ...]) -> bytes:
 
 
 def write_broken(program: Path, made: bytes, number: int) -> None:
-    """Writes the program in which the break of a number is tried."""
+    """Writes the program in which the break of a number is tried, also while one before it still runs."""
+    program.unlink(missing_ok=True)
     program.write_bytes(made.replace(MARK.to_bytes(8, "little"), number.to_bytes(8, "little")))
     program.chmod(0o755)

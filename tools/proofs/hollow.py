@@ -48,9 +48,11 @@ def path_of(source: Any, function: Any) -> list[str]:
     if not block:
         return [*function.module, function.name]
     if not function.in_trait:
-        return [*source.declared[function.owner][0][0], function.owner, function.name]
-    words = [*block.ty * (not block.is_trait), *block.trait, ""]
-    names = [word for word, after in zip(words, words[1:]) if word.isidentifier() and after != ":" and word not in (*block.generics, "mut", "dyn")]
+        modules = [declared[0] for declared in source.declared[function.owner]]
+        return [*(function.module if function.module in modules else modules[0]), function.owner, function.name]
+    # A trait's own method has no type, and that of an impl for a type parameter has `Any`. Of modules only that of `io::Error` is in the name.
+    words = [*(["any"] if block.ty[0] in block.generics else block.ty * (not block.is_trait)), *block.trait, ""]
+    names = [word for word, after in zip(words, words[1:]) if word.isidentifier() and (after != ":" or word == "io") and word not in (*block.generics, "mut", "dyn")]
     return [*function.module, "".join(name[0].upper() + name[1:] for name in names), function.name]
 
 

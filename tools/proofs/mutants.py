@@ -41,7 +41,7 @@ COPIES = max(1, len(os.sched_getaffinity(0)) - 1)
 TESTS = {
     "main": "./dev shown --first",
     "terminal": "./dev progress",
-    "host": "crates/tw_host_cases/out/tw_host_cases <out/host_cases >out/host_said; head -n 1 out/host_said; grep -qxFf out/host_wanted out/host_said",
+    "host": "$TW_OUT/tw_host_cases <out/host_cases >out/host_said; head -n 1 out/host_said; grep -qxFf out/host_wanted out/host_said",
     "script": "./dev shown --first",
     "release": "python3 -B -m unittest -f tools.release.test_release",
     "cases": "python3 -B -m unittest -f tools.cases.test_cases",
@@ -305,8 +305,8 @@ def write_cases(folder: Path) -> None:
 
 
 def put_built(folder: Path, part: str, name: str) -> None:
-    """Puts the program in which an edit is tried into the copy, newer than its sources there; without a name no edit is."""
-    program = folder / "crates" / BUILT[part] / "out" / BUILT[part]
+    """Puts the program in which an edit is tried where TW_OUT finds it, for the tests of the part alone; without a name no edit is tried."""
+    program = folder / "out/tried" / BUILT[part].removesuffix("_main")
     program.parent.mkdir(parents=True, exist_ok=True)
     write_broken(program, with_edits(BUILT[part]), names_of(places_of(BUILT[part])).index(name))
     if part == "host":
@@ -345,7 +345,7 @@ def test(part: str, folder: Path, seconds: float = SECONDS) -> tuple[bool, str]:
     for word, path_in in (("@ARCHIVE@", archive_of), ("@MODULE@", module_of)):
         if word in command:
             command = command.replace(word, str(path_in(folder)))
-    environment = {**os.environ, "TW_OUT": ""}
+    environment = {**os.environ, "TW_OUT": str(folder / "out/tried") if part in BUILT else ""}
     run = subprocess.Popen(command, shell=True, cwd=folder, env=environment, stdin=subprocess.DEVNULL, stdout=subprocess.PIPE, stderr=subprocess.STDOUT, start_new_session=True)
     try:
         said, _ = run.communicate(timeout=seconds)

@@ -70,6 +70,8 @@ class OfBodies(unittest.TestCase):
         self.assertEqual(hollow.path_of(source, function("f")), ["low", "f"])
         self.assertEqual(hollow.path_of(source, function("f", block=method, owner="Low")), ["home", "Low", "f"])
         self.assertEqual(hollow.path_of(source, function("f", block=method, in_trait=True)), ["low", "LowFromI64", "f"])
+        method.ty = ["T"]
+        self.assertEqual(hollow.path_of(source, function("f", block=method, in_trait=True)), ["low", "AnyFromI64", "f"])
 
     def test_bodies_that_may_not_compile_are_last(self) -> None:
         texts = [("Low { at: 0 }", "constant"), ("Some(0)", "constant"), ("None", "failure"), ("tw_a::Low::new(0)", "call")]

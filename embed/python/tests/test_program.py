@@ -416,7 +416,8 @@ class Seconds(unittest.TestCase):
 class Threads(unittest.TestCase):
     def test_other_threads_go_on(self) -> None:
         """Four runs in threads take clearly less than four times one: the GIL is released. Other work on the machine only makes it harder."""
-        if (os.cpu_count() or 1) < 4:
+        processors = len(os.sched_getaffinity(0))
+        if processors < 4:
             self.skipTest("fewer than four processors")
         program = yuglemit.load(SLOW.format(turns=40))
         best = 0.0
@@ -431,7 +432,7 @@ class Threads(unittest.TestCase):
             best = max(best, alone / (time.perf_counter() - started))
             if best >= 3:
                 break
-        free = (os.cpu_count() or 1) - os.getloadavg()[0] + 1
+        free = processors - os.getloadavg()[0] + 1
         self.assertGreaterEqual(best, 3 if free >= 4 else 1.3, f"load {os.getloadavg()[0]}")
 
     def test_brief_runs_keep_the_gil(self) -> None:
