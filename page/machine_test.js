@@ -108,6 +108,8 @@ const MORE = [
     ["numbers", 'proc control write int\nregs int text\nINT v0 3\nTEXT v1 "007"\nREADI v0 v1 a\nINT v0 8\na:\nTEXT v1 "-0"\nREADI v0 v1 b\nINT v0 9\nb:\nSTORE d0 v0\nRET\n', []],
 ];
 const FOR_TWO = "proc control write int write int\nregs\nPUT 1 0 any\nPUT 1 0 any\nPUT 2 9 1 0\nPUT 2 0 any 1\nRET\nproc leaf\nregs\nREPEAT 5\nNEW d0 d1 cont int\nDROPW d0\nDROPR d1\nEND\nRET\nproc leaf write int\nregs int\nSTORE d0 v0\nRET\n";
+// Worker 1 ends its first task before worker 0, while a task for worker 0 alone waits.
+const FOR_ONE = FOR_TWO.replace("PUT 1 0 any\nPUT 2 9 1", "PUT 3 0 any\nPUT 2 9 0") + "proc leaf\nregs\nNEW d0 d1 cont int\nDROPW d0\nDROPR d1\nRET\n";
 
 // Checks that the page and the program accept the same input words.
 function words() {
@@ -185,6 +187,7 @@ for (const it of groups.flatMap(group => group.examples)) {
 }
 for (const [name, text, inputs] of MORE) for (const layout of [[1, 1, 1], [2, 2, 2]]) await compare(name, text, inputs, layout);
 await compare("targets", FOR_TWO, [], [1, 1, 2]);
+await compare("a target", FOR_ONE, [], [1, 1, 2]);
 await lessons();
 await orders();
 words();
