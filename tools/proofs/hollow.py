@@ -165,7 +165,7 @@ class Trial:
         if not plants:
             return
         self.copy.write(plants)
-        replaced = [symbol.split("::")[1:] for plant in plants for symbol in plant.f.symbols]
+        replaced = [symbol.split("::")[1:] for symbol in dict.fromkeys(symbol for plant in plants for symbol in plant.f.symbols)]
         for path in replaced:
             shutil.rmtree(self.room.joinpath("proofs", *path))
         said = self.copy.check([name for plant in plants for name in plant.f.symbols or [plant.name]]) or ""

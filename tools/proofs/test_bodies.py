@@ -89,6 +89,14 @@ class OfBodies(unittest.TestCase):
         self.assertEqual([it.kind for it in plants], ["refused", "not-source", "long", "proves", "not-source"])
         self.assertEqual(checks, [5, 4, 2, 1, 1, 2])
 
+    def test_a_proof_that_two_bodies_replace_is_removed_once(self) -> None:
+        f, g = (function(name, symbols=["low::Low::f"]) for name in "fg")
+        trial, _ = trial_of({}, dict.fromkeys("abf", "refused: by"))
+        trial.room, trial.crate = folder_of(self), SimpleNamespace(name="low")
+        put(trial.room, {"proofs/Low/f/Proof.antt": "proved"})
+        trial.read([body(f, "a"), body(g, "b")])
+        self.assertIn("f_spec = ?", (trial.room / "proofs/Low/f/Proof.antt").read_text(encoding="utf-8"))
+
     def test_counts(self) -> None:
         f, g, h = function("f"), function("g"), function("h")
         some = [body(f, "a", "not-source"), body(f, "b", "refused"), body(f, "c")]
