@@ -1,16 +1,17 @@
 """Puts wrong bodies under the contracts of public functions, which the prover has to refuse. The bodies are those of `rt plant`.
 
-  ./dev bodies                      prints release/BODIES with its sums, and names the crates that it lacks, or has of an earlier version
+  ./dev bodies                      prints release/BODIES with its sums, and names the crates of which it has no row of these sources
   ./dev bodies NAME..               tries bodies in these crates, prints those let through, and notes how many; at most ten minutes each
   ./dev bodies --minutes 30 NAME..  at most so many, and those of the last check
   ./dev bodies --each 1 NAME..      of each function one body that gives up, and one that calls it; else two of both
 
 A crate's libraries have to be there, as `rt check` makes them. What was judged isn't judged again while the sources stay (out/bodies). A row has a
-crate, the version, how many functions have a contract, of how many no body was judged, and how many bodies were refused, do what the function does,
+crate, the version, a sum of its sources and those below, how many functions have a contract, of how many no body was judged, and how many bodies were refused, do what the function does,
 were let through, and weren't judged.
 """
 
 import argparse
+import subprocess
 import tempfile
 import time
 from pathlib import Path
@@ -33,24 +34,29 @@ def rows_in(root: Path) -> dict[str, list[str]]:
     return {line.split()[0]: line.split() for line in file.read_text(encoding="utf-8").splitlines()} if file.is_file() else {}
 
 
-def row_of(root: Path, name: str, counts: list[int]) -> list[str]:
-    """Returns the words of a row of this version."""
-    version = (root / "VERSION").read_text(encoding="utf-8").strip()
-    return [name, version, *(word for count, what in zip(counts, COUNTED) for word in (str(count), what))]
+def sources_of(root: Path, name: str) -> str:
+    """Returns the sum of the sources of a crate and those below it."""
+    return subprocess.run([root / "script/sources.sh", name], check=True, stdout=subprocess.PIPE, text=True).stdout[:16]
+
+
+def counted(counts: list[int]) -> list[str]:
+    """Returns the words of counts."""
+    return [word for count, what in zip(counts, COUNTED) for word in (str(count), what)]
 
 
 def note(root: Path, name: str, counts: list[int]) -> None:
     """Notes a crate's row. Drops those of crates that are gone."""
-    found = rows_in(root) | {name: row_of(root, name, counts)}
+    version = (root / "VERSION").read_text(encoding="utf-8").strip()
+    found = rows_in(root) | {name: [name, version, sources_of(root, name), *counted(counts)]}
     (root / "release/BODIES").write_text("".join(f"{' '.join(found[name])}\n" for name in crates_in(root) if name in found), encoding="utf-8")
 
 
 def report(root: Path) -> str:
-    """Returns the table, its sums, and which crates have no row of this version."""
+    """Returns the table, its sums, and which crates have no row of these sources."""
     rows = rows_in(root)
-    total = row_of(root, "all", [sum(map(int, counts)) for counts in zip(*(row[2::2] for row in rows.values()))])
-    left = [name for name in crates_in(root) if rows.get(name, total)[:2] != [name, total[1]]]
-    return "\n".join([*map(" ".join, [*rows.values(), total]), f"none of {total[1]}: {', '.join(left) or 'no crate'}"])
+    total = ["all", *counted([sum(map(int, counts)) for counts in zip(*(row[3::2] for row in rows.values()))])]
+    left = [name for name in crates_in(root) if rows.get(name, total)[2] != sources_of(root, name)]
+    return "\n".join([*map(" ".join, [*rows.values(), total]), f"none of these sources: {', '.join(left) or 'no crate'}"])
 
 
 def attempt(root: Path, name: str, each: int, minutes: float) -> list[int]:

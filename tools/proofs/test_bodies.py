@@ -4,6 +4,7 @@ import re
 import unittest
 from types import SimpleNamespace
 from typing import Any
+from unittest.mock import patch
 
 from tools.common.testing import folder_of, put
 from tools.proofs import bodies, hollow
@@ -54,15 +55,17 @@ def trial_of(parts: dict[Any, list[list[Any]]], answers: dict[str, str]) -> tupl
 class OfBodies(unittest.TestCase):
     def test_rows_and_their_report(self) -> None:
         root = folder_of(self)
-        put(root, {"VERSION": "0.1\n", "release/BODIES": "gone 0.1 1 refused\n", "crates/low/src/lib.rt": "", "crates/high/src/lib.rt": ""})
-        bodies.note(root, "high", LOW)
-        bodies.note(root, "low", [1] * 6)
-        put(root, {"VERSION": "0.2\n"})
-        bodies.note(root, "low", LOW)
-        high, low, total, left = bodies.report(root).splitlines()
-        self.assertEqual(low, "low 0.2 9 functions 1 untried 30 refused 2 equal 1 through 13 unjudged")
-        self.assertEqual(high, low.replace("low 0.2", "high 0.1"))
-        self.assertEqual([total, left], ["all 0.2 18 functions 2 untried 60 refused 4 equal 2 through 26 unjudged", "none of 0.2: high"])
+        put(root, {"VERSION": "0.1\n", "release/BODIES": "gone 0.1 1a 1 refused\n"})
+        put(root, {f"crates/{name}/src/lib.rt": "" for name in ("low", "high", "new")})
+        with patch.object(bodies, "sources_of", lambda root, name: f"{(root / 'crates' / name / 'src/lib.rt').stat().st_size}a"):
+            bodies.note(root, "high", LOW)
+            bodies.note(root, "low", [1] * 6)
+            put(root, {"VERSION": "0.2\n", "crates/low/src/lib.rt": "fn", "crates/high/src/lib.rt": "fn"})
+            bodies.note(root, "low", LOW)
+            high, low, total, left = bodies.report(root).splitlines()
+        self.assertEqual(low, "low 0.2 2a 9 functions 1 untried 30 refused 2 equal 1 through 13 unjudged")
+        self.assertEqual(high, low.replace("low 0.2 2a", "high 0.1 0a"))
+        self.assertEqual([total, left], ["all 18 functions 2 untried 60 refused 4 equal 2 through 26 unjudged", "none of these sources: high, new"])
 
     def test_paths(self) -> None:
         source: Any = SimpleNamespace(declared={"Low": [(("home",), "struct")]})
