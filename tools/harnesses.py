@@ -72,7 +72,7 @@ def named(words: list[str]) -> list[Tool]:
 
 def fuzz(kind: str) -> Tool:
     """Returns the row of a kind of fuzz tests."""
-    short, whole = Run(f"{kind} @seed {KINDS[kind]}", KINDS[kind]), Run(f"{kind} @seed @count --seconds @seconds", 100)
+    short, whole = Run(f"{kind} @seed {KINDS[kind]}", KINDS[kind]), Run(f"{kind} @seed @count --seconds @seconds", KINDS[kind])
     return Tool(f"fuzz_{kind}", "fuzz/main.py", f"the kind {kind} of fuzz tests", short, whole, tests="tw_main tw_embed", depends="fuzz", limit=1500, is_beside=True)
 
 
@@ -86,7 +86,7 @@ TOOLS = (
     Tool("instructions", "sources/instructions.py", "rows of instructions, and docs/ADDING.md", Run("--check", 90)),
     Tool("instruction_rows", "sources/instruction_rows.py", "rows that follow from the table of instructions", Run("--check", 6)),
     Tool("adding", "sources/adding.py", "the example of docs/ADDING.md, made in a copy; at night it is built, unverified, and runs", Run("--rows", 6), Run("", 14),
-         needs="rt", depends="sources/instructions.py sources/instruction_rows.py", limit=1200),
+         needs="rt", depends="sources/instructions.py sources/instruction_rows.py", limit=1200, shard=2),
     Tool("stacks", "sources/stacks.py", "which crate depends on which", Run("--check", 50)),
     Tool("site", "release/site.py", "the manual as HTML: its titles, contents and links", Run("--check", 90)),
     Tool("believed", "proofs/believe/main.py", "the table of docs/PROOFS.md of what must be believed", Run("--check", 8), depends="proofs/believe"),
@@ -105,8 +105,8 @@ TOOLS = (
     Tool("stream", "program/stream.py", "--each as a process that answers line by line: order, bytes, long lines, memory, signals", Run("--short", 14), Run("", 18), PROGRAM),
     Tool("echoes", "program/echoes.py", "that no hidden character is printed wherever tw echoes a text", Run("--texts 100 --seed @seed", 2400),
          Run("--texts 10000 --seed @seed", 240_000), PROGRAM, limit=3600, shard=6, is_beside=True),
-    Tool("loaded", "library/loaded.sh", "loaded programs against the program", Run("--quick", 190), Run("", 190), LINKED, "cc", "library ./embed", 900),
-    Tool("abi", "library/abi.sh", "the tests of earlier releases, with the library", Run("--quick", 5), Run("", 20), tests="tw_embed libyuglemit.a", needs="cc c++ readelf"),
+    Tool("loaded", "library/loaded.sh", "loaded programs against the program", Run("--quick", 190), Run("", 190), LINKED, "cc", "library ./embed", 900, 0),
+    Tool("abi", "library/abi.sh", "the tests of earlier releases, with the library", Run("--quick", 5), Run("", 20), tests="tw_embed libyuglemit.a", needs="cc c++ readelf", shard=3),
     Tool("orders", "program/orders.py", "runs in several layouts and orders; those in threads replayed", Run("--examples --runs 1 --seeds 1", 50), Run("--examples --runs 200 --seeds 100", 50),
          PROGRAM, limit=7200, shard=3),
     Tool("scarce", "program/scarce.sh", "sessions that are short of memory, with one arena of malloc", Run("1", 1), Run("5", 5), "tw_cases", "cc taskset", limit=1200),
@@ -141,13 +141,13 @@ TOOLS = (
     Tool("wakes", "proofs/mutants.py host", "that cases notice each place that doesn't wake", None, Run("", 20), "tw_host_cases", "rt", limit=3600, shard=2, in_ci=False),
     Tool("must_fail", "proofs/must_fail.py", "that the mutants which CI leaves out are rejected", None, Run("", 20), "tw_main", "rt", "proofs/must-fail", 10800, 6, False),
     Tool("planted", "night/planted.py", "that harnesses fail on a program that always rejects, on one that is always quiet, and on others", Run("", 40), tests=BOTH, needs="cc",
-         depends="night harnesses.py", limit=1800, in_ci=False, is_beside=True),
+         depends="night harnesses.py", limit=1800, shard=4, in_ci=False, is_beside=True),
     # These make or print something.
     Tool("fuzz", "fuzz/main.py", "fuzz tests of the library and the program, by their arguments"),
     Tool("believe", "proofs/believe/main.py", "prints the definitions on which a promise depends"),
     Tool("editor", "sources/editor.py", "the files of editors and shells in script/install"),
     Tool("alone", "proofs/alone.py", "a crate over unproved sources"),
-    Tool("bodies", "proofs/bodies.py", "wrong bodies under contracts, and how many were refused"),
+    Tool("bodies", "proofs/bodies.py", "wrong bodies under contracts, and how many weren't proved"),
     Tool("release", "release/release.py", "makes the release, and compares it"),
     Tool("package", "release/package.py", "writes the packages into dist/ (./tw package)"),
 )

@@ -5,8 +5,8 @@ processor time and its last line. What crashes, takes longer than its limit, or 
     ./dev night --all        all, whole
     ./dev night --quick      a small part of each
     ./dev night NAME..       these; `fuzz` is each of its kinds. With --quick a part of them
-    ./dev night --jobs 4     three others beside those that measure
-    SECONDS_A_KIND=60 SEED=7 COUNT=500 ./dev night fuzz    bounds each kind's time; another seed, another count
+    ./dev night --jobs 1     one after another; else so many at once as there are processors but one, those that measure one after another
+    SECONDS_A_KIND=120 SEED=7 COUNT=5000 ./dev night fuzz    bounds each kind's time; another seed, another count
     PATIENCE=5 ./dev night   each limit is five times as long, for a machine that does other things too
 
 Program and libraries are what script/pick.sh finds: the first lines say which they are. A harness is left out if what it needs isn't installed.
@@ -24,7 +24,7 @@ from pathlib import Path
 from tools import ROOT
 from tools.common.program import ARCHIVE, LIBRARY, NOTHING, PROGRAM, describe, for_package, found
 from tools.harnesses import TOOLS, Tool, named
-from tools.night import record
+from tools.night import check, record
 from tools.night.runner import FAILED, Ended, Runner, heed_signals, status_of, total
 
 NIGHTS = ROOT / "out" / "night"
@@ -58,7 +58,7 @@ def chosen(names: list[str], is_all: bool, day: int) -> list[Tool]:
 
 def runner_of(folder: Path, logs: Path, whole: bool) -> Runner:
     """Returns what runs harnesses, as the environment says."""
-    usual = {"SEED": str(datetime.date.today()), "COUNT": "100000", "SECONDS_A_KIND": "120"}
+    usual = {"SEED": str(datetime.date.today()), "COUNT": "100000", "SECONDS_A_KIND": "60"}
     given = {name.split("_")[0].lower(): os.environ.get(name) or value for name, value in usual.items()}
     return Runner(folder, logs, given, float(os.environ.get("PATIENCE", "1")), whole)
 
@@ -111,7 +111,7 @@ def main(words: list[str]) -> int:
     parser = argparse.ArgumentParser(prog="./dev night", description=__doc__, formatter_class=argparse.RawDescriptionHelpFormatter)
     parser.add_argument("--quick", action="store_true")
     parser.add_argument("--all", action="store_true")
-    parser.add_argument("--jobs", type=int, default=1)
+    parser.add_argument("--jobs", type=int, default=check.jobs(len(os.sched_getaffinity(0))))
     parser.add_argument("names", nargs="*")
     given = parser.parse_args(words)
     tools = chosen(given.names, given.all or given.quick, datetime.date.today().toordinal())

@@ -43,6 +43,8 @@ class TableTest(unittest.TestCase):
         self.assertEqual(list(KINDS), list(fuzz.KINDS))
         short = {tool.name.removeprefix("fuzz_"): tool.short for tool in TOOLS if tool.name.startswith("fuzz_")}
         self.assertEqual(short, {kind: Run(f"{kind} @seed {count}", count) for kind, count in KINDS.items()})
+        least = {tool.name.removeprefix("fuzz_"): tool.whole.least for tool in TOOLS if tool.name.startswith("fuzz_") and tool.whole}
+        self.assertEqual(least, KINDS)
 
     def test_each_file_is_reached(self) -> None:
         """A file of tools/ is a row's, or one that is reached names it."""
