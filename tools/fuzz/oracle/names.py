@@ -221,8 +221,9 @@ def wrong_lines(chance: random.Random, scope: Scope, procedures: list[str], free
         ("N04", [f"INT {free} 1"]), ("N04", [f"DROPR {free}"]), ("N04", [f"REPEAT {free}"]), ("N04", [f"PUT {free} 0 any"]), ("N01", [f"const {free} 5"]), ("N01", [f"const {free} ="]),
         ("N01", [f"const {free} = x"]), ("N01", [f"const {free} = {2**63}"]), ("N01", [f"let {free} d3"]), ("N01", [f"let {free} = 3"]), ("N02", ["const any = 5"]), ("N02", ["let v0 = d1"]),
         ("N02", ["const 1a = 5"]), ("N02", [f"let {'a' * 65} = d1"]), ("N06", [f"let {free} = d15", f"NEW {free}_ {free}__ int"]),
-        ("A02", [f'TEXT v0,"{free}, (2)"']), ("A02", [f'TEXT v0 ("{free}")']),
     ]
+    if scope.listed != 0:
+        found += [("A02", [f'TEXT v0,"{free}, (2)"']), ("A02", [f'TEXT v0 ("{free}")'])]
     if other != free:
         found += [("N03", [f"const {other} = 5"]), ("N03", [f"let {other} = d3"]), ("N05", [f"INT {other} 5"])]
     if scope.listed is not None and scope.listed < REGISTERS:
