@@ -117,7 +117,7 @@ class Names:
     # --- Code
 
     def code(self, procedure: Procedure, listed: int) -> None:
-        seen: set[int] = set()
+        seen, rest = set[int](), procedure.code[len(self.hidden):]
         places = {place + 1 + instr.skip for place, instr in enumerate(procedure.code) if instr.skip is not None}
         labels = {place: new_name(self.chance, self.taken) for place in sorted(places) if place <= len(procedure.code)}
         for place, instr in enumerate(procedure.code):
@@ -128,8 +128,8 @@ class Names:
             if self.is_so(0.1):
                 self.let(listed)
             rights = tuple(name for names in self.rights.values() for name in names)
-            can_have = listed >= parameters(procedure) and all(instr.number(at) < len(procedure.registers) for instr in procedure.code for at in value_places(instr)) and not any(
-                register >= listed for instr in procedure.code for register in kept_values(self.program, instr))
+            can_have = listed >= parameters(procedure) and all(instr.number(at) < len(procedure.registers) for instr in rest for at in value_places(instr)) and not any(
+                register >= listed for instr in rest for register in kept_values(self.program, instr))
             self.scopes.append(Scope(len(self.lines), tuple(self.constants.values()), tuple(self.values.values()), rights, listed if can_have else None, len(seen)))
             seen |= {instr.number(at) for at in value_places(instr)} & set(self.hidden)
             self.instruction(place, instr, labels)
