@@ -6,8 +6,8 @@
   ./dev bodies --each 1 NAME..      of each function one body that gives up, and one that calls it; else two of both
 
 A crate's libraries have to be there, as `rt check` makes them. What was judged isn't judged again while the sources stay (out/bodies). A row has a
-crate, the version, a sum of its sources and those below, how many functions have a contract, of how many no body was judged, and how many bodies were refused, do what the function does,
-were let through, and weren't judged.
+crate, the version, a sum of its sources and those below, and how many functions have a contract. Its last counts are of how many no body was judged,
+and how many bodies were refused, do what the function does, were let through, and weren't judged.
 """
 
 import argparse

@@ -13,8 +13,10 @@ def kinds(text: str, path: str = "docs/A.md") -> list[str]:
 
 class Senses(Table):
     def test_senses(self) -> None:
-        wrong = ("The program is refused.", "It takes the number of events.", "Use it in place of one.", "A circle of calls.", "An input word.", "64-bit words.")
-        right = ("An INS is refused.", "The number of a rule rises.", "Any number of tasks.", "A circle of rules.", "The place is 0.", "The order of events.")
+        wrong = ("The program is refused.", "It takes the number of events.", "Use it in place of one.", "A circle of calls.", "An input word.", "64-bit words.",
+                 "The loader refuses it.", "Its order has jobs.", "The order's field.", "The least place from i.")
+        right = ("An INS is refused.", "The number of a rule rises.", "Any number of tasks.", "A circle of rules.", "The place is 0.", "The order of events.",
+                 "Its order is kept.", "The loop's first place.", "It checks neither place nor budget.")
         self.compare(kinds, *((text, f"{text}\n", ["word"]) for text in wrong), *((text, f"{text}\n", []) for text in right))
         self.assertEqual(kinds("Its limit is that of the run, and those before it do so.\n"), ["word"] * 3)
         self.assertEqual(list(words.wrong_words("a.py", words.comment_lines("# It is that of the run.\n", ".py"))), [])
