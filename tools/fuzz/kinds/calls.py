@@ -138,7 +138,8 @@ class ArgsTest(FuzzTest):
         line = rewritten(self.line)
         answer = library.session(line, self.data)
         if answer[1].startswith(CLOCKLESS):
-            answer = library.session([word for word in line if not word.startswith("--seconds=")], self.data)
+            timeless = [word for before, word in zip(["", *line], line) if "--seconds" not in (before, word) and not word.startswith("--seconds=")]
+            answer = library.session(timeless, self.data)
         status, text = library.command(self.line, self.data)
         places = file_places(line)
         files = [line[place] for place in places]
