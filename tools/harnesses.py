@@ -137,7 +137,7 @@ TOOLS = (
     Tool("packaged", "release/packaged.sh", "the packages", None, Run("", 10), BOTH, "unshare mmdebstrap", "./embed release", limit=2400, shard=1, in_ci=False),
     Tool("released", "release/released.sh", "a clean clone, and the commands of docs/HOSTING.md", None, Run("", 10), BOTH, depends="./script ./docs/HOSTING.md", limit=1200, shard=6, in_ci=False),
     Tool("mutants", "proofs/mutants.py", "that tests notice edits of what no contract holds", None,
-         Run("--table main terminal script release cases python build cpp rust page", 100), BOTH, "node rt", "./script ./embed ./page", limit=3600, shard=2, in_ci=False, is_beside=True),
+         Run("--table main terminal script release cases python build cpp rust page", 100), BOTH, "node rt", "./script ./embed ./page", limit=5400, shard=2, in_ci=False, is_beside=True),
     Tool("wakes", "proofs/mutants.py host", "that cases notice each place that doesn't wake", None, Run("", 20), "tw_host_cases", "rt", limit=3600, shard=2, in_ci=False),
     Tool("must_fail", "proofs/must_fail.py", "that the mutants which CI leaves out are rejected", None, Run("", 20), "tw_main", "rt", "proofs/must-fail", 10800, 6, False),
     Tool("planted", "night/planted.py", "that harnesses fail on a program that always rejects, on one that is always quiet, and on others", Run("", 40), tests=BOTH, needs="cc",

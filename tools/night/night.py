@@ -6,7 +6,7 @@ processor time and its last line. What crashes, takes longer than its limit, or 
     ./dev night --quick      a small part of each
     ./dev night NAME..       these; `fuzz` is each of its kinds. With --quick a part of them
     ./dev night --jobs 1     one after another; else so many at once as there are processors but one, those that measure one after another
-    SECONDS_A_KIND=120 SEED=7 COUNT=5000 ./dev night fuzz    bounds each kind's time; another seed, another count
+    SECONDS_A_KIND=120 SEED=7 COUNT=20000 ./dev night fuzz    bounds each kind's time; another seed, another count
     PATIENCE=5 ./dev night   each limit is five times as long, for a machine that does other things too
 
 Program and libraries are what script/pick.sh finds: the first lines say which they are. A harness is left out if what it needs isn't installed.

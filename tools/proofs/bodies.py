@@ -11,7 +11,6 @@ and how many bodies were refused, do what the function does, were let through, a
 """
 
 import argparse
-import subprocess
 import tempfile
 import time
 from pathlib import Path
@@ -19,6 +18,7 @@ from pathlib import Path
 from tools import ROOT
 from tools.common import kit
 from tools.proofs.hollow import Trial, name_of
+from tools.release.release import sums_of_sources
 
 COUNTED = ("functions", "untried", "refused", "equal", "through", "unjudged")
 
@@ -35,8 +35,8 @@ def rows_in(root: Path) -> dict[str, list[str]]:
 
 
 def sources_of(root: Path, name: str) -> str:
-    """Returns the sum of the sources of a crate and those below it."""
-    return subprocess.run([root / "script/sources.sh", name], check=True, stdout=subprocess.PIPE, text=True).stdout[:16]
+    """Returns the beginning of the sum of the sources of a crate and those below it."""
+    return sums_of_sources(root, name)[0][:16]
 
 
 def counted(counts: list[int]) -> list[str]:
@@ -55,7 +55,7 @@ def report(root: Path) -> str:
     """Returns the table, its sums, and which crates have no row of these sources."""
     rows = rows_in(root)
     total = ["all", *counted([sum(map(int, counts)) for counts in zip(*(row[3::2] for row in rows.values()))])]
-    left = [name for name in crates_in(root) if rows.get(name, total)[2] != sources_of(root, name)]
+    left = [name for name in crates_in(root) if rows.get(name, [])[2:3] != [sources_of(root, name)]]
     return "\n".join([*map(" ".join, [*rows.values(), total]), f"none of these sources: {', '.join(left) or 'no crate'}"])
 
 
