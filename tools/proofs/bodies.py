@@ -29,9 +29,10 @@ def crates_in(root: Path) -> list[str]:
 
 
 def rows_in(root: Path) -> dict[str, list[str]]:
-    """Returns the words of the rows of release/BODIES by their crates."""
+    """Returns the words of the rows of release/BODIES by their crates, without those of an earlier form."""
     file = root / "release/BODIES"
-    return {line.split()[0]: line.split() for line in file.read_text(encoding="utf-8").splitlines()} if file.is_file() else {}
+    rows = [line.split() for line in file.read_text(encoding="utf-8").splitlines()] if file.is_file() else []
+    return {row[0]: row for row in rows if len(row) == 3 + 2 * len(COUNTED)}
 
 
 def sources_of(root: Path, name: str) -> str:

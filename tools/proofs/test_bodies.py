@@ -67,10 +67,12 @@ class OfBodies(unittest.TestCase):
         self.assertEqual(high, low.replace("low 0.2 2a", "high 0.1 0a"))
         self.assertEqual([total, left], ["all 18 functions 2 untried 60 refused 4 equal 2 through 26 unjudged", "none of these sources: high, new"])
 
-    def test_a_report_without_rows(self) -> None:
+    def test_a_report_without_rows_or_of_an_earlier_form(self) -> None:
         root = folder_of(self)
         put(root, {"crates/low/src/lib.rt": ""})
         with patch.object(bodies, "sources_of", lambda root, name: "1a"):
+            self.assertEqual(bodies.report(root), "all\nnone of these sources: low")
+            put(root, {"release/BODIES": " ".join(["low 0.1", *bodies.counted(LOW)]) + "\n\n"})
             self.assertEqual(bodies.report(root), "all\nnone of these sources: low")
 
     def test_paths(self) -> None:
